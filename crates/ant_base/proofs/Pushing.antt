@@ -1,0 +1,65 @@
+-- Pushes one after another.
+use Rattle.std.proofs.Common.{◌≡◌, ℕ, ◌≤◌, List, [], ◌++◌, take, drop, Some, None, Ok, Err, Option, Result, refl, sym, ◌∙◌, ap, append_assoc, append-nil, take-append-drop, arith}
+use Rattle.ant_base.specs.declared.sink.Failed.{Failed}
+use Rattle.ant_base.specs.Faults.{Rose}
+use Rattle.ant_base.specs.Sink.{SinkState, with_more, PushedAll, PushedFront, Pushed}
+
+with_more-with_more : (held : Option (List ℕ)) (a b : List ℕ) → with_more (with_more held a) b ≡ with_more held (a ++ b)
+with_more-with_more None a b = refl
+with_more-with_more (Some held) a b = ap Some (append_assoc held a b)
+
+rose_later : (before mid now : ℕ) → before ≤ mid → Rose mid now → Rose before now
+rose_later before mid now le rose = omega arith
+
+-- a front of a text is a front of a longer one
+pub front_more : (old new : SinkState) (a b : List ℕ) → PushedFront old new a → PushedFront old new (a ++ b)
+front_more old new a b p = record {
+  front = p.front;
+  rest = p.rest ++ b;
+  whole = ap (λ t. t ++ b) p.whole ∙ append_assoc p.front p.rest b;
+  held = p.held;
+  rose = p.rose;
+  later = p.later;
+}
+
+-- one text, and then a front of another
+pub front_then : (old mid new : SinkState) (a b : List ℕ) → PushedAll old mid a → PushedFront mid new b → PushedFront old new (a ++ b)
+front_then old mid new a b p q = record {
+  front = a ++ q.front;
+  rest = q.rest;
+  whole = ap (λ t. a ++ t) q.whole ∙ sym (append_assoc a q.front q.rest);
+  held = q.held ∙ ap (λ h. with_more h q.front) p.held ∙ with_more-with_more old.held a q.front;
+  rose = rose_later old.faults mid.faults new.faults p.later q.rose;
+  later = omega (arith, p.later, q.later);
+}
+
+-- one text, and then another
+pub all_then : (old mid new : SinkState) (a b : List ℕ) → PushedAll old mid a → PushedAll mid new b → PushedAll old new (a ++ b)
+all_then old mid new a b p q = record {
+  held = q.held ∙ ap (λ h. with_more h b) p.held ∙ with_more-with_more old.held a b;
+  later = omega (arith, p.later, q.later);
+}
+
+-- one text, and then a push of another
+pub pushed_then : (old mid new : SinkState) (a b : List ℕ) (result : Result (Unit {0}) Failed) → PushedAll old mid a → Pushed mid new b result → Pushed old new (a ++ b) result
+pushed_then old mid new a b (Ok _) p q = all_then old mid new a b p q
+pushed_then old mid new a b (Err _) p q = front_then old mid new a b p q
+
+with_more-nothing : (held : Option (List ℕ)) → held ≡ with_more held []
+with_more-nothing None = refl
+with_more-nothing (Some held) = ap Some (sym (append-nil held))
+
+-- nothing is pushed
+pub all_of_nothing : (state : SinkState) → PushedAll state state []
+all_of_nothing state = record { held = with_more-nothing state.held; later = omega arith }
+
+-- the first bytes of a text are a front of it
+pub front_of_first : (old new : SinkState) (text : List ℕ) (n : ℕ) → new.held ≡ with_more old.held (take n text) → Rose old.faults new.faults → old.faults ≤ new.faults → PushedFront old new text
+front_of_first old new text n held rose later = record {
+  front = take n text;
+  rest = drop n text;
+  whole = sym (take-append-drop n text);
+  held = held;
+  rose = rose;
+  later = later;
+}

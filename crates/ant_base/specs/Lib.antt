@@ -1,0 +1,11 @@
+pub mod Entries
+pub mod Faults
+pub mod Sink
+pub mod Layout
+pub mod Calls
+pub mod MemSink
+pub mod Lines
+pub mod Number
+pub mod Shelf
+pub mod MemShelf
+pub mod Streams

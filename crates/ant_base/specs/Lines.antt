@@ -1,0 +1,41 @@
+-- Lines of a text, and separators in a line (the contest's files).
+use Rattle.std.specs.Prelude.{ℕ, ◌-◌, Bool, not, ◌||◌, List, [], ◌∷◌, length, take, drop, ◌==◌, if◌then◌else◌}
+use Rattle.std.specs.List.{list_all, prefix_len, suffix_len}
+
+-- whether a byte is LF
+abbrev pub is_lf : ℕ → Bool
+is_lf byte = byte == 10
+
+-- a byte put in front of the first line
+abbrev pub onto_first : ℕ → List (List ℕ) → List (List ℕ)
+onto_first byte [] = (byte ∷ []) ∷ []
+onto_first byte (line ∷ lines) = (byte ∷ line) ∷ lines
+
+-- the lines of a text: its pieces between LF bytes, and no further line after a last LF
+abbrev pub lines_of : List ℕ → List (List ℕ)
+lines_of [] = []
+lines_of (byte ∷ text) = if is_lf byte then [] ∷ lines_of text else onto_first byte (lines_of text)
+
+-- whether a text has no LF, and so is within one line
+abbrev pub has_no_lf : List ℕ → Bool
+has_no_lf text = list_all (λ byte. not (is_lf byte)) text
+
+-- whether a byte is a separator: a space, a tab or a CR
+abbrev pub is_separator : ℕ → Bool
+is_separator byte = (byte == 32) || (byte == 9) || (byte == 13)
+
+-- whether a line has separators alone
+abbrev pub is_blank : List ℕ → Bool
+is_blank line = list_all is_separator line
+
+-- what stands after the separators at the front of a line
+abbrev pub after_separators : List ℕ → List ℕ
+after_separators line = drop (prefix_len is_separator line) line
+
+-- what stands before the separators at the end of a line
+abbrev pub before_separators : List ℕ → List ℕ
+before_separators line = take (length line - suffix_len is_separator line) line
+
+-- a line without the separators at its front and at its end
+abbrev pub trimmed : List ℕ → List ℕ
+trimmed line = before_separators (after_separators line)

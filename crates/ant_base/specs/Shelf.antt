@@ -1,0 +1,58 @@
+-- What a shelf has, and what a fetch answers (this project's own).
+use Rattle.std.specs.Prelude.{◌≡◌, ℕ, ◌<◌, ◌≤◌, Bool, true, false, ⊤, List, length, Option, Some, Result, Ok, Err, Vec, IfSome, IsSomeAnd}
+use Rattle.ant_base.specs.Faults.{Rose}
+use Rattle.ant_base.specs.declared.shelf.FetchFault.{FetchFault}
+use Rattle.ant_base.specs.declared.shelf.FetchFault.TheVariants.{Failed, TooLong, OutOfMemory}
+
+-- the content under each name, where the shelf tells it; of which names it is sure; and the count of faults
+pub record ShelfState : Type 0 where
+  pub files : Option (List ℕ → Option (List ℕ))
+  pub sure : List ℕ → Bool
+  pub faults : ℕ
+
+-- the length of the longest content that is answered, in bytes
+abbrev pub longest : ℕ
+longest = 4194304
+
+-- the content of a name, which is no longer than the longest; where contents are told, it is the one that is there
+pub record IsContent (files : Option (List ℕ → Option (List ℕ))) (name content : List ℕ) : Type 0 where
+  pub told : IfSome files (λ at. at name ≡ Some content)
+  pub short : length content ≤ longest
+
+-- where contents are told, the name is there and its content is longer than the longest
+abbrev pub IsTooLong : Option (List ℕ → Option (List ℕ)) → List ℕ → Type 0
+IsTooLong files name = IfSome files (λ at. IsSomeAnd (at name) (λ content. longest < length content))
+
+-- a failed fetch: the shelf wasn't sure of the name, and its count of faults rose
+pub record IsFailed (old new : ShelfState) (name : List ℕ) : Type 0 where
+  pub unsure : old.sure name ≡ false
+  pub rose : Rose old.faults new.faults
+
+-- what each answer says
+abbrev pub Answers : {A : Type 0} → ShelfState → ShelfState → List ℕ → Result (Vec ℕ A) FetchFault → Type 0
+Answers old new name (Ok content) = IsContent old.files name content.items
+Answers old new name (Err Failed) = IsFailed old new name
+Answers old new name (Err TooLong) = IsTooLong old.files name
+Answers old new name (Err OutOfMemory) = ⊤
+
+-- what a fetch did: contents stay, the shelf stays sure of what it was sure of, and the count of faults falls never and rises for no sure name
+pub record Fetches {A : Type 0} (old new : ShelfState) (name : List ℕ) (result : Result (Vec ℕ A) FetchFault) : Type 0 where
+  pub answer : Answers old new name result
+  pub files : new.files ≡ old.files
+  pub sure : (other : List ℕ) → old.sure other ≡ true → new.sure other ≡ true
+  pub quiet : old.sure name ≡ true → new.faults ≡ old.faults
+  pub later : old.faults ≤ new.faults
+
+-- whether an answer is Failed
+abbrev pub is_failed : {T : Type 0} → Result T FetchFault → Bool
+is_failed (Ok _) = false
+is_failed (Err Failed) = true
+is_failed (Err TooLong) = false
+is_failed (Err OutOfMemory) = false
+
+-- whether an answer is TooLong
+abbrev pub is_too_long : {T : Type 0} → Result T FetchFault → Bool
+is_too_long (Ok _) = false
+is_too_long (Err Failed) = false
+is_too_long (Err TooLong) = true
+is_too_long (Err OutOfMemory) = false

@@ -1,0 +1,33 @@
+-- What a sink holds, and what a push does to it (this project's own).
+use Rattle.std.specs.Prelude.{◌≡◌, ℕ, ◌≤◌, List, ◌++◌, Option, Some, None, Result, Ok, Err}
+use Rattle.ant_base.specs.Faults.{Rose}
+use Rattle.ant_base.specs.declared.sink.Failed.{Failed}
+
+-- the bytes held, where the sink tells them, and the count of faults
+pub record SinkState : Type 0 where
+  pub held : Option (List ℕ)
+  pub faults : ℕ
+
+-- the bytes held after some more, where they are told
+abbrev pub with_more : Option (List ℕ) → List ℕ → Option (List ℕ)
+with_more None more = None
+with_more (Some held) more = Some (held ++ more)
+
+-- all of the text was appended
+pub record PushedAll (old new : SinkState) (text : List ℕ) : Type 0 where
+  pub held : new.held ≡ with_more old.held text
+  pub later : old.faults ≤ new.faults
+
+-- a front of the text was appended, and the count of faults rose
+pub record PushedFront (old new : SinkState) (text : List ℕ) : Type 0 where
+  pub front : List ℕ
+  pub rest : List ℕ
+  pub whole : text ≡ front ++ rest
+  pub held : new.held ≡ with_more old.held front
+  pub rose : Rose old.faults new.faults
+  pub later : old.faults ≤ new.faults
+
+-- what pushing a text did: at Ok all of it was appended, at a fault a front of it, and the count rose
+abbrev pub Pushed : SinkState → SinkState → List ℕ → Result (Unit {0}) Failed → Type 0
+Pushed old new text (Ok _) = PushedAll old new text
+Pushed old new text (Err _) = PushedFront old new text

@@ -1,0 +1,66 @@
+// Names with bytes.
+ghost use Rattle.std.specs.Prelude.{◌≡◌, ◌++◌, [], ◌∷◌, OnOk, OnErr, option_copied};
+ghost use Rattle.ant_base.specs.MemShelf.{content_of};
+
+use crate::OutOfMemory;
+use std::alloc::Global;
+use std::marker::Model;
+
+/// A list of names with bytes (this project's own). A name that was added twice has the bytes that were added first.
+#[derive(Drop)]
+pub struct Files {
+    alloc: Global,
+    entries: Vec<Entry>,
+}
+
+// A name with its bytes.
+#[derive(Drop)]
+struct Entry {
+    name: String,
+    bytes: Vec<u8>,
+}
+
+impl Model for Files {
+    ghost use Rattle.std.specs.Prelude.{List, ℕ};
+
+    ghost Value = { List (List ℕ × List ℕ) };
+
+    ghost use Rattle.ant_base.specs.Entries.{named_bytes};
+
+    ghost view = { λ files. named_bytes files.entries.items };
+}
+
+impl Files {
+    /// An empty list.
+    pub fn new(alloc: Global) -> Self
+        ensures { result ≡ [] }
+    {
+        Files {
+            alloc,
+            entries: Vec::new(alloc),
+        }
+    }
+
+    /// Adds a name with its bytes last. A refusal changes nothing.
+    pub fn add(&mut self, name: &str, bytes: &[u8]) -> Result<(), OutOfMemory>
+        ensures added { OnOk result (self.new ≡ self.old ++ (name.now, bytes.now) ∷ []) }
+        ensures refused { OnErr result (self.new ≡ self.old) }
+    {
+        let name = String::from_str(self.alloc, name)?;
+        let bytes = bytes.to_vec(self.alloc)?;
+        self.entries.push(Entry { name, bytes })?;
+        Ok(())
+    }
+
+    // The bytes that were added first under the name.
+    pub(crate) fn content(&self, name: &str) -> Option<&[u8]>
+        ensures { option_copied result ≡ content_of self.now name.now }
+    {
+        for entry in &self.entries {
+            if entry.name.as_str() == name {
+                return Some(&entry.bytes);
+            }
+        }
+        None
+    }
+}

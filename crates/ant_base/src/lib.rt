@@ -1,0 +1,40 @@
+//! The outside of the simulator: where input comes from, where output goes, what workers announce, and texts as values.
+//!
+//! What the layers above rest on: a push that is Ok appended the whole piece, and a fetch that is Ok gave the content; each fault comes
+//! only where a count of faults rose; a name of which a shelf is sure is never Failed; a gate changes nothing; a value that is a
+//! `Layout` is pushed as one exact text. Lines, separators and numbers of the contest's files are read here once for all readers.
+//!
+//! It stands on no crate of this repository, and prints numbers by `itoa`.
+#![tactic(auto)]
+
+mod calls;
+mod file_shelf;
+mod files;
+mod gate;
+mod layout;
+mod lines;
+mod mem_shelf;
+mod mem_sink;
+mod memory;
+mod number;
+mod parts;
+mod shelf;
+mod sink;
+mod stream_sink;
+#[cfg(test)]
+mod tests;
+
+pub use calls::Calls;
+pub use file_shelf::FileShelf;
+pub use files::Files;
+pub use gate::{Gate, NoGate};
+pub use layout::Layout;
+pub use lines::{Lines, is_blank, is_separator, trimmed};
+pub use mem_shelf::MemShelf;
+pub use mem_sink::MemSink;
+pub use memory::OutOfMemory;
+pub use number::{push_number, read_number};
+pub use parts::{Each, Parts};
+pub use shelf::{FetchFault, Shelf};
+pub use sink::{Failed, Sink};
+pub use stream_sink::{ErrSink, OutSink, StreamSink};

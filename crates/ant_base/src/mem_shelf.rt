@@ -1,0 +1,88 @@
+// A shelf in memory.
+ghost use Rattle.std.specs.Prelude.{◌≡◌, ◌≤◌, ◌&&◌, not, if◌then◌else◌};
+ghost use Rattle.ant_base.specs.Faults.{one_more};
+ghost use Rattle.ant_base.specs.Shelf.{Fetches, is_failed, is_too_long};
+ghost use Rattle.ant_base.specs.MemShelf.{shelf_of, fails, is_long, IsCopyOf};
+
+use crate::shelf::LONGEST;
+use crate::{Calls, FetchFault, Files, Shelf};
+use std::alloc::Global;
+use std::marker::Model;
+
+/// A shelf in memory, some of whose calls fail (this project's own).
+///
+/// It tells its contents. Where no call is to fail it is sure of each name that it has, and else of none. The counts of calls and of
+/// faults stay at the last value of a u64.
+#[derive(Drop)]
+pub struct MemShelf {
+    files: Files,
+    failing: Calls,
+    calls: u64,
+    faults: u64,
+}
+
+impl Model for MemShelf {
+    ghost use Rattle.ant_base.specs.MemShelf.{MemShelfState};
+
+    ghost Value = { MemShelfState };
+
+    ghost view = { λ s. record { files = s.files; failing = s.failing; calls = s.calls; faults = s.faults } };
+}
+
+impl MemShelf {
+    /// A shelf that has these files, whose fetches of the given numbers fail; the first fetch has the number 1.
+    pub fn new(files: Files, failing: Calls) -> Self
+        ensures { result ≡ record { files = files; failing = failing; calls = 0; faults = 0 } }
+    {
+        MemShelf {
+            files,
+            failing,
+            calls: 0,
+            faults: 0,
+        }
+    }
+
+    // Counts a fault.
+    fn fault(&mut self) -> FetchFault
+        ensures fault { result ≡ FetchFault.Failed }
+        ensures counted { self.new ≡ record self.old { faults = one_more self.old.faults } }
+        ensures later { self.old.faults ≤ self.new.faults }
+    {
+        self.faults = self.faults.saturating_add(1);
+        FetchFault::Failed
+    }
+}
+
+impl Shelf for MemShelf {
+    ghost state = { shelf_of };
+
+    fn fetch(&mut self, alloc: Global, name: &str) -> Result<Vec<u8>, FetchFault>
+        ensures shelf { Fetches (shelf_of self.old) (shelf_of self.new) name.now result }
+        // It fails exactly where its number is one of the failing ones, or the name isn't there.
+        ensures failed { is_failed result ≡ fails self.old name.now }
+        ensures too_long { is_too_long result ≡ (not (fails self.old name.now) && is_long self.old name.now) }
+        ensures after { self.new ≡ record self.old {
+          calls = one_more self.old.calls;
+          faults = if fails self.old name.now then one_more self.old.faults else self.old.faults;
+        } }
+    {
+        self.calls = self.calls.saturating_add(1);
+        if self.failing.has(self.calls) {
+            return Err(self.fault());
+        }
+        let Some(content) = self.files.content(name) else {
+            return Err(self.fault());
+        };
+        copied(alloc, content)
+    }
+}
+
+// A copy of a content that isn't too long.
+fn copied(alloc: Global, content: &[u8]) -> Result<Vec<u8>, FetchFault>
+    ensures { IsCopyOf content.now result }
+{
+    if content.len() > LONGEST {
+        return Err(FetchFault::TooLong);
+    }
+    Ok(content.to_vec(alloc)?)
+}

@@ -1,0 +1,35 @@
+// Numbers read from texts and pushed as texts.
+ghost use Rattle.std.specs.Prelude.{◌≡◌, ◌<◌, IfSome};
+ghost use Rattle.std.specs.Fmt.{decimal};
+ghost use Rattle.ant_base.specs.Sink.{Pushed};
+ghost use Rattle.ant_base.specs.Number.{number_of};
+
+use crate::{Failed, Layout, Sink};
+
+const MAX_DIGITS: usize = 10;
+
+/// The value of 1 to 10 decimal digits, leading zeros included; `None` exactly where the text isn't 1 to 10 digits (the contest's files).
+#[tactic(auto, unfolding(crate::specs::Number::number_of))]
+pub fn read_number(text: &[u8]) -> Option<u64>
+    ensures value { result ≡ number_of text.now }
+    ensures small { IfSome result (λ n. n < 10000000000) }
+{
+    if text.is_empty() || text.len() > MAX_DIGITS {
+        return None;
+    }
+    let mut value = 0;
+    for digit in text {
+        if !digit.is_ascii_digit() {
+            return None;
+        }
+        value = value * 10 + u64::from(*digit - b'0');
+    }
+    Some(value)
+}
+
+/// Pushes the decimal text of n, without leading zeros. At `Failed` a front of it was appended, and the count of faults rose.
+pub fn push_number<K: Sink>(sink: &mut K, n: u64) -> Result<(), Failed>
+    ensures { Pushed (K.state sink.old) (K.state sink.new) (decimal n) result }
+{
+    n.push_to(sink)
+}
