@@ -1,0 +1,23 @@
+// From a word's place to what it stands for.
+
+/// The match from a word's place in its table, counted from 0, to what the word stands for: `word_arms!(i; Side::Left,
+/// Side::Right)` is `Side::Left` at 0, and at each other place `Side::Right`. Used in a function's body, for up to 12
+/// words (this project's own).
+#[macro_export]
+macro_rules! word_arms {
+    (@match $place:expr; [$($number:tt $value:expr;)*]; $last:expr) => {
+        match $place {
+            $($number => $value,)*
+            _ => $last,
+        }
+    };
+    (@count $place:expr; [$($done:tt)*]; [$($number:tt)*]; $last:expr) => {
+        $crate::word_arms!(@match $place; [$($done)*]; $last)
+    };
+    (@count $place:expr; [$($done:tt)*]; [$number:tt $($numbers:tt)*]; $value:expr, $($rest:expr),+) => {
+        $crate::word_arms!(@count $place; [$($done)* $number $value;]; [$($numbers)*]; $($rest),+)
+    };
+    ($place:expr; $($value:expr),+ $(,)?) => {
+        $crate::word_arms!(@count $place; []; [0 1 2 3 4 5 6 7 8 9 10]; $($value),+)
+    };
+}

@@ -1,0 +1,80 @@
+// The table, and the search in it.
+ghost use Rattle.std.specs.Prelude.{◌≡◌, ◌<◌, ℕ, List, Some, IfSome, IsTrue, map, slice_get};
+ghost use Rattle.word_table.specs.Words.{are_distinct, same_word, place_in, IsWordAt};
+
+use std::convert::AsStr;
+use std::marker::Model;
+
+/// A table of `N` words that differ in any ASCII case (this project's own).
+pub type WordTable<const N: usize> = Words<&'static str, N>;
+
+/// A table of `N` texts that differ in any ASCII case. Contracts see it as the list of its texts.
+#[derive(Drop)]
+pub struct Words<T: AsStr, const N: usize> {
+    words: [T; N],
+}
+
+impl<T: AsStr, const N: usize> Model for Words<T, N> {
+    ghost use Rattle.std.specs.Prelude.{◌≡◌, ℕ, List, IsTrue, map, length};
+    ghost use Rattle.word_table.specs.Words.{are_distinct};
+
+    ghost Value = { List (List ℕ) };
+
+    ghost view = { λ table. map T.text table.words };
+
+    ghost invariant = { λ table. IsTrue (are_distinct (map T.text table.words)) };
+}
+
+impl<T: AsStr, const N: usize> Words<T, N> {
+    /// The table of these words, in this order. It takes no memory.
+    pub fn new(words: [T; N]) -> Words<T, N>
+        requires { IsTrue (are_distinct (map T.text words)) }
+        ensures { result ≡ map T.text words }
+    {
+        Words { words }
+    }
+
+    /// The place, counted from 0, of the word that the text is in some ASCII case. None where it is no word.
+    pub fn find(&self, text: &[u8]) -> Option<usize>
+        ensures place { result ≡ place_in self.now text.now }
+        ensures below { IfSome result (λ i. i < N) }
+        ensures found { IfSome result (λ i. IsWordAt self.now i text.now) }
+        ensures only { (i : ℕ) → IsWordAt self.now i text.now → result ≡ Some i }
+    {
+        let _table = &self.words;
+        self.place(text)
+    }
+
+    /// The word at a place.
+    pub fn word(&self, i: usize) -> &str
+        requires { i < N }
+        ensures { slice_get self.now i ≡ Some result.now }
+    {
+        self.words[i].as_str()
+    }
+
+    fn place(&self, text: &[u8]) -> Option<usize>
+        ensures place { result ≡ place_in self.now text.now }
+        ensures below { IfSome result (λ i. i < N) }
+    {
+        for (i, word) in self.words.iter().enumerate() {
+            if is_word(word.as_str(), text) {
+                return Some(i);
+            }
+        }
+        None
+    }
+}
+
+/// A law: in a table whose words differ in any ASCII case, a word is found at the place where it stands.
+pub fn word_is_found()
+    ensures { (words : List (List ℕ)) (i : ℕ) (word : List ℕ) → IsTrue (are_distinct words)
+        → slice_get words i ≡ Some word → place_in words word ≡ Some i }
+{}
+
+// The word is the text in some ASCII case.
+fn is_word(word: &str, text: &[u8]) -> bool
+    ensures { result ≡ same_word word.now text.now }
+{
+    word.as_bytes().eq_ignore_ascii_case(text)
+}
