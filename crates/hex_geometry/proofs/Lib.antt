@@ -1,0 +1,4 @@
+pub mod Beside
+pub mod Places
+pub mod Turns
+pub mod Worked

@@ -1,0 +1,3 @@
+pub mod Direction
+pub mod Neighbourhood
+pub mod Position

@@ -1,0 +1,35 @@
+-- Positions, as pairs of whole numbers and in a world of a width and a height (the task's geometry).
+use Rattle.std.specs.Prelude.{ℕ, ℤ, pos, Bool, ◌+◌, ◌<◌, ◌≤◌, ◌==◌, ◌&&◌}
+use Rattle.hex_geometry.specs.declared.position.Pos.{Pos}
+
+-- a pair of whole numbers: the column, growing to the right, and the row, growing downwards
+pub record Point : Type 0 where
+  pub x : ℤ
+  pub y : ℤ
+
+-- a position as a pair of whole numbers
+abbrev pub point_of : Pos → Point
+point_of p = record { x = pos p.x; y = pos p.y }
+
+-- whether two positions are one, as a test that computes
+unfoldable pub same_pos : Pos → Pos → Bool
+same_pos p q = (p.x == q.x) && (p.y == q.y)
+
+-- a position each of whose six neighbours is a position too: neither coordinate is 0 or the greatest
+pub record HasNeighbours (p : Pos) : Type 0 where
+  pub from_left : 1 ≤ p.x
+  pub to_right : p.x ≤ 65534
+  pub from_top : 1 ≤ p.y
+  pub to_bottom : p.y ≤ 65534
+
+-- a position of a world of these sizes
+pub record IsInside (width height : ℕ) (p : Pos) : Type 0 where
+  pub column : p.x < width
+  pub row : p.y < height
+
+-- a position of a world of these sizes that is not on its rim
+pub record IsInner (width height : ℕ) (p : Pos) : Type 0 where
+  pub from_left : 1 ≤ p.x
+  pub to_right : p.x + 1 < width
+  pub from_top : 1 ≤ p.y
+  pub to_bottom : p.y + 1 < height

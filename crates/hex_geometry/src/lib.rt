@@ -1,0 +1,23 @@
+//! Positions and directions of the ant world.
+//!
+//! The task's geometry: rows of six-sided cells, every odd row shifted half a cell to the right.
+//!
+//! To the crates above it promises that a neighbour is the one of the task's table, which is stated over all pairs of whole numbers, that a
+//! turn is a sum modulo six, and that a sensed position and the list of neighbours follow from these two. Nothing here takes memory.
+//!
+//! It stands on no other crate.
+#![tactic(auto)]
+
+mod direction;
+mod laws;
+mod memory;
+mod neighbourhood;
+mod position;
+#[cfg(test)]
+mod tests;
+
+pub use direction::{Dir, Side, turned};
+pub use laws::neighbours_are_the_tables;
+pub use memory::OutOfMemory;
+pub use neighbourhood::{Sight, adjacent, neighbours, sensed};
+pub use position::Pos;
