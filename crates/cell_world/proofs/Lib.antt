@@ -1,0 +1,14 @@
+pub mod Counts
+pub mod Grids
+pub mod OpeningLaws
+pub mod OpeningPlaces
+pub mod OpeningValid
+pub mod OpeningWeight
+pub mod OpeningWorked
+pub mod Openings
+pub mod Places
+pub mod Plans
+pub mod Puts
+pub mod Sets
+pub mod Valids
+pub mod Weights

@@ -1,0 +1,12 @@
+-- who stands where at the start
+use Rattle.cell_world.proofs.OpeningLaws.{opening-alive, opening-manned, opening-new, opening-place, opening-unmarked}
+use Rattle.cell_world.proofs.opening_laws.hills_are_manned.Goals as goal
+
+pub returns : goal.returns
+returns c = record {
+  manned = opening-manned;
+  new = opening-new;
+  place = opening-place;
+  alive = opening-alive;
+  unmarked = opening-unmarked;
+}

@@ -1,0 +1,51 @@
+-- the cell that was put is in the grid, and the index follows its ant
+use Rattle.std.proofs.Common.{◌≡◌, ◌∙◌, ap, length, subst, sym}
+use Rattle.hex_geometry.specs.declared.position.Pos.{Pos}
+use Rattle.cell_world.specs.declared.cell.Cell.{Cell}
+use Rattle.cell_world.specs.Grid.{Grid, cell_in, world_of}
+use Rattle.cell_world.specs.Inside.{grid_of}
+use Rattle.cell_world.specs.Places.{IsKnown, IsAt}
+use Rattle.cell_world.specs.Valid.{CanSet}
+use Rattle.cell_world.specs.World.{put}
+use Rattle.cell_world.proofs.Sets.{Changed, grid_set, IsAt-cell, IsKnown-cell, cell_in-item, fields_set-changed, world_of-set}
+use Rattle.cell_world.proofs.world.ground.WorldGround.set.Goals as goal
+use Rattle.cell_world.proofs.world.ground.WorldGround.set.Goals.{After-deref_mut, After-note_change}
+
+-- the change may be made of the fields
+can_set : (g now : Grid) (p : Pos) (cell : Cell) → g ≡ now → CanSet (world_of now) 9 p cell → CanSet (world_of g) 9 p cell
+can_set g now p cell same can = subst (λ (h : Grid). CanSet (world_of h) 9 p cell) (sym same) can
+
+-- the cell that was there
+old_cell : (c : After-deref_mut) → cell_in (grid_of c.self.inside) c.args.p ≡ c.index_mut-here.result.now
+old_cell c = cell_in-item c.self.inside c.args.p c.index_mut-here.result.now c.self.invariant (can_set (grid_of c.self.inside) c.args.self.now c.args.p c.args.cell c.self.view_is c.requires).inside c.index_mut-here.ensures.value
+
+pub note_change-requires-clause-before : goal.note_change-requires-clause-before
+note_change-requires-clause-before c =
+    subst (λ places. IsKnown (length places) c.index_mut-here.result.now.ant) (sym c.deref_mut.ensures.value)
+    (subst (λ old. IsKnown (length c.self.inside.places.items) old.ant) (old_cell c) (IsKnown-cell (grid_of c.self.inside) c.args.p c.self.inside.places.items c.self.invariant.world c.self.invariant.index))
+
+pub note_change-requires-clause-at : goal.note_change-requires-clause-at
+note_change-requires-clause-at c =
+    subst (λ places. IsAt places c.args.p c.index_mut-here.result.now.ant) (sym c.deref_mut.ensures.value)
+    (subst (λ old. IsAt c.self.inside.places.items c.args.p old.ant) (old_cell c) (IsAt-cell (grid_of c.self.inside) c.args.p c.self.inside.places.items c.self.invariant.world c.self.invariant.index))
+
+-- the change that was made of the fields
+changed : (c : After-note_change) → Changed c.self.inside c.args.p c.index_mut-here.result.now c.args.cell c.note_change.new.places
+changed c =
+    fields_set-changed c.self.inside c.args.p c.index_mut-here.result.now c.args.cell 9 c.deref_mut.result.now c.note_change.new.places c.self.invariant (can_set (grid_of c.self.inside) c.args.self.now c.args.p c.args.cell c.self.view_is c.requires) c.index_mut-here.ensures.value c.deref_mut.ensures.value c.note_change.ensures
+
+-- the cell that was put
+is_put : (c : After-note_change) → world_of (grid_set (grid_of c.self.inside) c.args.p c.args.cell) ≡ put (world_of c.args.self.now) c.args.p c.args.cell
+is_put c =
+    world_of-set (grid_of c.self.inside) c.args.p c.args.cell c.self.invariant.world.full (can_set (grid_of c.self.inside) c.args.self.now c.args.p c.args.cell c.self.view_is c.requires).inside
+    ∙ ap (λ (g : Grid). put (world_of g) c.args.p c.args.cell) c.self.view_is
+
+pub invariant_of-self : goal.invariant_of-self
+invariant_of-self c = (changed (goal.at.invariant_of-self c).After-note_change).kept
+
+pub returns-clause-set : goal.returns-clause-set
+returns-clause-set c =
+    let there = (goal.at.returns-clause-set c).After-note_change in ap world_of (changed there).grid ∙ is_put there
+
+pub returns-clause-valid : goal.returns-clause-valid
+returns-clause-valid c = (changed (goal.at.returns-clause-valid c).After-note_change).kept.world.valid

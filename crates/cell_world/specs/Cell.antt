@@ -1,0 +1,44 @@
+-- Cells (the task's geography, chemistry and biology).
+use Rattle.std.specs.Prelude.{ℕ, ◌+◌, Bool, true, false, nat_eq, Option, Some, None}
+use Rattle.cell_world.specs.declared.ant.Ant.{Ant}
+use Rattle.cell_world.specs.declared.ant.Colour.{Colour}
+use Rattle.cell_world.specs.declared.cell.Cell.{Cell}
+use Rattle.cell_world.specs.Colour.{same_colour}
+use Rattle.cell_world.specs.Marks.{no_marks}
+
+-- a rocky cell has no food, marks, ant or hill
+unfoldable pub rock : Cell
+rock = record { rocky = true; hill = None; food = 0; red = no_marks; black = no_marks; ant = None }
+
+-- whether the ant, if there is one, has this id
+abbrev pub is_ant : ℕ → Option Ant → Bool
+is_ant t None = false
+is_ant t (Some ant) = nat_eq ant.id t
+
+-- whether the cell holds the ant of this id
+abbrev pub holds_id : ℕ → Cell → Bool
+holds_id t cell = is_ant t cell.ant
+
+-- whether it is the hill of this colour
+abbrev pub is_hill_of : Colour → Option Colour → Bool
+is_hill_of colour None = false
+is_hill_of colour (Some other) = same_colour colour other
+
+-- whether the ant, if there is one, is of this colour
+abbrev pub is_ant_of : Colour → Option Ant → Bool
+is_ant_of colour None = false
+is_ant_of colour (Some ant) = same_colour colour ant.colour
+
+-- one where a thing is, and nothing where it isn't
+abbrev pub one_if : Bool → ℕ
+one_if false = 0
+one_if true = 1
+
+-- what an ant weighs: nine, and one where it carries food
+abbrev pub ant_weight : Option Ant → ℕ
+ant_weight None = 0
+ant_weight (Some ant) = 9 + one_if ant.laden
+
+-- what a cell weighs: its food and its ant. Rock is bare and weighs nothing
+unfoldable pub cell_weight : Cell → ℕ
+cell_weight cell = cell.food + ant_weight cell.ant

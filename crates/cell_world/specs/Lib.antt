@@ -1,0 +1,12 @@
+pub mod Cell
+pub mod Colour
+pub mod Grid
+pub mod GroundLaws
+pub mod Inside
+pub mod Marks
+pub mod Opening
+pub mod OpeningLaws
+pub mod Places
+pub mod Score
+pub mod Valid
+pub mod World

@@ -1,0 +1,50 @@
+-- What every world keeps (the task's geography and biology; the limits are this project's own).
+use Rattle.std.specs.Prelude.{◌≡◌, ◌≢◌, ℕ, ◌<◌, ◌≤◌, true, false, Some}
+use Rattle.hex_geometry.specs.declared.position.Pos.{Pos}
+use Rattle.hex_geometry.specs.Position.{IsInside, IsInner}
+use Rattle.cell_world.specs.declared.ant.Ant.{Ant}
+use Rattle.cell_world.specs.declared.cell.Cell.{Cell}
+use Rattle.cell_world.specs.Cell.{rock, holds_id, cell_weight}
+use Rattle.cell_world.specs.World.{World, put, weight}
+
+-- the most that a world weighs: nine times the 510 by 510 cells inside the largest rim
+unfoldable pub most_weight : ℕ
+most_weight = 2340900
+
+-- what every world keeps
+pub record Valid (w : World) : Type 0 where
+  -- sizes from 3 to 512
+  pub wide : 3 ≤ w.width
+  pub narrow : w.width ≤ 512
+  pub tall : 3 ≤ w.height
+  pub low : w.height ≤ 512
+  -- at most 16,384 ids were ever made
+  pub few : w.ids ≤ 16384
+  -- what isn't rocky isn't on the rim
+  pub rim : (p : Pos) → (w.cells p).rocky ≡ false → IsInner w.width w.height p
+  -- what is rocky has no food, marks, ant or hill
+  pub bare : (p : Pos) → (w.cells p).rocky ≡ true → w.cells p ≡ rock
+  -- the id of each ant was made
+  pub known : (p : Pos) (ant : Ant) → (w.cells p).ant ≡ Some ant → ant.id < w.ids
+  -- no ant is at two positions
+  pub once : (t : ℕ) (p q : Pos) → holds_id t (w.cells p) ≡ true → holds_id t (w.cells q) ≡ true → p ≡ q
+  pub light : weight w ≤ most_weight
+
+-- a cell may be set at p: it is clear as the old one was, of the same hill, its ant is a known one that stands nowhere else,
+-- and the world stays light enough
+pub record CanSet (w : World) (room : ℕ) (p : Pos) (cell : Cell) : Type 0 where
+  pub room_left : 1 ≤ room
+  pub inside : IsInside w.width w.height p
+  pub was_clear : (w.cells p).rocky ≡ false
+  pub is_clear : cell.rocky ≡ false
+  pub same_hill : cell.hill ≡ (w.cells p).hill
+  pub ant_known : (ant : Ant) → cell.ant ≡ Some ant → ant.id < w.ids
+  pub ant_nowhere_else : (ant : Ant) → cell.ant ≡ Some ant → (q : Pos) → q ≢ p → holds_id ant.id (w.cells q) ≡ false
+  pub light_enough : weight (put w p cell) ≤ most_weight
+
+-- the new cell may replace the old one: it is of the same kind and hill, has the same ant or none, and is no heavier
+pub record Replaces (old new : Cell) : Type 0 where
+  pub same_kind : new.rocky ≡ old.rocky
+  pub same_hill : new.hill ≡ old.hill
+  pub same_ant : (t : ℕ) → holds_id t new ≡ true → holds_id t old ≡ true
+  pub no_heavier : cell_weight new ≤ cell_weight old

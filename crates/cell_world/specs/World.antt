@@ -1,0 +1,60 @@
+-- The world as a function from positions to cells (the task's geography).
+use Rattle.std.specs.Prelude.{ℕ, ◌+◌, ◌*◌, ◌/◌, ◌%◌, Bool, cond, Option, Some, None, suc, zero}
+use Rattle.hex_geometry.specs.declared.position.Pos.{Pos}
+use Rattle.hex_geometry.specs.Position.{same_pos}
+use Rattle.cell_world.specs.declared.cell.Cell.{Cell}
+use Rattle.cell_world.specs.Cell.{holds_id, cell_weight}
+
+-- what is at each position
+abbrev pub Cells : Type 0
+Cells = Pos → Cell
+
+-- a world: its sizes, the number of ids ever made, and what is at each position, rock outside
+pub record World : Type 0 where
+  pub width : ℕ
+  pub height : ℕ
+  pub ids : ℕ
+  pub cells : Cells
+
+-- the cells, with this one at p
+unfoldable pub put_cell : Cells → Pos → Cell → Cells
+put_cell cells p cell q = cond (same_pos p q) cell (cells q)
+
+-- the world with these cells
+abbrev pub with_cells : World → Cells → World
+with_cells w cells = record w { cells = cells }
+
+-- the world with this cell at p
+abbrev pub put : World → Pos → Cell → World
+put w p cell = with_cells w (put_cell w.cells p cell)
+
+-- the position that is number i in row order
+abbrev pub pos_at : ℕ → ℕ → Pos
+pos_at width i = record { x = i % width; y = i / width }
+
+-- the sum of f over the first n positions in row order
+abbrev pub sum_over : ℕ → (Pos → ℕ) → ℕ → ℕ
+sum_over width f zero = 0
+sum_over width f (suc n) = sum_over width f n + f (pos_at width n)
+
+-- this position where there is none yet and the test holds
+abbrev pub or_here : Option Pos → Bool → Pos → Option Pos
+or_here (Some found) here p = Some found
+or_here None here p = cond here (Some p) None
+
+-- the first of the first n positions in row order at which the test holds
+abbrev pub first_of : ℕ → (Pos → Bool) → ℕ → Option Pos
+first_of width test zero = None
+first_of width test (suc n) = or_here (first_of width test n) (test (pos_at width n)) (pos_at width n)
+
+-- how many positions there are
+abbrev pub area : World → ℕ
+area w = w.width * w.height
+
+-- the position whose cell holds the ant of this id, where there is one (the task's biology)
+unfoldable pub place_in : World → ℕ → Option Pos
+place_in w t = first_of w.width (λ p. holds_id t (w.cells p)) (area w)
+
+-- what a world weighs: the sum over its cells
+unfoldable pub weight : World → ℕ
+weight w = sum_over w.width (λ p. cell_weight (w.cells p)) (area w)

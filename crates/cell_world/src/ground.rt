@@ -1,0 +1,42 @@
+// A world that can be read and changed cell by cell.
+ghost use Rattle.std.specs.Prelude.{◌≡◌, ℕ, ◌+◌, ◌≤◌};
+ghost use Rattle.hex_geometry.specs.Position.{IsInside};
+ghost use Rattle.cell_world.specs.World.{World, place_in, put};
+ghost use Rattle.cell_world.specs.Valid.{Valid, CanSet};
+
+use crate::cell::Cell;
+use hex_geometry::Pos;
+
+/// A world that can be read and changed cell by cell.
+///
+/// Its meanings are a world, which keeps what every world keeps, and its room, the number of calls of `set` that it can still take.
+/// The rules of a turn are written once, over any ground.
+pub trait Ground {
+    /// The world that it stands for.
+    ghost world: { Self → World };
+
+    /// How many more cells it can take.
+    ghost room: { Self → ℕ };
+
+    /// The content of the cell at `p`, which is inside.
+    fn cell_at(&mut self, p: Pos) -> Cell
+        requires { IsInside (world self.old).width (world self.old).height p }
+        ensures content { result ≡ (world self.old).cells p }
+        ensures world { world self.new ≡ world self.old }
+        ensures room { room self.new ≡ room self.old }
+        ensures valid { Valid (world self.new) };
+
+    /// The position whose cell holds the ant of this id, `None` exactly where there is none.
+    fn place_of(&mut self, id: u32) -> Option<Pos>
+        ensures place { result ≡ place_in (world self.old) id }
+        ensures world { world self.new ≡ world self.old }
+        ensures room { room self.new ≡ room self.old }
+        ensures valid { Valid (world self.new) };
+
+    /// Replaces the cell at `p`, and leaves all others. The old cell and the new one are clear and of the same hill.
+    fn set(&mut self, p: Pos, cell: Cell)
+        requires { CanSet (world self.old) (room self.old) p cell }
+        ensures set { world self.new ≡ put (world self.old) p cell }
+        ensures room { room self.old ≤ room self.new + 1 }
+        ensures valid { Valid (world self.new) };
+}

@@ -1,0 +1,29 @@
+//! Cells, ants and the world.
+//!
+//! The task's geography, chemistry and biology: what stands on each cell, which ants there are, and what every world keeps.
+//! Contracts see a [`World`] as its sizes, the number of ids ever made and its cells in row order; `world_of` reads such a grid
+//! as a function from positions to cells, rock outside. The rules of a turn are generic over [`Ground`], a world that can be
+//! read and changed cell by cell. This crate stands on `hex_geometry`.
+#![tactic(auto)]
+
+mod ant;
+mod build;
+mod cell;
+mod ground;
+mod ground_laws;
+mod kind;
+mod marks;
+mod opening_laws;
+mod score;
+mod world;
+
+pub use ant::{Ant, Colour};
+pub use cell::Cell;
+pub use ground::Ground;
+pub use ground_laws::{place_is_cell, set_is_read, set_keeps, set_weighs, sets_settle};
+pub use hex_geometry::OutOfMemory;
+pub use kind::Kind;
+pub use marks::Marks;
+pub use opening_laws::{hills_are_manned, plans_open};
+pub use score::Score;
+pub use world::World;

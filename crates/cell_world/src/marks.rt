@@ -1,0 +1,57 @@
+// The markers of one colour on a cell.
+ghost use Rattle.std.specs.Prelude.{◌≡◌, ◌<◌};
+ghost use Rattle.cell_world.specs.Marks.{no_marks, has_mark, with_mark, without_mark, has_any_mark};
+
+/// A set of the markers 0 to 5, those of one colour on one cell (the task's chemistry).
+#[derive(Clone, Copy, Debug, PartialEq, Eq)]
+pub struct Marks {
+    set: [bool; 6],
+}
+
+impl Marks {
+    /// The empty set.
+    pub fn none() -> Marks
+        ensures { result ≡ no_marks }
+    {
+        Marks { set: [false; 6] }
+    }
+
+    /// Whether marker `i`, which is below 6, is in the set.
+    #[inline]
+    pub fn has(&self, i: u8) -> bool
+        requires { i < 6 }
+        ensures { result ≡ has_mark self.now i }
+    {
+        self.set[i as usize]
+    }
+
+    /// The set with marker `i`, which is below 6.
+    #[inline]
+    pub fn with(self, i: u8) -> Marks
+        requires { i < 6 }
+        ensures { result ≡ with_mark self i }
+    {
+        let mut set = self.set;
+        set[i as usize] = true;
+        Marks { set }
+    }
+
+    /// The set without marker `i`, which is below 6.
+    #[inline]
+    pub fn without(self, i: u8) -> Marks
+        requires { i < 6 }
+        ensures { result ≡ without_mark self i }
+    {
+        let mut set = self.set;
+        set[i as usize] = false;
+        Marks { set }
+    }
+
+    /// Whether any marker is in the set.
+    #[inline]
+    pub fn any(&self) -> bool
+        ensures { result ≡ has_any_mark self.now }
+    {
+        self.set.iter().any(|held| *held)
+    }
+}

@@ -1,0 +1,114 @@
+// The world: its cells in row order, and where each ant stands.
+ghost use Rattle.std.specs.Prelude.{◌≡◌, IfOk};
+ghost use Rattle.cell_world.specs.Grid.{IsWorld, world_of};
+ghost use Rattle.cell_world.specs.Opening.{IsPlan, opening};
+ghost use Rattle.hex_geometry.specs.Position.{IsInside};
+ghost use Rattle.cell_world.specs.World.{place_in};
+
+use crate::build::Parts;
+use crate::cell::Cell;
+use crate::kind::Kind;
+use hex_geometry::{OutOfMemory, Pos};
+use std::alloc::Global;
+use std::marker::Model;
+
+mod counts;
+mod ground;
+
+/// A world (the task's geography, chemistry and biology).
+///
+/// Width and height are from 3 to 512, the rim is rocky, a rocky cell has no food, marks, ant or hill, at most 16,384 ids were ever
+/// made, each id is below their number and on at most one cell, and the weight, which is the food, nine for each ant and one for
+/// each that carries food, is at most 2,340,900.
+#[derive(Drop)]
+pub struct World {
+    width: u16,
+    height: u16,
+    cells: Vec<Cell>,
+    places: Vec<Option<Pos>>,
+}
+
+impl Model for World {
+    ghost use Rattle.std.specs.Prelude.{length};
+    ghost use Rattle.cell_world.specs.Grid.{Grid, IsWorld, IsIndex};
+
+    ghost Value = { Grid };
+
+    ghost use Rattle.cell_world.specs.Inside.{grid_of, IsKept};
+
+    ghost view = { grid_of };
+
+    ghost invariant = { IsKept };
+}
+
+impl World {
+    /// The world of these kinds, in row order, at the start of a game: width and height are from 3 to 512, there are width times
+    /// height kinds, the rim is rock, at most 16,384 kinds are hills and food is from 1 to 9. It is refused for want of memory alone.
+    pub fn build(
+        alloc: Global,
+        width: u16,
+        height: u16,
+        kinds: &[Kind],
+    ) -> Result<World, OutOfMemory>
+        requires { IsPlan width height kinds.now }
+        ensures { IfOk result (λ w. w ≡ opening width height kinds.now) }
+    {
+        let parts = Parts::of_kinds(alloc, width, kinds)?;
+        Ok(World {
+            width,
+            height,
+            cells: parts.cells,
+            places: parts.places,
+        })
+    }
+
+    /// How many columns there are, from 3 to 512.
+    #[inline]
+    pub fn width(&self) -> u16
+        ensures width { result ≡ self.now.width }
+        ensures world { IsWorld self.now }
+    {
+        self.width
+    }
+
+    /// How many rows there are, from 3 to 512.
+    #[inline]
+    pub fn height(&self) -> u16
+        ensures height { result ≡ self.now.height }
+        ensures world { IsWorld self.now }
+    {
+        self.height
+    }
+
+    /// How many ids were ever made, at most 16,384; the ids are the numbers below it.
+    #[inline]
+    pub fn ant_count(&self) -> u32
+        ensures ids { result ≡ self.now.ids }
+        ensures world { IsWorld self.now }
+    {
+        self.places.len() as u32
+    }
+
+    /// The content of the cell at `p`, which is inside.
+    #[inline]
+    pub fn cell(&self, p: Pos) -> Cell
+        requires { IsInside self.now.width self.now.height p }
+        ensures content { result ≡ (world_of self.now).cells p }
+        ensures world { IsWorld self.now }
+    {
+        self.cells[p.y as usize * self.width as usize + p.x as usize]
+    }
+
+    /// The position whose cell holds the ant of this id, `None` exactly where no cell holds it.
+    #[inline]
+    pub fn ant_place(&self, id: u32) -> Option<Pos>
+        ensures place { result ≡ place_in (world_of self.now) id }
+        ensures world { IsWorld self.now }
+    {
+        if (id as usize) < self.places.len() {
+            self.places[id as usize]
+        } else {
+            None
+        }
+    }
+}
