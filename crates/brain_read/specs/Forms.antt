@@ -1,0 +1,132 @@
+-- The words and the forms of the language (the task's neurology).
+use Rattle.std.specs.Prelude.{◌≡◌, ℕ, ◌≤◌, ◌<◌, List, [], ◌∷◌, map, Some, codes}
+use Rattle.hex_geometry.specs.declared.direction.Side.{Side}
+use Rattle.hex_geometry.specs.declared.direction.Side.TheVariants.{Left, Right}
+use Rattle.hex_geometry.specs.declared.neighbourhood.Sight.{Sight}
+use Rattle.hex_geometry.specs.declared.neighbourhood.Sight.TheVariants.{Here, Ahead, LeftAhead, RightAhead}
+use Rattle.ant_base.specs.Number.{number_of}
+use Rattle.word_table.specs.Words.{IsSameWord}
+use Rattle.brain_read.specs.declared.instr.Cond.{Cond}
+use Rattle.brain_read.specs.declared.instr.Cond.TheVariants.{Friend, Foe, FriendWithFood, FoeWithFood, Food, Rock, Marker, FoeMarker, Home, FoeHome}
+use Rattle.brain_read.specs.declared.instr.Instr.{Instr}
+use Rattle.brain_read.specs.declared.instr.Instr.TheVariants.{Sense, Mark, Unmark, PickUp, Drop, Turn, Move, Flip}
+use Rattle.brain_read.specs.declared.form.Form.{Form}
+use Rattle.brain_read.specs.declared.form.CondWord.{CondWord}
+use Rattle.brain_read.specs.Soundness.{IsSoundCond}
+
+-- the word of a form
+abbrev pub word_of_form : Form → List ℕ
+word_of_form Form.Sense = codes "Sense"
+word_of_form Form.Mark = codes "Mark"
+word_of_form Form.Unmark = codes "Unmark"
+word_of_form Form.PickUp = codes "PickUp"
+word_of_form Form.Drop = codes "Drop"
+word_of_form Form.Turn = codes "Turn"
+word_of_form Form.Move = codes "Move"
+word_of_form Form.Flip = codes "Flip"
+
+-- the word of a sight
+abbrev pub word_of_sight : Sight → List ℕ
+word_of_sight Here = codes "Here"
+word_of_sight Ahead = codes "Ahead"
+word_of_sight LeftAhead = codes "LeftAhead"
+word_of_sight RightAhead = codes "RightAhead"
+
+-- the word of a side
+abbrev pub word_of_side : Side → List ℕ
+word_of_side Left = codes "Left"
+word_of_side Right = codes "Right"
+
+-- the word that begins a condition
+abbrev pub word_of_condition : CondWord → List ℕ
+word_of_condition CondWord.Friend = codes "Friend"
+word_of_condition CondWord.Foe = codes "Foe"
+word_of_condition CondWord.FriendWithFood = codes "FriendWithFood"
+word_of_condition CondWord.FoeWithFood = codes "FoeWithFood"
+word_of_condition CondWord.Food = codes "Food"
+word_of_condition CondWord.Rock = codes "Rock"
+word_of_condition CondWord.Marker = codes "Marker"
+word_of_condition CondWord.FoeMarker = codes "FoeMarker"
+word_of_condition CondWord.Home = codes "Home"
+word_of_condition CondWord.FoeHome = codes "FoeHome"
+
+-- the tables of words
+unfoldable pub form_words : List (List ℕ)
+form_words = map word_of_form (Form.Sense ∷ Form.Mark ∷ Form.Unmark ∷ Form.PickUp ∷ Form.Drop ∷ Form.Turn ∷ Form.Move ∷ Form.Flip ∷ [])
+
+unfoldable pub sight_words : List (List ℕ)
+sight_words = map word_of_sight (Here ∷ Ahead ∷ LeftAhead ∷ RightAhead ∷ [])
+
+unfoldable pub side_words : List (List ℕ)
+side_words = map word_of_side (Left ∷ Right ∷ [])
+
+unfoldable pub condition_words : List (List ℕ)
+condition_words = map word_of_condition (CondWord.Friend ∷ CondWord.Foe ∷ CondWord.FriendWithFood ∷ CondWord.FoeWithFood ∷ CondWord.Food ∷ CondWord.Rock ∷ CondWord.Marker ∷ CondWord.FoeMarker ∷ CondWord.Home ∷ CondWord.FoeHome ∷ [])
+
+-- one token of an instruction's line: a word, in any ASCII case, or a number
+pub data Field : Type 0 where
+  Word : List ℕ → Field
+  Number : ℕ → Field
+
+-- how a condition is spelled
+abbrev pub fields_of_condition : Cond → List Field
+fields_of_condition Friend = Word (word_of_condition CondWord.Friend) ∷ []
+fields_of_condition Foe = Word (word_of_condition CondWord.Foe) ∷ []
+fields_of_condition FriendWithFood = Word (word_of_condition CondWord.FriendWithFood) ∷ []
+fields_of_condition FoeWithFood = Word (word_of_condition CondWord.FoeWithFood) ∷ []
+fields_of_condition Food = Word (word_of_condition CondWord.Food) ∷ []
+fields_of_condition Rock = Word (word_of_condition CondWord.Rock) ∷ []
+fields_of_condition (Marker i) = Word (word_of_condition CondWord.Marker) ∷ Number i ∷ []
+fields_of_condition FoeMarker = Word (word_of_condition CondWord.FoeMarker) ∷ []
+fields_of_condition Home = Word (word_of_condition CondWord.Home) ∷ []
+fields_of_condition FoeHome = Word (word_of_condition CondWord.FoeHome) ∷ []
+
+-- how an instruction is spelled: the table of forms
+abbrev pub fields_of : Instr → List Field
+fields_of (Sense sight met unmet condition) = Word (word_of_form Form.Sense) ∷ Word (word_of_sight sight) ∷ Number met ∷ Number unmet ∷ fields_of_condition condition
+fields_of (Mark i next) = Word (word_of_form Form.Mark) ∷ Number i ∷ Number next ∷ []
+fields_of (Unmark i next) = Word (word_of_form Form.Unmark) ∷ Number i ∷ Number next ∷ []
+fields_of (PickUp met unmet) = Word (word_of_form Form.PickUp) ∷ Number met ∷ Number unmet ∷ []
+fields_of (Drop next) = Word (word_of_form Form.Drop) ∷ Number next ∷ []
+fields_of (Turn side next) = Word (word_of_form Form.Turn) ∷ Word (word_of_side side) ∷ Number next ∷ []
+fields_of (Move met unmet) = Word (word_of_form Form.Move) ∷ Number met ∷ Number unmet ∷ []
+fields_of (Flip bound met unmet) = Word (word_of_form Form.Flip) ∷ Number bound ∷ Number met ∷ Number unmet ∷ []
+
+-- a token spells a field
+abbrev pub Spells : Field → List ℕ → Type 0
+Spells (Word word) token = IsSameWord word token
+Spells (Number n) token = number_of token ≡ Some n
+
+-- the tokens spell the fields, one by one
+abbrev pub SpellsAll : List Field → List (List ℕ) → Type 0
+SpellsAll [] [] = Unit {0}
+SpellsAll [] (token ∷ tokens) = ⊥
+SpellsAll (field ∷ fields) [] = ⊥
+SpellsAll (field ∷ fields) (token ∷ tokens) = Spells field token × SpellsAll fields tokens
+
+-- the bound of an instruction is at most the last value of a u32
+abbrev pub HasBound : Instr → Type 0
+HasBound (Sense sight met unmet condition) = Unit {0}
+HasBound (Mark i next) = Unit {0}
+HasBound (Unmark i next) = Unit {0}
+HasBound (PickUp met unmet) = Unit {0}
+HasBound (Drop next) = Unit {0}
+HasBound (Turn side next) = Unit {0}
+HasBound (Move met unmet) = Unit {0}
+HasBound (Flip bound met unmet) = bound ≤ 4294967295
+
+-- the marker of an instruction is from 0 to 5, and its bound from 1 to the last value of a u32; its states are any numbers
+abbrev pub IsInRange : Instr → Type 0
+IsInRange (Sense sight met unmet condition) = IsSoundCond condition
+IsInRange (Mark i next) = i < 6
+IsInRange (Unmark i next) = i < 6
+IsInRange (PickUp met unmet) = Unit {0}
+IsInRange (Drop next) = Unit {0}
+IsInRange (Turn side next) = Unit {0}
+IsInRange (Move met unmet) = Unit {0}
+IsInRange (Flip bound met unmet) = (1 ≤ bound) × (bound ≤ 4294967295)
+
+-- the tokens of a line are those of an instruction
+pub record InstrLine (tokens : List (List ℕ)) (instruction : Instr) : Type 0 where
+  pub spelled : SpellsAll (fields_of instruction) tokens
+  pub in_range : IsInRange instruction

@@ -1,0 +1,12 @@
+pub mod Answers
+pub mod BrainText
+pub mod Canonical
+pub mod Draft
+pub mod Forms
+pub mod Judging
+pub mod Reading
+pub mod Reads
+pub mod Soundness
+pub mod Steps
+pub mod Tokens
+pub mod Verdict

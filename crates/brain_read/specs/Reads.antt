@@ -1,0 +1,15 @@
+-- That a reading of a text answers nothing else than it should (this project's own).
+use Rattle.std.specs.Prelude.{◌≡◌, ◌⊎◌, List, Result, Ok, Err}
+use Rattle.brain_read.specs.declared.fault.BrainFault.{BrainFault}
+use Rattle.brain_read.specs.declared.fault.BrainFault.TheVariants.{OutOfMemory}
+use Rattle.brain_read.specs.declared.instr.Instr.{Instr}
+
+-- the answer is this brain, or want of memory
+abbrev pub AnswersBrain : Result (List Instr) BrainFault → List Instr → Type 0
+AnswersBrain (Ok answered) brain = answered ≡ brain
+AnswersBrain (Err fault) brain = fault ≡ OutOfMemory
+
+-- the answer is this fault, or want of memory
+abbrev pub AnswersFault : Result (List Instr) BrainFault → BrainFault → Type 0
+AnswersFault (Ok answered) fault = ⊥
+AnswersFault (Err answered) fault = (answered ≡ fault) ⊎ (answered ≡ OutOfMemory)

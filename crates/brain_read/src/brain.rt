@@ -1,0 +1,61 @@
+// A brain: a list of sound instructions.
+ghost use Rattle.std.specs.Prelude.{◌≡◌, ◌<◌, ◌≤◌, length, slice_get, Some};
+ghost use Rattle.brain_read.specs.Soundness.{IsSound, IsBrain};
+
+use crate::instr::Instr;
+use std::marker::Model;
+
+/// A brain: its instructions, by state from 0 (the task's neurology).
+#[derive(Drop)]
+pub struct Brain {
+    list: Vec<Instr>,
+}
+
+impl Model for Brain {
+    ghost use Rattle.std.specs.Prelude.{List};
+    ghost use Rattle.brain_read.specs.declared.instr.Instr.{Instr};
+    ghost use Rattle.brain_read.specs.Soundness.{IsBrain};
+
+    ghost Value = { List Instr };
+
+    ghost view = { λ b. b.list.items };
+
+    ghost invariant = { λ b. IsBrain b.list.items };
+}
+
+impl Brain {
+    /// The brain of this list.
+    pub fn from_list(list: Vec<Instr>) -> Brain
+        requires { IsBrain list.items }
+        ensures { result ≡ list.items }
+    {
+        Brain { list }
+    }
+
+    /// How many states it has, from 1 to 10,000.
+    #[inline]
+    pub fn len(&self) -> u32
+        ensures length { result ≡ length self.now }
+        ensures brain { IsBrain self.now }
+    {
+        self.list.len() as u32
+    }
+
+    /// The instruction of this state, which is below the length.
+    #[inline]
+    pub fn at(&self, state: u16) -> Instr
+        requires { state < length self.now }
+        ensures instruction { slice_get self.now state ≡ Some result }
+        ensures sound { IsSound (length self.now) result }
+    {
+        self.list[state as usize]
+    }
+
+    // The instructions, by state.
+    pub(crate) fn instructions(&self) -> &[Instr]
+        ensures list { result.now ≡ self.now }
+        ensures brain { IsBrain self.now }
+    {
+        self.list.as_slice()
+    }
+}

@@ -1,0 +1,88 @@
+// What can be wrong with a text.
+use std::alloc::{AllocError, AllocFailed};
+
+/// What is wrong with the first position at fault of a line (this project's own).
+#[derive(Clone, Copy, Debug, PartialEq, Eq)]
+pub enum LineFault {
+    /// A token that should be a word is none of its position.
+    UnknownWord,
+    /// A position that the form needs has no token.
+    MissingToken,
+    /// A token that should be a number is none that its position accepts.
+    BadNumber,
+    /// A token stands beyond the end of the form.
+    ExtraToken,
+}
+
+/// Why a line is refused: what is wrong with its first position at fault, and whether the token there has a bad byte, which
+/// is none of tab, LF, CR and 32 to 126 (this project's own).
+#[derive(Clone, Copy, Debug, PartialEq, Eq)]
+pub struct Refusal {
+    pub fault: LineFault,
+    pub bad_byte: bool,
+}
+
+/// The fault of a text that should be a brain's. Lines are counted from 1 (this project's own).
+#[derive(Clone, Copy, Debug, PartialEq, Eq)]
+pub enum BrainFault {
+    /// A token has a byte that is none of tab, LF, CR and 32 to 126.
+    BadByte { line: u32 },
+    /// A token that should be a word is none of its position.
+    UnknownWord { line: u32 },
+    /// A position that the form needs has no token.
+    MissingToken { line: u32 },
+    /// A token that should be a number is none that its position accepts.
+    BadNumber { line: u32 },
+    /// A token stands beyond the end of the form.
+    ExtraToken { line: u32 },
+    /// The line has a token, and 10,000 instructions were read before it.
+    TooMany { line: u32 },
+    /// There is no instruction.
+    Empty,
+    /// A state is not below the number of instructions: the first such line, and its first such state.
+    NoSuchState { line: u32, state: u64 },
+    /// Memory could not be had.
+    OutOfMemory,
+}
+
+impl From<AllocError> for BrainFault {
+    ghost use Rattle.std.specs.Prelude.{◌≡◌};
+    ghost use Rattle.brain_read.specs.declared.fault.BrainFault.TheVariants.{OutOfMemory};
+
+    ghost from_gives = { λ _ fault. fault ≡ OutOfMemory };
+
+    fn from(_: AllocError) -> Self {
+        BrainFault::OutOfMemory
+    }
+}
+
+impl<T: Drop> From<AllocFailed<T>> for BrainFault {
+    ghost use Rattle.std.specs.Prelude.{◌≡◌};
+    ghost use Rattle.brain_read.specs.declared.fault.BrainFault.TheVariants.{OutOfMemory};
+
+    ghost from_gives = { λ _ fault. fault ≡ OutOfMemory };
+
+    fn from(_: AllocFailed<T>) -> Self {
+        BrainFault::OutOfMemory
+    }
+}
+
+impl Refusal {
+    ghost use Rattle.std.specs.Prelude.{◌≡◌};
+    ghost use Rattle.brain_read.specs.Verdict.{refusal_at, fault_at};
+
+    /// The fault of the line of this number that was refused so.
+    pub fn at(self, line: u32) -> BrainFault
+        ensures { result ≡ refusal_at line self }
+    {
+        if self.bad_byte {
+            return BrainFault::BadByte { line };
+        }
+        match self.fault {
+            LineFault::UnknownWord => BrainFault::UnknownWord { line },
+            LineFault::MissingToken => BrainFault::MissingToken { line },
+            LineFault::BadNumber => BrainFault::BadNumber { line },
+            LineFault::ExtraToken => BrainFault::ExtraToken { line },
+        }
+    }
+}

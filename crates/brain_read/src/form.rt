@@ -1,0 +1,78 @@
+// The words of the language, and what they stand for.
+ghost use Rattle.std.specs.Prelude.{◌≡◌};
+ghost use Rattle.brain_read.specs.Forms.{form_words, sight_words, side_words, condition_words};
+
+use word_table::WordTable;
+
+/// The form of an instruction: the word that it begins with (the task's neurology).
+#[derive(Clone, Copy, Debug, PartialEq, Eq)]
+pub enum Form {
+    Sense,
+    Mark,
+    Unmark,
+    PickUp,
+    Drop,
+    Turn,
+    Move,
+    Flip,
+}
+
+/// The word that a condition begins with (the task's phenomenology).
+#[derive(Clone, Copy, Debug, PartialEq, Eq)]
+pub enum CondWord {
+    Friend,
+    Foe,
+    FriendWithFood,
+    FoeWithFood,
+    Food,
+    Rock,
+    Marker,
+    FoeMarker,
+    Home,
+    FoeHome,
+}
+
+/// The words that begin an instruction, in the order of [`Form`].
+#[tactic(auto, unfolding(crate::specs::Forms::form_words))]
+pub fn form_table() -> WordTable<8>
+    ensures { result ≡ form_words }
+{
+    WordTable::new([
+        "Sense", "Mark", "Unmark", "PickUp", "Drop", "Turn", "Move", "Flip",
+    ])
+}
+
+/// The words of the sights.
+#[tactic(auto, unfolding(crate::specs::Forms::sight_words))]
+pub fn sight_table() -> WordTable<4>
+    ensures { result ≡ sight_words }
+{
+    WordTable::new(["Here", "Ahead", "LeftAhead", "RightAhead"])
+}
+
+/// The words of the sides.
+#[tactic(auto, unfolding(crate::specs::Forms::side_words))]
+pub fn side_table() -> WordTable<2>
+    ensures { result ≡ side_words }
+{
+    WordTable::new(["Left", "Right"])
+}
+
+/// The words that begin a condition, in the order of [`CondWord`].
+#[tactic(auto, unfolding(crate::specs::Forms::condition_words))]
+pub fn condition_table() -> WordTable<10>
+    ensures { result ≡ condition_words }
+{
+    WordTable::new([
+        "Friend",
+        "Foe",
+        "FriendWithFood",
+        "FoeWithFood",
+        "Food",
+        "Rock",
+        "Marker",
+        "FoeMarker",
+        "Home",
+        "FoeHome",
+    ])
+}

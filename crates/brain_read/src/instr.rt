@@ -1,0 +1,74 @@
+// Instructions and conditions.
+use hex_geometry::{Side, Sight};
+
+/// What a Sense looks for in the sensed cell (the task's phenomenology).
+#[derive(Clone, Copy, Debug, PartialEq, Eq)]
+pub enum Cond {
+    /// An ant of the own colour.
+    Friend,
+    /// An ant of the other colour.
+    Foe,
+    /// An ant of the own colour that carries food.
+    FriendWithFood,
+    /// An ant of the other colour that carries food.
+    FoeWithFood,
+    /// Food on the cell.
+    Food,
+    /// A rocky cell.
+    Rock,
+    /// The ant's own colour's marker of this number, from 0 to 5.
+    Marker(u8),
+    /// Any marker of the foe's.
+    FoeMarker,
+    /// The own hill.
+    Home,
+    /// The foe's hill.
+    FoeHome,
+}
+
+/// One instruction of a brain (the task's neurology). States are from 0 to 9,999, markers from 0 to 5, the bound of a Flip is at least 1.
+#[derive(Clone, Copy, Debug, PartialEq, Eq)]
+pub enum Instr {
+    /// Goes to `yes` where the sensed cell meets the condition, else to `no`.
+    Sense {
+        sight: Sight,
+        yes: u16,
+        no: u16,
+        cond: Cond,
+    },
+    /// Sets the own colour's marker on the own cell.
+    Mark {
+        mark: u8,
+        next: u16,
+    },
+    /// Clears the own colour's marker on the own cell.
+    Unmark {
+        mark: u8,
+        next: u16,
+    },
+    /// Takes a food particle and goes to `yes`, or goes to `no` where the ant carries one or there is none.
+    PickUp {
+        yes: u16,
+        no: u16,
+    },
+    /// Puts down the food particle, if the ant carries one.
+    Drop {
+        next: u16,
+    },
+    /// Turns by one direction.
+    Turn {
+        side: Side,
+        next: u16,
+    },
+    /// Steps ahead and goes to `yes`, or goes to `no` where the cell ahead is rocky or holds an ant.
+    Move {
+        yes: u16,
+        no: u16,
+    },
+    /// Draws a number below the bound, and goes to `yes` where it is 0, else to `no`.
+    Flip {
+        bound: u32,
+        yes: u16,
+        no: u16,
+    },
+}

@@ -1,0 +1,34 @@
+//! Brains: their instructions, and their text read and written.
+//!
+//! The task's neurology. A [`Brain`] is a list of 1 to 10,000 instructions in which every named state is below the length, every marker
+//! is below 6 and every bound is at least 1. Above, it promises that [`read_brain`] answers exactly the brain of a text or exactly its
+//! fault, and that [`write_brain`] pushes the one canonical text, which is read as that brain again. What other texts of lines and
+//! tokens share stands public here: [`Tokens`], the [`positions`] and the tables of words. It stands on the sinks, lines and numbers of
+//! `ant_base`, the tables of `word_table` and the sides and sights of `hex_geometry`.
+#![tactic(auto)]
+
+mod brain;
+mod draft;
+mod fault;
+mod form;
+mod instr;
+mod laws;
+mod line;
+pub mod positions;
+mod read;
+mod steps;
+mod tokens;
+mod write;
+
+pub use brain::Brain;
+pub use fault::{BrainFault, LineFault, Refusal};
+pub use form::{CondWord, Form, condition_table, form_table, side_table, sight_table};
+pub use hex_geometry::{OutOfMemory, Side, Sight};
+pub use instr::{Cond, Instr};
+pub use laws::{canonical_text_is_read, one_brain_or_one_fault};
+pub use read::read_brain;
+pub use tokens::Tokens;
+pub use write::write_brain;
+
+#[cfg(test)]
+mod tests;

@@ -1,0 +1,135 @@
+// One instruction from the tokens of a line.
+ghost use Rattle.std.specs.Prelude.{◌≡◌};
+ghost use Rattle.brain_read.specs.Reading as reading;
+ghost use Rattle.brain_read.specs.Draft.{as_read};
+
+use crate::draft::Draft;
+use crate::fault::Refusal;
+use crate::form::{Form, form_table};
+use crate::positions::{bound, condition, marker, side, sight, state};
+use crate::tokens::Tokens;
+use word_table::word_arms;
+
+/// The instruction of a line.
+#[tactic(auto, unfolding(crate::specs::Reading::read_line))]
+pub fn instruction(tokens: &mut Tokens) -> Result<Draft, Refusal>
+    ensures read { reading.read_line tokens.old.tokens ≡ as_read result }
+    ensures after { tokens.new.after ≡ tokens.old.after }
+{
+    let place = tokens.word(&form_table())?;
+    match form_at(place) {
+        Form::Sense => sense(tokens),
+        Form::Mark => mark(tokens),
+        Form::Unmark => unmark(tokens),
+        Form::PickUp => pick_up(tokens),
+        Form::Drop => drop_food(tokens),
+        Form::Turn => turn(tokens),
+        Form::Move => step(tokens),
+        Form::Flip => flip(tokens),
+    }
+}
+
+fn form_at(place: usize) -> Form
+    ensures { result ≡ reading.form_at place }
+{
+    word_arms!(
+        place;
+        Form::Sense, Form::Mark, Form::Unmark, Form::PickUp,
+        Form::Drop, Form::Turn, Form::Move, Form::Flip
+    )
+}
+
+#[tactic(auto, unfolding(crate::specs::Reading::read_sense))]
+fn sense(tokens: &mut Tokens) -> Result<Draft, Refusal>
+    ensures read { reading.read_sense tokens.old.tokens ≡ as_read result }
+    ensures after { tokens.new.after ≡ tokens.old.after }
+{
+    let sight = sight(tokens)?;
+    let yes = state(tokens)?;
+    let no = state(tokens)?;
+    let cond = condition(tokens)?;
+    tokens.end()?;
+    Ok(Draft::Sense {
+        sight,
+        yes,
+        no,
+        cond,
+    })
+}
+
+#[tactic(auto, unfolding(crate::specs::Reading::read_mark))]
+fn mark(tokens: &mut Tokens) -> Result<Draft, Refusal>
+    ensures read { reading.read_mark tokens.old.tokens ≡ as_read result }
+    ensures after { tokens.new.after ≡ tokens.old.after }
+{
+    let mark = marker(tokens)?;
+    let next = state(tokens)?;
+    tokens.end()?;
+    Ok(Draft::Mark { mark, next })
+}
+
+#[tactic(auto, unfolding(crate::specs::Reading::read_unmark))]
+fn unmark(tokens: &mut Tokens) -> Result<Draft, Refusal>
+    ensures read { reading.read_unmark tokens.old.tokens ≡ as_read result }
+    ensures after { tokens.new.after ≡ tokens.old.after }
+{
+    let mark = marker(tokens)?;
+    let next = state(tokens)?;
+    tokens.end()?;
+    Ok(Draft::Unmark { mark, next })
+}
+
+#[tactic(auto, unfolding(crate::specs::Reading::read_pick_up))]
+fn pick_up(tokens: &mut Tokens) -> Result<Draft, Refusal>
+    ensures read { reading.read_pick_up tokens.old.tokens ≡ as_read result }
+    ensures after { tokens.new.after ≡ tokens.old.after }
+{
+    let yes = state(tokens)?;
+    let no = state(tokens)?;
+    tokens.end()?;
+    Ok(Draft::PickUp { yes, no })
+}
+
+#[tactic(auto, unfolding(crate::specs::Reading::read_drop))]
+fn drop_food(tokens: &mut Tokens) -> Result<Draft, Refusal>
+    ensures read { reading.read_drop tokens.old.tokens ≡ as_read result }
+    ensures after { tokens.new.after ≡ tokens.old.after }
+{
+    let next = state(tokens)?;
+    tokens.end()?;
+    Ok(Draft::Drop { next })
+}
+
+#[tactic(auto, unfolding(crate::specs::Reading::read_turn))]
+fn turn(tokens: &mut Tokens) -> Result<Draft, Refusal>
+    ensures read { reading.read_turn tokens.old.tokens ≡ as_read result }
+    ensures after { tokens.new.after ≡ tokens.old.after }
+{
+    let side = side(tokens)?;
+    let next = state(tokens)?;
+    tokens.end()?;
+    Ok(Draft::Turn { side, next })
+}
+
+#[tactic(auto, unfolding(crate::specs::Reading::read_move))]
+fn step(tokens: &mut Tokens) -> Result<Draft, Refusal>
+    ensures read { reading.read_move tokens.old.tokens ≡ as_read result }
+    ensures after { tokens.new.after ≡ tokens.old.after }
+{
+    let yes = state(tokens)?;
+    let no = state(tokens)?;
+    tokens.end()?;
+    Ok(Draft::Move { yes, no })
+}
+
+#[tactic(auto, unfolding(crate::specs::Reading::read_flip))]
+fn flip(tokens: &mut Tokens) -> Result<Draft, Refusal>
+    ensures read { reading.read_flip tokens.old.tokens ≡ as_read result }
+    ensures after { tokens.new.after ≡ tokens.old.after }
+{
+    let bound = bound(tokens)?;
+    let yes = state(tokens)?;
+    let no = state(tokens)?;
+    tokens.end()?;
+    Ok(Draft::Flip { bound, yes, no })
+}

@@ -1,0 +1,97 @@
+// Words, numbers and the end of a line, by their positions.
+ghost use Rattle.std.specs.Prelude.{◌≡◌, ◌≤◌, IfOk, IfSome};
+ghost use Rattle.std.specs.List.{list_any};
+ghost use Rattle.ant_base.specs.Number.{number_of};
+ghost use Rattle.brain_read.specs.Tokens.{is_bad_byte, has_bad_byte};
+ghost use Rattle.brain_read.specs.Steps.{with_rest, missing, refused, within, take_word, take_number, take_end};
+
+use crate::fault::{LineFault, Refusal};
+use crate::tokens::Tokens;
+use ant_base::read_number;
+use word_table::WordTable;
+
+impl<'t> Tokens<'t> {
+    /// The place in a table, counted from 0, of the next token, which should be a word of it.
+    pub fn word<const N: usize>(&mut self, table: &WordTable<N>) -> Result<usize, Refusal>
+        ensures step { take_word table.now self.old.tokens ≡ with_rest self.new.tokens result }
+        ensures after { self.new.after ≡ self.old.after }
+    {
+        let Some(token) = self.next() else {
+            return Err(missing());
+        };
+        match table.find(token) {
+            Some(place) => Ok(place),
+            None => Err(refused(token, LineFault::UnknownWord)),
+        }
+    }
+
+    /// The value of the next token, which should be a number from `least` to `most`.
+    pub fn number(&mut self, least: u64, most: u64) -> Result<u64, Refusal>
+        ensures step { take_number least most self.old.tokens ≡ with_rest self.new.tokens result }
+        ensures bounds { IfOk result (λ number. (least ≤ number) × (number ≤ most)) }
+        ensures after { self.new.after ≡ self.old.after }
+    {
+        let Some(token) = self.next() else {
+            return Err(missing());
+        };
+        match number_within(least, most, token) {
+            Some(number) => Ok(number),
+            None => Err(refused(token, LineFault::BadNumber)),
+        }
+    }
+
+    /// Nothing, where no token is left.
+    pub fn end(&mut self) -> Result<(), Refusal>
+        ensures step { take_end self.old.tokens ≡ with_rest self.new.tokens result }
+        ensures after { self.new.after ≡ self.old.after }
+    {
+        match self.next() {
+            Some(token) => Err(refused(token, LineFault::ExtraToken)),
+            None => Ok(()),
+        }
+    }
+}
+
+// A position has no token.
+fn missing() -> Refusal
+    ensures { result ≡ missing }
+{
+    Refusal {
+        fault: LineFault::MissingToken,
+        bad_byte: false,
+    }
+}
+
+// A position doesn't accept its token.
+fn refused(token: &[u8], fault: LineFault) -> Refusal
+    ensures { result ≡ refused token.now fault }
+{
+    Refusal {
+        fault,
+        bad_byte: has_bad_byte(token),
+    }
+}
+
+fn has_bad_byte(token: &[u8]) -> bool
+    ensures { result ≡ has_bad_byte token.now }
+{
+    token.iter().any(|byte| is_bad_byte(*byte))
+}
+
+fn is_bad_byte(byte: u8) -> bool
+    ensures { result ≡ is_bad_byte byte }
+{
+    !(byte == b'\t' || byte == b'\n' || byte == b'\r' || (32 <= byte && byte <= 126))
+}
+
+fn number_within(least: u64, most: u64, token: &[u8]) -> Option<u64>
+    ensures value { result ≡ within least most (number_of token.now) }
+    ensures bounds { IfSome result (λ number. (least ≤ number) × (number ≤ most)) }
+{
+    let number = read_number(token)?;
+    if least <= number && number <= most {
+        Some(number)
+    } else {
+        None
+    }
+}

@@ -1,0 +1,223 @@
+// The canonical text of a brain, pushed to a sink.
+ghost use Rattle.std.specs.Prelude.{◌≡◌, [], ◌∷◌, OnOk};
+ghost use Rattle.std.specs.List.{AllByRecursion};
+ghost use Rattle.ant_base.specs.Sink.{Pushed};
+ghost use Rattle.brain_read.specs.Forms.{word_of_form, word_of_sight, word_of_side, word_of_condition, fields_of_condition, HasBound};
+ghost use Rattle.brain_read.specs.Forms.Field.{Word, Number};
+ghost use Rattle.brain_read.specs.declared.instr.Cond.TheVariants.{Marker};
+ghost use Rattle.brain_read.specs.declared.instr.Instr.TheVariants.{Sense, Drop, Turn, Flip};
+ghost use Rattle.brain_read.specs.Reading.{place_of_form, place_of_sight, place_of_side, place_of_condition};
+ghost use Rattle.brain_read.specs.BrainText.{BrainText};
+ghost use Rattle.brain_read.specs.Canonical.{line_text, further_text, instruction_text, brain_text};
+
+use crate::brain::Brain;
+use crate::form::{CondWord, Form, condition_table, form_table, side_table, sight_table};
+use crate::instr::{Cond, Instr};
+use ant_base::{Failed, Layout, Sink, layout};
+use hex_geometry::{Side, Sight};
+
+/// Pushes the canonical text of a brain: one line for each instruction, its words as the tables spell them and its numbers
+/// without leading zeros, one space between tokens, LF at the end (this project's own). At `Failed` a front of it was appended.
+pub fn write_brain<K: Sink>(brain: &Brain, sink: &mut K) -> Result<(), Failed>
+    ensures pushed { Pushed (K.state sink.old) (K.state sink.new) (brain_text brain.now) result }
+    ensures again { OnOk result (BrainText (brain_text brain.now) brain.now) }
+{
+    push_lines(brain.instructions(), sink)
+}
+
+#[tactic(auto, unfolding(crate::specs::Canonical::brain_text))]
+fn push_lines<K: Sink>(list: &[Instr], sink: &mut K) -> Result<(), Failed>
+    ensures pushed { Pushed (K.state sink.old) (K.state sink.new) (brain_text list.now) result }
+    ensures bounds { OnOk result (AllByRecursion HasBound list.now) }
+{
+    for instr in list {
+        push_line(*instr, sink)?;
+    }
+    Ok(())
+}
+
+// The line of an instruction.
+#[tactic(auto, unfolding(crate::specs::Canonical::instruction_text))]
+fn push_line<K: Sink>(instr: Instr, sink: &mut K) -> Result<(), Failed>
+    ensures pushed { Pushed (K.state sink.old) (K.state sink.new) (instruction_text instr) result }
+    ensures bound { HasBound instr }
+{
+    match instr {
+        Instr::Sense {
+            sight,
+            yes,
+            no,
+            cond,
+        } => push_sense(sight, yes, no, cond, sink),
+        Instr::Mark { mark, next } => push_numbers(Form::Mark, mark as u16, next, sink),
+        Instr::Unmark { mark, next } => push_numbers(Form::Unmark, mark as u16, next, sink),
+        Instr::PickUp { yes, no } => push_numbers(Form::PickUp, yes, no, sink),
+        Instr::Drop { next } => push_drop(next, sink),
+        Instr::Turn { side, next } => push_turn(side, next, sink),
+        Instr::Move { yes, no } => push_numbers(Form::Move, yes, no, sink),
+        Instr::Flip { bound, yes, no } => push_flip(bound, yes, no, sink),
+    }
+}
+
+#[tactic(auto, unfolding(crate::specs::Canonical::instruction_text))]
+fn push_sense<K: Sink>(
+    sight: Sight,
+    yes: u16,
+    no: u16,
+    cond: Cond,
+    sink: &mut K,
+) -> Result<(), Failed>
+    ensures { Pushed (K.state sink.old) (K.state sink.new)
+        (instruction_text (Sense sight yes no cond)) result }
+{
+    let word = FormText(Form::Sense);
+    let sight = SightText(sight);
+    layout!(word, " ", sight, " ", yes, " ", no, CondEnd(cond)).push_to(sink)
+}
+
+// A line of a word and two numbers.
+fn push_numbers<K: Sink>(form: Form, first: u16, second: u16, sink: &mut K) -> Result<(), Failed>
+    ensures { Pushed (K.state sink.old) (K.state sink.new)
+        (line_text (Word (word_of_form form) ∷ Number first ∷ Number second ∷ [])) result }
+{
+    layout!(FormText(form), " ", first, " ", second, "\n").push_to(sink)
+}
+
+#[tactic(auto, unfolding(crate::specs::Canonical::instruction_text))]
+fn push_drop<K: Sink>(next: u16, sink: &mut K) -> Result<(), Failed>
+    ensures { Pushed (K.state sink.old) (K.state sink.new) (instruction_text (Drop next)) result }
+{
+    layout!(FormText(Form::Drop), " ", next, "\n").push_to(sink)
+}
+
+#[tactic(auto, unfolding(crate::specs::Canonical::instruction_text))]
+fn push_turn<K: Sink>(side: Side, next: u16, sink: &mut K) -> Result<(), Failed>
+    ensures { Pushed (K.state sink.old) (K.state sink.new) (instruction_text (Turn side next)) result }
+{
+    layout!(FormText(Form::Turn), " ", SideText(side), " ", next, "\n").push_to(sink)
+}
+
+#[tactic(auto, unfolding(crate::specs::Canonical::instruction_text))]
+fn push_flip<K: Sink>(bound: u32, yes: u16, no: u16, sink: &mut K) -> Result<(), Failed>
+    ensures { Pushed (K.state sink.old) (K.state sink.new) (instruction_text (Flip bound yes no)) result }
+{
+    let word = FormText(Form::Flip);
+    layout!(word, " ", bound, " ", yes, " ", no, "\n").push_to(sink)
+}
+
+// The condition at the end of a line.
+#[derive(Clone, Copy)]
+struct CondEnd(Cond);
+
+impl Layout for CondEnd {
+    ghost text = { λ end. further_text (fields_of_condition end.0) };
+
+    fn push_to<K: Sink>(&self, sink: &mut K) -> Result<(), Failed> {
+        match self.0 {
+            Cond::Friend => push_condition(CondWord::Friend, sink),
+            Cond::Foe => push_condition(CondWord::Foe, sink),
+            Cond::FriendWithFood => push_condition(CondWord::FriendWithFood, sink),
+            Cond::FoeWithFood => push_condition(CondWord::FoeWithFood, sink),
+            Cond::Food => push_condition(CondWord::Food, sink),
+            Cond::Rock => push_condition(CondWord::Rock, sink),
+            Cond::Marker(mark) => push_marker(mark, sink),
+            Cond::FoeMarker => push_condition(CondWord::FoeMarker, sink),
+            Cond::Home => push_condition(CondWord::Home, sink),
+            Cond::FoeHome => push_condition(CondWord::FoeHome, sink),
+        }
+    }
+}
+
+// A condition of one word, and the line's end.
+fn push_condition<K: Sink>(word: CondWord, sink: &mut K) -> Result<(), Failed>
+    ensures { Pushed (K.state sink.old) (K.state sink.new)
+        (further_text (Word (word_of_condition word) ∷ [])) result }
+{
+    layout!(" ", CondText(word), "\n").push_to(sink)
+}
+
+// The condition of a marker, and the line's end.
+fn push_marker<K: Sink>(mark: u8, sink: &mut K) -> Result<(), Failed>
+    ensures { Pushed (K.state sink.old) (K.state sink.new)
+        (further_text (fields_of_condition (Marker mark))) result }
+{
+    layout!(" ", CondText(CondWord::Marker), " ", mark, "\n").push_to(sink)
+}
+
+// The word of a form.
+#[derive(Clone, Copy)]
+struct FormText(Form);
+
+impl Layout for FormText {
+    ghost text = { λ form. word_of_form form.0 };
+
+    #[tactic(auto, using(crate::proofs::Spelled::form_stands))]
+    fn push_to<K: Sink>(&self, sink: &mut K) -> Result<(), Failed> {
+        form_table().word(form_place(self.0)).push_to(sink)
+    }
+}
+
+fn form_place(form: Form) -> usize
+    ensures { result ≡ place_of_form form }
+{
+    form as usize
+}
+
+// The word of a sight.
+#[derive(Clone, Copy)]
+struct SightText(Sight);
+
+impl Layout for SightText {
+    ghost text = { λ sight. word_of_sight sight.0 };
+
+    #[tactic(auto, using(crate::proofs::Spelled::sight_stands))]
+    fn push_to<K: Sink>(&self, sink: &mut K) -> Result<(), Failed> {
+        sight_table().word(sight_place(self.0)).push_to(sink)
+    }
+}
+
+fn sight_place(sight: Sight) -> usize
+    ensures { result ≡ place_of_sight sight }
+{
+    sight as usize
+}
+
+// The word of a side.
+#[derive(Clone, Copy)]
+struct SideText(Side);
+
+impl Layout for SideText {
+    ghost text = { λ side. word_of_side side.0 };
+
+    #[tactic(auto, using(crate::proofs::Spelled::side_stands))]
+    fn push_to<K: Sink>(&self, sink: &mut K) -> Result<(), Failed> {
+        side_table().word(side_place(self.0)).push_to(sink)
+    }
+}
+
+fn side_place(side: Side) -> usize
+    ensures { result ≡ place_of_side side }
+{
+    side as usize
+}
+
+// The word that begins a condition.
+#[derive(Clone, Copy)]
+struct CondText(CondWord);
+
+impl Layout for CondText {
+    ghost text = { λ word. word_of_condition word.0 };
+
+    #[tactic(auto, using(crate::proofs::Spelled::condition_stands))]
+    fn push_to<K: Sink>(&self, sink: &mut K) -> Result<(), Failed> {
+        condition_table()
+            .word(condition_place(self.0))
+            .push_to(sink)
+    }
+}
+
+fn condition_place(word: CondWord) -> usize
+    ensures { result ≡ place_of_condition word }
+{
+    word as usize
+}
