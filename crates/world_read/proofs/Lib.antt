@@ -1,0 +1,11 @@
+pub mod Canonicals
+pub mod CellBytes
+pub mod FaultReads
+pub mod Faults
+pub mod KindsRead
+pub mod PlanReads
+pub mod Rims
+pub mod RowReads
+pub mod TextReads
+pub mod Verdicts
+pub mod WrongReads

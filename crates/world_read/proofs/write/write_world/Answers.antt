@@ -1,0 +1,5 @@
+use Rattle.world_read.proofs.KindsRead.{food-begins}
+use Rattle.world_read.proofs.write.write_world.Goals as goal
+
+pub invariant_of-layout : goal.invariant_of-layout
+invariant_of-layout g c = record { light = food-begins c.args.world.now c.requires }

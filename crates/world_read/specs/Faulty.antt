@@ -1,0 +1,147 @@
+-- What is wrong with a text that is no world's (this project's own).
+use Rattle.std.specs.Prelude.{◌≡◌, ℕ, ◌+◌, ◌<◌, ◌≤◌, true, false, List, [], ◌∷◌, ◌++◌, length, map, Result, Ok, Err}
+use Rattle.std.specs.List.{All}
+use Rattle.ant_base.specs.Lines.{lines_of, is_blank}
+use Rattle.hex_geometry.specs.declared.position.Pos.{Pos}
+use Rattle.hex_geometry.specs.Position.{IsInner, IsInside}
+use Rattle.cell_world.specs.declared.kind.Kind.{Kind}
+use Rattle.cell_world.specs.Grid.{index_of}
+use Rattle.cell_world.specs.Opening.{IsFed, hill_count, is_rock, kind_at}
+use Rattle.world_read.specs.declared.fault.WorldFault.{WorldFault}
+use Rattle.world_read.specs.declared.fault.WorldFault.TheVariants.{BadWidth, BadHeight, MissingRow, BadCell, ShortRow, LongRow, ExtraRow, OpenRim, TooManyAnts, OutOfMemory}
+use Rattle.world_read.specs.Bytes.{byte_of, spelled}
+use Rattle.world_read.specs.Grammar.{AreRows, IsSizeLine, IsWorldText}
+use Rattle.world_read.specs.Reading.{Plan}
+
+-- a line gives a size from 3 to 512
+pub record HasSize (line : List ℕ) (size : ℕ) : Type 0 where
+  pub is : IsSizeLine line size
+  pub least : 3 ≤ size
+  pub most : size ≤ 512
+
+-- there is no first line, or it gives no size
+abbrev pub BeginsWithNoSize : List (List ℕ) → Type 0
+BeginsWithNoSize [] = Unit {0}
+BeginsWithNoSize (line ∷ lines) = (size : ℕ) → HasSize line size → ⊥
+
+-- the first line gives a width, and no second line gives a height
+pub record HasNoHeight (text : List ℕ) : Type 0 where
+  pub width : ℕ
+  pub first : List ℕ
+  pub lines : List (List ℕ)
+  pub are : lines_of text ≡ first ∷ lines
+  pub is_width : HasSize first width
+  pub none : BeginsWithNoSize lines
+
+-- both sizes are given, and after them so many whole rows of these kinds; then come these lines
+pub record HasRows (text : List ℕ) (width height count : ℕ) (kinds : List Kind) (rest : List (List ℕ)) : Type 0 where
+  pub first : List ℕ
+  pub second : List ℕ
+  pub rows : List (List ℕ)
+  pub are : lines_of text ≡ first ∷ second ∷ (rows ++ rest)
+  pub is_width : HasSize first width
+  pub is_height : HasSize second height
+  pub as_many : length rows ≡ count
+  pub are_rows : AreRows width rows kinds
+  pub fed : All IsFed kinds
+
+-- bytes are those of these cells, and then these
+pub record BeginsWith (bytes : List ℕ) (cells : List Kind) (rest : List ℕ) : Type 0 where
+  pub spelled : bytes ≡ map byte_of cells ++ rest
+  pub fed : All IsFed cells
+
+-- a byte is that of no cell
+abbrev pub IsNoCell : ℕ → Type 0
+IsNoCell byte = (kind : Kind) → IsFed kind → byte ≡ byte_of kind → ⊥
+
+-- what is wrong with these bytes of row y, in front of which so many of its cells stand: a byte within the width is that of no cell,
+-- all are cells and are too few, or one more follows a whole row
+abbrev pub IsCellFault : ℕ → ℕ → ℕ → List ℕ → WorldFault → Type 0
+IsCellFault width y column bytes (BadCell row at) =
+    (row ≡ y) × (cells : List Kind) × (byte : ℕ) × (rest : List ℕ) × BeginsWith bytes cells (byte ∷ rest) × (column + length cells ≡ at) × (at < width) × IsNoCell byte
+IsCellFault width y column bytes (ShortRow row) = (row ≡ y) × (cells : List Kind) × BeginsWith bytes cells [] × (column + length cells < width)
+IsCellFault width y column bytes (LongRow row) =
+    (row ≡ y) × (cells : List Kind) × (byte : ℕ) × (rest : List ℕ) × BeginsWith bytes cells (byte ∷ rest) × (column + length cells ≡ width)
+IsCellFault width y column bytes _ = ⊥
+
+-- a line stands where row y should, and its bytes but for separators are at fault
+abbrev pub IsLineFault : ℕ → ℕ → List (List ℕ) → WorldFault → Type 0
+IsLineFault width y lines fault = (line : List ℕ) × (after : List (List ℕ)) × (lines ≡ line ∷ after) × IsCellFault width y 0 (spelled line) fault
+
+-- what is wrong with row y, where these lines are left
+abbrev pub IsRowFault : ℕ → ℕ → List (List ℕ) → WorldFault → Type 0
+IsRowFault width y lines (MissingRow row) = (row ≡ y) × (lines ≡ [])
+IsRowFault width y lines (BadCell row column) = IsLineFault width y lines (BadCell row column)
+IsRowFault width y lines (ShortRow row) = IsLineFault width y lines (ShortRow row)
+IsRowFault width y lines (LongRow row) = IsLineFault width y lines (LongRow row)
+IsRowFault width y lines _ = ⊥
+
+-- the rows before one are whole, and it is at fault
+pub record HasRowFault (text : List ℕ) (fault : WorldFault) : Type 0 where
+  pub width : ℕ
+  pub height : ℕ
+  pub row : ℕ
+  pub kinds : List Kind
+  pub rest : List (List ℕ)
+  pub rows : HasRows text width height row kinds rest
+  pub within : row < height
+  pub wrong : IsRowFault width row rest fault
+
+-- all rows are whole, and a line after them isn't blank
+pub record HasExtraRow (text : List ℕ) : Type 0 where
+  pub width : ℕ
+  pub height : ℕ
+  pub kinds : List Kind
+  pub before : List (List ℕ)
+  pub line : List ℕ
+  pub after : List (List ℕ)
+  pub rows : HasRows text width height height kinds (before ++ line ∷ after)
+  pub wrong : is_blank line ≡ false
+
+-- all rows are whole, of these sizes and kinds, and blank lines alone come after them
+pub record IsComplete (text : List ℕ) (width height : ℕ) (kinds : List Kind) : Type 0 where
+  pub rest : List (List ℕ)
+  pub rows : HasRows text width height height kinds rest
+  pub blank : All (λ line. is_blank line ≡ true) rest
+
+-- the cell at a position isn't on the rim, or it is rock
+abbrev pub IsClosed : ℕ → ℕ → List Kind → Pos → Type 0
+IsClosed width height kinds p = is_rock (kind_at width kinds p) ≡ false → IsInner width height p
+
+-- the text is complete, a cell of the rim isn't rock, and those of the rim before it in row order are
+pub record HasOpenRim (text : List ℕ) (p : Pos) : Type 0 where
+  pub width : ℕ
+  pub height : ℕ
+  pub kinds : List Kind
+  pub complete : IsComplete text width height kinds
+  pub inside : IsInside width height p
+  pub wrong : IsClosed width height kinds p → ⊥
+  pub first : (q : Pos) → IsInside width height q → index_of width q < index_of width p → IsClosed width height kinds q
+
+-- the text is complete, its rim is rock, and so many of its cells are of a hill, which are more than 16,384
+pub record HasTooManyAnts (text : List ℕ) (count : ℕ) : Type 0 where
+  pub width : ℕ
+  pub height : ℕ
+  pub kinds : List Kind
+  pub complete : IsComplete text width height kinds
+  pub rim : (p : Pos) → IsInside width height p → IsClosed width height kinds p
+  pub is : count ≡ hill_count kinds
+  pub wrong : 16384 < count
+
+-- what is wrong with a text
+abbrev pub IsWorldFault : List ℕ → WorldFault → Type 0
+IsWorldFault text BadWidth = BeginsWithNoSize (lines_of text)
+IsWorldFault text BadHeight = HasNoHeight text
+IsWorldFault text (MissingRow row) = HasRowFault text (MissingRow row)
+IsWorldFault text (BadCell row column) = HasRowFault text (BadCell row column)
+IsWorldFault text (ShortRow row) = HasRowFault text (ShortRow row)
+IsWorldFault text (LongRow row) = HasRowFault text (LongRow row)
+IsWorldFault text ExtraRow = HasExtraRow text
+IsWorldFault text (OpenRim x y) = HasOpenRim text (record { x = x; y = y })
+IsWorldFault text (TooManyAnts count) = HasTooManyAnts text count
+IsWorldFault text OutOfMemory = ⊥
+
+-- the verdict on a text: the sizes and kinds of the world of which it is a text, or what is wrong with it
+abbrev pub IsVerdict : List ℕ → Result Plan WorldFault → Type 0
+IsVerdict text (Ok plan) = IsWorldText text plan.width plan.height plan.kinds
+IsVerdict text (Err fault) = IsWorldFault text fault

@@ -1,0 +1,82 @@
+// Why a text is no world.
+ghost use Rattle.std.specs.Prelude.{◌≡◌};
+
+use hex_geometry::OutOfMemory;
+use std::alloc::{AllocError, AllocFailed};
+
+/// Why a text was not read as a world, the first in this order (this project's own). Rows and columns are counted from 0.
+#[derive(Clone, Copy, Debug, PartialEq, Eq)]
+pub enum WorldFault {
+    /// There is no first line, or it isn't a number from 3 to 512.
+    BadWidth,
+    /// There is no second line, or it isn't a number from 3 to 512.
+    BadHeight,
+    /// The text has no line for this row.
+    MissingRow {
+        /// the row, from 0
+        row: u16,
+    },
+    /// A byte of this row is no cell; so many cells of the row stand before it.
+    BadCell {
+        /// the row, from 0
+        row: u16,
+        /// how many cells stand before it
+        column: u16,
+    },
+    /// This row has fewer cells than the width.
+    ShortRow {
+        /// the row, from 0
+        row: u16,
+    },
+    /// This row has more bytes for cells than the width.
+    LongRow {
+        /// the row, from 0
+        row: u16,
+    },
+    /// A line after the last row has a byte that is no separator.
+    ExtraRow,
+    /// A cell of the rim isn't rocky; this is the first in row order.
+    OpenRim {
+        /// the column, from 0
+        x: u16,
+        /// the row, from 0
+        y: u16,
+    },
+    /// There are so many hill cells, and more than 16,384.
+    TooManyAnts {
+        /// how many hill cells there are
+        count: u32,
+    },
+    /// Memory could not be had.
+    OutOfMemory,
+}
+
+impl From<AllocError> for WorldFault {
+    ghost use Rattle.world_read.specs.declared.fault.WorldFault.TheVariants.{OutOfMemory};
+
+    ghost from_gives = { λ _ fault. fault ≡ OutOfMemory };
+
+    fn from(_: AllocError) -> Self {
+        WorldFault::OutOfMemory
+    }
+}
+
+impl<T: Drop> From<AllocFailed<T>> for WorldFault {
+    ghost use Rattle.world_read.specs.declared.fault.WorldFault.TheVariants.{OutOfMemory};
+
+    ghost from_gives = { λ _ fault. fault ≡ OutOfMemory };
+
+    fn from(_: AllocFailed<T>) -> Self {
+        WorldFault::OutOfMemory
+    }
+}
+
+impl From<OutOfMemory> for WorldFault {
+    ghost use Rattle.world_read.specs.declared.fault.WorldFault.TheVariants.{OutOfMemory};
+
+    ghost from_gives = { λ _ fault. fault ≡ OutOfMemory };
+
+    fn from(_: OutOfMemory) -> Self {
+        WorldFault::OutOfMemory
+    }
+}

@@ -1,0 +1,53 @@
+// World texts read.
+ghost use Rattle.std.specs.Prelude.{◌≡◌, ◌≤◌, [], length, IfOk};
+ghost use Rattle.world_read.specs.Opened.{IsOpeningWorld};
+ghost use Rattle.world_read.specs.Reading.{AreSizes, ReadsAs, ended, opened, rows_from, world_of_text};
+
+use crate::fault::WorldFault;
+use crate::limits::check_limits;
+use crate::rows::{are_blank, read_rows};
+use crate::size::read_size;
+use ant_base::Lines;
+use cell_world::{Kind, World};
+use std::alloc::Global;
+
+/// The opening world of a world text of at most 4,194,304 bytes, or the text's first fault (the task's world files). Rows and columns
+/// are counted from 0.
+///
+/// `OutOfMemory` may be answered at any text; every other answer follows from the text alone. While it reads, it holds the kinds of the
+/// cells, for which it takes room once.
+pub fn read_world(alloc: Global, text: &[u8]) -> Result<World, WorldFault>
+    requires { length text.now ≤ 4194304 }
+    ensures answer { ReadsAs (world_of_text text.now) result }
+    ensures opening { IfOk result IsOpeningWorld }
+{
+    let mut lines = Lines::new(text);
+    let Some(width) = read_size(&mut lines) else {
+        return Err(WorldFault::BadWidth);
+    };
+    let Some(height) = read_size(&mut lines) else {
+        return Err(WorldFault::BadHeight);
+    };
+    let mut kinds = Vec::with_capacity(alloc, width as usize * height as usize)?;
+    open_world(alloc, width, height, &mut lines, &mut kinds)
+}
+
+// The opening world of the kinds that the lines of rows give, which are put into the list.
+fn open_world(
+    alloc: Global,
+    width: u16,
+    height: u16,
+    lines: &mut Lines,
+    kinds: &mut Vec<Kind>,
+) -> Result<World, WorldFault>
+    requires sizes { AreSizes width height }
+    requires none { kinds.old.items ≡ [] }
+    ensures { ReadsAs (opened (ended width height (rows_from width 0 height lines.old))) result }
+{
+    read_rows(lines, width, height, kinds)?;
+    if !are_blank(lines) {
+        return Err(WorldFault::ExtraRow);
+    }
+    check_limits(width, height, kinds)?;
+    Ok(World::build(alloc, width, height, kinds)?)
+}
