@@ -1,0 +1,170 @@
+// What a cell's line says of its content.
+ghost use Rattle.std.specs.Prelude.{decimal};
+ghost use Rattle.dump_print.specs.Content.{food_text, hill_text, digit_text, marks_text, ant_text, clear_text, content_text, colour_text, load_text, standing_text};
+ghost use Rattle.hex_geometry.specs.Direction.{number_of};
+
+use ant_base::{Each, Failed, Layout, Parts, Sink, layout};
+use cell_world::{Ant, Cell, Colour, Marks};
+use hex_geometry::Dir;
+
+// A colour's word.
+#[derive(Clone, Copy)]
+pub struct Word(pub Colour);
+
+impl Layout for Word {
+    ghost text = { λ word. colour_text word.0 };
+
+    fn push_to<K: Sink>(&self, sink: &mut K) -> Result<(), Failed> {
+        match self.0 {
+            Colour::Red => "red".push_to(sink),
+            Colour::Black => "black".push_to(sink),
+        }
+    }
+}
+
+// The food on a cell, where there is any.
+#[derive(Clone, Copy)]
+pub struct Food(pub u32);
+
+impl Layout for Food {
+    ghost text = { λ food. food_text food.0 };
+
+    fn push_to<K: Sink>(&self, sink: &mut K) -> Result<(), Failed> {
+        let part = if self.0 == 0 {
+            None
+        } else {
+            Some(layout!(self.0, " food; "))
+        };
+        part.push_to(sink)
+    }
+}
+
+// The hill to which a cell belongs, where it belongs to one.
+#[derive(Clone, Copy)]
+pub struct Hill(pub Option<Colour>);
+
+impl Layout for Hill {
+    ghost text = { λ hill. hill_text hill.0 };
+
+    fn push_to<K: Sink>(&self, sink: &mut K) -> Result<(), Failed> {
+        match self.0 {
+            None => Ok(()),
+            Some(colour) => layout!(Word(colour), " hill; ").push_to(sink),
+        }
+    }
+}
+
+// The numbers of the markers that are set, rising.
+#[derive(Clone, Copy)]
+pub struct Digits(pub Marks);
+
+impl Parts for Digits {
+    ghost count = { λ _. 6 };
+
+    ghost part = { λ digits i. digit_text digits.0 i };
+
+    fn count(&self) -> usize {
+        6
+    }
+
+    fn push_part<K: Sink>(&self, at: usize, sink: &mut K) -> Result<(), Failed> {
+        let part = if self.0.has(at as u8) { Some(at) } else { None };
+        part.push_to(sink)
+    }
+}
+
+// A colour's markers, where any is set.
+#[derive(Clone, Copy)]
+pub struct Marked(pub Colour, pub Marks);
+
+impl Layout for Marked {
+    ghost text = { λ marked. marks_text marked.0 marked.1 };
+
+    fn push_to<K: Sink>(&self, sink: &mut K) -> Result<(), Failed> {
+        let part = if self.1.any() {
+            Some(layout!(Word(self.0), " marks: ", Each(Digits(self.1)), "; "))
+        } else {
+            None
+        };
+        part.push_to(sink)
+    }
+}
+
+// How many food particles an ant carries.
+#[derive(Clone, Copy)]
+pub struct Load(pub bool);
+
+impl Layout for Load {
+    ghost text = { λ load. load_text load.0 };
+
+    fn push_to<K: Sink>(&self, sink: &mut K) -> Result<(), Failed> {
+        if self.0 {
+            "1".push_to(sink)
+        } else {
+            "0".push_to(sink)
+        }
+    }
+}
+
+// The number of a direction.
+#[derive(Clone, Copy)]
+pub struct Facing(pub Dir);
+
+impl Layout for Facing {
+    ghost text = { λ facing. decimal (number_of facing.0) };
+
+    fn push_to<K: Sink>(&self, sink: &mut K) -> Result<(), Failed> {
+        self.0.number().push_to(sink)
+    }
+}
+
+// An ant.
+#[derive(Clone, Copy)]
+pub struct Standing(pub Ant);
+
+impl Layout for Standing {
+    ghost text = { λ standing. standing_text standing.0 };
+
+    #[tactic(auto, unfolding(crate::specs::Content::standing_text))]
+    fn push_to<K: Sink>(&self, sink: &mut K) -> Result<(), Failed> {
+        let ant = self.0;
+        layout!(
+            Word(ant.colour),
+            " ant of id ",
+            ant.id,
+            ", dir ",
+            Facing(ant.facing),
+            ", food ",
+            Load(ant.laden),
+            ", state ",
+            ant.state,
+            ", resting ",
+            ant.resting
+        )
+        .push_to(sink)
+    }
+}
+
+// The content of a cell.
+#[derive(Clone, Copy)]
+pub struct Content(pub Cell);
+
+impl Layout for Content {
+    ghost text = { λ content. content_text content.0 };
+
+    #[tactic(auto, unfolding(crate::specs::Content::content_text, crate::specs::Content::clear_text))]
+    fn push_to<K: Sink>(&self, sink: &mut K) -> Result<(), Failed> {
+        if self.0.rocky {
+            "rock".push_to(sink)
+        } else {
+            layout!(
+                Food(self.0.food),
+                Hill(self.0.hill),
+                Marked(Colour::Red, self.0.red),
+                Marked(Colour::Black, self.0.black),
+                self.0.ant.map(Standing)
+            )
+            .push_to(sink)
+        }
+    }
+}

@@ -1,0 +1,43 @@
+// The public calls, each of which pushes one text.
+ghost use Rattle.ant_base.specs.Sink.{Pushed};
+ghost use Rattle.cell_world.specs.Grid.{world_of};
+ghost use Rattle.dump_print.specs.Texts.{cells_text, dump_text, score_text, seed_text};
+
+use crate::lines::Rows;
+use ant_base::{Each, Failed, Layout, Sink, layout};
+use cell_world::{Score, World};
+
+/// Pushes the line of a seed, as `random seed: 12345` (this project's own layout). Where the sink failed, a front of the line was pushed.
+#[tactic(auto, unfolding(crate::specs::Texts::seed_text))]
+pub fn push_seed<K: Sink>(seed: u32, sink: &mut K) -> Result<(), Failed>
+    ensures { Pushed (K.state sink.old) (K.state sink.new) (seed_text seed) result }
+{
+    layout!("random seed: ", seed, "\n").push_to(sink)
+}
+
+/// Pushes a line for each cell, row by row from the top, each row from the left, as `cell (1, 1): red hill; ` (this project's own
+/// layout). Where the sink failed, a front of the lines was pushed.
+#[tactic(auto, unfolding(crate::specs::Texts::cells_text))]
+pub fn push_cells<K: Sink>(world: &World, sink: &mut K) -> Result<(), Failed>
+    ensures { Pushed (K.state sink.old) (K.state sink.new) (cells_text (world_of world.now)) result }
+{
+    Each(Rows(world)).push_to(sink)
+}
+
+/// Pushes the dump of a world after a round, counted from 0 for the start: an empty line, `After round 0...` and the lines of the
+/// cells (this project's own layout). Where the sink failed, a front of the dump was pushed.
+#[tactic(auto, unfolding(crate::specs::Texts::dump_text, crate::specs::Texts::cells_text))]
+pub fn push_dump<K: Sink>(world: &World, round: u32, sink: &mut K) -> Result<(), Failed>
+    ensures { Pushed (K.state sink.old) (K.state sink.new) (dump_text (world_of world.now) round) result }
+{
+    layout!("\nAfter round ", round, "...\n", Each(Rows(world))).push_to(sink)
+}
+
+/// Pushes an empty line and the line of a score, as `score: red 0 black 0` (this project's own layout). Where the sink failed, a front
+/// of them was pushed.
+#[tactic(auto, unfolding(crate::specs::Texts::score_text))]
+pub fn push_score<K: Sink>(score: Score, sink: &mut K) -> Result<(), Failed>
+    ensures { Pushed (K.state sink.old) (K.state sink.new) (score_text score) result }
+{
+    layout!("\nscore: red ", score.red, " black ", score.black, "\n").push_to(sink)
+}
