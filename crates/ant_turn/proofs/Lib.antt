@@ -1,0 +1,12 @@
+pub mod Checks
+pub mod Corpses
+pub mod Deaths
+pub mod Fitting
+pub mod Foes
+pub mod Keeping
+pub mod Kept
+pub mod KeptByRounds
+pub mod KeptByTurns
+pub mod OwnCells
+pub mod Standing
+pub mod Turns

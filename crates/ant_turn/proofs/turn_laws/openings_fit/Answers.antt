@@ -1,0 +1,5 @@
+use Rattle.ant_turn.proofs.Fitting.{Fits-opening}
+use Rattle.ant_turn.proofs.turn_laws.openings_fit.Goals as goal
+
+pub returns : goal.returns
+returns c = Fits-opening

@@ -1,0 +1,9 @@
+pub mod Conditions
+pub mod Keeps
+pub mod Kills
+pub mod Minds
+pub mod Rounds
+pub mod Sheet
+pub mod Stands
+pub mod Turn
+pub mod TurnLaws

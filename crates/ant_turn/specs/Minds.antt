@@ -1,0 +1,36 @@
+-- The brains of a game and the numbers of its rules.
+use Rattle.std.specs.Prelude.{◌≡◌, ◌<◌, ◌≤◌, List, length, Some}
+use Rattle.hex_geometry.specs.declared.position.Pos.{Pos}
+use Rattle.cell_world.specs.declared.ant.Ant.{Ant}
+use Rattle.cell_world.specs.declared.ant.Colour.{Colour}
+use Rattle.cell_world.specs.declared.ant.Colour.TheVariants.{Red, Black}
+use Rattle.cell_world.specs.World.{World}
+use Rattle.brain_read.specs.declared.instr.Instr.{Instr}
+use Rattle.brain_read.specs.Soundness.{IsBrain}
+use Rattle.ant_turn.specs.declared.brains.Brains.{Brains}
+use Rattle.ant_turn.specs.Sheet.{Sheet, contest}
+
+-- the instructions of both colours by state, and the numbers of the rules
+pub record Minds : Type 0 where
+  pub red : List Instr
+  pub black : List Instr
+  pub sheet : Sheet
+
+-- two brains under the contest's rules
+abbrev pub minds_of : Brains → Minds
+minds_of brains = record { red = brains.red.now; black = brains.black.now; sheet = contest }
+
+-- the brain of a colour
+abbrev pub mind_of : Minds → Colour → List Instr
+mind_of minds Red = minds.red
+mind_of minds Black = minds.black
+
+-- each ant's state is below the length of its colour's brain
+pub record Fits (w : World) (minds : Minds) : Type 0 where
+  pub below : (p : Pos) (ant : Ant) → (w.cells p).ant ≡ Some ant → ant.state < length (mind_of minds ant.colour)
+
+-- both brains are brains, and a killed ant leaves no more food than it weighed
+pub record AreSound (minds : Minds) : Type 0 where
+  pub red : IsBrain minds.red
+  pub black : IsBrain minds.black
+  pub corpse : minds.sheet.corpse ≤ 9

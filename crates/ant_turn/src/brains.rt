@@ -1,0 +1,28 @@
+// The two brains of a game.
+ghost use Rattle.std.specs.Prelude.{◌≡◌};
+ghost use Rattle.ant_turn.specs.Minds.{minds_of, mind_of};
+
+use brain_read::Brain;
+use cell_world::Colour;
+
+/// The brains of the two colours (the task's game play).
+#[derive(Clone, Copy)]
+pub struct Brains<'b> {
+    /// The brain of the red ants.
+    pub red: &'b Brain,
+    /// The brain of the black ants.
+    pub black: &'b Brain,
+}
+
+impl<'b> Brains<'b> {
+    // The brain of this colour.
+    #[inline]
+    pub(crate) fn of(self, colour: Colour) -> &'b Brain
+        ensures { result.now ≡ mind_of (minds_of self.entry) colour }
+    {
+        match colour {
+            Colour::Red => self.red,
+            Colour::Black => self.black,
+        }
+    }
+}

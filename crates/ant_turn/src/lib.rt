@@ -1,0 +1,20 @@
+//! One turn of the ant world, over any ground.
+//!
+//! The task's phenomenology, martial arts and kinetics: which cells meet a condition, which ants are surrounded and killed, and what
+//! the ant of an id does in its turn. `take_turn` makes any `Ground`'s world what the definition of a turn says; `after_turns` and
+//! `after_rounds` of the definitions are such turns one after another, which a game folds, and the laws say what they keep.
+//! No call takes memory or is refused. This crate stands on `brain_read`, `cell_world` and `ant_random`.
+#![tactic(auto)]
+
+mod brains;
+mod conditions;
+mod kills;
+mod own_cell;
+mod turn;
+mod turn_laws;
+
+pub use brains::Brains;
+pub use conditions::matches;
+pub use kills::{check_around, surrounded};
+pub use turn::{Deed, take_turn};
+pub use turn_laws::{openings_fit, rounds_keep, turns_draw, turns_keep};

@@ -1,0 +1,177 @@
+// Cells as an ant leaves them in its turn.
+ghost use Rattle.std.specs.Prelude.{◌≡◌, ◌<◌, ◌≤◌, ◌-◌, false, cond};
+ghost use Rattle.ant_turn.specs.Sheet.{contest};
+ghost use Rattle.ant_turn.specs.Turn as turn;
+
+use brain_read::Instr;
+use cell_world::{Ant, Cell, Colour};
+use hex_geometry::{Side, turned};
+
+// For how many turns an ant rests after a Move that went.
+const REST: u8 = 14;
+
+// The ant in this state.
+#[inline]
+fn in_state(ant: Ant, state: u16) -> Ant
+    ensures { result ≡ turn.in_state ant state }
+{
+    Ant { state, ..ant }
+}
+
+// The cell with this ant.
+#[inline]
+fn with_ant(cell: &Cell, ant: Ant) -> Cell
+    ensures { result ≡ turn.with_ant cell.now ant }
+{
+    Cell {
+        ant: Some(ant),
+        ..*cell
+    }
+}
+
+// The own cell when the ant has rested for a turn.
+#[inline]
+pub(crate) fn rested(cell: &Cell, ant: Ant) -> Cell
+    requires { 1 ≤ ant.resting }
+    ensures { result ≡ turn.rested cell.now ant (ant.resting - 1) }
+{
+    with_ant(
+        cell,
+        Ant {
+            resting: ant.resting - 1,
+            ..ant
+        },
+    )
+}
+
+// The own cell after a Sense, a Flip or a blocked Move: the ant goes on in one of two states.
+#[inline]
+pub(crate) fn branched(cell: &Cell, ant: Ant, first: bool, met: u16, unmet: u16) -> Cell
+    ensures { result ≡ turn.with_ant cell.now (turn.in_state ant (cond first met unmet)) }
+{
+    with_ant(cell, in_state(ant, if first { met } else { unmet }))
+}
+
+// The own cell after a Mark.
+#[inline]
+pub(crate) fn marked(cell: &Cell, ant: Ant, mark: u8, next: u16) -> Cell
+    requires { mark < 6 }
+    ensures { result ≡ turn.own_after (Instr.Mark mark next) cell.now ant false 0 }
+{
+    let ant_after = in_state(ant, next);
+    match ant.colour {
+        Colour::Red => Cell {
+            red: cell.red.with(mark),
+            ant: Some(ant_after),
+            ..*cell
+        },
+        Colour::Black => Cell {
+            black: cell.black.with(mark),
+            ant: Some(ant_after),
+            ..*cell
+        },
+    }
+}
+
+// The own cell after an Unmark.
+#[inline]
+pub(crate) fn unmarked(cell: &Cell, ant: Ant, mark: u8, next: u16) -> Cell
+    requires { mark < 6 }
+    ensures { result ≡ turn.own_after (Instr.Unmark mark next) cell.now ant false 0 }
+{
+    let ant_after = in_state(ant, next);
+    match ant.colour {
+        Colour::Red => Cell {
+            red: cell.red.without(mark),
+            ant: Some(ant_after),
+            ..*cell
+        },
+        Colour::Black => Cell {
+            black: cell.black.without(mark),
+            ant: Some(ant_after),
+            ..*cell
+        },
+    }
+}
+
+// The own cell after a PickUp.
+#[inline]
+pub(crate) fn picked_up(cell: &Cell, ant: Ant, met: u16, unmet: u16) -> Cell
+    ensures { result ≡ turn.own_after (Instr.PickUp met unmet) cell.now ant false 0 }
+{
+    if ant.laden || cell.food == 0 {
+        return with_ant(cell, in_state(ant, unmet));
+    }
+    Cell {
+        food: cell.food - 1,
+        ant: Some(Ant {
+            state: met,
+            laden: true,
+            ..ant
+        }),
+        ..*cell
+    }
+}
+
+// The own cell after a Drop.
+#[inline]
+pub(crate) fn dropped(cell: &Cell, ant: Ant, next: u16) -> Cell
+    requires { cell.now.food ≤ 2340900 }
+    ensures { result ≡ turn.own_after (Instr.Drop next) cell.now ant false 0 }
+{
+    Cell {
+        food: cell.food + u32::from(ant.laden),
+        ant: Some(Ant {
+            state: next,
+            laden: false,
+            ..ant
+        }),
+        ..*cell
+    }
+}
+
+// The own cell after a Turn.
+#[inline]
+pub(crate) fn faced(cell: &Cell, ant: Ant, side: Side, next: u16) -> Cell
+    ensures { result ≡ turn.own_after (Instr.Turn side next) cell.now ant false 0 }
+{
+    with_ant(
+        cell,
+        Ant {
+            state: next,
+            facing: turned(ant.facing, side),
+            ..ant
+        },
+    )
+}
+
+// Whether nothing can move onto the cell: it is rocky or holds an ant.
+#[inline]
+pub(crate) fn is_blocked(cell: &Cell) -> bool
+    ensures { result ≡ turn.is_blocked cell.now }
+{
+    cell.rocky || cell.ant.is_some()
+}
+
+// The cell without its ant.
+#[inline]
+pub(crate) fn left_by_ant(cell: &Cell) -> Cell
+    ensures { result ≡ turn.left_by_ant cell.now }
+{
+    Cell { ant: None, ..*cell }
+}
+
+// The cell onto which an ant has stepped.
+#[inline]
+pub(crate) fn arrived(cell: &Cell, ant: Ant, next: u16) -> Cell
+    ensures { result ≡ turn.with_ant cell.now (turn.arrived contest ant next) }
+{
+    with_ant(
+        cell,
+        Ant {
+            state: next,
+            resting: REST,
+            ..ant
+        },
+    )
+}

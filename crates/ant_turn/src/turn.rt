@@ -1,0 +1,204 @@
+// One turn of an ant.
+ghost use Rattle.std.specs.Prelude.{◌≡◌, ◌+◌, ◌<◌, ◌≤◌, ◌^◌, ℕ, [], false};
+ghost use Rattle.cell_world.specs.Cell.{one_if};
+ghost use Rattle.cell_world.specs.Valid.{Valid, Replaces};
+ghost use Rattle.cell_world.specs.World.{put, with_cells};
+ghost use Rattle.brain_read.specs.Soundness.{IsSound};
+ghost use Rattle.ant_turn.specs.Minds.{Fits, minds_of};
+ghost use Rattle.ant_turn.specs.Sheet.{contest};
+ghost use Rattle.ant_turn.specs.Stands.{Stands};
+ghost use Rattle.ant_turn.specs.Turn as turn;
+
+use crate::brains::Brains;
+use crate::conditions::meets;
+use crate::kills::check_around;
+use crate::own_cell::{
+    arrived, branched, dropped, faced, is_blocked, left_by_ant, marked, picked_up, rested, unmarked,
+};
+use ant_random::Stream;
+use arrayvec::ArrayVec;
+use brain_read::Instr;
+use cell_world::{Ant, Cell, Ground};
+use hex_geometry::{Pos, adjacent, sensed};
+
+/// What a turn did besides changing the ground (this project's own).
+#[derive(Drop)]
+pub struct Deed {
+    /// Whether a random number was drawn.
+    pub drew: bool,
+    /// The ids of the killed ants, in the order of the checks.
+    pub killed: ArrayVec<u32, 7>,
+}
+
+// Nothing is drawn, and nobody is killed.
+#[inline]
+fn idle() -> Deed
+    ensures drew { result.drew ≡ false }
+    ensures killed { result.killed.items ≡ [] }
+{
+    Deed {
+        drew: false,
+        killed: ArrayVec::new(),
+    }
+}
+
+// Replaces the own cell of an ant that stays.
+#[inline]
+fn stay<G: Ground>(ground: &mut G, p: Pos, cell: Cell) -> Deed
+    requires valid { Valid (G.world ground.old) }
+    requires clear { ((G.world ground.old).cells p).rocky ≡ false }
+    requires replaces { Replaces ((G.world ground.old).cells p) cell }
+    requires room { 1 ≤ G.room ground.old }
+    ensures world { G.world ground.new ≡ put (G.world ground.old) p cell }
+    ensures drew { result.drew ≡ false }
+    ensures killed { result.killed.items ≡ [] }
+    ensures room { G.room ground.old ≤ G.room ground.new + 1 }
+    ensures valid { Valid (G.world ground.new) }
+{
+    ground.set(p, cell);
+    idle()
+}
+
+// The ant of `p` steps onto `q`, and surrounded ants are checked around `q`.
+#[inline]
+fn step<G: Ground>(
+    ground: &mut G,
+    p: Pos,
+    cell: &Cell,
+    ant: Ant,
+    q: Pos,
+    there: &Cell,
+    next: u16,
+) -> Deed
+    requires stands { Stands (G.world ground.old) p cell.now ant }
+    requires there { there.now ≡ (G.world ground.old).cells q }
+    requires free { turn.is_blocked there.now ≡ false }
+    requires room { 9 ≤ G.room ground.old }
+    ensures world { G.world ground.new ≡ with_cells (G.world ground.old) (turn.goes contest (G.world ground.old).cells p ant q next).cells }
+    ensures drew { result.drew ≡ false }
+    ensures killed { result.killed.items ≡ (turn.goes contest (G.world ground.old).cells p ant q next).killed }
+    ensures room { G.room ground.old ≤ G.room ground.new + 9 }
+    ensures valid { Valid (G.world ground.new) }
+{
+    ground.set(p, left_by_ant(cell));
+    ground.set(q, arrived(there, ant, next));
+    Deed {
+        drew: false,
+        killed: check_around(ground, q),
+    }
+}
+
+// A Move of the ant of `p`.
+#[inline]
+fn go<G: Ground>(ground: &mut G, p: Pos, cell: &Cell, ant: Ant, met: u16, unmet: u16) -> Deed
+    requires stands { Stands (G.world ground.old) p cell.now ant }
+    requires room { 9 ≤ G.room ground.old }
+    ensures world { (seed place : ℕ) → G.world ground.new ≡ with_cells (G.world ground.old)
+        (turn.execute contest seed (G.world ground.old).cells place p ant (Instr.Move met unmet)).cells }
+    ensures drew { result.drew ≡ false }
+    ensures killed { (seed place : ℕ) → result.killed.items ≡ (turn.execute contest seed (G.world ground.old).cells place p ant (Instr.Move met unmet)).killed }
+    ensures room { G.room ground.old ≤ G.room ground.new + 9 }
+    ensures valid { Valid (G.world ground.new) }
+{
+    let ahead = adjacent(p, ant.facing);
+    let there = ground.cell_at(ahead);
+    if is_blocked(&there) {
+        return stay(ground, p, branched(cell, ant, false, met, unmet));
+    }
+    step(ground, p, cell, ant, ahead, &there, met)
+}
+
+// Executes the instruction of the ant of `p`.
+#[inline]
+fn execute<G: Ground>(
+    ground: &mut G,
+    stream: &mut Stream,
+    p: Pos,
+    cell: &Cell,
+    ant: Ant,
+    instruction: Instr,
+) -> Deed
+    requires stands { Stands (G.world ground.old) p cell.now ant }
+    requires sound { (states : ℕ) × IsSound states instruction }
+    requires place { stream.old.place + 1 < 2 ^ 63 }
+    requires room { 9 ≤ G.room ground.old }
+    ensures world { G.world ground.new ≡ with_cells (G.world ground.old)
+        (turn.execute contest stream.old.seed (G.world ground.old).cells stream.old.place p ant instruction).cells }
+    ensures stream { stream.new ≡ record stream.old {
+      place = stream.old.place + one_if (turn.execute contest stream.old.seed (G.world ground.old).cells stream.old.place p ant instruction).drew;
+    } }
+    ensures drew { result.drew ≡ (turn.execute contest stream.old.seed (G.world ground.old).cells stream.old.place p ant instruction).drew }
+    ensures killed { result.killed.items ≡ (turn.execute contest stream.old.seed (G.world ground.old).cells stream.old.place p ant instruction).killed }
+    ensures room { G.room ground.old ≤ G.room ground.new + 9 }
+    ensures valid { Valid (G.world ground.new) }
+{
+    match instruction {
+        Instr::Sense {
+            sight,
+            yes,
+            no,
+            cond,
+        } => {
+            let sensed_cell = ground.cell_at(sensed(p, ant.facing, sight));
+            let saw = meets(&sensed_cell, cond, ant.colour);
+            stay(ground, p, branched(cell, ant, saw, yes, no))
+        }
+        Instr::Mark { mark, next } => stay(ground, p, marked(cell, ant, mark, next)),
+        Instr::Unmark { mark, next } => stay(ground, p, unmarked(cell, ant, mark, next)),
+        Instr::PickUp { yes, no } => stay(ground, p, picked_up(cell, ant, yes, no)),
+        Instr::Drop { next } => stay(ground, p, dropped(cell, ant, next)),
+        Instr::Turn { side, next } => stay(ground, p, faced(cell, ant, side, next)),
+        Instr::Move { yes, no } => go(ground, p, cell, ant, yes, no),
+        Instr::Flip { bound, yes, no } => {
+            let number = stream.draw(bound);
+            Deed {
+                drew: true,
+                ..stay(ground, p, branched(cell, ant, number == 0, yes, no))
+            }
+        }
+    }
+}
+
+/// Takes the turn of the ant of this id: nothing where it is dead; one turn less to rest where it rests; else the instruction at its
+/// state in its colour's brain (the task's kinetics).
+///
+/// The id is below the number of ids, each ant's state is below the length of its colour's brain, and stays so. The stream stands below
+/// 2^63 - 1 and goes on by one number exactly where a Flip was executed. The ground has room for 9 cells. Gives what was done besides.
+#[inline]
+pub fn take_turn<G: Ground>(
+    ground: &mut G,
+    brains: Brains<'_>,
+    stream: &mut Stream,
+    id: u32,
+) -> Deed
+    requires fit { Fits (G.world ground.old) (minds_of brains) }
+    requires id { id < (G.world ground.old).ids }
+    requires place { stream.old.place + 1 < 2 ^ 63 }
+    requires room { 9 ≤ G.room ground.old }
+    ensures world { G.world ground.new ≡ with_cells (G.world ground.old)
+        (turn.turn (minds_of brains.entry) stream.old.seed (G.world ground.old) stream.old.place id).cells }
+    ensures stream { stream.new ≡ record stream.old {
+      place = stream.old.place + one_if (turn.turn (minds_of brains.entry) stream.old.seed (G.world ground.old) stream.old.place id).drew;
+    } }
+    ensures drew { result.drew ≡ (turn.turn (minds_of brains.entry) stream.old.seed (G.world ground.old) stream.old.place id).drew }
+    ensures killed { result.killed.items ≡ (turn.turn (minds_of brains.entry) stream.old.seed (G.world ground.old) stream.old.place id).killed }
+    ensures room { G.room ground.old ≤ G.room ground.new + 9 }
+    ensures valid { Valid (G.world ground.new) }
+    ensures fit { Fits (G.world ground.new) (minds_of brains.entry) }
+{
+    let Some(p) = ground.place_of(id) else {
+        return idle();
+    };
+    let cell = ground.cell_at(p);
+    let Some(ant) = cell.ant else {
+        return idle();
+    };
+    if ant.resting > 0 {
+        return stay(ground, p, rested(&cell, ant));
+    }
+    let instruction = brains.of(ant.colour).at(ant.state);
+    execute(ground, stream, p, &cell, ant, instruction)
+}
+
+#[cfg(test)]
+mod tests;
