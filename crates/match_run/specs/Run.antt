@@ -1,0 +1,42 @@
+-- The text of a run (the task's game play; the layout is this project's own).
+use Rattle.std.specs.Prelude.{ℕ, ◌+◌, List, [], if◌then◌else◌, Result, Ok, Err}
+use Rattle.ant_base.specs.Layout.{numbered, ◌+++◌}
+use Rattle.ant_base.specs.declared.sink.Failed.{Failed}
+use Rattle.ant_random.specs.Stream.{SeedAndPlace}
+use Rattle.ant_turn.specs.Minds.{Minds}
+use Rattle.ant_turn.specs.Rounds.{Moment, after_rounds, start_of}
+use Rattle.cell_world.specs.Grid.{Grid, world_of}
+use Rattle.cell_world.specs.Score.{score_of}
+use Rattle.cell_world.specs.declared.score.Score.{Score}
+use Rattle.cell_world.specs.World.{World}
+use Rattle.dump_print.specs.Texts.{dump_text, score_text, seed_text}
+use Rattle.match_run.specs.declared.dumps.Dumps.{Dumps}
+use Rattle.match_run.specs.Dumps.{chooses}
+
+-- the world after a round of a game that starts in w (the task's game play)
+unfoldable pub world_after : Minds → ℕ → World → ℕ → World
+world_after minds seed w round = (after_rounds minds seed (start_of w) round).world
+
+-- the dump after a round, where it is chosen
+abbrev pub chosen_dump : Dumps → World → ℕ → List ℕ
+chosen_dump dumps w round = if chooses dumps round then dump_text w round else []
+
+-- the dumps after the rounds below n that are chosen, from 0 on in order
+unfoldable pub dumps_text : Minds → ℕ → Dumps → World → ℕ → List ℕ
+dumps_text minds seed dumps w n = numbered (λ round. chosen_dump dumps (world_after minds seed w round) round) n
+
+-- the text of a run: the line of the seed, the dump after each round that is chosen, from 0 to the number of rounds in order, and the score
+unfoldable pub run_text : Minds → ℕ → ℕ → Dumps → World → List ℕ
+run_text minds seed rounds dumps w =
+    seed_text seed
+    +++ dumps_text minds seed dumps w (rounds + 1)
+    +++ score_text (score_of (world_after minds seed w rounds))
+
+-- how a run ended, whatever its score
+abbrev pub ended : Result Score Failed → Result (Unit {0}) Failed
+ended (Ok _) = Ok tt
+ended (Err failed) = Err failed
+
+-- the moment of a world and the stream of its game (the task's kinetics)
+abbrev pub moment_of : Grid → SeedAndPlace → Moment
+moment_of grid stream = record { world = world_of grid; place = stream.place }

@@ -1,0 +1,76 @@
+// Which rounds are dumped.
+ghost use Rattle.std.specs.Prelude.{◌≡◌, [], ◌∷◌, ◌++◌, OnOk, OnErr};
+ghost use Rattle.match_run.specs.Dumps.{chooses, has_round};
+
+use hex_geometry::OutOfMemory;
+use std::alloc::Global;
+use std::marker::Model;
+
+/// A list of rounds, counted from 0 for the start of the game (this project's own).
+#[derive(Drop)]
+pub struct Rounds {
+    list: Vec<u32>,
+}
+
+impl Model for Rounds {
+    ghost use Rattle.std.specs.Prelude.{List, ℕ};
+
+    ghost Value = { List ℕ };
+
+    ghost view = { λ rounds. rounds.list.items };
+}
+
+impl Rounds {
+    /// The empty list, which takes no memory (this project's own).
+    pub fn new(alloc: Global) -> Rounds
+        ensures { result ≡ [] }
+    {
+        Rounds {
+            list: Vec::new(alloc),
+        }
+    }
+
+    /// Adds a round last (this project's own). It is refused for want of memory alone; the list is as before then.
+    pub fn add(&mut self, round: u32) -> Result<(), OutOfMemory>
+        ensures added { OnOk result (self.new ≡ self.old ++ round ∷ []) }
+        ensures unchanged { OnErr result (self.new ≡ self.old) }
+    {
+        self.list.push(round)?;
+        Ok(())
+    }
+
+    // Whether the round is in the list.
+    fn has(&self, round: u32) -> bool
+        ensures { result ≡ has_round self.now round }
+    {
+        self.list.contains(&round)
+    }
+}
+
+/// Which rounds of a run are dumped (this project's own).
+#[derive(Drop)]
+pub enum Dumps {
+    /// No round.
+    Nothing,
+    /// Every round, from 0 to the last.
+    All,
+    /// The rounds of the list; a round that is repeated, or beyond the last, adds nothing.
+    Chosen(Rounds),
+}
+
+impl Dumps {
+    /// Whether the world after this round is dumped: the value is `All`, or `Chosen` with that
+    /// number among its rounds (this project's own). It takes no memory.
+    pub fn chooses(&self, round: u32) -> bool
+        ensures { result ≡ chooses self.now round }
+    {
+        match self {
+            Dumps::Nothing => false,
+            Dumps::All => true,
+            Dumps::Chosen(rounds) => rounds.has(round),
+        }
+    }
+}
+
+#[cfg(test)]
+mod tests;

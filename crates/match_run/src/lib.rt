@@ -1,0 +1,16 @@
+//! Games of the ant world, and the text of a run.
+//!
+//! The task's game play: rounds are played one after another, each one turn of each id in rising order, with one stream of random
+//! numbers from place 0. `play_alone` pushes exactly the text that these rules define, in memory that doesn't grow with the rounds, and
+//! fails only where its sink did. This crate stands on `ant_turn` and `dump_print`.
+#![tactic(auto)]
+
+mod dumps;
+mod game;
+mod plan;
+mod play;
+
+pub use dumps::{Dumps, Rounds};
+pub use hex_geometry::OutOfMemory;
+pub use plan::Plan;
+pub use play::{play_alone, play_score};
