@@ -1,0 +1,9 @@
+pub mod Cut
+pub mod Steps
+pub mod Members
+pub mod Rows
+pub mod Amongst
+pub mod Shapes
+pub mod Completions
+pub mod Sayings
+pub mod Reading

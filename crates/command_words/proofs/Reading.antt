@@ -1,0 +1,258 @@
+-- What is read is the command, or the refused word.
+use Rattle.std.proofs.Common.{◌≡◌, ℕ, ◌+◌, ◌-◌, ◌<◌, ◌≤◌, suc, Bool, true, false, cond, List, [], ◌∷◌, ◌++◌, length, take, drop, Option, Some, None, Result, Ok, Err, ok_or, IfOk, IfErr, refl, sym, ap, ◌∙◌, subst, ◌⊎◌, inl, inr, arith}
+use Rattle.std.specs.List.{flat_map}
+use Rattle.std.proofs.lemmas.Bool.{cases_order}
+use Rattle.std.proofs.lemmas.List.{append-nil, append_assoc, take_all, take-take, take-append-drop}
+use Rattle.command_words.specs.declared.slot.Slot.{Slot}
+use Rattle.command_words.specs.declared.table.CommandKind.{CommandKind}
+use Rattle.command_words.specs.declared.table.CommandKind.TheVariants.{Brain}
+use Rattle.command_words.specs.declared.command.Command.{Command}
+use Rattle.command_words.specs.declared.command.Refused.{Refused}
+use Rattle.command_words.specs.Table.{word_of, places_of}
+use Rattle.command_words.specs.Command.{given_words, PlainCommand, IsCommand, IsBeginning, IsRefusedAt}
+use Rattle.command_words.specs.Walk.{kind_of, walk, has_needed, is_finished, command_in, finish, read_kind, read_of}
+use Rattle.command_words.specs.Words.{plain, plain_result}
+use Rattle.command_words.specs.Laws.{OneCommand, OneRefusedWord, NeverBoth, OneOfBoth}
+use Rattle.command_words.proofs.Rows.{kind_of-word, kind_of-found}
+use Rattle.command_words.proofs.Shapes.{walk-accepts, walk-front, walk-stops}
+use Rattle.command_words.proofs.Completions.{Extends, walk-extends, command-walks}
+use Rattle.command_words.proofs.Sayings.{command_in-says, command-says, has_needed-command, needed-given}
+
+-- words that are a command are read as it
+pub read-command : (words : List (List ℕ)) (command : PlainCommand) → IsCommand words command → read_of words ≡ Ok command
+read-command words command is =
+    let kind = is.kind in
+    let rest = is.front ++ flat_map given_words is.given in
+    let all = word_of kind ∷ rest in
+    ap read_of is.form.whole
+    ∙ ap (read_kind all) (kind_of-word kind)
+    ∙ ap (finish kind all) (command-walks kind is.front is.given words is.form)
+    ∙ ap (λ b. cond b (ok_or (command_in kind all) (length all + 1)) (Err (length all + 1))) (has_needed-command kind is.front is.given words is.form)
+    ∙ ap (λ o. ok_or o (length all + 1)) (command_in-says kind is.front is.given is.form.places is.form.options ∙ is.says)
+
+-- words that the walk accepts whole, with each option that is needed, are the command that they say
+accepted : (kind : CommandKind) (rest : List (List ℕ)) (command : PlainCommand) → walk kind rest (places_of kind) (word_of kind ∷ []) ≡ Ok [] → has_needed kind (word_of kind ∷ rest) ≡ true → command_in kind (word_of kind ∷ rest) ≡ Some command → IsCommand (word_of kind ∷ rest) command
+accepted kind rest command walked has says =
+    let shape = walk-accepts kind rest (places_of kind) (word_of kind ∷ []) [] walked in
+    let eq : rest ≡ shape.front ++ flat_map given_words shape.given = sym (append-nil rest) ∙ shape.whole in
+    record {
+      kind = kind;
+      front = shape.front;
+      given = shape.given;
+      form = record {
+        whole = ap (λ ws. word_of kind ∷ ws) eq;
+        places = shape.places;
+        options = shape.options;
+        once = shape.once;
+        needed = needed-given kind shape.front shape.given shape.places shape.options (sym (ap (λ ws. has_needed kind (word_of kind ∷ ws)) eq) ∙ has);
+      };
+      says = sym (command_in-says kind shape.front shape.given shape.places shape.options) ∙ sym (ap (λ ws. command_in kind (word_of kind ∷ ws)) eq) ∙ says;
+    }
+
+-- what was read of the words of a kind
+kind-read : (words : List (List ℕ)) (o : Option CommandKind) (command : PlainCommand) → read_kind words o ≡ Ok command → (kind : CommandKind) × (o ≡ Some kind) × (finish kind words (walk kind (drop 1 words) (places_of kind) (take 1 words)) ≡ Ok command)
+kind-read words None command e = (let no : ⊥ = cc in absurd no)
+kind-read words (Some kind) command e = (kind, refl, e)
+
+said : (o : Option PlainCommand) (number : ℕ) (command : PlainCommand) → ok_or o number ≡ Ok command → o ≡ Some command
+said None number command e = (let no : ⊥ = cc in absurd no)
+said (Some other) number command e = cc
+
+all-said : (b : Bool) (o : Option PlainCommand) (number : ℕ) (command : PlainCommand) → cond b (ok_or o number) (Err number) ≡ Ok command → (b ≡ true) × (o ≡ Some command)
+all-said true o number command e = (refl, said o number command e)
+all-said false o number command e = (let no : ⊥ = cc in absurd no)
+
+finish-read : (kind : CommandKind) (words : List (List ℕ)) (r : Result (List Slot) ℕ) (command : PlainCommand) → finish kind words r ≡ Ok command → (r ≡ Ok []) × (has_needed kind words ≡ true) × (command_in kind words ≡ Some command)
+finish-read kind words (Err number) command e = (let no : ⊥ = cc in absurd no)
+finish-read kind words (Ok []) command e = (let both = all-said (has_needed kind words) (command_in kind words) (length words + 1) command e in (refl, both.0, both.1))
+finish-read kind words (Ok (slot ∷ slots)) command e = (let no : ⊥ = cc in absurd no)
+
+-- what is read is the command
+pub read-accepts : (words : List (List ℕ)) (command : PlainCommand) → read_of words ≡ Ok command → IsCommand words command
+read-accepts [] command e = (let no : ⊥ = cc in absurd no)
+read-accepts (word ∷ rest) command e =
+    let o = kind-read (word ∷ rest) (kind_of word) command e in
+    let f = finish-read o.0 (word ∷ rest) (walk o.0 rest (places_of o.0) (word ∷ [])) command o.2 in
+    let here = kind_of-found word o.0 o.1 in
+    subst (λ w. IsCommand (w ∷ rest) command) (sym here)
+    (accepted o.0 rest command
+    (sym (ap (λ w. walk o.0 rest (places_of o.0) (w ∷ [])) here) ∙ f.0)
+    (sym (ap (λ w. has_needed o.0 (w ∷ rest)) here) ∙ f.1)
+    (sym (ap (λ w. command_in o.0 (w ∷ rest)) here) ∙ f.2))
+
+-- what is refused is no command
+pub read-none : (words : List (List ℕ)) (number : ℕ) → read_of words ≡ Err number → (command : PlainCommand) → ¬ IsCommand words command
+read-none words number e command is = (let both : Ok command ≡ Err number = sym (read-command words command is) ∙ e in let no : ⊥ = cc in no)
+
+-- the front of a beginning is a beginning
+IsBeginning-front : (front back : List (List ℕ)) → IsBeginning (front ++ back) → IsBeginning front
+IsBeginning-front front back is = record {
+  more = back ++ is.more;
+  command = is.command;
+  whole = subst (λ ws. IsCommand ws is.command) (append_assoc front back is.more) is.whole;
+}
+
+IsBeginning-take : (n : ℕ) (words : List (List ℕ)) → IsBeginning words → IsBeginning (take n words)
+IsBeginning-take n words is = IsBeginning-front (take n words) (drop n words) (subst IsBeginning (sym (take-append-drop n words)) is)
+
+extends-begins : (kind : CommandKind) (words : List (List ℕ)) → Extends kind words → IsBeginning words
+extends-begins kind words extended =
+    let said = command-says kind extended.front extended.given (words ++ extended.more) extended.form in
+    record {
+      more = extended.more;
+      command = said.0;
+      whole = record { kind = kind; front = extended.front; given = extended.given; form = extended.form; says = said.1 };
+    }
+
+walk-begins : (kind : CommandKind) (words : List (List ℕ)) (later : List Slot) → walk kind words (places_of kind) (word_of kind ∷ []) ≡ Ok later → IsBeginning (word_of kind ∷ words)
+walk-begins kind words later e = extends-begins kind (word_of kind ∷ words) (walk-extends kind words later e)
+
+IsBeginning-none : IsBeginning []
+IsBeginning-none = IsBeginning-front [] (word_of Brain ∷ []) (walk-begins Brain [] (places_of Brain) refl)
+
+-- a beginning has a command's first word, and the walk accepts the others
+begins-walks : (word : List ℕ) (rest : List (List ℕ)) → IsBeginning (word ∷ rest) → (kind : CommandKind) × (word ≡ word_of kind) × ((later : List Slot) × (walk kind rest (places_of kind) (word_of kind ∷ []) ≡ Ok later))
+begins-walks word rest is =
+    let form = is.whole.form in
+    let kind = is.whole.kind in
+    let others = is.whole.front ++ flat_map given_words is.whole.given in
+    let whole : word ∷ (rest ++ is.more) ≡ word_of kind ∷ others = form.whole in
+    let first : word ≡ word_of kind = cc in
+    let more : rest ++ is.more ≡ others = cc in (
+      kind,
+      first,
+      walk-front kind rest is.more (places_of kind) (word_of kind ∷ []) []
+          (ap (λ ws. walk kind ws (places_of kind) (word_of kind ∷ [])) more ∙ command-walks kind is.whole.front is.whole.given ((word ∷ rest) ++ is.more) form),
+    )
+
+-- the first word is that of no command
+refused-first : (words : List (List ℕ)) → ((command : PlainCommand) → ¬ IsCommand words command) → (1 ≤ length words → ¬ IsBeginning (take 1 words)) → IsRefusedAt words 1
+refused-first words none no_word = record {
+  counted = omega arith;
+  no_further = omega arith;
+  before = IsBeginning-none;
+  refused = no_word;
+  unfinished = λ last. none;
+}
+
+no_kind : (word : List ℕ) → kind_of word ≡ None → ¬ IsBeginning (word ∷ [])
+no_kind word e is =
+    let walked = begins-walks word [] is in
+    let both : None ≡ Some walked.0 = sym e ∙ ap kind_of walked.1 ∙ kind_of-word walked.0 in
+    let no : ⊥ = cc in no
+
+-- the walk stops at the word
+refused-within : (kind : CommandKind) (rest : List (List ℕ)) (number : ℕ) → ((command : PlainCommand) → ¬ IsCommand (word_of kind ∷ rest) command) → walk kind rest (places_of kind) (word_of kind ∷ []) ≡ Err number → IsRefusedAt (word_of kind ∷ rest) number
+refused-within kind rest number none e =
+    let stop = walk-stops kind rest (places_of kind) (word_of kind ∷ []) number e in
+    let inside = stop.within in
+    let at : number ≡ suc (suc stop.taken) = stop.here ∙ (let two : length (word_of kind ∷ []) + stop.taken + 1 ≡ suc (suc stop.taken) = omega arith in two) in
+    let last : number - 1 ≡ suc stop.taken = omega arith in
+    record {
+      counted = omega arith;
+      no_further = omega arith;
+      before = subst (λ n. IsBeginning (take n (word_of kind ∷ rest))) (sym last) (walk-begins kind (take stop.taken rest) stop.later stop.accepted);
+      refused = λ within is. no_walk stop.taken stop.refused (subst (λ n. IsBeginning (take n (word_of kind ∷ rest))) at is);
+      unfinished = λ last. none;
+    }
+  where
+    no_walk : (taken : ℕ) → walk kind (take (suc taken) rest) (places_of kind) (word_of kind ∷ []) ≡ Err number → ¬ IsBeginning (word_of kind ∷ take (suc taken) rest)
+    no_walk taken refused is =
+        let walked = begins-walks (word_of kind) (take (suc taken) rest) is in
+        let same : Some walked.0 ≡ Some kind = sym (kind_of-word walked.0) ∙ ap kind_of (sym walked.1) ∙ kind_of-word kind in
+        let kinds : walked.0 ≡ kind = cc in
+        let both : Ok walked.2.0 ≡ Err number = sym (subst (λ k. walk k (take (suc taken) rest) (places_of k) (word_of k ∷ []) ≡ Ok walked.2.0) kinds walked.2.1) ∙ refused in
+        let no : ⊥ = cc in no
+
+-- the walk accepts the words, and they are no command
+refused-after : (words : List (List ℕ)) → ((command : PlainCommand) → ¬ IsCommand words command) → IsBeginning words → IsRefusedAt words (length words + 1)
+refused-after words none is = record {
+  counted = omega arith;
+  no_further = omega arith;
+  before = subst IsBeginning (sym (take_all (length words + 1 - 1) words (omega arith))) is;
+  refused = λ within. absurd (omega arith);
+  unfinished = λ last. none;
+}
+
+-- how the words of a kind are refused
+kind-refused : (words : List (List ℕ)) (o : Option CommandKind) (number : ℕ) → read_kind words o ≡ Err number → ((o ≡ None) × (1 ≡ number)) ⊎ ((kind : CommandKind) × (o ≡ Some kind) × (finish kind words (walk kind (drop 1 words) (places_of kind) (take 1 words)) ≡ Err number))
+kind-refused words None number e = inl (refl, cc)
+kind-refused words (Some kind) number e = inr (kind, refl, e)
+
+last-refused : (b : Bool) (o : Option PlainCommand) (last number : ℕ) → cond b (ok_or o last) (Err last) ≡ Err number → last ≡ number
+last-refused true None last number e = cc
+last-refused true (Some command) last number e = (let no : ⊥ = cc in absurd no)
+last-refused false o last number e = cc
+
+finish-refused : (kind : CommandKind) (words : List (List ℕ)) (r : Result (List Slot) ℕ) (number : ℕ) → finish kind words r ≡ Err number → (r ≡ Err number) ⊎ ((due : List Slot) × (r ≡ Ok due) × (length words + 1 ≡ number))
+finish-refused kind words (Err other) number e = (let same : other ≡ number = cc in inl (ap Err same))
+finish-refused kind words (Ok due) number e = inr (due, refl, last-refused (is_finished kind due words) (command_in kind words) (length words + 1) number e)
+
+-- the number that is read is that of the refused word
+pub read-refuses : (words : List (List ℕ)) (number : ℕ) → read_of words ≡ Err number → IsRefusedAt words number
+read-refuses [] number e =
+    let one : 1 ≡ number = cc in
+    subst (IsRefusedAt []) one (refused-first [] (read-none [] number e) (λ within. absurd (omega arith)))
+read-refuses (word ∷ rest) number e =
+    elim (kind-refused (word ∷ rest) (kind_of word) number e) [
+      | inl none ↦ subst (IsRefusedAt (word ∷ rest)) none.1 (refused-first (word ∷ rest) (read-none (word ∷ rest) number e) (λ within. no_kind word none.0))
+      | inr some ↦ of_kind some.0 (kind_of-found word some.0 some.1) (read-none (word ∷ rest) number e) some.2
+    ]
+  where
+    of_kind : (kind : CommandKind) → word ≡ word_of kind → ((command : PlainCommand) → ¬ IsCommand (word ∷ rest) command) → finish kind (word ∷ rest) (walk kind rest (places_of kind) (word ∷ [])) ≡ Err number → IsRefusedAt (word ∷ rest) number
+    of_kind kind here none f =
+        subst (λ w. IsRefusedAt (w ∷ rest) number) (sym here)
+        (elim (finish-refused kind (word ∷ rest) (walk kind rest (places_of kind) (word ∷ [])) number f) [
+          | inl stopped ↦ refused-within kind rest number (subst (λ w. (command : PlainCommand) → ¬ IsCommand (w ∷ rest) command) here none) (subst (λ w. walk kind rest (places_of kind) (w ∷ []) ≡ Err number) here stopped)
+          | inr walked ↦ subst (IsRefusedAt (word_of kind ∷ rest)) walked.2
+              (refused-after (word_of kind ∷ rest) (subst (λ w. (command : PlainCommand) → ¬ IsCommand (w ∷ rest) command) here none)
+              (walk-begins kind rest walked.0 (subst (λ w. walk kind rest (places_of kind) (w ∷ []) ≡ Ok walked.0) here walked.1)))
+        ])
+
+-- what the reader's answer says
+pub result-command : (words : List (List ℕ)) (result : Result Command Refused) → plain_result result ≡ read_of words → IfOk result (λ command. IsCommand words (plain command))
+result-command words (Ok command) e = read-accepts words (plain command) (sym e)
+result-command words (Err refused) e = tt
+
+pub result-refused : (words : List (List ℕ)) (result : Result Command Refused) → plain_result result ≡ read_of words → IfErr result (λ refused. IsRefusedAt words refused.word)
+result-refused words (Ok command) e = tt
+result-refused words (Err refused) e = read-refuses words refused.word (sym e)
+
+pub result-none : (words : List (List ℕ)) (result : Result Command Refused) → plain_result result ≡ read_of words → IfErr result (λ _. (command : PlainCommand) → ¬ IsCommand words command)
+result-none words (Ok command) e = tt
+result-none words (Err refused) e = read-none words refused.word (sym e)
+
+pub one_command : OneCommand
+one_command words a b is_a is_b = (let both : Ok a ≡ Ok b = sym (read-command words a is_a) ∙ read-command words b is_b in cc)
+
+-- of two refused words none is the earlier
+not_earlier : (words : List (List ℕ)) (a b : ℕ) → IsRefusedAt words a → IsRefusedAt words b → a < b → ⊥
+not_earlier words a b at_a at_b less =
+    let top = at_b.no_further in
+    at_a.refused (omega arith) (subst IsBeginning (take-take a (b - 1) words (omega arith)) (IsBeginning-take a (take (b - 1) words) at_b.before))
+
+pub one_refused_word : OneRefusedWord
+one_refused_word words a b at_a at_b =
+    elim (cases_order a b) [
+      | inl same ↦ same
+      | inr other ↦ elim other [ inl less ↦ absurd (not_earlier words a b at_a at_b less) | inr more ↦ absurd (not_earlier words b a at_b at_a more) ]
+    ]
+
+command-begins : (words : List (List ℕ)) (command : PlainCommand) → IsCommand words command → IsBeginning words
+command-begins words command is = record { more = []; command = command; whole = subst (λ ws. IsCommand ws command) (sym (append-nil words)) is }
+
+pub never_both : NeverBoth
+never_both words command word is at =
+    elim (cases_order word (length words + 1)) [
+      | inl last ↦ at.unfinished last command is
+      | inr other ↦ elim other [
+        | inl within ↦ at.refused (omega arith) (IsBeginning-take word words (command-begins words command is))
+        | inr past ↦ (let top = at.no_further in omega arith)
+      ]
+    ]
+
+pub one_of_both : OneOfBoth
+one_of_both words = go (read_of words) refl where
+  go : (r : Result PlainCommand ℕ) → read_of words ≡ r → ((command : PlainCommand) × IsCommand words command) ⊎ ((word : ℕ) × IsRefusedAt words word)
+  go (Ok command) e = inl (command, read-accepts words command e)
+  go (Err word) e = inr (word, read-refuses words word e)
