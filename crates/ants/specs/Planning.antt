@@ -1,0 +1,18 @@
+-- What the words of a game ask for (this project's own).
+use Rattle.std.specs.Prelude.{◌≡◌, ℕ, Result, Ok, Err}
+use Rattle.command_words.specs.Slots.{DumpChoice}
+use Rattle.match_run.specs.declared.plan.Plan.{Plan}
+use Rattle.ants.specs.declared.stop.Stop.{Stop}
+use Rattle.ants.specs.declared.stop.Stop.TheVariants as stop
+use Rattle.ants.specs.Jobs.{chosen_rounds}
+
+-- the plan has this seed, these rounds and these dumps
+pub record Plans (seed rounds : ℕ) (dumps : DumpChoice) (plan : Plan) : Type 0 where
+  pub seed_is : plan.seed ≡ seed
+  pub rounds_are : plan.rounds ≡ rounds
+  pub dumps_are : plan.dumps ≡ chosen_rounds dumps
+
+-- a plan was made; only memory can be wanting
+abbrev pub IsPlanned : ℕ → ℕ → DumpChoice → Result Plan Stop → Type 0
+IsPlanned seed rounds dumps (Ok plan) = Plans seed rounds dumps plan
+IsPlanned seed rounds dumps (Err reason) = reason ≡ stop.Memory

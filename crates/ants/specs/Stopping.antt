@@ -1,0 +1,80 @@
+-- Why a command stops, and the line that says so (this project's own).
+use Rattle.std.specs.Prelude.{ℕ, List, [], ◌++◌, codes, decimal}
+use Rattle.ant_base.specs.Layout.{◌+++◌}
+use Rattle.brain_read.specs.declared.fault.BrainFault.{BrainFault}
+use Rattle.brain_read.specs.declared.fault.BrainFault.TheVariants as brain
+use Rattle.world_read.specs.declared.fault.WorldFault.{WorldFault}
+use Rattle.world_read.specs.declared.fault.WorldFault.TheVariants as world
+use Rattle.ants.specs.declared.status.Status.{Status}
+use Rattle.ants.specs.declared.status.Status.TheVariants as status
+use Rattle.ants.specs.declared.stop.FileFault.{FileFault}
+use Rattle.ants.specs.declared.stop.FileFault.TheVariants.{TooLong, World, Brain}
+use Rattle.ants.specs.declared.stop.Stop.{Stop}
+use Rattle.ants.specs.declared.stop.Stop.TheVariants as stop
+
+-- why a command stopped: at a word, at a file that was not read, at the output, at a file that was refused, or for want of memory
+pub data Reason : Type 0 where
+  AtWord : ℕ → Reason
+  AtFile : List ℕ → Reason
+  AtOutput : Reason
+  AtInput : List ℕ → FileFault → Reason
+  AtMemory : Reason
+
+-- a stop without the addresses of its names
+abbrev pub reason_of : Stop → Reason
+reason_of (stop.Words word) = AtWord word
+reason_of (stop.Read name) = AtFile name.now
+reason_of stop.Write = AtOutput
+reason_of (stop.Input name fault) = AtInput name.now fault
+reason_of stop.Memory = AtMemory
+
+-- the status of a command that stopped so
+abbrev pub status_of : Reason → Status
+status_of (AtWord word) = status.Words
+status_of (AtFile name) = status.Read
+status_of AtOutput = status.Write
+status_of (AtInput name fault) = status.Input
+status_of AtMemory = status.Memory
+
+-- what a world file's fault says
+abbrev pub world_fault_text : WorldFault → List ℕ
+world_fault_text world.BadWidth = codes "bad width"
+world_fault_text world.BadHeight = codes "bad height"
+world_fault_text (world.MissingRow row) = codes "row " +++ decimal row +++ codes ": missing"
+world_fault_text (world.BadCell row column) = codes "row " +++ decimal row +++ codes ": bad cell at column " +++ decimal column
+world_fault_text (world.ShortRow row) = codes "row " +++ decimal row +++ codes ": short"
+world_fault_text (world.LongRow row) = codes "row " +++ decimal row +++ codes ": long"
+world_fault_text world.ExtraRow = codes "extra row"
+world_fault_text (world.OpenRim x y) = codes "rim open at (" +++ decimal x +++ codes ", " +++ decimal y +++ codes ")"
+world_fault_text (world.TooManyAnts count) = codes "too many ants, " +++ decimal count
+world_fault_text world.OutOfMemory = codes "out of memory"
+
+-- what a brain file's fault says
+abbrev pub brain_fault_text : BrainFault → List ℕ
+brain_fault_text (brain.BadByte line) = codes "line " +++ decimal line +++ codes ": bad byte"
+brain_fault_text (brain.UnknownWord line) = codes "line " +++ decimal line +++ codes ": unknown word"
+brain_fault_text (brain.MissingToken line) = codes "line " +++ decimal line +++ codes ": missing token"
+brain_fault_text (brain.BadNumber line) = codes "line " +++ decimal line +++ codes ": bad number"
+brain_fault_text (brain.ExtraToken line) = codes "line " +++ decimal line +++ codes ": extra token"
+brain_fault_text (brain.TooMany line) = codes "line " +++ decimal line +++ codes ": too many instructions"
+brain_fault_text brain.Empty = codes "no instruction"
+brain_fault_text (brain.NoSuchState line state) = codes "line " +++ decimal line +++ codes ": no such state " +++ decimal state
+brain_fault_text brain.OutOfMemory = codes "out of memory"
+
+-- what a file's fault says
+abbrev pub file_fault_text : FileFault → List ℕ
+file_fault_text TooLong = codes "too long"
+file_fault_text (World fault) = world_fault_text fault
+file_fault_text (Brain fault) = brain_fault_text fault
+
+-- what a reason says
+abbrev pub reason_text : Reason → List ℕ
+reason_text (AtWord word) = codes "word " +++ decimal word +++ codes " refused"
+reason_text (AtFile name) = name +++ codes ": not read"
+reason_text AtOutput = codes "output failed"
+reason_text (AtInput name fault) = name +++ codes ": " +++ file_fault_text fault
+reason_text AtMemory = codes "out of memory"
+
+-- the line that is written to the errors
+unfoldable pub fault_line : Reason → List ℕ
+fault_line reason = codes "ants: " +++ reason_text reason +++ codes "\n"

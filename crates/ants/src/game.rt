@@ -1,0 +1,111 @@
+// The command `run`.
+ghost use Rattle.std.specs.Prelude.{◌≡◌, ◌≤◌, IfOk};
+ghost use Rattle.ant_base.specs.Sink.{Pushed};
+ghost use Rattle.ant_turn.specs.Minds.{Fits};
+ghost use Rattle.cell_world.specs.Grid.{world_of};
+ghost use Rattle.command_words.specs.Command.PlainCommand.{RunCommand};
+ghost use Rattle.command_words.specs.Slots.{DumpChoice};
+ghost use Rattle.command_words.specs.Words.{plain_dumps};
+ghost use Rattle.match_run.specs.Run.{run_text};
+ghost use Rattle.ants.specs.Jobs.{chosen_rounds, contest_minds};
+ghost use Rattle.ants.specs.Performing.{EndsAs, KeepsShelf};
+ghost use Rattle.ants.specs.Settings.{ReadsSetting};
+
+use crate::fetching::{brain_of_file, world_of_file};
+use crate::stop::Stop;
+use ant_base::{Failed, Shelf, Sink};
+use ant_turn::Brains;
+use brain_read::Brain;
+use cell_world::World;
+use command_words::{DumpWord, Numbers};
+use match_run::{Dumps, OutOfMemory, Plan, Rounds, play_alone};
+use std::alloc::Global;
+
+// The names of the files of a game.
+#[derive(Clone, Copy)]
+pub struct Names<'w> {
+    pub world: &'w str,
+    pub red: &'w str,
+    pub black: &'w str,
+}
+
+// What the files of a game were read as.
+#[derive(Drop)]
+struct Setting {
+    world: World,
+    red: Brain,
+    black: Brain,
+}
+
+// The rounds of a list.
+fn rounds_of(alloc: Global, numbers: Numbers<'_>) -> Result<Rounds, OutOfMemory>
+    ensures { IfOk result (λ rounds. rounds ≡ numbers.entry) }
+{
+    let mut rounds = Rounds::new(alloc);
+    for number in numbers {
+        rounds.add(number)?;
+    }
+    Ok(rounds)
+}
+
+/// The choice of dumps that the words make.
+pub fn dumps_of(alloc: Global, word: DumpWord<'_>) -> Result<Dumps, OutOfMemory>
+    ensures { IfOk result (λ dumps. dumps ≡ chosen_rounds (plain_dumps word.entry)) }
+{
+    match word {
+        DumpWord::Nothing => Ok(Dumps::Nothing),
+        DumpWord::All => Ok(Dumps::All),
+        DumpWord::Chosen(numbers) => Ok(Dumps::Chosen(rounds_of(alloc, numbers)?)),
+    }
+}
+
+// The files of a game, in the order in which its words name them.
+fn setting_of<'w, S: Shelf>(
+    alloc: Global,
+    names: Names<'w>,
+    shelf: &mut S,
+) -> Result<Setting, Stop<'w>>
+    ensures reads { ReadsSetting (S.state shelf.old) (S.state shelf.new) names.entry.world.now names.entry.red.now names.entry.black.now result }
+    ensures keeps { KeepsShelf (S.state shelf.old) (S.state shelf.new) }
+{
+    let world = world_of_file(alloc, shelf, names.world)?;
+    let red = brain_of_file(alloc, shelf, names.red)?;
+    let black = brain_of_file(alloc, shelf, names.black)?;
+    Ok(Setting { world, red, black })
+}
+
+// Plays a game, and pushes its text.
+fn play<K: Sink>(setting: Setting, plan: &Plan, out: &mut K) -> Result<(), Failed>
+    requires fit { Fits (world_of setting.world) (contest_minds setting.red setting.black) }
+    requires few_rounds { plan.now.rounds ≤ 1000000 }
+    ensures { Pushed (K.state out.old) (K.state out.new) (run_text (contest_minds setting.red setting.black) plan.now.seed plan.now.rounds plan.now.dumps (world_of setting.world)) result }
+{
+    let Setting { world, red, black } = setting;
+    let brains = Brains {
+        red: &red,
+        black: &black,
+    };
+    match play_alone(world, brains, plan, out) {
+        Ok(_) => Ok(()),
+        Err(Failed) => Err(Failed),
+    }
+}
+
+/// Plays a game of at most 1,000,000 rounds, and writes its text.
+pub fn run<'w, S: Shelf, K: Sink>(
+    alloc: Global,
+    names: Names<'w>,
+    plan: &Plan,
+    shelf: &mut S,
+    out: &mut K,
+) -> Result<(), Stop<'w>>
+    requires { plan.now.rounds ≤ 1000000 }
+    ensures ends { (dumps : DumpChoice) → plan.now.dumps ≡ chosen_rounds dumps → EndsAs (RunCommand names.entry.world.now names.entry.red.now names.entry.black.now plan.now.seed plan.now.rounds dumps) (S.state shelf.old) (S.state shelf.new) (K.state out.old) (K.state out.new) result }
+    ensures keeps { KeepsShelf (S.state shelf.old) (S.state shelf.new) }
+{
+    let setting = setting_of(alloc, names, shelf)?;
+    match play(setting, plan, out) {
+        Ok(()) => Ok(()),
+        Err(Failed) => Err(Stop::Write),
+    }
+}

@@ -1,0 +1,97 @@
+// The whole program, over any shelf and any sinks.
+ghost use Rattle.std.specs.Prelude.{◌≡◌, ◌↔◌};
+ghost use Rattle.command_words.specs.Words.{plain_dumps, texts};
+ghost use Rattle.ants.specs.Performing.{KeepsShelf};
+ghost use Rattle.ants.specs.Planning.{IsPlanned};
+ghost use Rattle.ants.specs.Running.{Ends, IsComplete, IsNoCommand, IsRefusing, IsRun, ending_of};
+
+use crate::brain::brain;
+use crate::game::{Names, dumps_of, run};
+use crate::show::show;
+use crate::status::Status;
+use crate::stop::Stop;
+use ant_base::{Gate, Layout, Shelf, Sink};
+use command_words::{Command, DumpWord, read_words};
+use match_run::{OutOfMemory, Plan};
+use std::alloc::Global;
+use std::thread::Threads;
+
+// A game's window of looks has as many turns as a whole round at most.
+const WHOLE_ROUND: u32 = 16_384;
+
+// What a game is asked to do.
+fn plan_of<'w>(alloc: Global, seed: u32, rounds: u32, word: DumpWord<'_>) -> Result<Plan, Stop<'w>>
+    ensures { IsPlanned seed rounds (plain_dumps word.entry) result }
+{
+    match dumps_of(alloc, word) {
+        Ok(dumps) => Ok(Plan {
+            seed,
+            rounds,
+            dumps,
+            window: WHOLE_ROUND,
+            stats: false,
+        }),
+        Err(OutOfMemory) => Err(Stop::Memory),
+    }
+}
+
+// Carries out the command that the words are.
+fn carry_out<'w, S: Shelf, K: Sink>(
+    alloc: Global,
+    words: &'w [String],
+    shelf: &mut S,
+    out: &mut K,
+) -> Result<(), Stop<'w>>
+    ensures ends { Ends (texts words.now) (S.state shelf.old) (S.state shelf.new) (K.state out.old) (K.state out.new) (ending_of result) }
+    ensures keeps { KeepsShelf (S.state shelf.old) (S.state shelf.new) }
+{
+    match read_words(words) {
+        Err(refused) => Err(Stop::Words(refused.word)),
+        Ok(Command::Show { world, seed }) => show(alloc, world, seed, shelf, out),
+        Ok(Command::Brain { file }) => brain(alloc, file, shelf, out),
+        Ok(
+            Command::Run {
+                world,
+                red,
+                black,
+                seed,
+                rounds,
+                dumps,
+            },
+        ) => {
+            let plan = plan_of(alloc, seed, rounds, dumps)?;
+            run(alloc, Names { world, red, black }, &plan, shelf, out)
+        }
+    }
+}
+
+/// Does all that the program does, over a shelf of files, an output and a place for faults (this project's own).
+///
+/// `words` doesn't hold the program's name. `Done`: the output got the command's whole text and nothing else, and the errors nothing.
+/// `Words`: exactly where the words are no command; nothing was fetched. `Read`: the shelf failed at a file of which it wasn't sure.
+/// `Write`: the output failed, and holds a front of the text. `Input`: a file is too long or not in its grammar, and each before it was
+/// accepted. `Memory`: memory could not be had. At every status but `Done` the errors got one line, or a front of it where they failed.
+/// The shelf keeps its contents and what it is sure of. The runtime and the gate serve looks made at the same time; no command uses them.
+pub fn run_ants<R: Threads + Sync, S: Shelf, K: Sink, E: Sink, G: Gate>(
+    _rt: &R,
+    alloc: Global,
+    words: &[String],
+    shelf: &mut S,
+    out: &mut K,
+    err: &mut E,
+    _gate: &G,
+) -> Status
+    ensures run { IsRun (texts words.now) (S.state shelf.old) (S.state shelf.new) (K.state out.old) (K.state out.new) (E.state err.old) (E.state err.new) result }
+    ensures words { (result ≡ Status.Words) ↔ IsNoCommand (texts words.now) }
+    ensures complete { IsComplete (texts words.now) (S.state shelf.old) (S.state shelf.new) (K.state out.old) (K.state out.new) result }
+    ensures refusing { IsRefusing (texts words.now) (S.state shelf.old) (S.state shelf.new) result }
+    ensures keeps { KeepsShelf (S.state shelf.old) (S.state shelf.new) }
+{
+    match carry_out(alloc, words, shelf, out) {
+        Ok(()) => Status::Done,
+        Err(stop) => {
+            let _ = stop.push_to(err);
+            stop.status()
+        }
+    }
+}

@@ -1,0 +1,40 @@
+// The command `show`.
+ghost use Rattle.ant_base.specs.Sink.{Pushed};
+ghost use Rattle.command_words.specs.Command.PlainCommand.{ShowCommand};
+ghost use Rattle.ants.specs.Files.Content.{WorldContent};
+ghost use Rattle.ants.specs.Jobs.{show_output};
+ghost use Rattle.ants.specs.Performing.{EndsAs, KeepsShelf};
+
+use crate::fetching::world_of_file;
+use crate::stop::Stop;
+use ant_base::{Failed, Shelf, Sink};
+use cell_world::World;
+use dump_print::{push_dump, push_seed};
+use std::alloc::Global;
+
+// Pushes the line of the seed and the dump after round 0.
+#[tactic(auto, unfolding(crate::specs::Jobs::show_output))]
+fn push_show<K: Sink>(world: &World, seed: u32, out: &mut K) -> Result<(), Failed>
+    ensures { Pushed (K.state out.old) (K.state out.new) (show_output seed (WorldContent world.now)) result }
+{
+    push_seed(seed, out)?;
+    push_dump(world, 0, out)
+}
+
+/// Shows a world at the start of a game.
+pub fn show<'w, S: Shelf, K: Sink>(
+    alloc: Global,
+    name: &'w str,
+    seed: u32,
+    shelf: &mut S,
+    out: &mut K,
+) -> Result<(), Stop<'w>>
+    ensures ends { EndsAs (ShowCommand name.now seed) (S.state shelf.old) (S.state shelf.new) (K.state out.old) (K.state out.new) result }
+    ensures keeps { KeepsShelf (S.state shelf.old) (S.state shelf.new) }
+{
+    let world = world_of_file(alloc, shelf, name)?;
+    match push_show(&world, seed, out) {
+        Ok(()) => Ok(()),
+        Err(Failed) => Err(Stop::Write),
+    }
+}

@@ -1,0 +1,36 @@
+// How the program ends.
+ghost use Rattle.std.specs.Prelude.{◌≡◌};
+ghost use Rattle.ants.specs.Status.{number_of};
+
+/// How a command ended (this project's own).
+#[derive(Clone, Copy, Debug, PartialEq, Eq)]
+pub enum Status {
+    /// The whole text was written.
+    Done,
+    /// The words are no command.
+    Words,
+    /// A file could not be read.
+    Read,
+    /// The output failed.
+    Write,
+    /// A file is too long, or not in its grammar.
+    Input,
+    /// Memory could not be had.
+    Memory,
+}
+
+impl Status {
+    /// The exit status of the program: 0, 2, 3, 4, 5, 6 in the order of the variants.
+    pub fn number(&self) -> u8
+        ensures { result ≡ number_of self.now }
+    {
+        match self {
+            Status::Done => 0,
+            Status::Words => 2,
+            Status::Read => 3,
+            Status::Write => 4,
+            Status::Input => 5,
+            Status::Memory => 6,
+        }
+    }
+}

@@ -1,0 +1,149 @@
+// Why a command stopped, and the line that says so.
+ghost use Rattle.std.specs.Prelude.{◌≡◌};
+ghost use Rattle.ants.specs.Stopping.{file_fault_text, brain_fault_text, world_fault_text, reason_of, reason_text, fault_line, status_of};
+
+use crate::status::Status;
+use ant_base::{Failed, Layout, Sink, layout};
+use brain_read::BrainFault;
+use world_read::WorldFault;
+
+/// Why a file was refused (this project's own).
+#[derive(Clone, Copy, Debug, PartialEq, Eq)]
+pub enum FileFault {
+    /// It has more than 4,194,304 bytes.
+    TooLong,
+    /// It is no world.
+    World(WorldFault),
+    /// It is no brain.
+    Brain(BrainFault),
+}
+
+/// Why a command stopped before its whole text was written (this project's own).
+#[derive(Clone, Copy, Debug)]
+pub enum Stop<'w> {
+    /// The words are no command, and this word, counted from 1, is the first with which they begin none.
+    Words(usize),
+    /// The file of this name was not read.
+    Read(&'w str),
+    /// The output failed.
+    Write,
+    /// The file of this name was refused.
+    Input(&'w str, FileFault),
+    /// Memory could not be had.
+    Memory,
+}
+
+// What a world file's fault says.
+#[derive(Clone, Copy)]
+struct WorldWords(WorldFault);
+
+impl Layout for WorldWords {
+    ghost text = { λ words. world_fault_text words.0 };
+
+    fn push_to<K: Sink>(&self, sink: &mut K) -> Result<(), Failed> {
+        match self.0 {
+            WorldFault::BadWidth => "bad width".push_to(sink),
+            WorldFault::BadHeight => "bad height".push_to(sink),
+            WorldFault::MissingRow { row } => layout!("row ", row, ": missing").push_to(sink),
+            WorldFault::BadCell { row, column } => {
+                layout!("row ", row, ": bad cell at column ", column).push_to(sink)
+            }
+            WorldFault::ShortRow { row } => layout!("row ", row, ": short").push_to(sink),
+            WorldFault::LongRow { row } => layout!("row ", row, ": long").push_to(sink),
+            WorldFault::ExtraRow => "extra row".push_to(sink),
+            WorldFault::OpenRim { x, y } => layout!("rim open at (", x, ", ", y, ")").push_to(sink),
+            WorldFault::TooManyAnts { count } => layout!("too many ants, ", count).push_to(sink),
+            WorldFault::OutOfMemory => "out of memory".push_to(sink),
+        }
+    }
+}
+
+// What a brain file's fault says.
+#[derive(Clone, Copy)]
+struct BrainWords(BrainFault);
+
+impl Layout for BrainWords {
+    ghost text = { λ words. brain_fault_text words.0 };
+
+    fn push_to<K: Sink>(&self, sink: &mut K) -> Result<(), Failed> {
+        match self.0 {
+            BrainFault::BadByte { line } => layout!("line ", line, ": bad byte").push_to(sink),
+            BrainFault::UnknownWord { line } => layout!("line ", line, ": unknown word").push_to(
+                sink,
+            ),
+            BrainFault::MissingToken { line } => layout!("line ", line, ": missing token").push_to(
+                sink,
+            ),
+            BrainFault::BadNumber { line } => layout!("line ", line, ": bad number").push_to(sink),
+            BrainFault::ExtraToken { line } => layout!("line ", line, ": extra token").push_to(
+                sink,
+            ),
+            BrainFault::TooMany { line } => {
+                layout!("line ", line, ": too many instructions").push_to(sink)
+            }
+            BrainFault::Empty => "no instruction".push_to(sink),
+            BrainFault::NoSuchState { line, state } => {
+                layout!("line ", line, ": no such state ", state).push_to(sink)
+            }
+            BrainFault::OutOfMemory => "out of memory".push_to(sink),
+        }
+    }
+}
+
+// What a file's fault says.
+#[derive(Clone, Copy)]
+struct FileWords(FileFault);
+
+impl Layout for FileWords {
+    ghost text = { λ words. file_fault_text words.0 };
+
+    fn push_to<K: Sink>(&self, sink: &mut K) -> Result<(), Failed> {
+        match self.0 {
+            FileFault::TooLong => "too long".push_to(sink),
+            FileFault::World(fault) => WorldWords(fault).push_to(sink),
+            FileFault::Brain(fault) => BrainWords(fault).push_to(sink),
+        }
+    }
+}
+
+// What a stop says, without the program's name.
+#[derive(Clone, Copy)]
+struct Reason<'s>(Stop<'s>);
+
+impl Layout for Reason<'_> {
+    ghost text = { λ reason. reason_text (reason_of reason.0) };
+
+    fn push_to<K: Sink>(&self, sink: &mut K) -> Result<(), Failed> {
+        match self.0 {
+            Stop::Words(word) => layout!("word ", word, " refused").push_to(sink),
+            Stop::Read(name) => layout!(name, ": not read").push_to(sink),
+            Stop::Write => "output failed".push_to(sink),
+            Stop::Input(name, fault) => layout!(name, ": ", FileWords(fault)).push_to(sink),
+            Stop::Memory => "out of memory".push_to(sink),
+        }
+    }
+}
+
+impl Layout for Stop<'_> {
+    ghost text = { λ stop. fault_line (reason_of stop) };
+
+    #[tactic(auto, unfolding(crate::specs::Stopping::fault_line))]
+    fn push_to<K: Sink>(&self, sink: &mut K) -> Result<(), Failed> {
+        layout!("ants: ", Reason(*self), "\n").push_to(sink)
+    }
+}
+
+impl Stop<'_> {
+    /// The status of a command that stopped so.
+    pub fn status(&self) -> Status
+        ensures { result ≡ status_of (reason_of self.now) }
+    {
+        match self {
+            Stop::Words(_) => Status::Words,
+            Stop::Read(_) => Status::Read,
+            Stop::Write => Status::Write,
+            Stop::Input(_, _) => Status::Input,
+            Stop::Memory => Status::Memory,
+        }
+    }
+}

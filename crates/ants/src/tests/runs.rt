@@ -1,0 +1,227 @@
+// The command `run`.
+use crate::status::Status;
+use crate::tests::{CLOSED, CLOSING, EMPTY, FED, NEIGHBOURS, OPEN, ROW, SURROUNDED, answer, game};
+use std::test::Fail;
+
+// A red ant dies after a black one's move: one round of `CLOSING` with the seed 12345, red `Flip 2 0 0`, black `Move 0 0`.
+pub const KILLED: &str = "random seed: 12345\n\
+    \n\
+    After round 1...\n\
+    cell (0, 0): rock\n\
+    cell (1, 0): rock\n\
+    cell (2, 0): rock\n\
+    cell (3, 0): rock\n\
+    cell (4, 0): rock\n\
+    cell (5, 0): rock\n\
+    cell (6, 0): rock\n\
+    cell (0, 1): rock\n\
+    cell (1, 1): \n\
+    cell (2, 1): \n\
+    cell (3, 1): \n\
+    cell (4, 1): \n\
+    cell (5, 1): \n\
+    cell (6, 1): rock\n\
+    cell (0, 2): rock\n\
+    cell (1, 2): \n\
+    cell (2, 2): \n\
+    cell (3, 2): black hill; black ant of id 0, dir 0, food 0, state 0, resting 0\n\
+    cell (4, 2): rock\n\
+    cell (5, 2): \n\
+    cell (6, 2): rock\n\
+    cell (0, 3): rock\n\
+    cell (1, 3): black hill; \n\
+    cell (2, 3): black ant of id 1, dir 0, food 0, state 0, resting 14\n\
+    cell (3, 3): 3 food; red hill; \n\
+    cell (4, 3): black hill; black ant of id 3, dir 0, food 0, state 0, resting 0\n\
+    cell (5, 3): rock\n\
+    cell (6, 3): rock\n\
+    cell (0, 4): rock\n\
+    cell (1, 4): red hill; red ant of id 4, dir 0, food 0, state 0, resting 0\n\
+    cell (2, 4): \n\
+    cell (3, 4): black hill; black ant of id 5, dir 0, food 0, state 0, resting 0\n\
+    cell (4, 4): black hill; black ant of id 6, dir 0, food 0, state 0, resting 0\n\
+    cell (5, 4): rock\n\
+    cell (6, 4): rock\n\
+    cell (0, 5): rock\n\
+    cell (1, 5): rock\n\
+    cell (2, 5): rock\n\
+    cell (3, 5): rock\n\
+    cell (4, 5): rock\n\
+    cell (5, 5): rock\n\
+    cell (6, 5): rock\n\
+    \n\
+    score: red 3 black 0\n";
+
+// A red ant turns left: one round of `CLOSED` with the seed 12345.
+const TURNED: &str = "random seed: 12345\n\
+    \n\
+    After round 0...\n\
+    cell (0, 0): rock\n\
+    cell (1, 0): rock\n\
+    cell (2, 0): rock\n\
+    cell (0, 1): rock\n\
+    cell (1, 1): red hill; red ant of id 0, dir 0, food 0, state 0, resting 0\n\
+    cell (2, 1): rock\n\
+    cell (0, 2): rock\n\
+    cell (1, 2): rock\n\
+    cell (2, 2): rock\n\
+    \n\
+    After round 1...\n\
+    cell (0, 0): rock\n\
+    cell (1, 0): rock\n\
+    cell (2, 0): rock\n\
+    cell (0, 1): rock\n\
+    cell (1, 1): red hill; red ant of id 0, dir 5, food 0, state 0, resting 0\n\
+    cell (2, 1): rock\n\
+    cell (0, 2): rock\n\
+    cell (1, 2): rock\n\
+    cell (2, 2): rock\n\
+    \n\
+    score: red 0 black 0\n";
+
+// The seed 7, no dump and no food on a hill.
+pub const UNPLAYED: &str = "random seed: 7\n\nscore: red 0 black 0\n";
+
+#[test]
+fn a_run_prints_its_seed_its_dumps_and_its_score(rt: HostRuntime) -> Result<(), Fail> {
+    let turning = game(CLOSED, "Turn Left 0", "Turn Left 0");
+    for line in [
+        "run w r b --seed 12345 --rounds 1 --dump 0,1",
+        "run w r b --dump all --rounds 1 --seed 12345",
+        "run w r b --rounds 1 --dump 9,1,0,1 --seed 12345",
+    ] {
+        let answer = answer(&rt, rt.alloc(), line, &turning)?;
+        assert_eq!(rt; answer.parts(), (Status::Done, TURNED, ""), "at {line}");
+    }
+    for (line, world) in [
+        ("run w r b --seed 7 --rounds 0", CLOSED),
+        ("run w r b --seed 7 --rounds 0 --dump none", CLOSED),
+        ("run w r b --seed 7 --rounds 5", EMPTY),
+    ] {
+        let answer = answer(&rt, rt.alloc(), line, &game(world, "Drop 0", "Drop 0"))?;
+        assert_eq!(rt; answer.parts(), (Status::Done, UNPLAYED, ""), "at {line}");
+    }
+    let killing = game(CLOSING, "Flip 2 0 0", "Move 0 0");
+    let line = "run w r b --seed 12345 --rounds 1 --dump 1";
+    let answer = answer(&rt, rt.alloc(), line, &killing)?;
+    assert_eq!(rt; answer.parts(), (Status::Done, KILLED, ""));
+    Ok(())
+}
+
+// Whether the lines of `wanted` are lines of `text`, in this order, others between them.
+fn has_lines(text: &str, wanted: &str) -> bool {
+    let mut lines = text.split('\n');
+    for line in wanted.split('\n') {
+        if !lines.any(|other| other == line) {
+            return false;
+        }
+    }
+    true
+}
+
+#[test]
+fn a_run_follows_the_rules_of_the_world(rt: HostRuntime) -> Result<(), Fail> {
+    for (line, world, red, black, lines, score) in [
+        (
+            "run w r b --seed 1 --rounds 16 --dump 1,15,16",
+            OPEN,
+            "Move 0 0",
+            "Move 0 0",
+            "After round 1...\n\
+                cell (1, 1): red hill; \n\
+                cell (2, 1): red ant of id 0, dir 0, food 0, state 0, resting 14\n\
+                After round 15...\n\
+                cell (1, 1): red hill; \n\
+                cell (2, 1): red ant of id 0, dir 0, food 0, state 0, resting 0\n\
+                After round 16...\n\
+                cell (1, 1): red hill; \n\
+                cell (2, 1): red ant of id 0, dir 0, food 0, state 0, resting 0\n",
+            "\n\nscore: red 0 black 0\n",
+        ),
+        (
+            "run w r b --seed 12345 --rounds 1 --dump 1",
+            CLOSED,
+            "Flip 3 1 2\nDrop 1\nDrop 2\n",
+            "Flip 3 1 2\nDrop 1\nDrop 2\n",
+            "After round 1...\n\
+                cell (1, 1): red hill; red ant of id 0, dir 0, food 0, state 2, resting 0\n",
+            "\n\nscore: red 0 black 0\n",
+        ),
+        (
+            "run w r b --seed 12345 --rounds 1 --dump 1",
+            ROW,
+            "Flip 1 0 0",
+            "Flip 3 1 2\nDrop 1\nDrop 2\n",
+            "After round 1...\n\
+                cell (1, 1): red hill; red ant of id 0, dir 0, food 0, state 0, resting 0\n\
+                cell (2, 1): red hill; red ant of id 1, dir 0, food 0, state 0, resting 0\n\
+                cell (3, 1): black hill; black ant of id 2, dir 0, food 0, state 1, resting 0\n",
+            "\n\nscore: red 0 black 0\n",
+        ),
+        (
+            "run w r b --seed 1 --rounds 5 --dump 5",
+            SURROUNDED,
+            "Drop 0",
+            "Drop 0",
+            "After round 5...\n\
+                cell (2, 2): red hill; red ant of id 3, dir 0, food 0, state 0, resting 0\n",
+            "\n\nscore: red 0 black 0\n",
+        ),
+        (
+            "run w r b --seed 1 --rounds 19 --dump 16,17,18,19",
+            FED,
+            "Move 1 0\nPickUp 2 3\nPickUp 0 3\nDrop 4\nDrop 4\n",
+            "Drop 0",
+            "After round 16...\n\
+                cell (2, 1): red ant of id 0, dir 0, food 1, state 2, resting 0\n\
+                After round 17...\n\
+                cell (2, 1): red ant of id 0, dir 0, food 1, state 3, resting 0\n\
+                After round 18...\n\
+                cell (2, 1): 1 food; red ant of id 0, dir 0, food 0, state 4, resting 0\n\
+                After round 19...\n\
+                cell (2, 1): 1 food; red ant of id 0, dir 0, food 0, state 4, resting 0\n",
+            "\n\nscore: red 0 black 0\n",
+        ),
+        (
+            "run w r b --seed 1 --rounds 1 --dump 1",
+            NEIGHBOURS,
+            "Move 0 0",
+            "Drop 0",
+            "After round 1...\n\
+                cell (1, 2): red hill; \n\
+                cell (2, 2): red ant of id 2, dir 0, food 0, state 0, resting 14\n\
+                cell (3, 2): 3 food; black hill; \n\
+                cell (2, 3): red hill; red ant of id 6, dir 0, food 0, state 0, resting 0\n",
+            "\n\nscore: red 0 black 3\n",
+        ),
+        (
+            "run w r b --seed 1 --rounds 3 --dump 2,3",
+            CLOSED,
+            "Mark 3 1\nMark 0 2\nUnmark 3 2\n",
+            "Mark 3 1\nMark 0 2\nUnmark 3 2\n",
+            "After round 2...\n\
+                cell (1, 1): red hill; red marks: 03; red ant of id 0, dir 0, food 0, state 2, resting 0\n\
+                After round 3...\n\
+                cell (1, 1): red hill; red marks: 0; red ant of id 0, dir 0, food 0, state 2, resting 0\n",
+            "\n\nscore: red 0 black 0\n",
+        ),
+    ] {
+        let answer = answer(&rt, rt.alloc(), line, &game(world, red, black))?;
+        assert_eq!(rt;
+            (answer.status, answer.err.as_str()),
+            (Status::Done, ""),
+            "at {line}, {red:?}"
+        );
+        assert!(rt;
+            has_lines(answer.out.as_str(), lines),
+            "{lines:?} in {:?}",
+            answer.out
+        );
+        assert!(rt;
+            answer.out.ends_with(score),
+            "{score:?} in {:?}",
+            answer.out
+        );
+    }
+    Ok(())
+}
