@@ -10,24 +10,37 @@ use Rattle.std.specs.Int.{IsInRange}
 use Rattle.std.specs.List.{flat_map, prefix_len, suffix_len}
 use Rattle.std.specs.Str.Parse.{AllDigits}
 use Rattle.std.specs.Fmt.{decimal}
-use Rattle.ant_base.specs.Lines.{is_lf, onto_first, lines_of, has_no_lf, is_separator, trimmed}
+use Rattle.ant_base.specs.Lines.{is_lf, onto_first, lines_of, first_line, after_line, has_no_lf, is_separator, trimmed}
 
 -- how many bytes stand before the first LF
 abbrev pub line_length : List ℕ → ℕ
 line_length text = prefix_len (λ byte. not (is_lf byte)) text
 
-onto_cut : (byte : ℕ) (text : List ℕ) (n : ℕ) → lines_of text ≡ take n text ∷ lines_of (drop 1 (drop n text)) → onto_first byte (lines_of text) ≡ take (1 + n) (byte ∷ text) ∷ lines_of (drop 1 (drop (1 + n) (byte ∷ text)))
-onto_cut byte text n cut = let next : 1 + n ≡ suc n = omega arith in rw (next, cut) refl
+-- the first line ends before the first LF
+pub first_line-take : (text : List ℕ) → first_line text ≡ take (line_length text) text
+first_line-take [] = refl
+first_line-take (byte ∷ text) = go (is_lf byte) (first_line-take text) where
+  go : (lf : Bool) → first_line text ≡ take (line_length text) text → cond lf [] (byte ∷ first_line text) ≡ take (cond (not lf) (1 + line_length text) 0) (byte ∷ text)
+  go true same = refl
+  go false same = let next : 1 + line_length text ≡ suc (line_length text) = omega arith in rw next (ap (λ line. byte ∷ line) same)
 
--- a text that isn't empty is its first line, and then the lines of what stands after that line and its LF
-pub lines_of_cut : (text : List ℕ) → 0 < length text → lines_of text ≡ take (line_length text) text ∷ lines_of (drop 1 (drop (line_length text) text))
-lines_of_cut [] some = absurd (omega arith)
-lines_of_cut (byte ∷ []) some = elim (is_lf byte) as (λ lf. cond lf ([] ∷ []) ((byte ∷ []) ∷ []) ≡ take (cond (not lf) 1 0) (byte ∷ []) ∷ lines_of (drop 1 (drop (cond (not lf) 1 0) (byte ∷ [])))) [ true ↦ refl | false ↦ refl ]
-lines_of_cut (byte ∷ next ∷ text) some = go (is_lf byte) (lines_of_cut (next ∷ text) (omega arith)) where
-  go : (lf : Bool) → lines_of (next ∷ text) ≡ take (line_length (next ∷ text)) (next ∷ text) ∷ lines_of (drop 1 (drop (line_length (next ∷ text)) (next ∷ text)))
-      → cond lf ([] ∷ lines_of (next ∷ text)) (onto_first byte (lines_of (next ∷ text))) ≡ take (cond (not lf) (1 + line_length (next ∷ text)) 0) (byte ∷ next ∷ text) ∷ lines_of (drop 1 (drop (cond (not lf) (1 + line_length (next ∷ text)) 0) (byte ∷ next ∷ text)))
+-- what stands after the first line begins after the first LF
+pub after_line-drop : (text : List ℕ) → after_line text ≡ drop 1 (drop (line_length text) text)
+after_line-drop [] = refl
+after_line-drop (byte ∷ text) = go (is_lf byte) (after_line-drop text) where
+  go : (lf : Bool) → after_line text ≡ drop 1 (drop (line_length text) text) → cond lf text (after_line text) ≡ drop 1 (drop (cond (not lf) (1 + line_length text) 0) (byte ∷ text))
+  go true same = refl
+  go false same = let next : 1 + line_length text ≡ suc (line_length text) = omega arith in rw next same
+
+-- a text that isn't empty is its first line, and then the lines of the rest
+pub lines_of-first : (text : List ℕ) → 0 < length text → lines_of text ≡ first_line text ∷ lines_of (after_line text)
+lines_of-first [] some = absurd (omega arith)
+lines_of-first (byte ∷ []) some = elim (is_lf byte) as (λ lf. cond lf ([] ∷ []) ((byte ∷ []) ∷ []) ≡ cond lf [] (byte ∷ []) ∷ lines_of (cond lf [] [])) [ true ↦ refl | false ↦ refl ]
+lines_of-first (byte ∷ next ∷ text) some = go (is_lf byte) (lines_of-first (next ∷ text) (omega arith)) where
+  go : (lf : Bool) → lines_of (next ∷ text) ≡ first_line (next ∷ text) ∷ lines_of (after_line (next ∷ text))
+      → cond lf ([] ∷ lines_of (next ∷ text)) (onto_first byte (lines_of (next ∷ text))) ≡ cond lf [] (byte ∷ first_line (next ∷ text)) ∷ lines_of (cond lf (next ∷ text) (after_line (next ∷ text)))
   go true cut = refl
-  go false cut = onto_cut byte (next ∷ text) (line_length (next ∷ text)) cut
+  go false cut = rw cut refl
 
 false_of_not : (b : Bool) → not b ≡ true → b ≡ false
 false_of_not true e = sym e

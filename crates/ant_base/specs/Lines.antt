@@ -16,6 +16,16 @@ abbrev pub lines_of : List ℕ → List (List ℕ)
 lines_of [] = []
 lines_of (byte ∷ text) = if is_lf byte then [] ∷ lines_of text else onto_first byte (lines_of text)
 
+-- the first line of a text, without its LF
+abbrev pub first_line : List ℕ → List ℕ
+first_line [] = []
+first_line (byte ∷ text) = if is_lf byte then [] else byte ∷ first_line text
+
+-- what stands after the first line and its LF
+abbrev pub after_line : List ℕ → List ℕ
+after_line [] = []
+after_line (byte ∷ text) = if is_lf byte then text else after_line text
+
 -- whether a text has no LF, and so is within one line
 abbrev pub has_no_lf : List ℕ → Bool
 has_no_lf text = list_all (λ byte. not (is_lf byte)) text

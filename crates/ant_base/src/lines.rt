@@ -2,7 +2,7 @@
 ghost use Rattle.std.specs.Prelude.{◌≡◌, ◌<◌, ◌≤◌, ◌∷◌, length, drop, not};
 ghost use Rattle.std.specs.List.{prefix_len, suffix_len};
 ghost use Rattle.std.specs.Iterator.{YieldsFirstRef, item_count};
-ghost use Rattle.ant_base.specs.Lines.{lines_of, is_lf, is_separator, is_blank, trimmed};
+ghost use Rattle.ant_base.specs.Lines.{lines_of, first_line, after_line, is_lf, is_separator, is_blank, after_separators, trimmed};
 
 use std::marker::Model;
 
@@ -49,10 +49,11 @@ impl<'t> Iterator for Lines<'t> {
     }
 }
 
-// The first line, and what stands after its LF.
-fn cut_line(text: &[u8]) -> (&[u8], &[u8])
-    requires { 0 < length text.now }
-    ensures { lines_of text.now ≡ result.0.now ∷ lines_of result.1.now }
+/// The first line of a text without its LF, and what stands after that LF; of an empty text both are empty (the contest's files).
+pub fn cut_line(text: &[u8]) -> (&[u8], &[u8])
+    ensures line { result.0.now ≡ first_line text.now }
+    ensures rest { result.1.now ≡ after_line text.now }
+    ensures lines { 0 < length text.now → lines_of text.now ≡ result.0.now ∷ lines_of result.1.now }
 {
     let (line, rest) = text.split_at(line_length(text));
     (line, after_first(rest))
@@ -90,11 +91,18 @@ pub fn is_blank(line: &[u8]) -> bool
     line.iter().all(|byte| is_separator(*byte))
 }
 
+/// What stands after the separators at the front of a text (the contest's files).
+pub fn after_separators(text: &[u8]) -> &[u8]
+    ensures { result.now ≡ after_separators text.now }
+{
+    text.split_at(separators_in_front(text)).1
+}
+
 /// A line without the separators at its front and at its end.
 pub fn trimmed(line: &[u8]) -> &[u8]
     ensures { result.now ≡ trimmed line.now }
 {
-    let (_, line) = line.split_at(separators_in_front(line));
+    let line = after_separators(line);
     let (line, _) = line.split_at(line.len() - separators_at_end(line));
     line
 }

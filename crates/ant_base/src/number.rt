@@ -1,8 +1,8 @@
 // Numbers read from texts and pushed as texts.
-ghost use Rattle.std.specs.Prelude.{◌≡◌, ◌<◌, IfSome};
+ghost use Rattle.std.specs.Prelude.{◌≡◌, ◌<◌, ◌≤◌, IfSome};
 ghost use Rattle.std.specs.Fmt.{decimal};
 ghost use Rattle.ant_base.specs.Sink.{Pushed};
-ghost use Rattle.ant_base.specs.Number.{number_of};
+ghost use Rattle.ant_base.specs.Number.{number_of, number_within};
 
 use crate::{Failed, Layout, Sink};
 
@@ -25,6 +25,20 @@ pub fn read_number(text: &[u8]) -> Option<u64>
         value = value * 10 + u64::from(*digit - b'0');
     }
     Some(value)
+}
+
+/// The value of 1 to 10 decimal digits that lies between `least` and `most`, both included; `None` exactly where the text isn't 1 to 10
+/// digits or its value lies outside (the contest's files).
+pub fn read_number_within(text: &[u8], least: u64, most: u64) -> Option<u64>
+    ensures value { result ≡ number_within least most text.now }
+    ensures bounds { IfSome result (λ n. (least ≤ n) × (n ≤ most)) }
+{
+    let number = read_number(text)?;
+    if least <= number && number <= most {
+        Some(number)
+    } else {
+        None
+    }
 }
 
 /// Pushes the decimal text of n, without leading zeros. At `Failed` a front of it was appended, and the count of faults rose.

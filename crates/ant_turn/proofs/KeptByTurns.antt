@@ -9,7 +9,8 @@ use Rattle.cell_world.specs.declared.ant.Colour.{Colour}
 use Rattle.cell_world.specs.declared.ant.Colour.TheVariants.{Red, Black}
 use Rattle.cell_world.specs.declared.cell.Cell.{Cell}
 use Rattle.cell_world.specs.Cell.{holds_id, is_ant, cell_weight, ant_weight, one_if}
-use Rattle.cell_world.specs.Valid.{Valid, CanSet, Replaces, most_weight}
+use Rattle.cell_world.specs.Valid.{Valid, CanSet, Replaces}
+use Rattle.cell_world.specs.Limits.{most_weight}
 use Rattle.cell_world.specs.World.{Cells, World, with_cells, put, put_cell, place_in, weight}
 use Rattle.cell_world.proofs.Places.{ant-clear, clear_inside, holds_id-own}
 use Rattle.cell_world.proofs.Puts.{put_cell-other}

@@ -8,7 +8,7 @@ use Rattle.cell_world.specs.declared.cell.Cell.{Cell}
 use Rattle.cell_world.specs.Cell.{rock, one_if, is_ant_of, is_hill_of, cell_weight, ant_weight}
 use Rattle.cell_world.specs.Grid.{Grid, IsWorld, cell_in, world_of}
 use Rattle.cell_world.specs.Score.{alive_of, hill_food_in, hill_food_of}
-use Rattle.cell_world.specs.Valid.{most_weight}
+use Rattle.cell_world.specs.Limits.{most_weight}
 use Rattle.cell_world.specs.World.{sum_over, pos_at, weight}
 use Rattle.cell_world.proofs.Grids.{cell_in-column, index_of-pos_at}
 use Rattle.cell_world.proofs.Places.{pos_at-inside}

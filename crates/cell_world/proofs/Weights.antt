@@ -7,7 +7,8 @@ use Rattle.cell_world.specs.declared.cell.Cell.{Cell}
 use Rattle.cell_world.specs.Cell.{rock, cell_weight, ant_weight}
 use Rattle.cell_world.specs.Grid.{index_of}
 use Rattle.cell_world.specs.World.{World, sum_over, pos_at, area, put, put_cell, weight}
-use Rattle.cell_world.specs.Valid.{Valid, most_weight}
+use Rattle.cell_world.specs.Limits.{most_weight}
+use Rattle.cell_world.specs.Valid.{Valid}
 use Rattle.cell_world.proofs.Grids.{index_of-inside, index_of-pos_at, pos_at-index_of}
 use Rattle.cell_world.proofs.Places.{clear_inside}
 use Rattle.cell_world.proofs.Puts.{put_cell-same, put_cell-other}

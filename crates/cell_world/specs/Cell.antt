@@ -2,8 +2,10 @@
 use Rattle.std.specs.Prelude.{ℕ, ◌+◌, Bool, true, false, nat_eq, Option, Some, None}
 use Rattle.cell_world.specs.declared.ant.Ant.{Ant}
 use Rattle.cell_world.specs.declared.ant.Colour.{Colour}
+use Rattle.cell_world.specs.declared.ant.Colour.TheVariants.{Red, Black}
 use Rattle.cell_world.specs.declared.cell.Cell.{Cell}
 use Rattle.cell_world.specs.Colour.{same_colour}
+use Rattle.cell_world.specs.declared.marks.Marks.{Marks}
 use Rattle.cell_world.specs.Marks.{no_marks}
 
 -- a rocky cell has no food, marks, ant or hill
@@ -28,6 +30,11 @@ is_hill_of colour (Some other) = same_colour colour other
 abbrev pub is_ant_of : Colour → Option Ant → Bool
 is_ant_of colour None = false
 is_ant_of colour (Some ant) = same_colour colour ant.colour
+
+-- a cell's markers of this colour
+abbrev pub marks_of : Colour → Cell → Marks
+marks_of Red cell = cell.red
+marks_of Black cell = cell.black
 
 -- one where a thing is, and nothing where it isn't
 abbrev pub one_if : Bool → ℕ

@@ -3,6 +3,7 @@ pub mod Colour
 pub mod Grid
 pub mod GroundLaws
 pub mod Inside
+pub mod Limits
 pub mod Marks
 pub mod Opening
 pub mod OpeningLaws

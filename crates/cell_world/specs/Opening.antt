@@ -12,6 +12,7 @@ use Rattle.cell_world.specs.declared.kind.Kind.{Kind}
 use Rattle.cell_world.specs.declared.kind.Kind.TheVariants.{Rock, Clear, RedHill, BlackHill, Food}
 use Rattle.cell_world.specs.Cell.{rock, one_if}
 use Rattle.cell_world.specs.Grid.{Grid, index_of}
+use Rattle.cell_world.specs.Limits.{least_size, most_size, most_ants}
 use Rattle.cell_world.specs.Marks.{no_marks}
 use Rattle.cell_world.specs.World.{pos_at}
 
@@ -92,11 +93,11 @@ hills_before width kinds p = hill_count (take (index_of width p) kinds)
 
 -- the kinds of a world: the sizes are in range, there is one for each cell, the rim is rock, food is in range, and there are not too many hill cells
 pub record IsPlan (width height : ℕ) (kinds : List Kind) : Type 0 where
-  pub wide : 3 ≤ width
-  pub narrow : width ≤ 512
-  pub tall : 3 ≤ height
-  pub low : height ≤ 512
+  pub wide : least_size ≤ width
+  pub narrow : width ≤ most_size
+  pub tall : least_size ≤ height
+  pub low : height ≤ most_size
   pub full : length kinds ≡ width * height
   pub rim : (p : Pos) → IsInside width height p → is_rock (kind_at width kinds p) ≡ false → IsInner width height p
   pub fed : All IsFed kinds
-  pub few : hill_count kinds ≤ 16384
+  pub few : hill_count kinds ≤ most_ants

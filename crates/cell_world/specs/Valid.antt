@@ -5,21 +5,18 @@ use Rattle.hex_geometry.specs.Position.{IsInside, IsInner}
 use Rattle.cell_world.specs.declared.ant.Ant.{Ant}
 use Rattle.cell_world.specs.declared.cell.Cell.{Cell}
 use Rattle.cell_world.specs.Cell.{rock, holds_id, cell_weight}
+use Rattle.cell_world.specs.Limits.{least_size, most_size, most_ants, most_weight}
 use Rattle.cell_world.specs.World.{World, put, weight}
-
--- the most that a world weighs: nine times the 510 by 510 cells inside the largest rim
-unfoldable pub most_weight : ℕ
-most_weight = 2340900
 
 -- what every world keeps
 pub record Valid (w : World) : Type 0 where
   -- sizes from 3 to 512
-  pub wide : 3 ≤ w.width
-  pub narrow : w.width ≤ 512
-  pub tall : 3 ≤ w.height
-  pub low : w.height ≤ 512
+  pub wide : least_size ≤ w.width
+  pub narrow : w.width ≤ most_size
+  pub tall : least_size ≤ w.height
+  pub low : w.height ≤ most_size
   -- at most 16,384 ids were ever made
-  pub few : w.ids ≤ 16384
+  pub few : w.ids ≤ most_ants
   -- what isn't rocky isn't on the rim
   pub rim : (p : Pos) → (w.cells p).rocky ≡ false → IsInner w.width w.height p
   -- what is rocky has no food, marks, ant or hill

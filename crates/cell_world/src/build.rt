@@ -1,7 +1,7 @@
 // The cells of a world at the start of a game, and where its ants stand.
 ghost use Rattle.std.specs.Prelude.{◌≡◌, ◌+◌, ◌*◌, ◌++◌, ◌∷◌, [], ◌<◌, ◌≤◌, length, vec_len, IfOk, OnOk};
 ghost use Rattle.cell_world.specs.World.{pos_at};
-ghost use Rattle.cell_world.specs.Opening.{floor, hill_cell, hill_count, hill_places, is_hill, opening_cell, opening_cells, opening_places};
+ghost use Rattle.cell_world.specs.Opening.{floor, hill_cell, hill_count, hill_places, opening_cell, opening_cells, opening_places};
 
 use crate::ant::{Ant, Colour};
 use crate::cell::Cell;
@@ -45,7 +45,7 @@ impl Parts {
         ensures places { OnOk result (self.new.places.items ≡ self.old.places.items ++ hill_places kind (pos_at width (vec_len self.old.cells))) }
     {
         let cell = opening_cell(kind, self.places.len() as u32);
-        if is_hill(kind) {
+        if kind.is_hill() {
             let place = place_at(width, self.cells.len());
             self.places.push(Some(place))?;
         }
@@ -65,13 +65,6 @@ fn place_at(width: u16, number: usize) -> Pos
         x: (number % columns) as u16,
         y: (number / columns) as u16,
     }
-}
-
-// Whether a cell of this kind is of a hill.
-fn is_hill(kind: Kind) -> bool
-    ensures { result ≡ is_hill kind }
-{
-    matches!(kind, Kind::RedHill | Kind::BlackHill)
 }
 
 // A cell of this kind; an ant on it gets this id.

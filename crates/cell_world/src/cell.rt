@@ -1,4 +1,7 @@
 // A cell of the world.
+ghost use Rattle.std.specs.Prelude.{◌≡◌};
+ghost use Rattle.cell_world.specs.Cell.{is_ant_of, is_hill_of, marks_of};
+
 use crate::ant::{Ant, Colour};
 use crate::marks::Marks;
 
@@ -17,4 +20,39 @@ pub struct Cell {
     pub black: Marks,
     /// The ant that stands on it, if there is one.
     pub ant: Option<Ant>,
+}
+
+impl Cell {
+    /// Whether an ant of this colour stands on it (the task's biology).
+    #[inline]
+    pub fn has_ant_of(&self, colour: Colour) -> bool
+        ensures { result ≡ is_ant_of colour self.now.ant }
+    {
+        match self.ant {
+            Some(ant) => colour == ant.colour,
+            None => false,
+        }
+    }
+
+    /// Whether it is of this colour's hill (the task's geography).
+    #[inline]
+    pub fn is_hill_of(&self, colour: Colour) -> bool
+        ensures { result ≡ is_hill_of colour self.now.hill }
+    {
+        match self.hill {
+            Some(hill) => colour == hill,
+            None => false,
+        }
+    }
+
+    /// The markers of this colour's ants on it (the task's chemistry).
+    #[inline]
+    pub fn marks_of(&self, colour: Colour) -> Marks
+        ensures { result ≡ marks_of colour self.now }
+    {
+        match colour {
+            Colour::Red => self.red,
+            Colour::Black => self.black,
+        }
+    }
 }

@@ -1,4 +1,6 @@
 // What a world file says of a cell.
+ghost use Rattle.std.specs.Prelude.{◌≡◌};
+ghost use Rattle.cell_world.specs.Opening.{is_hill, is_rock};
 
 /// What a cell is at the start of a game (the task's geography).
 #[derive(Clone, Copy, Debug, PartialEq, Eq)]
@@ -13,4 +15,22 @@ pub enum Kind {
     BlackHill,
     /// A clear cell with so many food particles, from 1 to 9.
     Food(u8),
+}
+
+impl Kind {
+    /// Whether a cell of this kind is rocky (the task's geography).
+    #[inline]
+    pub fn is_rock(self) -> bool
+        ensures { result ≡ is_rock self }
+    {
+        matches!(self, Kind::Rock)
+    }
+
+    /// Whether a cell of this kind is of a hill, and an ant begins on it (the task's biology).
+    #[inline]
+    pub fn is_hill(self) -> bool
+        ensures { result ≡ is_hill self }
+    {
+        matches!(self, Kind::RedHill | Kind::BlackHill)
+    }
 }

@@ -44,17 +44,7 @@ impl World {
 fn ants_in(cells: &[Cell], colour: Colour) -> usize
     ensures { result ≡ count_by (λ cell. is_ant_of colour cell.ant) cells.now }
 {
-    cells.iter().filter(|cell| has_ant_of(cell, colour)).count()
-}
-
-// Whether an ant of this colour stands on the cell.
-fn has_ant_of(cell: &Cell, colour: Colour) -> bool
-    ensures { result ≡ is_ant_of colour cell.now.ant }
-{
-    match &cell.ant {
-        Some(ant) => colour == ant.colour,
-        None => false,
-    }
+    cells.iter().filter(|cell| cell.has_ant_of(colour)).count()
 }
 
 // The food on those of these cells that are of this colour's hill.
@@ -69,8 +59,9 @@ fn food_in(cells: &[Cell], colour: Colour) -> u32
 fn food_on(cell: &Cell, colour: Colour) -> u32
     ensures { result ≡ hill_food_in colour cell.now }
 {
-    match cell.hill {
-        Some(hill) => { if colour == hill { cell.food } else { 0 } }
-        None => 0,
+    if cell.is_hill_of(colour) {
+        cell.food
+    } else {
+        0
     }
 }

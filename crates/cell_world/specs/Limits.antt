@@ -1,0 +1,18 @@
+-- The limits of worlds (this project's own).
+use Rattle.std.specs.Prelude.{ℕ}
+
+-- the least width and height
+abbrev pub least_size : ℕ
+least_size = 3
+
+-- the greatest width and height
+abbrev pub most_size : ℕ
+most_size = 512
+
+-- the most ants that begin in a world
+abbrev pub most_ants : ℕ
+most_ants = 16384
+
+-- the most that a world weighs: nine times the 510 by 510 cells inside the largest rim
+unfoldable pub most_weight : ℕ
+most_weight = 2340900
