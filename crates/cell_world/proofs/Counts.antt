@@ -7,9 +7,9 @@ use Rattle.cell_world.specs.declared.ant.Colour.{Colour}
 use Rattle.cell_world.specs.declared.cell.Cell.{Cell}
 use Rattle.cell_world.specs.Cell.{rock, one_if, is_ant_of, is_hill_of, cell_weight, ant_weight}
 use Rattle.cell_world.specs.Grid.{Grid, IsWorld, cell_in, world_of}
-use Rattle.cell_world.specs.Score.{alive_of, hill_food_in, hill_food_of}
+use Rattle.cell_world.specs.Score.{alive_in, alive_of, hill_food_in, hill_food_of}
 use Rattle.cell_world.specs.Limits.{most_weight}
-use Rattle.cell_world.specs.World.{sum_over, pos_at, weight}
+use Rattle.cell_world.specs.World.{sum_over, pos_at, total, weight}
 use Rattle.cell_world.proofs.Grids.{cell_in-column, index_of-pos_at}
 use Rattle.cell_world.proofs.Places.{pos_at-inside}
 
@@ -28,8 +28,8 @@ sum_over-take g f (suc n) full within =
     ∙ ap (λ k. sum_by f (take k g.cells)) (add-one n)
 
 -- a sum over all positions is that over all items
-pub sum_over-list : (g : Grid) (f : Cell → ℕ) → length g.cells ≡ g.width * g.height → sum_over g.width (λ p. f (cell_in g p)) (g.width * g.height) ≡ sum_by f g.cells
-sum_over-list g f full =
+pub total-list : (g : Grid) (f : Cell → ℕ) → length g.cells ≡ g.width * g.height → total f (world_of g) ≡ sum_by f g.cells
+total-list g f full =
     ap (sum_over g.width (λ p. f (cell_in g p))) (sym full)
     ∙ sum_over-take g f (length g.cells) full (omega arith)
     ∙ ap (sum_by f) (take_all (length g.cells) g.cells (omega arith))
@@ -37,7 +37,7 @@ sum_over-list g f full =
 -- the weight of a grid's world
 pub weight-list : (g : Grid) → length g.cells ≡ g.width * g.height → weight (world_of g) ≡ sum_by cell_weight g.cells
 unfolding weight
-weight-list g full = sum_over-list g cell_weight full
+weight-list g full = total-list g cell_weight full
 
 -- one or nothing, as a choice
 one_if-cond : (b : Bool) → one_if b ≡ cond b 1 0
@@ -48,13 +48,13 @@ one_if-cond false = refl
 pub alive_of-list : (g : Grid) (colour : Colour) → length g.cells ≡ g.width * g.height → alive_of (world_of g) colour ≡ count_by (λ (cell : Cell). is_ant_of colour cell.ant) g.cells
 unfolding alive_of
 alive_of-list g colour full =
-    sum_over-list g (λ cell. one_if (is_ant_of colour cell.ant)) full
+    total-list g (alive_in colour) full
     ∙ ap (λ (f : Cell → ℕ). sum_by f g.cells) (fun_ext λ cell. one_if-cond (is_ant_of colour cell.ant))
 
 -- the food on a hill is summed over the list
 pub hill_food_of-list : (g : Grid) (colour : Colour) → length g.cells ≡ g.width * g.height → hill_food_of (world_of g) colour ≡ sum_by (hill_food_in colour) g.cells
 unfolding hill_food_of
-hill_food_of-list g colour full = sum_over-list g (hill_food_in colour) full
+hill_food_of-list g colour full = total-list g (hill_food_in colour) full
 
 -- the food on a cell of a hill is at most what the cell weighs
 pub hill_food_in-le-cell_weight : (colour : Colour) (cell : Cell) → hill_food_in colour cell ≤ cell_weight cell

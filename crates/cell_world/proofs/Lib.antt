@@ -10,5 +10,7 @@ pub mod Places
 pub mod Plans
 pub mod Puts
 pub mod Sets
+pub mod Tallies
+pub mod Totals
 pub mod Valids
 pub mod Weights

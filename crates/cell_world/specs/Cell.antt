@@ -41,6 +41,15 @@ abbrev pub one_if : Bool → ℕ
 one_if false = 0
 one_if true = 1
 
+-- the food that the ant, if there is one, carries
+abbrev pub carried : Option Ant → ℕ
+carried None = 0
+carried (Some ant) = one_if ant.laden
+
+-- all food of a cell: what lies on it and what its ant carries
+abbrev pub food_in : Cell → ℕ
+food_in cell = cell.food + carried cell.ant
+
 -- what an ant weighs: nine, and one where it carries food
 abbrev pub ant_weight : Option Ant → ℕ
 ant_weight None = 0

@@ -1,11 +1,11 @@
--- The score and the ants of a world (the task's game play).
+-- The score, the food and the ants of a world (the task's game play and biology).
 use Rattle.std.specs.Prelude.{ℕ, cond}
 use Rattle.cell_world.specs.declared.ant.Colour.{Colour}
 use Rattle.cell_world.specs.declared.ant.Colour.TheVariants.{Red, Black}
 use Rattle.cell_world.specs.declared.cell.Cell.{Cell}
 use Rattle.cell_world.specs.declared.score.Score.{Score}
-use Rattle.cell_world.specs.Cell.{is_hill_of, is_ant_of, one_if}
-use Rattle.cell_world.specs.World.{World, sum_over, area}
+use Rattle.cell_world.specs.Cell.{food_in, is_hill_of, is_ant_of, one_if}
+use Rattle.cell_world.specs.World.{World, total}
 
 -- the food on a cell, where it is of this colour's hill
 abbrev pub hill_food_in : Colour → Cell → ℕ
@@ -13,11 +13,19 @@ hill_food_in colour cell = cond (is_hill_of colour cell.hill) cell.food 0
 
 -- the food on the cells of this colour's hill
 unfoldable pub hill_food_of : World → Colour → ℕ
-hill_food_of w colour = sum_over w.width (λ p. hill_food_in colour (w.cells p)) (area w)
+hill_food_of w colour = total (hill_food_in colour) w
+
+-- all food of a world, lying and carried
+unfoldable pub food_of : World → ℕ
+food_of w = total food_in w
+
+-- one where an ant of this colour stands
+abbrev pub alive_in : Colour → Cell → ℕ
+alive_in colour cell = one_if (is_ant_of colour cell.ant)
 
 -- how many ants of this colour are alive
 unfoldable pub alive_of : World → Colour → ℕ
-alive_of w colour = sum_over w.width (λ p. one_if (is_ant_of colour (w.cells p).ant)) (area w)
+alive_of w colour = total (alive_in colour) w
 
 -- the food on the red hill and on the black hill
 unfoldable pub score_of : World → Score

@@ -51,10 +51,14 @@ first_of width test (suc n) = or_here (first_of width test n) (test (pos_at widt
 abbrev pub area : World → ℕ
 area w = w.width * w.height
 
+-- what f comes to over all cells of a world together
+abbrev pub total : (Cell → ℕ) → World → ℕ
+total f w = sum_over w.width (λ p. f (w.cells p)) (area w)
+
 -- the position whose cell holds the ant of this id, where there is one (the task's biology)
 unfoldable pub place_in : World → ℕ → Option Pos
 place_in w t = first_of w.width (λ p. holds_id t (w.cells p)) (area w)
 
 -- what a world weighs: the sum over its cells
 unfoldable pub weight : World → ℕ
-weight w = sum_over w.width (λ p. cell_weight (w.cells p)) (area w)
+weight w = total cell_weight w
