@@ -1,5 +1,5 @@
 -- The canonical text of a world is that world's text.
-use Rattle.std.proofs.Common.{◌≡◌, ℕ, zero, suc, ◌+◌, ◌*◌, ◌%◌, ◌≤◌, Bool, true, false, not, eqb, ltb, List, [], ◌∷◌, ◌++◌, length, take, drop, get_or, map, Ok, refl, sym, ◌∙◌, ap, ap₂, subst, append_assoc, append-nil, add-one, arith}
+use Rattle.std.proofs.Common.{◌≡◌, ℕ, zero, suc, ◌+◌, ◌*◌, ◌%◌, ◌≤◌, Bool, true, false, not, eqb, ltb, List, [], ◌∷◌, ◌++◌, length, take, drop, get_or, map, refl, sym, ◌∙◌, ap, ap₂, subst, append_assoc, append-nil, add-one, arith}
 use Rattle.std.proofs.lemmas.Bool.{ne_eqb}
 use Rattle.std.proofs.lemmas.List.{drop-drop, drop_all, get_or-drop, length-drop, length-map, length-take, map-append, take-append-drop, take_more}
 use Rattle.std.proofs.lemmas.List.Elements.{All-nil, filter-append}
@@ -19,10 +19,8 @@ use Rattle.cell_world.specs.Opening.{IsPlan}
 use Rattle.world_read.specs.Bytes.{byte_of, spelled}
 use Rattle.world_read.specs.Canonical.{canonical_text, cell_text, row_text, space_if}
 use Rattle.world_read.specs.Grammar.{AreRows, IsWorldText}
-use Rattle.world_read.specs.Opened.{IsOpeningWorld, kinds_of}
-use Rattle.world_read.specs.Reading.{opened, plan_of, world_of_text}
+use Rattle.world_read.specs.Opened.{IsOpeningWorld, OpensAs, kinds_of}
 use Rattle.world_read.proofs.KindsRead.{kinds_of-opening}
-use Rattle.world_read.proofs.TextReads.{plan_of-text}
 
 -- a cell's byte is no LF
 is_lf-byte_of : (kind : Kind) → is_lf (byte_of kind) ≡ false
@@ -160,17 +158,14 @@ IsWorldText-canonical width height kinds plan =
       plan = plan;
     }
 
--- the canonical text of kinds is read as these kinds
-pub plan_of-canonical : (width height : ℕ) (kinds : List Kind) → IsPlan width height kinds → plan_of (canonical_text width height kinds) ≡ Ok (record { width = width; height = height; kinds = kinds })
-plan_of-canonical width height kinds plan = plan_of-text (canonical_text width height kinds) width height kinds (IsWorldText-canonical width height kinds plan)
-
--- the canonical text of an opening world is read as that world
-pub world_of_text-canonical : (world : Grid) → IsOpeningWorld world → world_of_text (canonical_text world.width world.height (kinds_of world)) ≡ Ok world
-unfolding world_of_text
-world_of_text-canonical world begins =
+-- what is written of an opening world is a text of that world
+pub OpensAs-canonical : (world : Grid) → IsOpeningWorld world → OpensAs (canonical_text world.width world.height (kinds_of world)) world
+OpensAs-canonical world begins =
     let width = world.width in
     let height = world.height in
     let same : kinds_of world ≡ begins.kinds = ap kinds_of begins.is ∙ kinds_of-opening width height begins.kinds begins.plan.fed in
-    ap (λ kinds. opened (plan_of (canonical_text width height kinds))) same
-    ∙ ap opened (plan_of-canonical width height begins.kinds begins.plan)
-    ∙ ap Ok (sym begins.is)
+    record {
+      kinds = begins.kinds;
+      is = subst (λ kinds. IsWorldText (canonical_text width height kinds) width height begins.kinds) (sym same) (IsWorldText-canonical width height begins.kinds begins.plan);
+      opened = begins.is;
+    }

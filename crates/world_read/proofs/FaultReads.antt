@@ -9,6 +9,7 @@ use Rattle.hex_geometry.specs.declared.position.Pos.{Pos}
 use Rattle.hex_geometry.specs.Position.{IsInside}
 use Rattle.cell_world.specs.declared.kind.Kind.{Kind}
 use Rattle.cell_world.specs.Grid.{index_of}
+use Rattle.cell_world.specs.Limits.{most_ants}
 use Rattle.cell_world.specs.Opening.{IsFed, hill_count, kind_at}
 use Rattle.cell_world.proofs.Grids.{index_of-pos_at, pos_at-index_of}
 use Rattle.world_read.specs.declared.fault.WorldFault.{WorldFault}
@@ -278,16 +279,16 @@ module _ (text first second : List ℕ) (lines : List (List ℕ)) (width height 
       }
 
   limits_fault : (kinds : List Kind) (fault : WorldFault) → IsComplete text width height kinds → limited width height kinds (open_rim width height kinds) ≡ Err fault → IsWorldFault text fault
-  limits_fault kinds fault whole is = go (open_rim width height kinds) refl (leb (hill_count kinds) 16384) refl is where
-    go : (found : Option Pos) → open_rim width height kinds ≡ found → (few : Bool) → leb (hill_count kinds) 16384 ≡ few → limited width height kinds found ≡ Err fault → IsWorldFault text fault
+  limits_fault kinds fault whole is = go (open_rim width height kinds) refl (leb (hill_count kinds) most_ants) refl is where
+    go : (found : Option Pos) → open_rim width height kinds ≡ found → (few : Bool) → leb (hill_count kinds) most_ants ≡ few → limited width height kinds found ≡ Err fault → IsWorldFault text fault
     go (Some p) f few e is =
         let one : OpenRim p.x p.y ≡ fault = cc in
         subst (IsWorldFault text) one (open_rim_fault kinds p whole f)
-    go None f true e is = let read = sym (cond-true (leb (hill_count kinds) 16384) _ _ e) ∙ is in absurd (cc)
+    go None f true e is = let read = sym (cond-true (leb (hill_count kinds) most_ants) _ _ e) ∙ is in absurd (cc)
     go None f false e is =
-        let one : TooManyAnts (hill_count kinds) ≡ fault = let read = sym (cond-false (leb (hill_count kinds) 16384) _ _ e) ∙ is in cc in
+        let one : TooManyAnts (hill_count kinds) ≡ fault = let read = sym (cond-false (leb (hill_count kinds) most_ants) _ _ e) ∙ is in cc in
         subst (IsWorldFault text) one
-        (record { width = width; height = height; kinds = kinds; complete = whole; rim = rim-closed width height kinds f; is = refl; wrong = leb-false (hill_count kinds) 16384 e })
+        (record { width = width; height = height; kinds = kinds; complete = whole; rim = rim-closed width height kinds f; is = refl; wrong = leb-false (hill_count kinds) most_ants e })
 
   rows_fault : (fault : WorldFault) → ended width height (rows_from width 0 height lines) ≡ Err fault → IsWorldFault text fault
   rows_fault fault is = go (rows_from width 0 height lines) refl is where

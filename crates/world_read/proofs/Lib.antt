@@ -7,5 +7,6 @@ pub mod PlanReads
 pub mod Rims
 pub mod RowReads
 pub mod TextReads
+pub mod Told
 pub mod Verdicts
 pub mod WrongReads

@@ -4,9 +4,11 @@ use Rattle.std.proofs.lemmas.Bool.{leb-true}
 use Rattle.ant_base.specs.Lines.{lines_of}
 use Rattle.hex_geometry.specs.declared.position.Pos.{Pos}
 use Rattle.cell_world.specs.declared.kind.Kind.{Kind}
+use Rattle.cell_world.specs.Limits.{most_ants}
 use Rattle.cell_world.specs.Opening.{IsPlan, hill_count}
 use Rattle.world_read.specs.declared.fault.WorldFault.TheVariants.{BadWidth, BadHeight, TooManyAnts}
-use Rattle.world_read.specs.Reading.{AreSizes, Plan, Rows, after_height, after_width, ended, first_size, limited, open_rim, opened, plan_of, rows_from, world_of_text}
+use Rattle.world_read.specs.Grammar.{Plan}
+use Rattle.world_read.specs.Reading.{AreSizes, Rows, after_height, after_width, ended, first_size, limited, open_rim, opened, plan_of, rows_from, world_of_text}
 use Rattle.world_read.proofs.Rims.{rim-closed}
 use Rattle.world_read.proofs.RowReads.{length-AreRows, rows_from-known}
 
@@ -37,14 +39,14 @@ world_of_text-rows text lines after rest width height are wide next tall left =
 -- kinds that keep the limits
 pub record IsLimited (width height : ℕ) (kinds : List Kind) (found : Option Pos) (plan : Plan) : Type 0 where
   pub closed : found ≡ None
-  pub few : hill_count kinds ≤ 16384
+  pub few : hill_count kinds ≤ most_ants
   pub is : record { width = width; height = height; kinds = kinds } ≡ plan
 
 pub limited-known : (width height : ℕ) (kinds : List Kind) (found : Option Pos) (plan : Plan) → limited width height kinds found ≡ Ok plan → IsLimited width height kinds found plan
 limited-known width height kinds (Some p) plan is = absurd (cc)
-limited-known width height kinds None plan is = go (leb (hill_count kinds) 16384) refl is where
-  go : (few : Bool) → leb (hill_count kinds) 16384 ≡ few → cond few (Ok (record { width = width; height = height; kinds = kinds })) (Err (TooManyAnts (hill_count kinds))) ≡ Ok plan → IsLimited width height kinds None plan
-  go true e is = record { closed = refl; few = leb-true (hill_count kinds) 16384 e; is = let one : record { width = width; height = height; kinds = kinds } ≡ plan = cc in one }
+limited-known width height kinds None plan is = go (leb (hill_count kinds) most_ants) refl is where
+  go : (few : Bool) → leb (hill_count kinds) most_ants ≡ few → cond few (Ok (record { width = width; height = height; kinds = kinds })) (Err (TooManyAnts (hill_count kinds))) ≡ Ok plan → IsLimited width height kinds None plan
+  go true e is = record { closed = refl; few = leb-true (hill_count kinds) most_ants e; is = let one : record { width = width; height = height; kinds = kinds } ≡ plan = cc in one }
   go false e is = absurd (cc)
 
 -- kinds that are read as rows and keep the limits are those of a world

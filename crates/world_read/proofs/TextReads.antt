@@ -1,19 +1,18 @@
 -- Reading gives exactly what the grammar says.
-use Rattle.std.proofs.Common.{◌≡◌, ℕ, ◌≤◌, Bool, true, false, cond, ◌&&◌, leb, List, [], ◌∷◌, ◌++◌, drop, Option, Some, None, Result, Ok, Err, refl, sym, ◌∙◌, ap, subst, IfOk, arith}
+use Rattle.std.proofs.Common.{◌≡◌, ℕ, ◌≤◌, Bool, true, false, cond, ◌&&◌, leb, List, [], ◌∷◌, ◌++◌, drop, Option, Some, None, Result, Ok, Err, refl, sym, ◌∙◌, ap, subst, arith}
 use Rattle.std.proofs.lemmas.Bool.{and_from, and_parts, cond-true, le-leb, leb-true}
 use Rattle.std.proofs.lemmas.List.Sums.{AllPass-from_list_all, list_all-from_AllPass}
 use Rattle.std.specs.List.{list_all}
 use Rattle.ant_base.specs.Lines.{lines_of, is_blank, trimmed}
-use Rattle.ant_base.specs.Number.{number_of}
+use Rattle.ant_base.specs.Number.{number_of, within}
 use Rattle.cell_world.specs.declared.kind.Kind.{Kind}
-use Rattle.cell_world.specs.Opening.{IsPlan, hill_count, opening}
-use Rattle.cell_world.specs.Grid.{Grid}
+use Rattle.cell_world.specs.Limits.{least_size, most_size, most_ants}
+use Rattle.cell_world.specs.Opening.{hill_count}
 use Rattle.world_read.specs.declared.fault.WorldFault.{WorldFault}
 use Rattle.world_read.specs.declared.fault.WorldFault.TheVariants.{ExtraRow, TooManyAnts}
 use Rattle.world_read.specs.Faulty.{HasSize}
-use Rattle.world_read.specs.Grammar.{IsSizeLine, IsWorldText}
-use Rattle.world_read.specs.Opened.{IsOpeningWorld}
-use Rattle.world_read.specs.Reading.{AreSizes, Plan, Rows, after_height, after_width, ended, first_size, in_size, limited, open_rim, opened, plan_of, rows_from, size_of, world_of_text, ReadsAs}
+use Rattle.world_read.specs.Grammar.{IsSizeLine, IsWorldText, Plan}
+use Rattle.world_read.specs.Reading.{AreSizes, Rows, after_height, after_width, ended, first_size, limited, open_rim, plan_of, rows_from, size_of}
 use Rattle.world_read.proofs.PlanReads.{IsPlan-read, limited-known}
 use Rattle.world_read.proofs.Rims.{open_rim-closed}
 use Rattle.world_read.proofs.RowReads.{rows_from-known, rows_from-rows}
@@ -21,21 +20,21 @@ use Rattle.world_read.proofs.RowReads.{rows_from-known, rows_from-rows}
 -- the size that is read from a line is that line's
 pub size_of-known : (line : List ℕ) (size : ℕ) → size_of line ≡ Some size → HasSize line size
 size_of-known line size is = go (number_of (trimmed line)) refl is where
-  inside : (n : ℕ) → number_of (trimmed line) ≡ Some n → (in' : Bool) → (leb 3 n && leb n 512) ≡ in' → cond in' (Some n) None ≡ Some size → HasSize line size
+  inside : (n : ℕ) → number_of (trimmed line) ≡ Some n → (in' : Bool) → (leb least_size n && leb n most_size) ≡ in' → cond in' (Some n) None ≡ Some size → HasSize line size
   inside n told false e is = absurd (cc)
   inside n told true e is =
       let one : n ≡ size = cc in
-      let both = and_parts (leb 3 n) (leb n 512) e in
-      subst (HasSize line) one (record { is = told; least = leb-true 3 n both.0; most = leb-true n 512 both.1 })
+      let both = and_parts (leb least_size n) (leb n most_size) e in
+      subst (HasSize line) one (record { is = told; least = leb-true least_size n both.0; most = leb-true n most_size both.1 })
 
-  go : (told : Option ℕ) → number_of (trimmed line) ≡ told → in_size told ≡ Some size → HasSize line size
+  go : (told : Option ℕ) → number_of (trimmed line) ≡ told → within least_size most_size told ≡ Some size → HasSize line size
   go None told is = absurd (cc)
-  go (Some n) told is = inside n told (leb 3 n && leb n 512) refl is
+  go (Some n) told is = inside n told (leb least_size n && leb n most_size) refl is
 
 -- the size of a line is read from it
-pub size_of-line : (line : List ℕ) (size : ℕ) → IsSizeLine line size → 3 ≤ size → size ≤ 512 → size_of line ≡ Some size
+pub size_of-line : (line : List ℕ) (size : ℕ) → IsSizeLine line size → least_size ≤ size → size ≤ most_size → size_of line ≡ Some size
 size_of-line line size is least most =
-    ap in_size is ∙ cond-true (leb 3 size && leb size 512) (Some size) None (and_from (leb 3 size) (leb size 512) (le-leb 3 size least) (le-leb size 512 most))
+    ap (within least_size most_size) is ∙ cond-true (leb least_size size && leb size most_size) (Some size) None (and_from (leb least_size size) (leb size most_size) (le-leb least_size size least) (le-leb size most_size most))
 
 -- a text with both sizes and as many rows, after which there are blank lines alone
 text_ended : (text first second : List ℕ) (lines : List (List ℕ)) (width height : ℕ) (rows : Rows) (plan : Plan) → lines_of text ≡ first ∷ second ∷ lines → size_of first ≡ Some width → size_of second ≡ Some height → rows_from width 0 height lines ≡ Ok rows → list_all is_blank rows.rest ≡ true → limited width height rows.kinds (open_rim width height rows.kinds) ≡ Ok plan → IsWorldText text plan.width plan.height plan.kinds
@@ -101,23 +100,4 @@ plan_of-text text width height kinds t =
     ∙ ap (ended width height) read
     ∙ cond-true (list_all is_blank t.rest) (limited width height kinds (open_rim width height kinds)) (Err ExtraRow) (list_all-from_AllPass is_blank t.rest t.blank)
     ∙ ap (limited width height kinds) (open_rim-closed width height kinds (omega (arith, t.plan.wide)) t.plan.rim)
-    ∙ cond-true (leb (hill_count kinds) 16384) (Ok (record { width = width; height = height; kinds = kinds })) (Err (TooManyAnts (hill_count kinds))) (le-leb (hill_count kinds) 16384 t.plan.few)
-
-IsOpeningWorld-opening : (width height : ℕ) (kinds : List Kind) → IsPlan width height kinds → IsOpeningWorld (opening width height kinds)
-unfolding opening
-IsOpeningWorld-opening width height kinds plan = record { kinds = kinds; plan = plan; is = refl }
-
--- a world that is read is an opening world
-IsOpeningWorld-text : (text : List ℕ) (world : Grid) → world_of_text text ≡ Ok world → IsOpeningWorld world
-unfolding world_of_text
-IsOpeningWorld-text text world is = go (plan_of text) refl is where
-  go : (plan : Result Plan WorldFault) → plan_of text ≡ plan → opened plan ≡ Ok world → IsOpeningWorld world
-  go (Err fault) told is = absurd (cc)
-  go (Ok plan) told is =
-      let one : opening plan.width plan.height plan.kinds ≡ world = cc in
-      subst IsOpeningWorld one (IsOpeningWorld-opening plan.width plan.height plan.kinds (plan_of-known text plan told).plan)
-
--- so is a world that a reader answers
-pub IsOpeningWorld-read : (text : List ℕ) (result : Result Grid WorldFault) → ReadsAs (world_of_text text) result → IfOk result IsOpeningWorld
-IsOpeningWorld-read text (Ok world) told = IsOpeningWorld-text text world told
-IsOpeningWorld-read text (Err fault) told = tt
+    ∙ cond-true (leb (hill_count kinds) most_ants) (Ok (record { width = width; height = height; kinds = kinds })) (Err (TooManyAnts (hill_count kinds))) (le-leb (hill_count kinds) most_ants t.plan.few)

@@ -2,7 +2,8 @@
 use Rattle.std.proofs.Common.{◌≡◌, ℕ, List, Result, Ok, Err, sym}
 use Rattle.world_read.specs.declared.fault.WorldFault.{WorldFault}
 use Rattle.world_read.specs.Faulty.{IsVerdict}
-use Rattle.world_read.specs.Reading.{Plan, plan_of}
+use Rattle.world_read.specs.Grammar.{Plan}
+use Rattle.world_read.specs.Reading.{plan_of}
 use Rattle.world_read.proofs.FaultReads.{plan_of-fault}
 use Rattle.world_read.proofs.TextReads.{plan_of-known, plan_of-text}
 use Rattle.world_read.proofs.WrongReads.{plan_of-wrong}

@@ -8,6 +8,7 @@ use Rattle.ant_base.specs.Lines.{is_blank, lines_of}
 use Rattle.hex_geometry.specs.declared.position.Pos.{Pos}
 use Rattle.cell_world.specs.declared.kind.Kind.{Kind}
 use Rattle.cell_world.specs.Grid.{index_of}
+use Rattle.cell_world.specs.Limits.{most_ants}
 use Rattle.cell_world.specs.Opening.{hill_count, kind_at}
 use Rattle.cell_world.specs.World.{pos_at}
 use Rattle.cell_world.proofs.Grids.{index_of-inside, index_of-pos_at}
@@ -15,7 +16,8 @@ use Rattle.world_read.specs.declared.fault.WorldFault.{WorldFault}
 use Rattle.world_read.specs.declared.fault.WorldFault.TheVariants.{BadWidth, BadHeight, MissingRow, BadCell, ShortRow, LongRow, ExtraRow, OpenRim, TooManyAnts, OutOfMemory}
 use Rattle.world_read.specs.Bytes.{kind_of, spelled}
 use Rattle.world_read.specs.Faulty.{BeginsWithNoSize, HasExtraRow, HasNoHeight, HasOpenRim, HasRowFault, HasRows, HasTooManyAnts, IsCellFault, IsComplete, IsNoCell, IsRowFault, IsWorldFault}
-use Rattle.world_read.specs.Reading.{Plan, after_height, after_width, cell_of, ended, first_size, is_open_at, limited, onto_row, open_rim, plan_of, row_from, rows_from, size_of, with_cell, with_row}
+use Rattle.world_read.specs.Grammar.{Plan}
+use Rattle.world_read.specs.Reading.{after_height, after_width, cell_of, ended, first_size, is_open_at, limited, onto_row, open_rim, plan_of, row_from, rows_from, size_of, with_cell, with_row}
 use Rattle.world_read.specs.Scan.{IsClosedBefore}
 use Rattle.world_read.proofs.CellBytes.{kind_of-known}
 use Rattle.world_read.proofs.Rims.{IsInner-closed, first_of-closed, is_open-closed, open_rim-closed, open_rim-first, pos_at-within}
@@ -153,11 +155,11 @@ rim_wrong text p h =
 ants_wrong : (text : List ℕ) (count : ℕ) → HasTooManyAnts text count → plan_of text ≡ Err (TooManyAnts count)
 ants_wrong text count h =
     let wide : 1 ≤ h.width = omega (arith, h.complete.rows.is_width.least) in
-    let many : 16384 < hill_count h.kinds = omega (arith, h.wrong, h.is) in
+    let many : most_ants < hill_count h.kinds = omega (arith, h.wrong, h.is) in
     let plan : Plan = record { width = h.width; height = h.height; kinds = h.kinds } in
     plan_of-complete text h.width h.height h.kinds h.complete
     ∙ ap (limited h.width h.height h.kinds) (open_rim-closed h.width h.height h.kinds wide h.rim)
-    ∙ cond-false (leb (hill_count h.kinds) 16384) (Ok plan) (Err (TooManyAnts (hill_count h.kinds))) (lt-leb (hill_count h.kinds) 16384 many)
+    ∙ cond-false (leb (hill_count h.kinds) most_ants) (Ok plan) (Err (TooManyAnts (hill_count h.kinds))) (lt-leb (hill_count h.kinds) most_ants many)
     ∙ ap (λ n. Err (TooManyAnts n)) (sym h.is)
 
 width_wrong : (text : List ℕ) → BeginsWithNoSize (lines_of text) → plan_of text ≡ Err BadWidth

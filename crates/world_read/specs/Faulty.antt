@@ -6,18 +6,18 @@ use Rattle.hex_geometry.specs.declared.position.Pos.{Pos}
 use Rattle.hex_geometry.specs.Position.{IsInner, IsInside}
 use Rattle.cell_world.specs.declared.kind.Kind.{Kind}
 use Rattle.cell_world.specs.Grid.{index_of}
+use Rattle.cell_world.specs.Limits.{least_size, most_size, most_ants}
 use Rattle.cell_world.specs.Opening.{IsFed, hill_count, is_rock, kind_at}
 use Rattle.world_read.specs.declared.fault.WorldFault.{WorldFault}
 use Rattle.world_read.specs.declared.fault.WorldFault.TheVariants.{BadWidth, BadHeight, MissingRow, BadCell, ShortRow, LongRow, ExtraRow, OpenRim, TooManyAnts, OutOfMemory}
 use Rattle.world_read.specs.Bytes.{byte_of, spelled}
-use Rattle.world_read.specs.Grammar.{AreRows, IsSizeLine, IsWorldText}
-use Rattle.world_read.specs.Reading.{Plan}
+use Rattle.world_read.specs.Grammar.{AreRows, IsSizeLine, IsWorldText, Plan}
 
--- a line gives a size from 3 to 512
+-- a line gives the size of a world
 pub record HasSize (line : List ℕ) (size : ℕ) : Type 0 where
   pub is : IsSizeLine line size
-  pub least : 3 ≤ size
-  pub most : size ≤ 512
+  pub least : least_size ≤ size
+  pub most : size ≤ most_size
 
 -- there is no first line, or it gives no size
 abbrev pub BeginsWithNoSize : List (List ℕ) → Type 0
@@ -118,7 +118,7 @@ pub record HasOpenRim (text : List ℕ) (p : Pos) : Type 0 where
   pub wrong : IsClosed width height kinds p → ⊥
   pub first : (q : Pos) → IsInside width height q → index_of width q < index_of width p → IsClosed width height kinds q
 
--- the text is complete, its rim is rock, and so many of its cells are of a hill, which are more than 16,384
+-- the text is complete, its rim is rock, and so many of its cells are of a hill, which are more than a world may have
 pub record HasTooManyAnts (text : List ℕ) (count : ℕ) : Type 0 where
   pub width : ℕ
   pub height : ℕ
@@ -126,7 +126,7 @@ pub record HasTooManyAnts (text : List ℕ) (count : ℕ) : Type 0 where
   pub complete : IsComplete text width height kinds
   pub rim : (p : Pos) → IsInside width height p → IsClosed width height kinds p
   pub is : count ≡ hill_count kinds
-  pub wrong : 16384 < count
+  pub wrong : most_ants < count
 
 -- what is wrong with a text
 abbrev pub IsWorldFault : List ℕ → WorldFault → Type 0

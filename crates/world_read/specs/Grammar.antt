@@ -6,6 +6,12 @@ use Rattle.cell_world.specs.declared.kind.Kind.{Kind}
 use Rattle.cell_world.specs.Opening.{IsPlan}
 use Rattle.world_read.specs.Bytes.{byte_of, spelled}
 
+-- a world's sizes, and the kinds of its cells in row order
+pub record Plan : Type 0 where
+  pub width : ℕ
+  pub height : ℕ
+  pub kinds : List Kind
+
 -- a line of a size has the number alone, before and after which separators may stand
 abbrev pub IsSizeLine : List ℕ → ℕ → Type 0
 IsSizeLine line size = number_of (trimmed line) ≡ Some size

@@ -1,7 +1,8 @@
+pub mod Answers
 pub mod Bytes
+pub mod Canonical
+pub mod Faulty
 pub mod Grammar
+pub mod Opened
 pub mod Reading
 pub mod Scan
-pub mod Canonical
-pub mod Opened
-pub mod Faulty

@@ -7,6 +7,7 @@ use Rattle.cell_world.specs.declared.kind.Kind.{Kind}
 use Rattle.cell_world.specs.declared.kind.Kind.TheVariants.{Rock, Clear, RedHill, BlackHill, Food}
 use Rattle.cell_world.specs.Grid.{Grid}
 use Rattle.cell_world.specs.Opening.{IsPlan, opening}
+use Rattle.world_read.specs.Grammar.{IsWorldText}
 
 -- the kind of a clear cell of this hill, if it is of one, with so much food
 abbrev pub kind_of_clear : Option Colour → ℕ → Kind
@@ -21,6 +22,12 @@ kind_of_cell cell = if cell.rocky then Rock else kind_of_clear cell.hill cell.fo
 -- the kinds of an opening world, in row order
 abbrev pub kinds_of : Grid → List Kind
 kinds_of g = map kind_of_cell g.cells
+
+-- a text is that of a world that opens as this grid
+pub record OpensAs (text : List ℕ) (world : Grid) : Type 0 where
+  pub kinds : List Kind
+  pub is : IsWorldText text world.width world.height kinds
+  pub opened : world ≡ opening world.width world.height kinds
 
 -- a world at the start of a game
 pub record IsOpeningWorld (g : Grid) : Type 0 where

@@ -1,31 +1,24 @@
--- What each text is read as: its world's kinds, or its first fault (this project's own).
+-- What each text is read as: its world's kinds, or its first fault (this project's own). These functions take a text as the code does,
+-- and are its stepping stones alone: what callers are told stands as relations, in Grammar and Faulty, and the laws say that a text is
+-- read as a world exactly where it is that world's text, and as a fault exactly where that is wrong with it.
 use Rattle.std.specs.Prelude.{◌≡◌, ◌≤◌, ℕ, ◌+◌, ◌*◌, zero, suc, Bool, not, ◌&&◌, ◌||◌, List, [], ◌∷◌, ◌++◌, Option, Some, None, Result, Ok, Err, ok_or, drop, nat_le, nat_lt, ◌==◌, if◌then◌else◌}
 use Rattle.std.specs.List.{list_all}
 use Rattle.ant_base.specs.Lines.{lines_of, trimmed, is_blank}
-use Rattle.ant_base.specs.Number.{number_of}
+use Rattle.ant_base.specs.Number.{number_within}
 use Rattle.hex_geometry.specs.declared.position.Pos.{Pos}
 use Rattle.cell_world.specs.declared.kind.Kind.{Kind}
 use Rattle.cell_world.specs.Grid.{Grid}
+use Rattle.cell_world.specs.Limits.{least_size, most_size, most_ants}
 use Rattle.cell_world.specs.Opening.{hill_count, is_rock, kind_at, opening}
 use Rattle.cell_world.specs.World.{first_of}
 use Rattle.world_read.specs.declared.fault.WorldFault.{WorldFault}
 use Rattle.world_read.specs.declared.fault.WorldFault.TheVariants.{BadWidth, BadHeight, MissingRow, BadCell, ShortRow, LongRow, ExtraRow, OpenRim, TooManyAnts, OutOfMemory}
 use Rattle.world_read.specs.Bytes.{kind_of, spelled}
-
--- a world as it was read: its sizes, and its kinds in row order
-pub record Plan : Type 0 where
-  pub width : ℕ
-  pub height : ℕ
-  pub kinds : List Kind
-
--- a size from 3 to 512
-abbrev pub in_size : Option ℕ → Option ℕ
-in_size None = None
-in_size (Some n) = if nat_le 3 n && nat_le n 512 then Some n else None
+use Rattle.world_read.specs.Grammar.{Plan}
 
 -- the size that a line gives
 abbrev pub size_of : List ℕ → Option ℕ
-size_of line = in_size (number_of (trimmed line))
+size_of line = number_within least_size most_size (trimmed line)
 
 -- the size on the first of these lines, where there is one
 abbrev pub first_size : List (List ℕ) → Option ℕ
@@ -88,10 +81,6 @@ is_open_at width height kinds p = is_open width height (kind_at width kinds p) p
 unfoldable pub open_rim : ℕ → ℕ → List Kind → Option Pos
 open_rim width height kinds = first_of width (is_open_at width height kinds) (width * height)
 
--- the most hill cells that a world has
-abbrev pub most_ants : ℕ
-most_ants = 16384
-
 -- kinds with a rocky rim, of which not too many are hills
 abbrev pub limited : ℕ → ℕ → List Kind → Option Pos → Result Plan WorldFault
 limited width height kinds (Some p) = Err (OpenRim p.x p.y)
@@ -138,9 +127,9 @@ abbrev pub leaving : {A : Type 0} → A → Result (Unit {0}) WorldFault → Res
 leaving value (Ok _) = Ok value
 leaving value (Err fault) = Err fault
 
--- the sizes of a world are from 3 to 512
+-- the sizes are those of a world
 pub record AreSizes (width height : ℕ) : Type 0 where
-  pub wide : 3 ≤ width
-  pub narrow : width ≤ 512
-  pub tall : 3 ≤ height
-  pub low : height ≤ 512
+  pub wide : least_size ≤ width
+  pub narrow : width ≤ most_size
+  pub tall : least_size ≤ height
+  pub low : height ≤ most_size

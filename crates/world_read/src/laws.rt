@@ -6,9 +6,9 @@ ghost use Rattle.cell_world.specs.Opening.{IsPlan};
 ghost use Rattle.world_read.specs.Canonical.{canonical_text};
 ghost use Rattle.world_read.specs.Faulty.{IsVerdict, IsWorldFault};
 ghost use Rattle.world_read.specs.declared.fault.WorldFault.{WorldFault};
-ghost use Rattle.world_read.specs.Grammar.{IsWorldText};
-ghost use Rattle.world_read.specs.Opened.{IsOpeningWorld, kinds_of};
-ghost use Rattle.world_read.specs.Reading.{Plan, plan_of, world_of_text};
+ghost use Rattle.world_read.specs.Grammar.{IsWorldText, Plan};
+ghost use Rattle.world_read.specs.Opened.{IsOpeningWorld, OpensAs, kinds_of};
+ghost use Rattle.world_read.specs.Reading.{plan_of};
 
 /// A text is read as a world exactly where the grammar has it as that world's text (this project's own).
 pub fn reading_is_the_grammar()
@@ -25,12 +25,12 @@ pub fn every_text_has_one_verdict()
     ensures { (text : List ℕ) → (verdict : Result Plan WorldFault) × IsVerdict text verdict × ((other : Result Plan WorldFault) → IsVerdict text other → other ≡ verdict) }
 {}
 
-/// The canonical text of the kinds of a world is read as these kinds (this project's own).
+/// The canonical text of the kinds of a world is a text of that world (this project's own).
 pub fn canonical_text_is_read_back()
-    ensures { (width height : ℕ) (kinds : List Kind) → IsPlan width height kinds → plan_of (canonical_text width height kinds) ≡ Ok (record { width = width; height = height; kinds = kinds }) }
+    ensures { (width height : ℕ) (kinds : List Kind) → IsPlan width height kinds → IsWorldText (canonical_text width height kinds) width height kinds }
 {}
 
-/// What is written of an opening world is read as an equal world (this project's own).
+/// What is written of an opening world is a text of that very world (this project's own).
 pub fn written_worlds_are_read_back()
-    ensures { (world : Grid) → IsOpeningWorld world → world_of_text (canonical_text world.width world.height (kinds_of world)) ≡ Ok world }
+    ensures { (world : Grid) → IsOpeningWorld world → OpensAs (canonical_text world.width world.height (kinds_of world)) world }
 {}

@@ -1,6 +1,7 @@
 // What the kinds of a world keep: a rocky rim, and not too many hill cells.
 ghost use Rattle.std.specs.Prelude.{◌≡◌, ◌≤◌, ◌<◌, ◌*◌, length};
-ghost use Rattle.cell_world.specs.Opening.{hill_count, is_hill, is_rock};
+ghost use Rattle.cell_world.specs.Limits.{most_size};
+ghost use Rattle.cell_world.specs.Opening.{hill_count};
 ghost use Rattle.world_read.specs.Reading.{AreSizes, is_on_rim, is_open, leaving, limited, open_rim};
 ghost use Rattle.world_read.specs.Scan.{SearchesRow};
 
@@ -62,7 +63,7 @@ fn is_open(width: u16, height: u16, kind: Kind, p: Pos) -> bool
     requires row { p.y < height }
     ensures { result ≡ is_open width height kind p }
 {
-    is_on_rim(width, height, p) && !is_rock(kind)
+    is_on_rim(width, height, p) && !kind.is_rock()
 }
 
 // Whether a position is on the rim.
@@ -74,24 +75,10 @@ fn is_on_rim(width: u16, height: u16, p: Pos) -> bool
     p.x == 0 || p.y == 0 || p.x + 1 == width || p.y + 1 == height
 }
 
-// Whether a cell of this kind is rock.
-fn is_rock(kind: Kind) -> bool
-    ensures { result ≡ is_rock kind }
-{
-    matches!(kind, Kind::Rock)
-}
-
 // How many hill cells there are.
 fn hill_count(kinds: &[Kind]) -> u32
-    requires { length kinds.now ≤ 262144 }
+    requires { length kinds.now ≤ most_size * most_size }
     ensures { result ≡ hill_count kinds.now }
 {
-    kinds.iter().filter(|kind| is_hill(**kind)).count() as u32
-}
-
-// Whether a cell of this kind is of a hill.
-fn is_hill(kind: Kind) -> bool
-    ensures { result ≡ is_hill kind }
-{
-    matches!(kind, Kind::RedHill | Kind::BlackHill)
+    kinds.iter().filter(|kind| kind.is_hill()).count() as u32
 }

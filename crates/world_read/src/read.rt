@@ -1,6 +1,10 @@
 // World texts read.
-ghost use Rattle.std.specs.Prelude.{◌≡◌, ◌≤◌, [], length, IfOk};
-ghost use Rattle.world_read.specs.Opened.{IsOpeningWorld};
+ghost use Rattle.std.specs.Prelude.{◌≡◌, ◌≤◌, [], length, IfErr, IfOk};
+ghost use Rattle.cell_world.specs.Grid.{Grid};
+ghost use Rattle.world_read.specs.Answers.{AnswersFault, AnswersWorld, IsFaultOf};
+ghost use Rattle.world_read.specs.Faulty.{IsWorldFault};
+ghost use Rattle.world_read.specs.Opened.{IsOpeningWorld, OpensAs};
+ghost use Rattle.world_read.specs.declared.fault.WorldFault.{WorldFault};
 ghost use Rattle.world_read.specs.Reading.{AreSizes, ReadsAs, ended, opened, rows_from, world_of_text};
 
 use crate::fault::WorldFault;
@@ -14,12 +18,23 @@ use std::alloc::Global;
 /// The opening world of a world text of at most 4,194,304 bytes, or the text's first fault (the task's world files). Rows and columns
 /// are counted from 0.
 ///
-/// `OutOfMemory` may be answered at any text; every other answer follows from the text alone. While it reads, it holds the kinds of the
-/// cells, for which it takes room once.
+/// Every text is that of one opening world or has one fault. `OutOfMemory` may be answered at any text; every other answer is the
+/// text's. While it reads, it holds the kinds of the cells, for which it takes room once.
 pub fn read_world(alloc: Global, text: &[u8]) -> Result<World, WorldFault>
     requires { length text.now ≤ 4194304 }
     ensures answer { ReadsAs (world_of_text text.now) result }
     ensures opening { IfOk result IsOpeningWorld }
+    ensures world { IfOk result (λ world. OpensAs text.now world) }
+    ensures fault { IfErr result (λ fault. IsFaultOf text.now fault) }
+    ensures every_world { (world : Grid) → OpensAs text.now world → AnswersWorld result world }
+    ensures every_fault { (fault : WorldFault) → IsWorldFault text.now fault → AnswersFault result fault }
+{
+    read_text(alloc, text)
+}
+
+// What the text is read as.
+fn read_text(alloc: Global, text: &[u8]) -> Result<World, WorldFault>
+    ensures { ReadsAs (world_of_text text.now) result }
 {
     let mut lines = Lines::new(text);
     let Some(width) = read_size(&mut lines) else {

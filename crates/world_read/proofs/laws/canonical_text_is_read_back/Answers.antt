@@ -1,5 +1,5 @@
-use Rattle.world_read.proofs.Canonicals.{plan_of-canonical}
+use Rattle.world_read.proofs.Canonicals.{IsWorldText-canonical}
 use Rattle.world_read.proofs.laws.canonical_text_is_read_back.Goals as goal
 
 pub returns : goal.returns
-returns c = plan_of-canonical
+returns c = IsWorldText-canonical

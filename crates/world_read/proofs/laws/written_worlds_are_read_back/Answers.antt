@@ -1,5 +1,5 @@
-use Rattle.world_read.proofs.Canonicals.{world_of_text-canonical}
+use Rattle.world_read.proofs.Canonicals.{OpensAs-canonical}
 use Rattle.world_read.proofs.laws.written_worlds_are_read_back.Goals as goal
 
 pub returns : goal.returns
-returns c = world_of_text-canonical
+returns c = OpensAs-canonical
