@@ -63,10 +63,9 @@ hill_food_in-le-cell_weight colour cell =
     cond_both (is_hill_of colour cell.hill) cell.food 0 (λ n. n ≤ cell.food + ant_weight cell.ant) (λ _. omega arith) (λ _. omega arith)
 
 -- the food on a hill is at most what a world weighs
-pub hill_food_in-light : (g : Grid) (colour : Colour) → IsWorld g → sum_by (hill_food_in colour) g.cells ≤ 2340900
-unfolding most_weight
+pub hill_food_in-light : (g : Grid) (colour : Colour) → IsWorld g → sum_by (hill_food_in colour) g.cells ≤ most_weight
 hill_food_in-light g colour world =
     let part : sum_by (hill_food_in colour) g.cells ≤ sum_by cell_weight g.cells = sum_by-le-sum_by (hill_food_in colour) cell_weight g.cells (hill_food_in-le-cell_weight colour) in
     let whole : weight (world_of g) ≡ sum_by cell_weight g.cells = weight-list g world.full in
-    let light : weight (world_of g) ≤ 2340900 = world.valid.light in
+    let light : weight (world_of g) ≤ most_weight = world.valid.light in
     omega arith

@@ -6,6 +6,7 @@ pub mod OpeningValid
 pub mod OpeningWeight
 pub mod OpeningWorked
 pub mod Openings
+pub mod Placed
 pub mod Places
 pub mod Plans
 pub mod Puts

@@ -65,7 +65,7 @@ bare_weight w p rim bare outer =
 pub weight-light : (w : World) → 3 ≤ w.width → w.width ≤ 512 → 3 ≤ w.height → w.height ≤ 512 →
     ((p : Pos) → (w.cells p).rocky ≡ false → IsInner w.width w.height p) → ((p : Pos) → (w.cells p).rocky ≡ true → w.cells p ≡ rock) →
     ((p : Pos) → cell_weight (w.cells p) ≤ 9) → weight w ≤ most_weight
-unfolding weight most_weight
+unfolding weight
 weight-light w wide narrow tall low rim bare most =
     let n : ℕ = w.width - 2 in
     let h : ℕ = w.height - 2 in
@@ -90,5 +90,5 @@ weight-light w wide narrow tall low rim bare most =
     let inner : n * h ≤ 510 * 510 = mul-le n h 510 510 (omega arith) (omega arith) in
     let nothing : 0 * (n + 2) ≡ 0 = omega arith in
     let start : F 0 ≡ 0 = ap (sum_over (n + 2) f) nothing in
-    let light : sum_over w.width f (w.width * w.height) ≤ 2340900 = omega arith in
+    let light : sum_over w.width f (w.width * w.height) ≤ most_weight = omega arith in
     light

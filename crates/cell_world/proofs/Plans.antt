@@ -8,6 +8,7 @@ use Rattle.hex_geometry.specs.Position.{IsInner}
 use Rattle.cell_world.specs.declared.kind.Kind.{Kind}
 use Rattle.cell_world.specs.declared.kind.Kind.TheVariants.{Rock, Clear, RedHill, BlackHill, Food}
 use Rattle.cell_world.specs.Grid.{index_of}
+use Rattle.cell_world.specs.Limits.{most_ants}
 use Rattle.cell_world.specs.Opening.{IsFed, IsPlan, hill_count, is_rock}
 use Rattle.cell_world.specs.World.{pos_at}
 use Rattle.cell_world.proofs.Grids.{index_of-inside, pos_at-index_of}
@@ -38,7 +39,7 @@ has_rim width height kinds (suc n) = (is_rock (get_or kinds n Rock) || is_inner 
 abbrev pub is_plan : ℕ → ℕ → List Kind → Bool
 is_plan width height kinds =
     ((nat_le 3 width && nat_le width 512) && (nat_le 3 height && nat_le height 512))
-    && ((nat_eq (length kinds) (width * height) && has_rim width height kinds (width * height)) && (are_fed kinds && nat_le (hill_count kinds) 16384))
+    && ((nat_eq (length kinds) (width * height) && has_rim width height kinds (width * height)) && (are_fed kinds && nat_le (hill_count kinds) most_ants))
 
 -- food that passes is in range
 IsFed-test : (kind : Kind) → is_fed kind ≡ true → IsFed kind
@@ -89,7 +90,7 @@ IsPlan-test width height kinds passes =
     let rows = and_parts (nat_le 3 height) (nat_le height 512) sizes.1 in
     let content = and_parts _ _ all.1 in
     let cells = and_parts (nat_eq (length kinds) (width * height)) (has_rim width height kinds (width * height)) content.0 in
-    let stock = and_parts (are_fed kinds) (nat_le (hill_count kinds) 16384) content.1 in
+    let stock = and_parts (are_fed kinds) (nat_le (hill_count kinds) most_ants) content.1 in
     record {
       wide = leb-true 3 width columns.0;
       narrow = leb-true width 512 columns.1;
@@ -99,5 +100,5 @@ IsPlan-test width height kinds passes =
       rim = λ p inside clear. subst (IsInner width height) (pos_at-index_of width p inside.column)
           (rim-test width height kinds (width * height) (index_of width p) cells.1 (index_of-inside width height p.x p.y inside.column inside.row) clear);
       fed = All-fed kinds stock.0;
-      few = leb-true (hill_count kinds) 16384 stock.1;
+      few = leb-true (hill_count kinds) most_ants stock.1;
     }

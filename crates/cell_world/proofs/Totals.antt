@@ -15,6 +15,13 @@ sum_over-same width f g zero agree = refl
 sum_over-same width f g (suc n) agree =
     ap₂ ◌+◌ (sum_over-same width f g n (λ i early. agree i (omega arith))) (agree n (omega arith))
 
+-- the sum of two is the sum of the one and that of the other
+pub sum_over-both : (width : ℕ) (f g : Pos → ℕ) (n : ℕ) → sum_over width (λ p. f p + g p) n ≡ sum_over width f n + sum_over width g n
+sum_over-both width f g zero = refl
+sum_over-both width f g (suc n) =
+    let front : sum_over width (λ p. f p + g p) n ≡ sum_over width f n + sum_over width g n = sum_over-both width f g n in
+    omega arith
+
 -- what is nowhere more has no greater a sum
 pub sum_over-le : (width : ℕ) (f g : Pos → ℕ) (n : ℕ) → ((p : Pos) → f p ≤ g p) → sum_over width f n ≤ sum_over width g n
 sum_over-le width f g zero less = omega arith

@@ -53,9 +53,8 @@ cell_weight-light w p valid =
     ]
 
 -- the food on a cell of a world is at most what a world weighs
-pub food-light : (w : World) (p : Pos) → Valid w → (w.cells p).food ≤ 2340900
-unfolding most_weight
+pub food-light : (w : World) (p : Pos) → Valid w → (w.cells p).food ≤ most_weight
 food-light w p valid =
-    let light : cell_weight (w.cells p) ≤ 2340900 = cell_weight-light w p valid in
+    let light : cell_weight (w.cells p) ≤ most_weight = cell_weight-light w p valid in
     let parts : cell_weight (w.cells p) ≡ (w.cells p).food + ant_weight (w.cells p).ant = cell_weight-parts (w.cells p) in
     omega arith

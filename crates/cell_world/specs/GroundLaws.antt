@@ -1,7 +1,8 @@
 -- What a changed world is like, in the task's own words (the task's geography and biology).
-use Rattle.std.specs.Prelude.{◌≡◌, ◌≢◌, ◌↔◌, ℕ, ◌+◌, true, false, Some, None}
+use Rattle.std.specs.Prelude.{◌≡◌, ◌≢◌, ◌↔◌, ℕ, ◌+◌, true, false, Some, None, IsSome}
 use Rattle.hex_geometry.specs.declared.position.Pos.{Pos}
 use Rattle.hex_geometry.specs.Position.{IsInside}
+use Rattle.cell_world.specs.declared.ant.Ant.{Ant}
 use Rattle.cell_world.specs.declared.cell.Cell.{Cell}
 use Rattle.cell_world.specs.Cell.{holds_id, cell_weight}
 use Rattle.cell_world.specs.Valid.{Valid, CanSet}
@@ -23,6 +24,12 @@ pub record PutsSettle : Type 0 where
 pub record PlaceIsCell : Type 0 where
   pub place : (w : World) (t : ℕ) (p : Pos) → Valid w → (place_in w t ≡ Some p) ↔ (holds_id t (w.cells p) ≡ true)
   pub nowhere : (w : World) (t : ℕ) → Valid w → (place_in w t ≡ None) ↔ ((p : Pos) → holds_id t (w.cells p) ≡ false)
+  -- an ant has a place exactly where some cell holds it
+  pub somewhere : (w : World) (t : ℕ) → Valid w → IsSome (place_in w t) ↔ ((p : Pos) × (holds_id t (w.cells p) ≡ true))
+  -- no ant stands on two cells
+  pub one : (w : World) (t : ℕ) (p q : Pos) → Valid w → holds_id t (w.cells p) ≡ true → holds_id t (w.cells q) ≡ true → p ≡ q
+  -- the cell of each ant is its place
+  pub own : (w : World) (p : Pos) (ant : Ant) → Valid w → (w.cells p).ant ≡ Some ant → place_in w ant.id ≡ Some p
 
 -- a change that may be made keeps what every world keeps, moves the new cell's ant there, takes the old cell's ant away,
 -- and leaves every other ant where it is

@@ -1,5 +1,6 @@
 pub mod Cell
 pub mod Colour
+pub mod CountLaws
 pub mod Grid
 pub mod GroundLaws
 pub mod Inside

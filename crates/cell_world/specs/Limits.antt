@@ -14,5 +14,5 @@ abbrev pub most_ants : ℕ
 most_ants = 16384
 
 -- the most that a world weighs: nine times the 510 by 510 cells inside the largest rim
-unfoldable pub most_weight : ℕ
+abbrev pub most_weight : ℕ
 most_weight = 2340900

@@ -1,5 +1,6 @@
 // The cells of a world at the start of a game, and where its ants stand.
 ghost use Rattle.std.specs.Prelude.{◌≡◌, ◌+◌, ◌*◌, ◌++◌, ◌∷◌, [], ◌<◌, ◌≤◌, length, vec_len, IfOk, OnOk};
+ghost use Rattle.cell_world.specs.Limits.{most_ants};
 ghost use Rattle.cell_world.specs.World.{pos_at};
 ghost use Rattle.cell_world.specs.Opening.{floor, hill_cell, hill_count, hill_places, opening_cell, opening_cells, opening_places};
 
@@ -22,7 +23,7 @@ impl Parts {
     pub fn of_kinds(alloc: Global, width: u16, kinds: &[Kind]) -> Result<Parts, OutOfMemory>
         requires wide { 1 ≤ width }
         requires low { length kinds.now ≤ width * 65536 }
-        requires few { hill_count kinds.now ≤ 16384 }
+        requires few { hill_count kinds.now ≤ most_ants }
         ensures cells { IfOk result (λ parts. parts.cells.items ≡ opening_cells 0 kinds.now) }
         ensures places { IfOk result (λ parts. parts.places.items ≡ opening_places width 0 kinds.now) }
     {

@@ -9,6 +9,7 @@
 mod ant;
 mod build;
 mod cell;
+mod count_laws;
 mod ground;
 mod ground_laws;
 mod kind;
@@ -19,6 +20,7 @@ mod world;
 
 pub use ant::{Ant, Colour};
 pub use cell::Cell;
+pub use count_laws::{alive_are_placed, set_counts};
 pub use ground::Ground;
 pub use ground_laws::{place_is_cell, set_is_read, set_keeps, set_weighs, sets_settle};
 pub use hex_geometry::OutOfMemory;
