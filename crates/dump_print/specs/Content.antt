@@ -1,5 +1,5 @@
 -- The text of a cell's content (this project's own layout).
-use Rattle.std.specs.Prelude.{ℕ, List, [], ◌++◌, codes, decimal, if◌then◌else◌, ◌==◌, Bool, Option, Some, None}
+use Rattle.std.specs.Prelude.{ℕ, List, [], codes, decimal, if◌then◌else◌, ◌==◌, Bool, Option, Some, None}
 use Rattle.hex_geometry.specs.Direction.{number_of}
 use Rattle.cell_world.specs.declared.ant.Ant.{Ant}
 use Rattle.cell_world.specs.declared.ant.Colour.{Colour}

@@ -1,6 +1,5 @@
 -- The texts of dumps and scores (this project's own layout).
-use Rattle.std.specs.Prelude.{ℕ, List, [], ◌++◌, codes, decimal}
-use Rattle.hex_geometry.specs.declared.position.Pos.{Pos}
+use Rattle.std.specs.Prelude.{ℕ, List, codes, decimal}
 use Rattle.cell_world.specs.declared.cell.Cell.{Cell}
 use Rattle.cell_world.specs.declared.score.Score.{Score}
 use Rattle.cell_world.specs.World.{World}

@@ -3,8 +3,8 @@ ghost use Rattle.ant_base.specs.Sink.{Pushed};
 ghost use Rattle.cell_world.specs.Grid.{world_of};
 ghost use Rattle.dump_print.specs.Texts.{cells_text, dump_text, score_text, seed_text};
 
-use crate::lines::Rows;
-use ant_base::{Each, Failed, Layout, Sink, layout};
+use crate::lines::Cells;
+use ant_base::{Failed, Layout, Sink, layout};
 use cell_world::{Score, World};
 
 /// Pushes the line of a seed, as `random seed: 12345` (this project's own layout). Where the sink failed, a front of the line was pushed.
@@ -17,20 +17,19 @@ pub fn push_seed<K: Sink>(seed: u32, sink: &mut K) -> Result<(), Failed>
 
 /// Pushes a line for each cell, row by row from the top, each row from the left, as `cell (1, 1): red hill; ` (this project's own
 /// layout). Where the sink failed, a front of the lines was pushed.
-#[tactic(auto, unfolding(crate::specs::Texts::cells_text))]
 pub fn push_cells<K: Sink>(world: &World, sink: &mut K) -> Result<(), Failed>
     ensures { Pushed (K.state sink.old) (K.state sink.new) (cells_text (world_of world.now)) result }
 {
-    Each(Rows(world)).push_to(sink)
+    Cells(world).push_to(sink)
 }
 
 /// Pushes the dump of a world after a round, counted from 0 for the start: an empty line, `After round 0...` and the lines of the
 /// cells (this project's own layout). Where the sink failed, a front of the dump was pushed.
-#[tactic(auto, unfolding(crate::specs::Texts::dump_text, crate::specs::Texts::cells_text))]
+#[tactic(auto, unfolding(crate::specs::Texts::dump_text))]
 pub fn push_dump<K: Sink>(world: &World, round: u32, sink: &mut K) -> Result<(), Failed>
     ensures { Pushed (K.state sink.old) (K.state sink.new) (dump_text (world_of world.now) round) result }
 {
-    layout!("\nAfter round ", round, "...\n", Each(Rows(world))).push_to(sink)
+    layout!("\nAfter round ", round, "...\n", Cells(world)).push_to(sink)
 }
 
 /// Pushes an empty line and the line of a score, as `score: red 0 black 0` (this project's own layout). Where the sink failed, a front
