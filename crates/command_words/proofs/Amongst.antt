@@ -2,7 +2,6 @@
 use Rattle.std.proofs.Common.{◌≡◌, ℕ, Bool, true, false, ◌||◌, List, [], ◌∷◌, ◌++◌, map, bytes_eq, refl, sym, ap, ◌∙◌, inl, inr, subst}
 use Rattle.std.specs.List.{Contains, flat_map, AllByRecursion}
 use Rattle.std.proofs.lemmas.Bool.{or_parts, or_from, or_cases, false≢true, false_from_ne_true}
-use Rattle.std.proofs.lemmas.List.Folds.{list_any-append}
 use Rattle.std.proofs.lemmas.Slice.Eq.{bytes_eq-Decides}
 use Rattle.command_words.specs.declared.slot.Slot.{Slot}
 use Rattle.command_words.specs.declared.table.CommandKind.{CommandKind}
@@ -11,25 +10,9 @@ use Rattle.command_words.specs.Slots.{fits}
 use Rattle.command_words.specs.Table.{option_of, values_of}
 use Rattle.command_words.specs.Command.{Given, given_words, FitAll, IsOptionOf}
 use Rattle.command_words.specs.Walk.{is_among}
+use Rattle.command_words.proofs.Looking.{is_among-append, is_among-none, is_among-one, is_among-cons}
 use Rattle.command_words.proofs.Members.{Contains-none, Contains-first, Contains-later, Contains-cases}
-use Rattle.command_words.proofs.Rows.{option-unfit, same_option, bytes_eq-same}
-
--- a word among two lists stands among one of them
-pub is_among-append : (word : List ℕ) (front back : List (List ℕ)) → is_among word (front ++ back) ≡ (is_among word front || is_among word back)
-unfolding is_among
-is_among-append word front back = list_any-append (λ other. bytes_eq other word) front back
-
-pub is_among-one : (word other : List ℕ) → is_among word (other ∷ []) ≡ (bytes_eq other word || false)
-unfolding is_among
-is_among-one word other = refl
-
-pub is_among-none : (word : List ℕ) → is_among word [] ≡ false
-unfolding is_among
-is_among-none word = refl
-
-pub is_among-cons : (word other : List ℕ) (words : List (List ℕ)) → is_among word (other ∷ words) ≡ (bytes_eq other word || is_among word words)
-unfolding is_among
-is_among-cons word other words = refl
+use Rattle.command_words.proofs.Tables.{option-unfit, same_option, bytes_eq-same}
 
 -- a word that isn't among more isn't among fewer, nor is it the one more
 pub is_among-fewer : (word other : List ℕ) (words : List (List ℕ)) → is_among word (words ++ other ∷ []) ≡ false → (is_among word words ≡ false) × (bytes_eq other word ≡ false)

@@ -12,8 +12,9 @@ use Rattle.command_words.specs.Table.{word_of, places_of, choices_of, option_of,
 use Rattle.command_words.specs.Command.{Given, given_words, FitAll, IsOptionOf, NoneTwice, IsCommandOf}
 use Rattle.command_words.specs.Walk.{walk}
 use Rattle.command_words.proofs.Members.{Contains-none, Contains-first, Contains-later, Contains-cases, AllByRecursion-push}
-use Rattle.command_words.proofs.Rows.{sample, option-not_first, same_option, bytes_eq-same}
-use Rattle.command_words.proofs.Amongst.{chosen, is_among-one, is_among-neither, is_among-fit}
+use Rattle.command_words.proofs.Tables.{sample, option-not_first, same_option, bytes_eq-same}
+use Rattle.command_words.proofs.Looking.{is_among-one}
+use Rattle.command_words.proofs.Amongst.{chosen, is_among-neither, is_among-fit}
 use Rattle.command_words.proofs.Shapes.{IsNew, samples-fit, walk-accepts, walk-places, walk-options}
 
 -- an option is given, or none of those given is it

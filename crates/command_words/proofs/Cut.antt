@@ -1,7 +1,6 @@
 -- The first piece of a text, and the pieces after it.
 use Rattle.std.proofs.Common.{◌≡◌, ℕ, ◌+◌, suc, Bool, true, false, not, cond, List, [], ◌∷◌, take, drop, ◌==◌, refl, arith}
-use Rattle.std.specs.List.{prefix_len}
-use Rattle.ant_base.specs.Lines.{onto_first}
+use Rattle.std.specs.List.{prefix_len, onto_first}
 use Rattle.command_words.specs.Slots.{pieces_of}
 use Rattle.command_words.specs.Pieces.{pieces_left, after_byte}
 

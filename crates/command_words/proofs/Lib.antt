@@ -1,7 +1,8 @@
 pub mod Cut
+pub mod Looking
 pub mod Steps
 pub mod Members
-pub mod Rows
+pub mod Tables
 pub mod Amongst
 pub mod Shapes
 pub mod Completions

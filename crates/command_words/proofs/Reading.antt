@@ -13,7 +13,7 @@ use Rattle.command_words.specs.Command.{given_words, PlainCommand, IsCommand, Is
 use Rattle.command_words.specs.Walk.{kind_of, walk, has_needed, is_finished, command_in, finish, read_kind, read_of}
 use Rattle.command_words.specs.Words.{plain, plain_result}
 use Rattle.command_words.specs.Laws.{OneCommand, OneRefusedWord, NeverBoth, OneOfBoth}
-use Rattle.command_words.proofs.Rows.{kind_of-word, kind_of-found}
+use Rattle.command_words.proofs.Tables.{kind_of-word, kind_of-found}
 use Rattle.command_words.proofs.Shapes.{walk-accepts, walk-front, walk-stops}
 use Rattle.command_words.proofs.Completions.{Extends, walk-extends, command-walks}
 use Rattle.command_words.proofs.Sayings.{command_in-says, command-says, has_needed-command, needed-given}

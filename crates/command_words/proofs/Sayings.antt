@@ -15,27 +15,16 @@ use Rattle.command_words.specs.Command.{Given, given_words, FitAll, IsOptionOf, 
 use Rattle.command_words.specs.Command.PlainCommand.{ShowCommand, BrainCommand, RunCommand}
 use Rattle.command_words.specs.Walk.{is_among, has_needed, word_after, command_in}
 use Rattle.command_words.proofs.Members.{Contains-none, Contains-cases, list_all-at, list_all-each}
-use Rattle.command_words.proofs.Rows.{option-not_first, same_option, bytes_eq-same}
-use Rattle.command_words.proofs.Amongst.{chosen, is_among-append, is_among-one, is_among-neither, is_among-fit, is_among-chosen, chosen-among, option-unlike}
-
-after-cons : (choice : Choice) (word : List ℕ) (words : List (List ℕ)) → word_after choice (word ∷ words) ≡ cond (bytes_eq word (option_of choice)) (first_word words) (word_after choice words)
-unfolding word_after
-after-cons choice word words = refl
-
-after-none : (choice : Choice) → word_after choice [] ≡ None
-unfolding word_after
-after-none choice = refl
-
--- a word that isn't the option's is passed over
-after-other : (choice : Choice) (word : List ℕ) (words : List (List ℕ)) → bytes_eq word (option_of choice) ≡ false → word_after choice (word ∷ words) ≡ word_after choice words
-after-other choice word words other = after-cons choice word words ∙ ap (λ b. cond b (first_word words) (word_after choice words)) other
+use Rattle.command_words.proofs.Tables.{option-not_first, same_option, bytes_eq-same}
+use Rattle.command_words.proofs.Looking.{is_among-append, is_among-one, word_after-none, word_after-cons, word_after-next}
+use Rattle.command_words.proofs.Amongst.{chosen, is_among-neither, is_among-fit, is_among-chosen, chosen-among, option-unlike}
 
 -- words that fit places are passed over
 after-fit : (choice : Choice) (slots : List Slot) (words more : List (List ℕ)) → FitAll slots words → word_after choice (words ++ more) ≡ word_after choice more
 after-fit choice [] [] more fit = refl
 after-fit choice [] (word ∷ words) more fit = elim fit [ ]
 after-fit choice (slot ∷ slots) [] more fit = elim fit [ ]
-after-fit choice (slot ∷ slots) (word ∷ words) more fit = after-other choice word (words ++ more) (option-unlike slot word choice fit.0) ∙ after-fit choice slots words more fit.1
+after-fit choice (slot ∷ slots) (word ∷ words) more fit = word_after-next choice word (words ++ more) (option-unlike slot word choice fit.0) ∙ after-fit choice slots words more fit.1
 
 -- the word after an option's is the first of its values
 first-value : (slot : Slot) (slots : List Slot) (values more : List (List ℕ)) → FitAll (slot ∷ slots) values → first_word (values ++ more) ≡ first_word values
@@ -44,9 +33,9 @@ first-value slot slots (value ∷ values) more fit = refl
 
 -- among the options the word after an option's is its value
 after-given : (kind : CommandKind) (given : List Given) (choice : Choice) (slot : Slot) (slots : List Slot) → values_of choice ≡ slot ∷ slots → AllByRecursion (IsOptionOf kind) given → word_after choice (flat_map given_words given) ≡ value_given choice given
-after-given kind [] choice slot slots has options = after-none choice
+after-given kind [] choice slot slots has options = word_after-none choice
 after-given kind (g ∷ given) choice slot slots has options =
-    after-cons choice (option_of g.choice) (g.values ++ flat_map given_words given)
+    word_after-cons choice (option_of g.choice) (g.values ++ flat_map given_words given)
     ∙ go (bytes_eq (option_of g.choice) (option_of choice)) refl (after-fit choice (values_of g.choice) g.values (flat_map given_words given) options.0.fit ∙ after-given kind given choice slot slots has options.1) where
       go : (b : Bool) → bytes_eq (option_of g.choice) (option_of choice) ≡ b → word_after choice (g.values ++ flat_map given_words given) ≡ value_given choice given
           → cond b (first_word (g.values ++ flat_map given_words given)) (word_after choice (g.values ++ flat_map given_words given)) ≡ cond b (first_word g.values) (value_given choice given)
@@ -57,7 +46,7 @@ after-given kind (g ∷ given) choice slot slots has options =
 word_after-given : (kind : CommandKind) (front : List (List ℕ)) (given : List Given) (choice : Choice) (slot : Slot) (slots : List Slot) → values_of choice ≡ slot ∷ slots → FitAll (places_of kind) front → AllByRecursion (IsOptionOf kind) given
     → word_after choice (word_of kind ∷ (front ++ flat_map given_words given)) ≡ value_given choice given
 word_after-given kind front given choice slot slots has fit options =
-    after-other choice (word_of kind) (front ++ flat_map given_words given) (option-not_first kind choice)
+    word_after-next choice (word_of kind) (front ++ flat_map given_words given) (option-not_first kind choice)
     ∙ after-fit choice (places_of kind) front (flat_map given_words given) fit
     ∙ after-given kind given choice slot slots has options
 

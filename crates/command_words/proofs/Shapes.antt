@@ -11,8 +11,9 @@ use Rattle.command_words.specs.Table.{choices_of, option_of, values_of}
 use Rattle.command_words.specs.Command.{Given, given_words, FitAll, IsOptionOf, NoneTwice}
 use Rattle.command_words.specs.Walk.{choice_of, is_among, due_after_option, due_after, go_on, walk}
 use Rattle.command_words.proofs.Members.{AllByRecursion-weaker}
-use Rattle.command_words.proofs.Rows.{sample, sample-fits, choice_of-found, choice_of-known, choice_of-option, same_option-differs, bytes_eq-same}
-use Rattle.command_words.proofs.Amongst.{is_among-one, is_among-fewer, is_among-neither, is_among-fit}
+use Rattle.command_words.proofs.Tables.{sample, sample-fits, choice_of-found, choice_of-known, choice_of-option, same_option-differs, bytes_eq-same}
+use Rattle.command_words.proofs.Looking.{is_among-one}
+use Rattle.command_words.proofs.Amongst.{is_among-fewer, is_among-neither, is_among-fit}
 
 -- a word may stand where the walk goes on
 pub stands : (o : Option (List Slot)) (n : ℕ) (next : List Slot → Result (List Slot) ℕ) (later : List Slot) → go_on o n next ≡ Ok later → (due : List Slot) × (o ≡ Some due) × (next due ≡ Ok later)

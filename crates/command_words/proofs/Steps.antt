@@ -9,6 +9,7 @@ use Rattle.command_words.specs.Command.{first_word}
 use Rattle.command_words.specs.Table.{option_of}
 use Rattle.command_words.specs.Walk.{is_among, word_after, due_after, go_on, walk}
 use Rattle.command_words.specs.Words.{texts}
+use Rattle.command_words.proofs.Looking.{is_among-none, is_among-first, is_among-next, word_after-none, word_after-first, word_after-next}
 
 -- the bytes of the word at a place
 texts-at : (words : List (String Global)) (i : ℕ) (word : String Global) → i < length words → word ≡ get_or words i word → get_or (texts words) i (string_bytes word) ≡ string_bytes word
@@ -33,33 +34,17 @@ texts-front words i word within is =
 pub texts-past : (words : List (String Global)) (i : ℕ) → length words ≤ i → drop i (texts words) ≡ []
 texts-past words i past = drop_all i (texts words) (rw length-map past)
 
-among-first : (word other : List ℕ) (words : List (List ℕ)) → bytes_eq other word ≡ true → is_among word (other ∷ words) ≡ true
-unfolding is_among
-among-first word other words same = rw same refl
-
-among-next : (word other : List ℕ) (words : List (List ℕ)) → bytes_eq other word ≡ false → is_among word (other ∷ words) ≡ is_among word words
-unfolding is_among
-among-next word other words differs = rw differs refl
-
 -- this word is the one
 pub is_among-here : (text : List ℕ) (words : List (String Global)) (i : ℕ) (word : String Global) → i < length words → word ≡ get_or words i word → bytes_eq (string_bytes word) text ≡ true → is_among text (drop i (texts words)) ≡ true
-is_among-here text words i word within is same = ap (is_among text) (texts-rest words i word within is) ∙ among-first text (string_bytes word) (drop (i + 1) (texts words)) same
+is_among-here text words i word within is same = ap (is_among text) (texts-rest words i word within is) ∙ is_among-first text (string_bytes word) (drop (i + 1) (texts words)) same
 
 -- this word isn't the one
 pub is_among-more : (text : List ℕ) (words : List (String Global)) (i : ℕ) (word : String Global) → i < length words → word ≡ get_or words i word → bytes_eq (string_bytes word) text ≡ false → is_among text (drop i (texts words)) ≡ is_among text (drop (i + 1) (texts words))
-is_among-more text words i word within is differs = ap (is_among text) (texts-rest words i word within is) ∙ among-next text (string_bytes word) (drop (i + 1) (texts words)) differs
+is_among-more text words i word within is differs = ap (is_among text) (texts-rest words i word within is) ∙ is_among-next text (string_bytes word) (drop (i + 1) (texts words)) differs
 
-pub is_among-none : (text : List ℕ) (words : List (String Global)) (i : ℕ) → length words ≤ i → is_among text (drop i (texts words)) ≡ false
-unfolding is_among
-is_among-none text words i past = rw (texts-past words i past) refl
-
-after-first : (choice : Choice) (other : List ℕ) (words : List (List ℕ)) → bytes_eq other (option_of choice) ≡ true → word_after choice (other ∷ words) ≡ first_word words
-unfolding word_after
-after-first choice other words same = rw same refl
-
-after-next : (choice : Choice) (other : List ℕ) (words : List (List ℕ)) → bytes_eq other (option_of choice) ≡ false → word_after choice (other ∷ words) ≡ word_after choice words
-unfolding word_after
-after-next choice other words differs = rw differs refl
+-- no word is left to be the one
+pub is_among-past : (text : List ℕ) (words : List (String Global)) (i : ℕ) → length words ≤ i → is_among text (drop i (texts words)) ≡ false
+is_among-past text words i past = rw (texts-past words i past) (is_among-none text)
 
 first_word-drop : (words : List (List ℕ)) (i : ℕ) → first_word (drop i words) ≡ slice_get words i
 first_word-drop [] zero = refl
@@ -71,18 +56,18 @@ first_word-drop (word ∷ words) (suc i) = first_word-drop words i
 pub word_after-here : (choice : Choice) (words : List (String Global)) (i : ℕ) (word : String Global) → i < length words → word ≡ get_or words i word → bytes_eq (string_bytes word) (option_of choice) ≡ true → word_after choice (drop i (texts words)) ≡ slice_get (texts words) (i + 1)
 word_after-here choice words i word within is same =
     ap (word_after choice) (texts-rest words i word within is)
-    ∙ after-first choice (string_bytes word) (drop (i + 1) (texts words)) same
+    ∙ word_after-first choice (string_bytes word) (drop (i + 1) (texts words)) same
     ∙ first_word-drop (texts words) (i + 1)
 
 -- this word isn't the option's
 pub word_after-more : (choice : Choice) (words : List (String Global)) (i : ℕ) (word : String Global) → i < length words → word ≡ get_or words i word → bytes_eq (string_bytes word) (option_of choice) ≡ false → word_after choice (drop i (texts words)) ≡ word_after choice (drop (i + 1) (texts words))
 word_after-more choice words i word within is differs =
     ap (word_after choice) (texts-rest words i word within is)
-    ∙ after-next choice (string_bytes word) (drop (i + 1) (texts words)) differs
+    ∙ word_after-next choice (string_bytes word) (drop (i + 1) (texts words)) differs
 
-pub word_after-none : (choice : Choice) (words : List (String Global)) (i : ℕ) → length words ≤ i → word_after choice (drop i (texts words)) ≡ None
-unfolding word_after
-word_after-none choice words i past = rw (texts-past words i past) refl
+-- no word is left to be the option's
+pub word_after-past : (choice : Choice) (words : List (String Global)) (i : ℕ) → length words ≤ i → word_after choice (drop i (texts words)) ≡ None
+word_after-past choice words i past = rw (texts-past words i past) (word_after-none choice)
 
 -- one word further
 pub walk-more : (kind : CommandKind) (due : List Slot) (words : List (String Global)) (i : ℕ) (word : String Global) → i < length words → word ≡ get_or words i word

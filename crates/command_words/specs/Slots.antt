@@ -1,9 +1,8 @@
 -- What one word of a command may be (this project's own).
-use Rattle.std.specs.Prelude.{ℕ, Bool, not, ◌&&◌, List, [], ◌∷◌, Option, Some, None, option_map, option_and_then, is_some, codes, length, nat_eq, nat_lt, nat_le, ◌==◌, if◌then◌else◌}
-use Rattle.std.specs.List.{starts_with}
+use Rattle.std.specs.Prelude.{ℕ, Bool, not, ◌&&◌, List, [], ◌∷◌, Option, Some, None, option_map, is_some, codes, length, nat_eq, nat_lt, ◌==◌, if◌then◌else◌}
+use Rattle.std.specs.List.{starts_with, slice_split}
 use Rattle.std.specs.Str.{bytes_eq}
-use Rattle.ant_base.specs.Lines.{onto_first}
-use Rattle.ant_base.specs.Number.{number_of}
+use Rattle.ant_base.specs.Number.{number_within}
 use Rattle.command_words.specs.declared.slot.Slot.{Slot}
 use Rattle.command_words.specs.declared.slot.Slot.TheVariants.{FileName, SeedNumber, RoundNumber, Dumps}
 
@@ -11,26 +10,25 @@ use Rattle.command_words.specs.declared.slot.Slot.TheVariants.{FileName, SeedNum
 unfoldable pub is_file_name : List ℕ → Bool
 is_file_name word = nat_lt 0 (length word) && not (starts_with nat_eq word (codes "--"))
 
--- a number that is at most the limit
-abbrev pub at_most : ℕ → ℕ → Option ℕ
-at_most limit number = if nat_le number limit then Some number else None
+-- the greatest seed
+abbrev pub most_seed : ℕ
+most_seed = 4294967295
 
--- the value of 1 to 10 decimal digits, where it is at most the limit
-unfoldable pub number_within : ℕ → List ℕ → Option ℕ
-number_within limit word = option_and_then (at_most limit) (number_of word)
+-- the greatest number of rounds, and the last round that can be dumped
+abbrev pub most_rounds : ℕ
+most_rounds = 1000000
 
--- a number from 0 to 4,294,967,295
+-- the seed that a word says: a number from 0 to 4,294,967,295
 abbrev pub seed_number : List ℕ → Option ℕ
-seed_number word = number_within 4294967295 word
+seed_number word = number_within 0 most_seed word
 
--- a number from 0 to 1,000,000
+-- the number of rounds, or the round, that a word says: a number from 0 to 1,000,000
 abbrev pub round_number : List ℕ → Option ℕ
-round_number word = number_within 1000000 word
+round_number word = number_within 0 most_rounds word
 
 -- the pieces of a text between its commas: one more than commas
 abbrev pub pieces_of : List ℕ → List (List ℕ)
-pieces_of [] = [] ∷ []
-pieces_of (byte ∷ text) = if byte == 44 then [] ∷ pieces_of text else onto_first byte (pieces_of text)
+pieces_of text = slice_split (λ byte. byte == 44) text
 
 -- one more number in front
 abbrev pub with_number : Option ℕ → Option (List ℕ) → Option (List ℕ)

@@ -4,7 +4,7 @@ ghost use Rattle.std.specs.Iterator.{YieldsFirst, item_count};
 ghost use Rattle.command_words.specs.Slots.{pieces_of, numbers_of};
 
 use crate::pieces::Pieces;
-use crate::slot::{MAX_ROUND, number_within};
+use crate::slot::read_round;
 use std::marker::Model;
 
 /// The numbers of a list that are left, from 0 to 1,000,000, in the order of the list (this project's own). Contracts see it
@@ -48,7 +48,7 @@ impl<'w> Iterator for Numbers<'w> {
 
     fn next(&mut self) -> Option<u32> {
         let piece = self.pieces.next()?;
-        number_within(MAX_ROUND, piece)
+        read_round(piece)
     }
 }
 
@@ -57,7 +57,7 @@ fn are_numbers(word: &[u8]) -> bool
     ensures { result ≡ is_some (numbers_of (pieces_of word.now)) }
 {
     for piece in Pieces::new(word) {
-        if number_within(MAX_ROUND, piece).is_none() {
+        if read_round(piece).is_none() {
             return false;
         }
     }

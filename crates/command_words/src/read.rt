@@ -5,7 +5,7 @@ ghost use Rattle.command_words.specs.Slots.{seed_number, round_number};
 ghost use Rattle.command_words.specs.Walk.{word_after, command_in, read_of};
 ghost use Rattle.command_words.specs.Words.{texts, plain, plain_dumps, plain_result};
 
-use crate::slot::{MAX_ROUND, MAX_SEED, number_within};
+use crate::slot::{read_round, read_seed};
 use crate::walk::{is_finished, kind_of, walk};
 use crate::{Choice, Command, CommandKind, DumpWord, Refused};
 
@@ -109,14 +109,14 @@ fn word_after<'w>(choice: Choice, words: &'w [String]) -> Option<&'w str>
 fn seed_in(word: Option<&str>) -> Option<u32>
     ensures { result ≡ option_and_then seed_number (option_copied word.entry) }
 {
-    number_within(MAX_SEED, word?.as_bytes())
+    read_seed(word?.as_bytes())
 }
 
 // The number of rounds that a word says.
 fn round_in(word: Option<&str>) -> Option<u32>
     ensures { result ≡ option_and_then round_number (option_copied word.entry) }
 {
-    number_within(MAX_ROUND, word?.as_bytes())
+    read_round(word?.as_bytes())
 }
 
 // The dumps that a word says; without it there is none.

@@ -1,15 +1,15 @@
 // What one word may be.
-ghost use Rattle.std.specs.Prelude.{◌≡◌, ◌<◌, ◌≤◌, ◌^◌, IfSome};
-ghost use Rattle.command_words.specs.Slots.{is_file_name, number_within, is_dumps, fits};
+ghost use Rattle.std.specs.Prelude.{◌≡◌};
+ghost use Rattle.command_words.specs.Slots.{is_file_name, seed_number, round_number, is_dumps, fits};
 
 use crate::dumps::is_dumps;
-use ant_base::read_number;
+use ant_base::read_number_within;
 
-/// The greatest seed (this project's own).
-pub(crate) const MAX_SEED: u32 = 4_294_967_295;
+// The greatest seed.
+const MOST_SEED: u64 = 4_294_967_295;
 
-/// The greatest number of rounds, and the greatest round that can be dumped (this project's own).
-pub(crate) const MAX_ROUND: u32 = 1_000_000;
+// The greatest number of rounds, and the last round that can be dumped.
+const MOST_ROUNDS: u64 = 1_000_000;
 
 /// What one word of a command may be (this project's own).
 #[derive(Clone, Copy, Debug, PartialEq, Eq)]
@@ -31,8 +31,8 @@ impl Slot {
     {
         match self {
             Slot::FileName => is_file_name(word),
-            Slot::SeedNumber => number_within(MAX_SEED, word).is_some(),
-            Slot::RoundNumber => number_within(MAX_ROUND, word).is_some(),
+            Slot::SeedNumber => read_seed(word).is_some(),
+            Slot::RoundNumber => read_round(word).is_some(),
             Slot::Dumps => is_dumps(word),
         }
     }
@@ -46,16 +46,18 @@ fn is_file_name(word: &[u8]) -> bool
     !word.is_empty() && !word.starts_with(b"--")
 }
 
-// The number of 1 to 10 digits, where it is at most the limit.
-#[tactic(auto, unfolding(crate::specs::Slots::number_within))]
-pub(crate) fn number_within(limit: u32, word: &[u8]) -> Option<u32>
-    ensures value { result ≡ number_within limit word.now }
-    ensures within { IfSome result (λ number. number ≤ limit) }
+// The seed that a word says.
+pub(crate) fn read_seed(word: &[u8]) -> Option<u32>
+    ensures { result ≡ seed_number word.now }
 {
-    let number = read_number(word)?;
-    if number <= u64::from(limit) {
-        Some(number as u32)
-    } else {
-        None
-    }
+    let seed = read_number_within(word, 0, MOST_SEED)?;
+    Some(seed as u32)
+}
+
+// The number of rounds, or the round, that a word says.
+pub(crate) fn read_round(word: &[u8]) -> Option<u32>
+    ensures { result ≡ round_number word.now }
+{
+    let round = read_number_within(word, 0, MOST_ROUNDS)?;
+    Some(round as u32)
 }

@@ -1,6 +1,6 @@
 use Rattle.std.proofs.Common.{◌≡◌, true, false, string_bytes, bytes_eq, sym, ◌∙◌, arith}
 use Rattle.command_words.specs.Table.{option_of}
-use Rattle.command_words.proofs.Steps.{word_after-here, word_after-more, word_after-none}
+use Rattle.command_words.proofs.Steps.{word_after-here, word_after-more, word_after-past}
 use Rattle.command_words.proofs.read.word_after.Goals as goal
 
 pub returns-then-eq : goal.returns-then-eq
@@ -14,4 +14,4 @@ loop-at-preserved c =
     sym (word_after-more c.args.choice c.args.words.now c.loop-at.at c.index-words-at.result (omega arith) c.index-words-at.is differs) ∙ c.loop-at.invariant
 
 pub returns : goal.returns
-returns c = sym (word_after-none c.args.choice c.args.words.now c.loop-at.at (omega arith)) ∙ c.loop-at.invariant
+returns c = sym (word_after-past c.args.choice c.args.words.now c.loop-at.at (omega arith)) ∙ c.loop-at.invariant

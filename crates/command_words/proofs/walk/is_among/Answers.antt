@@ -1,5 +1,5 @@
 use Rattle.std.proofs.Common.{◌≡◌, true, false, string_bytes, bytes_eq, sym, ◌∙◌, arith}
-use Rattle.command_words.proofs.Steps.{is_among-here, is_among-more, is_among-none}
+use Rattle.command_words.proofs.Steps.{is_among-here, is_among-more, is_among-past}
 use Rattle.command_words.proofs.walk.is_among.Goals as goal
 
 pub returns-then-eq : goal.returns-then-eq
@@ -13,4 +13,4 @@ loop-other-preserved c =
     sym (is_among-more c.args.word.now c.args.words.now c.loop-other.other-index c.other-item.result (omega arith) c.other-item.is differs) ∙ c.loop-other.invariant
 
 pub returns : goal.returns
-returns c = sym (is_among-none c.args.word.now c.args.words.now c.loop-other.other-index (omega arith)) ∙ c.loop-other.invariant
+returns c = sym (is_among-past c.args.word.now c.args.words.now c.loop-other.other-index (omega arith)) ∙ c.loop-other.invariant

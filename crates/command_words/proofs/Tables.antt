@@ -1,4 +1,4 @@
--- What holds of each row of the tables.
+-- What holds of each command and each option of the tables.
 use Rattle.std.proofs.Common.{◌≡◌, ◌≢◌, ℕ, Bool, true, false, not, List, [], ◌∷◌, Option, Some, find, codes, cond, bytes_eq, refl, sym, ap, ◌∙◌, ◌⊎◌, inl, inr, lit<}
 use Rattle.std.specs.List.{Contains, list_all}
 use Rattle.std.proofs.lemmas.Bool.{not-true, false≢true, false_from_ne_true}
@@ -10,7 +10,7 @@ use Rattle.command_words.specs.declared.table.CommandKind.{CommandKind}
 use Rattle.command_words.specs.declared.table.CommandKind.TheVariants.{Show, Brain, Run}
 use Rattle.command_words.specs.declared.table.Choice.{Choice}
 use Rattle.command_words.specs.declared.table.Choice.TheVariants.{Seed, Rounds, Dump}
-use Rattle.command_words.specs.Slots.{fits, is_file_name, number_within, is_dumps, dumps_of}
+use Rattle.command_words.specs.Slots.{fits, is_file_name, is_dumps, dumps_of}
 use Rattle.command_words.specs.Table.{kinds, word_of, choices_of, option_of}
 use Rattle.command_words.specs.Walk.{kind_of, choice_of}
 use Rattle.command_words.proofs.Members.{Contains-none, Contains-cases, list_all-at, find-passes, find-Contains}
@@ -58,14 +58,14 @@ sample RoundNumber = codes "1"
 sample Dumps = codes "all"
 
 pub sample-fits : (slot : Slot) → fits slot (sample slot) ≡ true
-unfolding sample is_file_name number_within is_dumps dumps_of number_of
+unfolding sample is_file_name is_dumps dumps_of number_of
 sample-fits FileName = refl
 sample-fits SeedNumber = refl
 sample-fits RoundNumber = refl
 sample-fits Dumps = refl
 
 no_option_fits : (slot : Slot) → list_all (λ choice. not (fits slot (option_of choice))) choices ≡ true
-unfolding choices is_file_name number_within is_dumps dumps_of number_of
+unfolding choices is_file_name is_dumps dumps_of number_of
 no_option_fits FileName = refl
 no_option_fits SeedNumber = refl
 no_option_fits RoundNumber = refl
