@@ -8,3 +8,5 @@ pub mod Shapes
 pub mod Completions
 pub mod Sayings
 pub mod Reading
+pub mod WordLaws
+pub mod Refusals

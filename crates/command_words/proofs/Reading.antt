@@ -1,8 +1,7 @@
 -- What is read is the command, or the refused word.
 use Rattle.std.proofs.Common.{◌≡◌, ℕ, ◌+◌, ◌-◌, ◌<◌, ◌≤◌, suc, Bool, true, false, cond, List, [], ◌∷◌, ◌++◌, length, take, drop, Option, Some, None, Result, Ok, Err, ok_or, IfOk, IfErr, refl, sym, ap, ◌∙◌, subst, ◌⊎◌, inl, inr, arith}
 use Rattle.std.specs.List.{flat_map}
-use Rattle.std.proofs.lemmas.Bool.{cases_order}
-use Rattle.std.proofs.lemmas.List.{append-nil, append_assoc, take_all, take-take, take-append-drop}
+use Rattle.std.proofs.lemmas.List.{append-nil, append_assoc, take-take, take-append-drop}
 use Rattle.command_words.specs.declared.slot.Slot.{Slot}
 use Rattle.command_words.specs.declared.table.CommandKind.{CommandKind}
 use Rattle.command_words.specs.declared.table.CommandKind.TheVariants.{Brain}
@@ -12,7 +11,6 @@ use Rattle.command_words.specs.Table.{word_of, places_of}
 use Rattle.command_words.specs.Command.{given_words, PlainCommand, IsCommand, IsBeginning, IsRefusedAt}
 use Rattle.command_words.specs.Walk.{kind_of, walk, has_needed, is_finished, command_in, finish, read_kind, read_of}
 use Rattle.command_words.specs.Words.{plain, plain_result}
-use Rattle.command_words.specs.Laws.{OneCommand, OneRefusedWord, NeverBoth, OneOfBoth}
 use Rattle.command_words.proofs.Tables.{kind_of-word, kind_of-found}
 use Rattle.command_words.proofs.Shapes.{walk-accepts, walk-front, walk-stops}
 use Rattle.command_words.proofs.Completions.{Extends, walk-extends, command-walks}
@@ -85,14 +83,14 @@ pub read-none : (words : List (List ℕ)) (number : ℕ) → read_of words ≡ E
 read-none words number e command is = (let both : Ok command ≡ Err number = sym (read-command words command is) ∙ e in let no : ⊥ = cc in no)
 
 -- the front of a beginning is a beginning
-IsBeginning-front : (front back : List (List ℕ)) → IsBeginning (front ++ back) → IsBeginning front
+pub IsBeginning-front : (front back : List (List ℕ)) → IsBeginning (front ++ back) → IsBeginning front
 IsBeginning-front front back is = record {
   more = back ++ is.more;
   command = is.command;
   whole = subst (λ ws. IsCommand ws is.command) (append_assoc front back is.more) is.whole;
 }
 
-IsBeginning-take : (n : ℕ) (words : List (List ℕ)) → IsBeginning words → IsBeginning (take n words)
+pub IsBeginning-take : (n : ℕ) (words : List (List ℕ)) → IsBeginning words → IsBeginning (take n words)
 IsBeginning-take n words is = IsBeginning-front (take n words) (drop n words) (subst IsBeginning (sym (take-append-drop n words)) is)
 
 extends-begins : (kind : CommandKind) (words : List (List ℕ)) → Extends kind words → IsBeginning words
@@ -130,7 +128,7 @@ refused-first : (words : List (List ℕ)) → ((command : PlainCommand) → ¬ I
 refused-first words none no_word = record {
   counted = omega arith;
   no_further = omega arith;
-  before = IsBeginning-none;
+  before = λ count less. subst (λ n. IsBeginning (take n words)) (let none : 0 ≡ count = omega arith in none) IsBeginning-none;
   refused = no_word;
   unfinished = λ last. none;
 }
@@ -147,15 +145,17 @@ refused-within kind rest number none e =
     let stop = walk-stops kind rest (places_of kind) (word_of kind ∷ []) number e in
     let inside = stop.within in
     let at : number ≡ suc (suc stop.taken) = stop.here ∙ (let two : length (word_of kind ∷ []) + stop.taken + 1 ≡ suc (suc stop.taken) = omega arith in two) in
-    let last : number - 1 ≡ suc stop.taken = omega arith in
     record {
       counted = omega arith;
       no_further = omega arith;
-      before = subst (λ n. IsBeginning (take n (word_of kind ∷ rest))) (sym last) (walk-begins kind (take stop.taken rest) stop.later stop.accepted);
+      before = λ count less. fewer count (suc stop.taken) (omega arith) (walk-begins kind (take stop.taken rest) stop.later stop.accepted);
       refused = λ within is. no_walk stop.taken stop.refused (subst (λ n. IsBeginning (take n (word_of kind ∷ rest))) at is);
       unfinished = λ last. none;
     }
   where
+    fewer : (count taken : ℕ) → count ≤ taken → IsBeginning (take taken (word_of kind ∷ rest)) → IsBeginning (take count (word_of kind ∷ rest))
+    fewer count taken le is = subst IsBeginning (take-take count taken (word_of kind ∷ rest) le) (IsBeginning-take count (take taken (word_of kind ∷ rest)) is)
+
     no_walk : (taken : ℕ) → walk kind (take (suc taken) rest) (places_of kind) (word_of kind ∷ []) ≡ Err number → ¬ IsBeginning (word_of kind ∷ take (suc taken) rest)
     no_walk taken refused is =
         let walked = begins-walks (word_of kind) (take (suc taken) rest) is in
@@ -169,7 +169,7 @@ refused-after : (words : List (List ℕ)) → ((command : PlainCommand) → ¬ I
 refused-after words none is = record {
   counted = omega arith;
   no_further = omega arith;
-  before = subst IsBeginning (sym (take_all (length words + 1 - 1) words (omega arith))) is;
+  before = λ count less. IsBeginning-take count words is;
   refused = λ within. absurd (omega arith);
   unfinished = λ last. none;
 }
@@ -221,38 +221,3 @@ result-refused words (Err refused) e = read-refuses words refused.word (sym e)
 pub result-none : (words : List (List ℕ)) (result : Result Command Refused) → plain_result result ≡ read_of words → IfErr result (λ _. (command : PlainCommand) → ¬ IsCommand words command)
 result-none words (Ok command) e = tt
 result-none words (Err refused) e = read-none words refused.word (sym e)
-
-pub one_command : OneCommand
-one_command words a b is_a is_b = (let both : Ok a ≡ Ok b = sym (read-command words a is_a) ∙ read-command words b is_b in cc)
-
--- of two refused words none is the earlier
-not_earlier : (words : List (List ℕ)) (a b : ℕ) → IsRefusedAt words a → IsRefusedAt words b → a < b → ⊥
-not_earlier words a b at_a at_b less =
-    let top = at_b.no_further in
-    at_a.refused (omega arith) (subst IsBeginning (take-take a (b - 1) words (omega arith)) (IsBeginning-take a (take (b - 1) words) at_b.before))
-
-pub one_refused_word : OneRefusedWord
-one_refused_word words a b at_a at_b =
-    elim (cases_order a b) [
-      | inl same ↦ same
-      | inr other ↦ elim other [ inl less ↦ absurd (not_earlier words a b at_a at_b less) | inr more ↦ absurd (not_earlier words b a at_b at_a more) ]
-    ]
-
-command-begins : (words : List (List ℕ)) (command : PlainCommand) → IsCommand words command → IsBeginning words
-command-begins words command is = record { more = []; command = command; whole = subst (λ ws. IsCommand ws command) (sym (append-nil words)) is }
-
-pub never_both : NeverBoth
-never_both words command word is at =
-    elim (cases_order word (length words + 1)) [
-      | inl last ↦ at.unfinished last command is
-      | inr other ↦ elim other [
-        | inl within ↦ at.refused (omega arith) (IsBeginning-take word words (command-begins words command is))
-        | inr past ↦ (let top = at.no_further in omega arith)
-      ]
-    ]
-
-pub one_of_both : OneOfBoth
-one_of_both words = go (read_of words) refl where
-  go : (r : Result PlainCommand ℕ) → read_of words ≡ r → ((command : PlainCommand) × IsCommand words command) ⊎ ((word : ℕ) × IsRefusedAt words word)
-  go (Ok command) e = inl (command, read-accepts words command e)
-  go (Err word) e = inr (word, read-refuses words word e)

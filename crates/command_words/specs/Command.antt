@@ -1,5 +1,5 @@
 -- Commands as data, and the words that are one (this project's own).
-use Rattle.std.specs.Prelude.{◌≡◌, ◌≢◌, ℕ, ◌+◌, ◌-◌, ◌≤◌, true, List, [], ◌∷◌, ◌++◌, length, take, map, slice_get, Option, Some, None, option_and_then, if◌then◌else◌}
+use Rattle.std.specs.Prelude.{◌≡◌, ◌≢◌, ℕ, ◌+◌, ◌<◌, ◌≤◌, true, List, [], ◌∷◌, ◌++◌, length, take, map, slice_get, Option, Some, None, option_and_then, if◌then◌else◌}
 use Rattle.std.specs.List.{flat_map, AllZip, AllByRecursion, Contains}
 use Rattle.std.specs.Str.{bytes_eq}
 use Rattle.command_words.specs.declared.slot.Slot.{Slot}
@@ -100,10 +100,10 @@ pub record IsBeginning (words : List (List ℕ)) : Type 0 where
   pub whole : IsCommand (words ++ more) command
 
 -- the refused word, counted from 1: the first one with which the words up to and including it are not the beginning of any
--- command; where all the words are a beginning and no command, the number of words plus one
+-- command, so that any fewer are one; where all the words are a beginning and no command, the number of words plus one
 pub record IsRefusedAt (words : List (List ℕ)) (word : ℕ) : Type 0 where
   pub counted : 1 ≤ word
   pub no_further : word ≤ length words + 1
-  pub before : IsBeginning (take (word - 1) words)
+  pub before : (count : ℕ) → count < word → IsBeginning (take count words)
   pub refused : word ≤ length words → ¬ IsBeginning (take word words)
   pub unfinished : word ≡ length words + 1 → (command : PlainCommand) → ¬ IsCommand words command

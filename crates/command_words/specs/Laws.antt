@@ -1,6 +1,10 @@
 -- Laws of commands and refused words (this project's own).
-use Rattle.std.specs.Prelude.{◌≡◌, ◌⊎◌, ℕ, List}
-use Rattle.command_words.specs.Command.{PlainCommand, IsCommand, IsRefusedAt}
+use Rattle.std.specs.Prelude.{◌≡◌, ◌⊎◌, ℕ, ◌≤◌, List, ◌++◌}
+use Rattle.std.specs.List.{Contains, AllByRecursion}
+use Rattle.command_words.specs.Slots.{most_seed, most_rounds, DumpChoice}
+use Rattle.command_words.specs.Slots.DumpChoice.{NoDump, EveryDump, ChosenDumps}
+use Rattle.command_words.specs.Command.{Given, IsCommandOf, PlainCommand, IsCommand, IsBeginning, IsRefusedAt}
+use Rattle.command_words.specs.Command.PlainCommand.{ShowCommand, BrainCommand, RunCommand}
 
 -- some words are at most one command
 abbrev pub OneCommand : Type 0
@@ -17,3 +21,31 @@ NeverBoth = (words : List (List ℕ)) (command : PlainCommand) (word : ℕ) → 
 -- words are a command or have a refused word
 abbrev pub OneOfBoth : Type 0
 OneOfBoth = (words : List (List ℕ)) → ((command : PlainCommand) × IsCommand words command) ⊎ ((word : ℕ) × IsRefusedAt words word)
+
+-- the front of a beginning is a beginning, so that the refused word ends it for good
+abbrev pub FrontBegins : Type 0
+FrontBegins = (words more : List (List ℕ)) → IsBeginning (words ++ more) → IsBeginning words
+
+-- the same options say the same in any order
+abbrev pub AnyOrder : Type 0
+AnyOrder = (words more : List (List ℕ)) (command : PlainCommand) (is : IsCommand words command) (others : List Given)
+    → IsCommandOf is.kind is.front others more
+    → ((given : Given) → Contains is.given given → Contains others given)
+    → ((given : Given) → Contains others given → Contains is.given given)
+    → IsCommand more command
+
+-- the rounds of a list are within their limit
+abbrev pub AreWithin : DumpChoice → Type 0
+AreWithin NoDump = Unit {0}
+AreWithin EveryDump = Unit {0}
+AreWithin (ChosenDumps rounds) = AllByRecursion (λ round. round ≤ most_rounds) rounds
+
+-- the numbers of a command are within their limits
+abbrev pub IsWithin : PlainCommand → Type 0
+IsWithin (ShowCommand world seed) = seed ≤ most_seed
+IsWithin (BrainCommand file) = Unit {0}
+IsWithin (RunCommand world red black seed rounds dumps) = (seed ≤ most_seed) × (rounds ≤ most_rounds) × AreWithin dumps
+
+-- a command is within the limits
+abbrev pub WithinLimits : Type 0
+WithinLimits = (words : List (List ℕ)) (command : PlainCommand) → IsCommand words command → IsWithin command

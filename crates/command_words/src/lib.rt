@@ -17,7 +17,9 @@ mod walk;
 
 pub use command::{Command, Refused};
 pub use dumps::DumpWord;
-pub use laws::{never_both, one_command, one_of_both, one_refused_word};
+pub use laws::{
+    any_order, front_begins, never_both, one_command, one_of_both, one_refused_word, within_limits,
+};
 pub use numbers::Numbers;
 pub use read::read_words;
 pub use slot::Slot;

@@ -1,4 +1,4 @@
-use Rattle.command_words.proofs.Reading.{one_command}
+use Rattle.command_words.proofs.WordLaws.{one_command}
 use Rattle.command_words.proofs.laws.one_command.Goals as goal
 
 pub returns : goal.returns

@@ -1,4 +1,4 @@
-use Rattle.command_words.proofs.Reading.{one_refused_word}
+use Rattle.command_words.proofs.WordLaws.{one_refused_word}
 use Rattle.command_words.proofs.laws.one_refused_word.Goals as goal
 
 pub returns : goal.returns
