@@ -11,7 +11,7 @@ use Rattle.command_words.specs.declared.table.Choice.TheVariants.{Seed, Rounds, 
 use Rattle.command_words.specs.Table.{option_of}
 use Rattle.command_words.specs.Slots.{most_seed, most_rounds, seed_number, round_number, with_number, numbers_of, pieces_of, dumps_of, DumpChoice}
 use Rattle.command_words.specs.Slots.DumpChoice.{NoDump, EveryDump, ChosenDumps}
-use Rattle.command_words.specs.Command.{Given, NoneTwice, IsCommandOf, PlainCommand, first_word, value_given, dumps_or_none, show_with, brain_with, run_with, command_of, IsCommand, IsBeginning, IsRefusedAt}
+use Rattle.command_words.specs.Command.{Given, NoneTwice, PlainCommand, first_word, value_given, dumps_or_none, show_with, brain_with, run_with, command_of, IsCommand, IsBeginning, IsRefusedAt}
 use Rattle.command_words.specs.Command.PlainCommand.{ShowCommand, BrainCommand, RunCommand}
 use Rattle.command_words.specs.Walk.{read_of}
 use Rattle.command_words.specs.Laws.{OneCommand, OneRefusedWord, NeverBoth, OneOfBoth, FrontBegins, AnyOrder, AreWithin, IsWithin, WithinLimits}

@@ -1,4 +1,4 @@
--- The commands and their options, a row each (this project's own).
+-- The commands and their options, an entry each (this project's own).
 use Rattle.std.specs.Prelude.{ℕ, Bool, true, false, List, [], ◌∷◌, codes}
 use Rattle.command_words.specs.declared.slot.Slot.{Slot}
 use Rattle.command_words.specs.declared.slot.Slot.TheVariants.{FileName, SeedNumber, RoundNumber, Dumps}

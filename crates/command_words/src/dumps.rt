@@ -4,14 +4,14 @@ ghost use Rattle.command_words.specs.Slots.{dumps_of, is_dumps};
 
 use crate::Numbers;
 
-/// The rounds after which the world is dumped, as the words choose them (this project's own).
+/// The rounds after which the world is dumped, as the words choose them, counted from 0 for the start (this project's own).
 #[derive(Drop)]
 pub enum DumpWord<'w> {
     /// no round
     Nothing,
     /// every round
     All,
-    /// the rounds of a list, in its order
+    /// the rounds of a list, in its order, with the repeated ones
     Chosen(Numbers<'w>),
 }
 

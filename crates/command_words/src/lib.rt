@@ -1,8 +1,9 @@
 //! The words of the program's command line: which words are a command, what they say, and which word is refused.
 //!
-//! `read_words` gives the command that the words are, or the first word that no command's words have there; both are
-//! relations over tables of commands and options, in which a command or an option is a row. It takes no memory. The crate
-//! stands on ant_base for numbers.
+//! `read_words` gives the command that the words are, or the first word with which they are not the beginning of any command. Both are
+//! relations over the tables of commands and options, and say nothing of how the words are gone over. The laws say that words are one
+//! command or have one refused word, that options may stand in any order, and that numbers are within their limits. No call takes
+//! memory. This crate stands on `ant_base`, for numbers.
 #![tactic(auto)]
 
 mod command;

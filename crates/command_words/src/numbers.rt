@@ -7,8 +7,8 @@ use crate::pieces::Pieces;
 use crate::slot::read_round;
 use std::marker::Model;
 
-/// The numbers of a list that are left, from 0 to 1,000,000, in the order of the list (this project's own). Contracts see it
-/// as the list of these numbers. It takes no memory.
+/// The numbers of a list that are left, each from 0 to 1,000,000, in the order of the list (this project's own). Contracts see it as the
+/// list of these numbers. It takes no memory and refuses nothing: the list was read whole when it was made.
 #[derive(Drop)]
 pub struct Numbers<'w> {
     pieces: Pieces<'w>,

@@ -9,9 +9,9 @@ use crate::slot::{read_round, read_seed};
 use crate::walk::{is_finished, kind_of, walk};
 use crate::{Choice, Command, CommandKind, DumpWord, Refused};
 
-/// The command that the program's words are, without the program's own name. Refused at the first word with which the words
-/// up to and including it are not the beginning of any command, counted from 1, or at the number of words plus one where all
-/// of them are a beginning and no command (this project's own). It takes no memory.
+/// The command that the program's words are, without the program's own name (this project's own). Refused exactly where they are none, at
+/// the first word, counted from 1, with which the words up to and including it are not the beginning of any command, or at the number of
+/// words plus one where all of them are a beginning and no command. It takes no memory.
 pub fn read_words<'w>(words: &'w [String]) -> Result<Command<'w>, Refused>
     ensures command { IfOk result (λ command. IsCommand (texts words.now) (plain command)) }
     ensures refused { IfErr result (λ refused. IsRefusedAt (texts words.now) refused.word) }

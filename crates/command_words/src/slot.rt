@@ -11,16 +11,16 @@ const MOST_SEED: u64 = 4_294_967_295;
 // The greatest number of rounds, and the last round that can be dumped.
 const MOST_ROUNDS: u64 = 1_000_000;
 
-/// What one word of a command may be (this project's own).
+/// What one word of a command may be (this project's own). A number is 1 to 10 decimal digits; leading zeros are accepted.
 #[derive(Clone, Copy, Debug, PartialEq, Eq)]
 pub enum Slot {
-    /// a word of at least one byte that doesn't begin with `--`
+    /// a word of at least one byte that doesn't begin with `--`; `-` is one
     FileName,
     /// a number from 0 to 4,294,967,295
     SeedNumber,
     /// a number from 0 to 1,000,000
     RoundNumber,
-    /// `none`, `all`, or numbers from 0 to 1,000,000 with one comma between them
+    /// `none`, `all`, or numbers from 0 to 1,000,000 with one comma between each two
     Dumps,
 }
 

@@ -1,28 +1,28 @@
-// The commands and their options, a row each.
+// The commands and their options, an entry each.
 ghost use Rattle.std.specs.Prelude.{◌≡◌};
 ghost use Rattle.command_words.specs.Table.{kinds, word_of, places_of, choices_of, option_of, values_of, is_needed};
 
 use crate::Slot;
 
-/// A command, by its first word (this project's own).
+/// A command, by its first word, which is spelled exactly as here (this project's own).
 #[derive(Clone, Copy, Debug, PartialEq, Eq)]
 pub enum CommandKind {
-    /// `show WORLD SEED`
+    /// `show WORLD SEED`: the dump of a world at the start of a game
     Show,
-    /// `brain FILE`
+    /// `brain FILE`: the canonical text of a brain
     Brain,
-    /// `run WORLD RED BLACK`, and options
+    /// `run WORLD RED BLACK`, then `--seed N` and `--rounds N`, and `--dump D` if one likes: a game and its score
     Run,
 }
 
-/// An option that may follow a command's first words (this project's own).
+/// An option that may follow the words of a command's places, in any order and at most once (this project's own).
 #[derive(Clone, Copy, Debug, PartialEq, Eq)]
 pub enum Choice {
-    /// `--seed N`
+    /// `--seed N`, from 0 to 4,294,967,295; needed
     Seed,
-    /// `--rounds N`
+    /// `--rounds N`, from 0 to 1,000,000; needed
     Rounds,
-    /// `--dump D`
+    /// `--dump D`, the rounds that are dumped; without it none
     Dump,
 }
 

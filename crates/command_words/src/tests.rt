@@ -1,4 +1,4 @@
-// What no clause says: the worked rows of commands and refused words.
+// Words that are commands, and words that are refused: the numbers are written out here, where the clauses speak of all words.
 use crate::{Command, DumpWord, Refused, read_words};
 use std::alloc::Global;
 use std::test::Fail;
@@ -17,7 +17,7 @@ fn words_of(alloc: Global, line: &str) -> Result<Vec<String>, Fail> {
 
 #[test]
 fn refused_words_are_counted_from_one(rt: HostRuntime) -> Result<(), Fail> {
-    let rows = [
+    let cases = [
         ("", 1),
         ("jump", 1),
         ("Show w 1", 1),
@@ -52,7 +52,7 @@ fn refused_words_are_counted_from_one(rt: HostRuntime) -> Result<(), Fail> {
         ("run w r b --seed 1 --rounds 2 --rounds 2", 9),
         ("run w r b --seed 1 --rounds 2 --dump", 10),
     ];
-    for (line, word) in rows {
+    for (line, word) in cases {
         let words = words_of(rt.alloc(), line)?;
         let refused = read_words(&words).err();
         assert_eq!(rt; refused, Some(Refused { word }), "{line}");
@@ -62,12 +62,12 @@ fn refused_words_are_counted_from_one(rt: HostRuntime) -> Result<(), Fail> {
 
 #[test]
 fn a_world_is_shown(rt: HostRuntime) -> Result<(), Fail> {
-    let rows = [
+    let cases = [
         ("show w 007", "w", 7),
         ("show - 4294967295", "-", 4_294_967_295),
         ("show -x 0", "-x", 0),
     ];
-    for (line, name, number) in rows {
+    for (line, name, number) in cases {
         let words = words_of(rt.alloc(), line)?;
         match read_words(&words) {
             Ok(Command::Show { world, seed }) => {
@@ -107,7 +107,7 @@ fn rounds_of(alloc: Global, dumps: DumpWord) -> Result<Vec<u32>, Fail> {
 
 #[test]
 fn options_stand_in_any_order(rt: HostRuntime) -> Result<(), Fail> {
-    let rows: [(&str, u32, u32, &[u32]); 5] = [
+    let cases: [(&str, u32, u32, &[u32]); 5] = [
         (
             "run w r b --rounds 2 --dump 7,1000000,0,7 --seed 5",
             5,
@@ -124,7 +124,7 @@ fn options_stand_in_any_order(rt: HostRuntime) -> Result<(), Fail> {
         ("run w r b --seed 1 --dump all --rounds 3", 1, 3, &[1]),
         ("run w r b --seed 1 --rounds 3 --dump 0012", 1, 3, &[12]),
     ];
-    for (line, s, n, list) in rows {
+    for (line, s, n, list) in cases {
         let words = words_of(rt.alloc(), line)?;
         match read_words(&words) {
             Ok(

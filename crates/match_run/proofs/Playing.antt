@@ -5,6 +5,7 @@ use Rattle.ant_base.proofs.Numbered.{numbered-front, numbered-more}
 use Rattle.ant_random.specs.Stream.{SeedAndPlace}
 use Rattle.cell_world.specs.Cell.{one_if}
 use Rattle.cell_world.specs.Grid.{Grid, world_of}
+use Rattle.cell_world.specs.Limits.{most_ants}
 use Rattle.cell_world.specs.World.{World, with_cells}
 use Rattle.ant_turn.specs.Minds.{Minds, Fits}
 use Rattle.ant_turn.specs.Rounds.{Moment, after_turn, after_turns, after_round, after_rounds, start_of}
@@ -76,7 +77,7 @@ IsTaken-all {minds} {first} {start} taken all = taken.moment ∙ ap (after_turns
 pub record IsAfter (minds : Minds) (seed : ℕ) (w : World) (round : ℕ) (grid : Grid) (stream : SeedAndPlace) : Type 0 where
   pub moment : moment_of grid stream ≡ after_rounds minds seed (start_of w) round
   pub same_seed : stream.seed ≡ seed
-  pub place : stream.place ≤ round * 16384
+  pub place : stream.place ≤ round * most_ants
   pub fits : Fits (world_of grid) minds
 
 -- no round is played
@@ -91,9 +92,9 @@ IsAfter-none minds seed grid stream same begins fits = record {
 -- one round more is played
 pub IsAfter-more : {minds : Minds} {seed : ℕ} {w : World} {round : ℕ} {grid : Grid} {stream : SeedAndPlace} → IsAfter minds seed w round grid stream → (next : Grid) (later : SeedAndPlace)
     → moment_of next later ≡ after_round minds stream.seed (moment_of grid stream)
-    → later.seed ≡ stream.seed → later.place ≤ stream.place + 16384 → Fits (world_of next) minds → IsAfter minds seed w (round + 1) next later
+    → later.seed ≡ stream.seed → later.place ≤ stream.place + most_ants → Fits (world_of next) minds → IsAfter minds seed w (round + 1) next later
 IsAfter-more {minds} {seed} {w} {round} {grid} {stream} after next later played same few fits =
-    let so_far : stream.place ≤ round * 16384 = after.place in
+    let so_far : stream.place ≤ round * most_ants = after.place in
     record {
       moment =
           played

@@ -1,17 +1,22 @@
 -- The text of a run (the task's game play; the layout is this project's own).
-use Rattle.std.specs.Prelude.{ℕ, ◌+◌, List, [], if◌then◌else◌, Result, Ok, Err}
+use Rattle.std.specs.Prelude.{ℕ, ◌+◌, ◌<◌, ◌^◌, List, [], if◌then◌else◌, Result, Ok, Err}
 use Rattle.ant_base.specs.Layout.{numbered, ◌+++◌}
 use Rattle.ant_base.specs.declared.sink.Failed.{Failed}
 use Rattle.ant_random.specs.Stream.{SeedAndPlace}
 use Rattle.ant_turn.specs.Minds.{Minds}
 use Rattle.ant_turn.specs.Rounds.{Moment, after_rounds, start_of}
 use Rattle.cell_world.specs.Grid.{Grid, world_of}
+use Rattle.cell_world.specs.Limits.{most_ants}
 use Rattle.cell_world.specs.Score.{score_of}
 use Rattle.cell_world.specs.declared.score.Score.{Score}
 use Rattle.cell_world.specs.World.{World}
 use Rattle.dump_print.specs.Texts.{dump_text, score_text, seed_text}
 use Rattle.match_run.specs.declared.dumps.Dumps.{Dumps}
 use Rattle.match_run.specs.Dumps.{chooses}
+
+-- the most rounds of a game (this project's own)
+abbrev pub most_rounds : ℕ
+most_rounds = 1000000
 
 -- the world after a round of a game that starts in w (the task's game play)
 unfoldable pub world_after : Minds → ℕ → World → ℕ → World
@@ -40,3 +45,7 @@ ended (Err failed) = Err failed
 -- the moment of a world and the stream of its game (the task's kinetics)
 abbrev pub moment_of : Grid → SeedAndPlace → Moment
 moment_of grid stream = record { world = world_of grid; place = stream.place }
+
+-- a stream has a random number left for each turn of one more round
+abbrev pub LastsARound : SeedAndPlace → Type 0
+LastsARound stream = stream.place + most_ants < 2 ^ 63

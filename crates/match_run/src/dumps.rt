@@ -6,7 +6,8 @@ use hex_geometry::OutOfMemory;
 use std::alloc::Global;
 use std::marker::Model;
 
-/// A list of rounds, counted from 0 for the start of the game (this project's own).
+/// A list of rounds, each counted from 0 for the start of the game; contracts see it as the list of their numbers. Order and repeats make no
+/// difference to a run (this project's own).
 #[derive(Drop)]
 pub struct Rounds {
     list: Vec<u32>,
@@ -30,7 +31,8 @@ impl Rounds {
         }
     }
 
-    /// Adds a round last (this project's own). It is refused for want of memory alone; the list is as before then.
+    /// Adds a round last, whether or not it is there already (this project's own). It is refused for want of memory alone; the list is as
+    /// before then.
     pub fn add(&mut self, round: u32) -> Result<(), OutOfMemory>
         ensures added { OnOk result (self.new ≡ self.old ++ round ∷ []) }
         ensures unchanged { OnErr result (self.new ≡ self.old) }
@@ -47,20 +49,20 @@ impl Rounds {
     }
 }
 
-/// Which rounds of a run are dumped (this project's own).
+/// After which rounds of a run the world is dumped (this project's own).
 #[derive(Drop)]
 pub enum Dumps {
     /// No round.
     Nothing,
-    /// Every round, from 0 to the last.
+    /// Every round, from 0, which is the start, to the last.
     All,
-    /// The rounds of the list; a round that is repeated, or beyond the last, adds nothing.
+    /// The rounds of the list; a round that is repeated, or above the last one of the run, adds nothing.
     Chosen(Rounds),
 }
 
 impl Dumps {
-    /// Whether the world after this round is dumped: the value is `All`, or `Chosen` with that
-    /// number among its rounds (this project's own). It takes no memory.
+    /// Whether the world after this round, counted from 0 for the start, is dumped: the value is `All`, or `Chosen` with that number among
+    /// its rounds (this project's own). It takes no memory.
     pub fn chooses(&self, round: u32) -> bool
         ensures { result ≡ chooses self.now round }
     {

@@ -2,15 +2,20 @@
 //!
 //! The task's game play: rounds are played one after another, each one turn of each id in rising order, with one stream of random
 //! numbers from place 0. `play_alone` pushes exactly the text that these rules define, in memory that doesn't grow with the rounds, and
-//! fails only where its sink did. This crate stands on `ant_turn` and `dump_print`.
+//! fails only where its sink did; `play_score` gives its score alone. The laws say what the text is made of, which rounds a list adds to
+//! it, and that a game may be broken off and gone on with. This crate stands on `ant_turn` and `dump_print`.
 #![tactic(auto)]
 
 mod dumps;
 mod game;
+mod laws;
 mod plan;
 mod play;
 
 pub use dumps::{Dumps, Rounds};
 pub use hex_geometry::OutOfMemory;
+pub use laws::{
+    all_dumps, goes_on, later_adds_nothing, no_dumps, repeat_adds_nothing, same_rounds,
+};
 pub use plan::Plan;
 pub use play::{play_alone, play_score};

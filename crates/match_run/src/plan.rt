@@ -1,17 +1,17 @@
 // What a run is asked to do.
 use crate::dumps::Dumps;
 
-/// What a run is asked to do (the task's game play; the dumps, the window and the counts are this project's own).
+/// What a run is asked to do (seed and rounds are the task's game play; the dumps, the window and the counts are this project's own).
 #[derive(Drop)]
 pub struct Plan {
     /// The seed of the random numbers, from 0 to 4,294,967,295.
     pub seed: u32,
-    /// How many rounds are played, at most 1,000,000.
+    /// How many rounds are played, from 0 to 1,000,000. Rounds are counted from 1; round 0 is the start.
     pub rounds: u32,
-    /// Which rounds are dumped.
+    /// After which rounds the world is dumped.
     pub dumps: Dumps,
-    /// How many turns a window of looks has, from 1 to 16,384.
+    /// How many turns a window of looks has, from 1 to 16,384; no call reads it yet.
     pub window: u32,
-    /// Whether the counts of looks are printed.
+    /// Whether the counts of looks are printed; no call reads it yet.
     pub stats: bool,
 }

@@ -1,0 +1,46 @@
+-- Which rounds of a run are dumped, and what stands around the dumps.
+use Rattle.std.proofs.Common.{◌≡◌, ℕ, List, [], ◌∷◌, codes, refl}
+use Rattle.std.specs.Fmt.{digits}
+use Rattle.std.specs.List.{filter}
+use Rattle.ant_base.specs.Layout.{numbered, ◌+++◌}
+use Rattle.cell_world.specs.Cell.{rock}
+use Rattle.cell_world.specs.Score.{score_of, hill_food_of}
+use Rattle.cell_world.specs.World.{World}
+use Rattle.ant_turn.specs.Minds.{Minds}
+use Rattle.ant_turn.specs.Rounds.{after_round}
+use Rattle.ant_turn.specs.Sheet.{contest}
+use Rattle.dump_print.specs.Content.{content_text}
+use Rattle.dump_print.specs.Texts.{cell_line, row_text, cells_text, dump_text, seed_text, score_text}
+use Rattle.match_run.specs.declared.dumps.Dumps.TheVariants.{Nothing, All, Chosen}
+use Rattle.match_run.specs.Dumps.{chooses}
+use Rattle.match_run.specs.Run.{dumps_text, run_text, world_after}
+
+-- the rounds of a game of four rounds
+abbrev rounds : List ℕ
+rounds = 0 ∷ 1 ∷ 2 ∷ 3 ∷ 4 ∷ []
+
+-- of a list the rounds that the game has, each once and in order
+pub list_chooses : filter (chooses (Chosen (7 ∷ 3 ∷ 0 ∷ 3 ∷ []))) rounds ≡ 0 ∷ 3 ∷ []
+list_chooses = refl
+
+pub all_choose : filter (chooses All) rounds ≡ rounds
+all_choose = refl
+
+pub nothing_chooses : filter (chooses Nothing) rounds ≡ []
+nothing_chooses = refl
+
+-- one rocky cell, and no ant
+abbrev stone : World
+stone = record { width = 1; height = 1; ids = 0; cells = λ p. rock }
+
+abbrev nobody : Minds
+nobody = record { red = []; black = []; sheet = contest }
+
+-- the text of two rounds of which the start and the last one are dumped
+pub two_rounds : run_text nobody 12345 2 (Chosen (2 ∷ 0 ∷ 2 ∷ [])) stone ≡
+    codes "random seed: 12345\n"
+    +++ codes "\nAfter round 0...\ncell (0, 0): rock\n"
+    +++ codes "\nAfter round 2...\ncell (0, 0): rock\n"
+    +++ codes "\nscore: red 0 black 0\n"
+unfolding run_text dumps_text world_after numbered seed_text dump_text cells_text row_text cell_line content_text rock score_text score_of hill_food_of after_round digits
+two_rounds = refl

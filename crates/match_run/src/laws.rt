@@ -1,0 +1,36 @@
+// What holds of all games and runs, as laws of their definitions.
+ghost use Rattle.match_run.specs.Laws.{AllDumps, NoDumps, SameRounds, RepeatAddsNothing, LaterAddsNothing, GoesOn};
+
+/// The text of a run with `Dumps::All` is the line of the seed, the dump after each round from 0 to the number of rounds in order, and the
+/// score (the task's game play; the layout is this project's own). The call does nothing: its clause is the law.
+pub fn all_dumps()
+    ensures { AllDumps }
+{}
+
+/// The text of a run with `Dumps::Nothing` is the line of the seed and the score (the task's game play; the layout is this project's own).
+/// The call does nothing: its clause is the law.
+pub fn no_dumps()
+    ensures { NoDumps }
+{}
+
+/// Two lists of rounds that have the same rounds, up to the number of rounds, give the same text: order, repeats and later rounds make no
+/// difference (this project's own). The call does nothing: its clause is the law.
+pub fn same_rounds()
+    ensures { SameRounds }
+{}
+
+/// A round that the list has already adds nothing to the text (this project's own). The call does nothing: its clause is the law.
+pub fn repeat_adds_nothing()
+    ensures { RepeatAddsNothing }
+{}
+
+/// A round above the number of rounds adds nothing to the text (this project's own). The call does nothing: its clause is the law.
+pub fn later_adds_nothing()
+    ensures { LaterAddsNothing }
+{}
+
+/// The score after r + q rounds of a game is that after q rounds from the moment after the first r, with the random numbers going on where
+/// they were (the task's game play and kinetics). The call does nothing: its clause is the law.
+pub fn goes_on()
+    ensures { GoesOn }
+{}
