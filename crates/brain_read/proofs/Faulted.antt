@@ -1,6 +1,6 @@
 -- The reading of a line stops at the first position at fault.
-use Rattle.std.proofs.Common.{◌≡◌, ℕ, Bool, true, false, List, [], ◌∷◌, ◌++◌, Option, Some, None, Ok, Err, cond, refl, sym, ap, ◌∙◌}
-use Rattle.ant_base.specs.Number.{number_of}
+use Rattle.std.proofs.Common.{◌≡◌, ℕ, Bool, true, false, List, [], ◌∷◌, ◌++◌, Option, Some, None, Ok, Err, option_map, cond, refl, sym, ap, ◌∙◌}
+use Rattle.ant_base.specs.Number.{number_of, number_within}
 use Rattle.word_table.specs.Words.{place_in}
 use Rattle.brain_read.specs.declared.fault.BrainFault.{BrainFault}
 use Rattle.brain_read.specs.declared.fault.BrainFault.TheVariants.{BadByte, UnknownWord, BadNumber}
@@ -10,15 +10,16 @@ use Rattle.brain_read.specs.declared.instr.Cond.TheVariants.{Friend, Foe, Friend
 use Rattle.brain_read.specs.declared.instr.Instr.{Instr}
 use Rattle.brain_read.specs.declared.instr.Instr.TheVariants.{Sense, Mark, Unmark, PickUp, Drop, Turn, Move, Flip}
 use Rattle.brain_read.specs.declared.form.Form.{Form}
-use Rattle.brain_read.specs.declared.form.CondWord.{CondWord}
+use Rattle.brain_read.specs.declared.form.ConditionWord.{ConditionWord}
 use Rattle.brain_read.specs.Tokens.{has_bad_byte}
-use Rattle.brain_read.specs.Steps.{Read, Step, ◌>>=◌, or_refused, take_word, within, take_number, take_end}
-use Rattle.brain_read.specs.Forms.{form_words, sight_words, side_words, condition_words}
-use Rattle.brain_read.specs.Reading.{form_at, sight_at, side_at, condition_word_at, take_sight, take_side, take_state, take_marker, take_bound, condition_from, take_condition, read_sense, read_mark, read_unmark, read_pick_up, read_drop, read_turn, read_move, read_flip, read_form, read_line}
-use Rattle.brain_read.specs.Verdict.{fault_at, refusal_at}
-use Rattle.brain_read.specs.Judging.{Position, positions_of, positions_of_condition, positions_at, accepted, fault_of, judged, first_fault}
-use Rattle.brain_read.specs.Judging.Position.{FormWord, SightWord, SideWord, ConditionWord, MarkerNumber, StateNumber, BoundNumber}
-use Rattle.brain_read.proofs.Vocabulary.{Names, word-good, number_of-good}
+use Rattle.brain_read.specs.Steps.{Read, Step, ◌>>=◌, or_refused, take_word, take_number, take_end, take_sight, take_side, take_state, take_marker, take_bound, condition_from, take_condition}
+use Rattle.brain_read.specs.Forms.{word_of_form, word_of_sight, word_of_side, word_of_condition, forms, sights, sides, conditions, form_words, sight_words, side_words, condition_words, named, most_bound}
+use Rattle.brain_read.specs.Places.{form_at, sight_at, side_at, condition_word_at}
+use Rattle.brain_read.specs.Reading.{read_sense, read_mark, read_unmark, read_pick_up, read_drop, read_turn, read_move, read_flip, read_form, read_line}
+use Rattle.brain_read.specs.Refusals.{fault_at, refusal_at}
+use Rattle.brain_read.specs.Judging.{Position, positions_of, positions_of_condition, nothing_more, accepted, fault_of, judged, first_fault}
+use Rattle.brain_read.specs.Judging.Position.{FormToken, SightToken, SideToken, ConditionToken, MarkerToken, StateToken, BoundToken}
+use Rattle.brain_read.proofs.Vocabulary.{Names, word-good, named-place, number_of-good, number_within-any}
 use Rattle.brain_read.proofs.Spelled.{form_names, sight_names, side_names, condition_names, within-some, bind_assoc, as_named, ending}
 
 -- the fault of a line of this number that was read
@@ -33,7 +34,7 @@ pub record Judges {A : Type 0} (position : Position) (take : List (List ℕ) →
 -- one token at its position
 judge_token : (line : ℕ) (token : List ℕ) (rest : List (List ℕ)) (positions : List Position) (o : Option ℕ) (brings : ℕ → List Position) (fault : LineFault) (f : ℕ × List (List ℕ) → Read Instr)
     → ((x : ℕ) → o ≡ Some x → has_bad_byte token ≡ false) → ((x : ℕ) → first_fault line rest (brings x ++ positions) ≡ fault_in line (f (x, rest)))
-    → cond (has_bad_byte token) (Some (BadByte line)) (judged (positions_at o brings) (fault_at line fault) (λ more. first_fault line rest (more ++ positions))) ≡ fault_in line (or_refused o rest token fault >>= f)
+    → cond (has_bad_byte token) (Some (BadByte line)) (judged (option_map brings o) (fault_at line fault) (λ more. first_fault line rest (more ++ positions))) ≡ fault_in line (or_refused o rest token fault >>= f)
 judge_token line token rest positions None brings fault f good next = go (has_bad_byte token)
   where
     go : (b : Bool) → cond b (Some (BadByte line)) (Some (fault_at line fault)) ≡ Some (cond b (BadByte line) (fault_at line fault))
@@ -43,26 +44,26 @@ judge_token line token rest positions (Some x) brings fault f good next =
     ap (λ b. cond b (Some (BadByte line)) (first_fault line rest (brings x ++ positions))) (good x refl) ∙ next x
 
 -- a step whose token is a word of a table
-word_judges : {words : List (List ℕ)} {n : ℕ} {word : ℕ → List ℕ} → Names words n word → (position : Position) (brings : ℕ → List Position) → ((token : List ℕ) → accepted position token ≡ positions_at (place_in words token) brings) → ((line : ℕ) → fault_of position line ≡ UnknownWord line) → Judges position (take_word words) brings
+word_judges : {words : List (List ℕ)} {n : ℕ} {word : ℕ → List ℕ} → Names words n word → (position : Position) (brings : ℕ → List Position) → ((token : List ℕ) → accepted position token ≡ option_map brings (place_in words token)) → ((line : ℕ) → fault_of position line ≡ UnknownWord line) → Judges position (take_word words) brings
 word_judges {words} names position brings accepts faults = record { steps = steps }
   where
     steps : (line : ℕ) (tokens : List (List ℕ)) (positions : List Position) (f : ℕ × List (List ℕ) → Read Instr) → ((x : ℕ) (rest : List (List ℕ)) → first_fault line rest (brings x ++ positions) ≡ fault_in line (f (x, rest))) → first_fault line tokens (position ∷ positions) ≡ fault_in line (take_word words tokens >>= f)
     steps line [] positions f next = refl
     steps line (token ∷ rest) positions f next =
         ap (λ a. cond (has_bad_byte token) (Some (BadByte line)) (judged a (fault_of position line) (λ more. first_fault line rest (more ++ positions)))) (accepts token)
-        ∙ ap (λ b. cond (has_bad_byte token) (Some (BadByte line)) (judged (positions_at (place_in words token) brings) b (λ more. first_fault line rest (more ++ positions)))) (faults line)
+        ∙ ap (λ b. cond (has_bad_byte token) (Some (BadByte line)) (judged (option_map brings (place_in words token)) b (λ more. first_fault line rest (more ++ positions)))) (faults line)
         ∙ judge_token line token rest positions (place_in words token) brings LineFault.UnknownWord f (λ i found. word-good names token i found) (λ i. next i rest)
 
 -- a step whose token is a number
-number_judges : (least most : ℕ) (position : Position) → ((token : List ℕ) → accepted position token ≡ positions_at (within least most (number_of token)) (λ n. [])) → ((line : ℕ) → fault_of position line ≡ BadNumber line) → Judges position (take_number least most) (λ n. [])
+number_judges : (least most : ℕ) (position : Position) → ((token : List ℕ) → accepted position token ≡ option_map (λ n. []) (number_within least most token)) → ((line : ℕ) → fault_of position line ≡ BadNumber line) → Judges position (take_number least most) (λ n. [])
 number_judges least most position accepts faults = record { steps = steps }
   where
     steps : (line : ℕ) (tokens : List (List ℕ)) (positions : List Position) (f : ℕ × List (List ℕ) → Read Instr) → ((n : ℕ) (rest : List (List ℕ)) → first_fault line rest ([] ++ positions) ≡ fault_in line (f (n, rest))) → first_fault line tokens (position ∷ positions) ≡ fault_in line (take_number least most tokens >>= f)
     steps line [] positions f next = refl
     steps line (token ∷ rest) positions f next =
         ap (λ a. cond (has_bad_byte token) (Some (BadByte line)) (judged a (fault_of position line) (λ more. first_fault line rest (more ++ positions)))) (accepts token)
-        ∙ ap (λ b. cond (has_bad_byte token) (Some (BadByte line)) (judged (positions_at (within least most (number_of token)) (λ n. [])) b (λ more. first_fault line rest (more ++ positions)))) (faults line)
-        ∙ judge_token line token rest positions (within least most (number_of token)) (λ n. []) LineFault.BadNumber f
+        ∙ ap (λ b. cond (has_bad_byte token) (Some (BadByte line)) (judged (option_map (λ n. []) (number_within least most token)) b (λ more. first_fault line rest (more ++ positions)))) (faults line)
+        ∙ judge_token line token rest positions (number_within least most token) (λ n. []) LineFault.BadNumber f
         (λ n found. number_of-good token n (within-some least most n token (number_of token) refl found).value) (λ n. next n rest)
 
 -- a step that names what its word stands for
@@ -73,49 +74,59 @@ named_judges {A} words position judges at = record {
       ∙ ap (fault_in line) (sym (bind_assoc (take_word words tokens) (as_named at) f));
 }
 
-sight_judges : Judges SightWord take_sight (λ s. [])
-unfolding take_sight
-sight_judges = named_judges sight_words SightWord (word_judges sight_names SightWord (λ i. []) (λ token. refl) (λ line. refl)) sight_at
+sight_judges : Judges SightToken take_sight (λ s. [])
+unfolding take_sight sight_words
+sight_judges =
+    named_judges sight_words SightToken
+    (word_judges sight_names SightToken (λ i. []) (λ token. named-place word_of_sight sight_at nothing_more sights token (refl, (refl, (refl, (refl, tt))))) (λ line. refl))
+    sight_at
 
-side_judges : Judges SideWord take_side (λ s. [])
-unfolding take_side
-side_judges = named_judges side_words SideWord (word_judges side_names SideWord (λ i. []) (λ token. refl) (λ line. refl)) side_at
+side_judges : Judges SideToken take_side (λ s. [])
+unfolding take_side side_words
+side_judges =
+    named_judges side_words SideToken
+    (word_judges side_names SideToken (λ i. []) (λ token. named-place word_of_side side_at nothing_more sides token (refl, (refl, tt))) (λ line. refl))
+    side_at
 
-state_judges : Judges StateNumber take_state (λ n. [])
+state_judges : Judges StateToken take_state (λ n. [])
 unfolding take_state
-state_judges = number_judges 0 9999999999 StateNumber (λ token. refl) (λ line. refl)
+state_judges = number_judges 0 9999999999 StateToken (λ token. ap (option_map (λ n. [])) (sym (number_within-any token))) (λ line. refl)
 
-marker_judges : Judges MarkerNumber take_marker (λ n. [])
+marker_judges : Judges MarkerToken take_marker (λ n. [])
 unfolding take_marker
-marker_judges = number_judges 0 5 MarkerNumber (λ token. refl) (λ line. refl)
+marker_judges = number_judges 0 5 MarkerToken (λ token. refl) (λ line. refl)
 
-bound_judges : Judges BoundNumber take_bound (λ n. [])
+bound_judges : Judges BoundToken take_bound (λ n. [])
 unfolding take_bound
-bound_judges = number_judges 1 4294967295 BoundNumber (λ token. refl) (λ line. refl)
+bound_judges = number_judges 1 most_bound BoundToken (λ token. refl) (λ line. refl)
 
 -- the end of the line
 end_fault : (line : ℕ) (tokens : List (List ℕ)) (i : Instr) → first_fault line tokens [] ≡ fault_in line (take_end tokens >>= (λ end. Ok i))
 end_fault line [] i = refl
 end_fault line (token ∷ tokens) i = refl
 
-condition_rest_fault : (line : ℕ) (g : Cond → Instr) (w : CondWord) (rest : List (List ℕ)) → first_fault line rest (positions_of_condition w ++ []) ≡ fault_in line (condition_from w rest >>= ending g)
-condition_rest_fault line g CondWord.Friend rest = end_fault line rest (g Friend)
-condition_rest_fault line g CondWord.Foe rest = end_fault line rest (g Foe)
-condition_rest_fault line g CondWord.FriendWithFood rest = end_fault line rest (g FriendWithFood)
-condition_rest_fault line g CondWord.FoeWithFood rest = end_fault line rest (g FoeWithFood)
-condition_rest_fault line g CondWord.Food rest = end_fault line rest (g Food)
-condition_rest_fault line g CondWord.Rock rest = end_fault line rest (g Rock)
-condition_rest_fault line g CondWord.Marker rest =
+condition_rest_fault : (line : ℕ) (g : Cond → Instr) (w : ConditionWord) (rest : List (List ℕ)) → first_fault line rest (positions_of_condition w ++ []) ≡ fault_in line (condition_from w rest >>= ending g)
+condition_rest_fault line g ConditionWord.Friend rest = end_fault line rest (g Friend)
+condition_rest_fault line g ConditionWord.Foe rest = end_fault line rest (g Foe)
+condition_rest_fault line g ConditionWord.FriendWithFood rest = end_fault line rest (g FriendWithFood)
+condition_rest_fault line g ConditionWord.FoeWithFood rest = end_fault line rest (g FoeWithFood)
+condition_rest_fault line g ConditionWord.Food rest = end_fault line rest (g Food)
+condition_rest_fault line g ConditionWord.Rock rest = end_fault line rest (g Rock)
+condition_rest_fault line g ConditionWord.Marker rest =
     marker_judges.steps line rest [] (λ m. ending g (Marker m.0, m.1)) (λ m left. end_fault line left (g (Marker m)))
     ∙ ap (fault_in line) (sym (bind_assoc (take_marker rest) (λ m. Ok (Marker m.0, m.1)) (ending g)))
-condition_rest_fault line g CondWord.FoeMarker rest = end_fault line rest (g FoeMarker)
-condition_rest_fault line g CondWord.Home rest = end_fault line rest (g Home)
-condition_rest_fault line g CondWord.FoeHome rest = end_fault line rest (g FoeHome)
+condition_rest_fault line g ConditionWord.FoeMarker rest = end_fault line rest (g FoeMarker)
+condition_rest_fault line g ConditionWord.Home rest = end_fault line rest (g Home)
+condition_rest_fault line g ConditionWord.FoeHome rest = end_fault line rest (g FoeHome)
 
-condition_judges : Judges ConditionWord (take_word condition_words) (λ i. positions_of_condition (condition_word_at i))
-condition_judges = word_judges condition_names ConditionWord (λ i. positions_of_condition (condition_word_at i)) (λ token. refl) (λ line. refl)
+condition_judges : Judges ConditionToken (take_word condition_words) (λ i. positions_of_condition (condition_word_at i))
+unfolding condition_words
+condition_judges =
+    word_judges condition_names ConditionToken (λ i. positions_of_condition (condition_word_at i))
+    (λ token. named-place word_of_condition condition_word_at positions_of_condition conditions token (refl, (refl, (refl, (refl, (refl, (refl, (refl, (refl, (refl, (refl, tt)))))))))))
+    (λ line. refl)
 
-condition_fault : (line : ℕ) (g : Cond → Instr) (tokens : List (List ℕ)) → first_fault line tokens (ConditionWord ∷ []) ≡ fault_in line (take_condition tokens >>= ending g)
+condition_fault : (line : ℕ) (g : Cond → Instr) (tokens : List (List ℕ)) → first_fault line tokens (ConditionToken ∷ []) ≡ fault_in line (take_condition tokens >>= ending g)
 unfolding take_condition
 condition_fault line g tokens =
     condition_judges.steps line tokens [] (λ w. condition_from (condition_word_at w.0) w.1 >>= ending g) (λ i rest. condition_rest_fault line g (condition_word_at i) rest)
@@ -124,26 +135,26 @@ condition_fault line g tokens =
 sense_fault : (line : ℕ) (tokens : List (List ℕ)) → first_fault line tokens (positions_of Form.Sense) ≡ fault_in line (read_sense tokens)
 unfolding read_sense
 sense_fault line tokens =
-    sight_judges.steps line tokens (StateNumber ∷ StateNumber ∷ ConditionWord ∷ []) _ (λ s r1.
-    state_judges.steps line r1 (StateNumber ∷ ConditionWord ∷ []) _ (λ m r2.
-    state_judges.steps line r2 (ConditionWord ∷ []) _ (λ u r3. condition_fault line (Sense s m u) r3)))
+    sight_judges.steps line tokens (StateToken ∷ StateToken ∷ ConditionToken ∷ []) _ (λ s r1.
+    state_judges.steps line r1 (StateToken ∷ ConditionToken ∷ []) _ (λ m r2.
+    state_judges.steps line r2 (ConditionToken ∷ []) _ (λ u r3. condition_fault line (Sense s m u) r3)))
 
 mark_fault : (line : ℕ) (tokens : List (List ℕ)) → first_fault line tokens (positions_of Form.Mark) ≡ fault_in line (read_mark tokens)
 unfolding read_mark
 mark_fault line tokens =
-    marker_judges.steps line tokens (StateNumber ∷ []) _ (λ m r1.
+    marker_judges.steps line tokens (StateToken ∷ []) _ (λ m r1.
     state_judges.steps line r1 [] _ (λ n r2. end_fault line r2 (Mark m n)))
 
 unmark_fault : (line : ℕ) (tokens : List (List ℕ)) → first_fault line tokens (positions_of Form.Unmark) ≡ fault_in line (read_unmark tokens)
 unfolding read_unmark
 unmark_fault line tokens =
-    marker_judges.steps line tokens (StateNumber ∷ []) _ (λ m r1.
+    marker_judges.steps line tokens (StateToken ∷ []) _ (λ m r1.
     state_judges.steps line r1 [] _ (λ n r2. end_fault line r2 (Unmark m n)))
 
 pick_up_fault : (line : ℕ) (tokens : List (List ℕ)) → first_fault line tokens (positions_of Form.PickUp) ≡ fault_in line (read_pick_up tokens)
 unfolding read_pick_up
 pick_up_fault line tokens =
-    state_judges.steps line tokens (StateNumber ∷ []) _ (λ m r1.
+    state_judges.steps line tokens (StateToken ∷ []) _ (λ m r1.
     state_judges.steps line r1 [] _ (λ u r2. end_fault line r2 (PickUp m u)))
 
 drop_fault : (line : ℕ) (tokens : List (List ℕ)) → first_fault line tokens (positions_of Form.Drop) ≡ fault_in line (read_drop tokens)
@@ -153,20 +164,20 @@ drop_fault line tokens = state_judges.steps line tokens [] _ (λ n r1. end_fault
 turn_fault : (line : ℕ) (tokens : List (List ℕ)) → first_fault line tokens (positions_of Form.Turn) ≡ fault_in line (read_turn tokens)
 unfolding read_turn
 turn_fault line tokens =
-    side_judges.steps line tokens (StateNumber ∷ []) _ (λ s r1.
+    side_judges.steps line tokens (StateToken ∷ []) _ (λ s r1.
     state_judges.steps line r1 [] _ (λ n r2. end_fault line r2 (Turn s n)))
 
 move_fault : (line : ℕ) (tokens : List (List ℕ)) → first_fault line tokens (positions_of Form.Move) ≡ fault_in line (read_move tokens)
 unfolding read_move
 move_fault line tokens =
-    state_judges.steps line tokens (StateNumber ∷ []) _ (λ m r1.
+    state_judges.steps line tokens (StateToken ∷ []) _ (λ m r1.
     state_judges.steps line r1 [] _ (λ u r2. end_fault line r2 (Move m u)))
 
 flip_fault : (line : ℕ) (tokens : List (List ℕ)) → first_fault line tokens (positions_of Form.Flip) ≡ fault_in line (read_flip tokens)
 unfolding read_flip
 flip_fault line tokens =
-    bound_judges.steps line tokens (StateNumber ∷ StateNumber ∷ []) _ (λ b r1.
-    state_judges.steps line r1 (StateNumber ∷ []) _ (λ m r2.
+    bound_judges.steps line tokens (StateToken ∷ StateToken ∷ []) _ (λ b r1.
+    state_judges.steps line r1 (StateToken ∷ []) _ (λ m r2.
     state_judges.steps line r2 [] _ (λ u r3. end_fault line r3 (Flip b m u))))
 
 form_fault : (line : ℕ) (form : Form) (tokens : List (List ℕ)) → first_fault line tokens (positions_of form ++ []) ≡ fault_in line (read_form form tokens)
@@ -179,10 +190,14 @@ form_fault line Form.Turn tokens = turn_fault line tokens
 form_fault line Form.Move tokens = move_fault line tokens
 form_fault line Form.Flip tokens = flip_fault line tokens
 
-form_judges : Judges FormWord (take_word form_words) (λ i. positions_of (form_at i))
-form_judges = word_judges form_names FormWord (λ i. positions_of (form_at i)) (λ token. refl) (λ line. refl)
+form_judges : Judges FormToken (take_word form_words) (λ i. positions_of (form_at i))
+unfolding form_words
+form_judges =
+    word_judges form_names FormToken (λ i. positions_of (form_at i))
+    (λ token. named-place word_of_form form_at positions_of forms token (refl, (refl, (refl, (refl, (refl, (refl, (refl, (refl, tt)))))))))
+    (λ line. refl)
 
 -- the fault that the reading of a line answers is that of the first position at fault
-pub line_faulted : (line : ℕ) (tokens : List (List ℕ)) → first_fault line tokens (FormWord ∷ []) ≡ fault_in line (read_line tokens)
+pub line_faulted : (line : ℕ) (tokens : List (List ℕ)) → first_fault line tokens (FormToken ∷ []) ≡ fault_in line (read_line tokens)
 unfolding read_line
 line_faulted line tokens = form_judges.steps line tokens [] (λ w. read_form (form_at w.0) w.1) (λ i rest. form_fault line (form_at i) rest)

@@ -1,4 +1,5 @@
 pub mod Cursor
+pub mod Examples
 pub mod Faulted
 pub mod Progress
 pub mod Rewritten

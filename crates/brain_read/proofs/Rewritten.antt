@@ -1,5 +1,5 @@
 -- The canonical text of a brain is read as that brain.
-use Rattle.std.proofs.Common.{◌≡◌, ◌+◌, ◌<◌, ◌≤◌, ℕ, suc, true, false, List, [], ◌∷◌, ◌++◌, length, map, filter, flat_map, codes, decimal, Some, slice_get, cond, nat_le, refl, get_or, take, drop, sym, ap, ◌∙◌, subst, arith, append_assoc, take-append-drop, leb-true, ne_eqb}
+use Rattle.std.proofs.Common.{◌≡◌, ◌+◌, ◌<◌, ◌≤◌, ℕ, suc, Bool, true, false, not, ◌&&◌, List, [], ◌∷◌, ◌++◌, length, map, filter, flat_map, codes, decimal, Some, slice_get, cond, nat_le, refl, get_or, take, drop, sym, ap, ◌∙◌, subst, arith, append_assoc, take-append-drop, leb-true, ne_eqb}
 use Rattle.std.specs.List.{AllByRecursion, list_all, onto_first}
 use Rattle.std.specs.Char.{is_ascii_digit}
 use Rattle.std.specs.Str.{all_ascii_digits}
@@ -11,14 +11,14 @@ use Rattle.hex_geometry.specs.declared.direction.Side.{Side}
 use Rattle.hex_geometry.specs.declared.direction.Side.TheVariants.{Left, Right}
 use Rattle.hex_geometry.specs.declared.neighbourhood.Sight.{Sight}
 use Rattle.hex_geometry.specs.declared.neighbourhood.Sight.TheVariants.{Here, Ahead, LeftAhead, RightAhead}
-use Rattle.ant_base.specs.Lines.{has_no_lf, lines_of}
+use Rattle.ant_base.specs.Lines.{is_lf, has_no_lf, lines_of}
 use Rattle.ant_base.proofs.Digits.{number_of-decimal}
 use Rattle.ant_base.proofs.Linewise.{lines_of-line, has_no_lf-append}
 use Rattle.brain_read.specs.declared.instr.Cond.{Cond}
 use Rattle.brain_read.specs.declared.instr.Cond.TheVariants.{Friend, Foe, FriendWithFood, FoeWithFood, Food, Rock, Marker, FoeMarker, Home, FoeHome}
 use Rattle.brain_read.specs.declared.instr.Instr.{Instr}
 use Rattle.brain_read.specs.declared.instr.Instr.TheVariants.{Sense, Mark, Unmark, PickUp, Drop, Turn, Move, Flip}
-use Rattle.brain_read.specs.Soundness.{IsSoundCond, IsSound, IsBrain}
+use Rattle.brain_read.specs.Soundness.{most_states, IsSoundCondition, IsSound, IsBrain}
 use Rattle.brain_read.specs.Tokens.{has_byte, tokens_of, has_token, is_token_byte}
 use Rattle.brain_read.specs.Forms.{word_of_sight, word_of_side, Field, fields_of_condition, fields_of, SpellsAll, IsInRange, HasBound, InstrLine}
 use Rattle.brain_read.specs.Forms.Field.{Word, Number}
@@ -27,9 +27,13 @@ use Rattle.brain_read.specs.Canonical.{field_text, further_text, line_text, inst
 use Rattle.brain_read.proofs.Vocabulary.{own}
 use Rattle.brain_read.proofs.Cursor.{plain, pieces, pieces-cons}
 
+-- whether a byte belongs to a token of a text's line
+abbrev is_plain_byte : ℕ → Bool
+is_plain_byte byte = is_token_byte byte && not (is_lf byte)
+
 -- a text that is one token
 pub record IsToken (text : List ℕ) : Type 0 where
-  pub bytes : list_all is_token_byte text ≡ true
+  pub bytes : list_all is_plain_byte text ≡ true
   pub some : has_byte text ≡ true
 
 -- a field whose text is one token that spells it
@@ -37,18 +41,18 @@ abbrev pub IsPrinted : Field → Type 0
 IsPrinted (Word word) = IsToken word
 IsPrinted (Number n) = n < 10000000000
 
-token_byte : (byte : ℕ) → is_ascii_digit byte ≡ true → is_token_byte byte ≡ true
+token_byte : (byte : ℕ) → is_ascii_digit byte ≡ true → is_plain_byte byte ≡ true
 token_byte byte digit =
     let range = and_parts (nat_le 48 byte) (nat_le byte 57) digit in
     let low : 48 ≤ byte = leb-true 48 byte range.0 in
     let high : byte ≤ 57 = leb-true byte 57 range.1 in
     rw (ne_eqb byte 32 (omega arith), ne_eqb byte 9 (omega arith), ne_eqb byte 13 (omega arith), ne_eqb byte 59 (omega arith), ne_eqb byte 10 (omega arith)) refl
 
-digits_token : (text : List ℕ) → all_ascii_digits text ≡ true → list_all is_token_byte text ≡ true
+digits_token : (text : List ℕ) → all_ascii_digits text ≡ true → list_all is_plain_byte text ≡ true
 digits_token [] all = refl
 digits_token (byte ∷ text) all =
     let parts = and_parts (is_ascii_digit byte) (all_ascii_digits text) all in
-    and_from (is_token_byte byte) (list_all is_token_byte text) (token_byte byte parts.0) (digits_token text parts.1)
+    and_from (is_plain_byte byte) (list_all is_plain_byte text) (token_byte byte parts.0) (digits_token text parts.1)
 
 nonempty : (text : List ℕ) → 0 < length text → has_byte text ≡ true
 nonempty [] some = absurd (omega arith)
@@ -91,11 +95,11 @@ onto_front-empty : (bytes : List ℕ) (parts : List (List ℕ)) → onto_front b
 onto_front-empty [] parts = refl
 onto_front-empty (byte ∷ bytes) parts = ap (onto_first byte) (onto_front-empty bytes parts)
 
-pieces-front : (bytes line : List ℕ) → list_all is_token_byte bytes ≡ true → pieces (bytes ++ line) ≡ onto_front bytes (pieces line)
+pieces-front : (bytes line : List ℕ) → list_all is_plain_byte bytes ≡ true → pieces (bytes ++ line) ≡ onto_front bytes (pieces line)
 pieces-front [] line all = refl
 pieces-front (byte ∷ bytes) line all =
-    let parts = and_parts (is_token_byte byte) (list_all is_token_byte bytes) all in
-    pieces-cons byte (bytes ++ line) (plain byte parts.0) ∙ ap (onto_first byte) (pieces-front bytes line parts.1)
+    let parts = and_parts (is_plain_byte byte) (list_all is_plain_byte bytes) all in
+    pieces-cons byte (bytes ++ line) (plain byte (and_parts (is_token_byte byte) (not (is_lf byte)) parts.0).0) ∙ ap (onto_first byte) (pieces-front bytes line parts.1)
 
 pieces-further : (fields : List Field) → AllByRecursion IsPrinted fields → pieces (further_body fields) ≡ [] ∷ map field_text fields
 pieces-further [] all = refl
@@ -116,11 +120,11 @@ keep_all (field ∷ fields) all =
 tokens_of-body : (field : Field) (fields : List Field) → AllByRecursion IsPrinted (field ∷ fields) → tokens_of (body (field ∷ fields)) ≡ map field_text (field ∷ fields)
 tokens_of-body field fields all = ap (filter has_byte) (pieces-body field fields all) ∙ keep_all (field ∷ fields) all
 
-no_lf : (bytes : List ℕ) → list_all is_token_byte bytes ≡ true → has_no_lf bytes ≡ true
+no_lf : (bytes : List ℕ) → list_all is_plain_byte bytes ≡ true → has_no_lf bytes ≡ true
 no_lf [] all = refl
 no_lf (byte ∷ bytes) all =
-    let parts = and_parts (is_token_byte byte) (list_all is_token_byte bytes) all in
-    rw ((plain byte parts.0).lf, no_lf bytes parts.1) refl
+    let parts = and_parts (is_plain_byte byte) (list_all is_plain_byte bytes) all in
+    and_from (not (is_lf byte)) (has_no_lf bytes) (and_parts (is_token_byte byte) (not (is_lf byte)) parts.0).1 (no_lf bytes parts.1)
 
 no_lf-further : (fields : List Field) → AllByRecursion IsPrinted fields → has_no_lf (further_body fields) ≡ true
 no_lf-further [] all = refl
@@ -137,7 +141,7 @@ spelled_again (Word word ∷ fields) all = (refl, spelled_again fields all.1)
 spelled_again (Number n ∷ fields) all = (number_of-decimal n all.0, spelled_again fields all.1)
 
 -- the words are tokens
-token : (word : List ℕ) → list_all is_token_byte word ≡ true → has_byte word ≡ true → IsToken word
+token : (word : List ℕ) → list_all is_plain_byte word ≡ true → has_byte word ≡ true → IsToken word
 token word bytes some = record { bytes = bytes; some = some }
 
 sight_token : (s : Sight) → IsToken (word_of_sight s)
@@ -150,7 +154,7 @@ side_token : (s : Side) → IsToken (word_of_side s)
 side_token Left = token (codes "Left") refl refl
 side_token Right = token (codes "Right") refl refl
 
-condition_printed : (c : Cond) → IsSoundCond c → AllByRecursion IsPrinted (fields_of_condition c)
+condition_printed : (c : Cond) → IsSoundCondition c → AllByRecursion IsPrinted (fields_of_condition c)
 condition_printed Friend sound = (token (codes "Friend") refl refl, tt)
 condition_printed Foe sound = (token (codes "Foe") refl refl, tt)
 condition_printed FriendWithFood sound = (token (codes "FriendWithFood") refl refl, tt)
@@ -163,10 +167,10 @@ condition_printed Home sound = (token (codes "Home") refl refl, tt)
 condition_printed FoeHome sound = (token (codes "FoeHome") refl refl, tt)
 
 -- the fields of an instruction whose numbers have at most ten digits
-printed : (n : ℕ) (i : Instr) → n ≤ 10000 → IsSound n i → IsInRange i → AllByRecursion IsPrinted (fields_of i)
+printed : (n : ℕ) (i : Instr) → n ≤ most_states → IsSound n i → IsInRange i → AllByRecursion IsPrinted (fields_of i)
 printed n (Sense s m u c) few sound range = (token (codes "Sense") refl refl, (sight_token s, (below m few sound.0, (below u few sound.1, condition_printed c sound.2))))
   where
-    below : (k : ℕ) → n ≤ 10000 → k < n → k < 10000000000
+    below : (k : ℕ) → n ≤ most_states → k < n → k < 10000000000
     below k few lt = omega arith
 printed n (Mark i k) few sound range = (token (codes "Mark") refl refl, (omega (arith, sound.0), (omega (arith, sound.1), tt)))
 printed n (Unmark i k) few sound range = (token (codes "Unmark") refl refl, (omega (arith, sound.0), (omega (arith, sound.1), tt)))
@@ -205,7 +209,7 @@ record IsPrintedLine (n : ℕ) (i : Instr) : Type 0 where
 abbrev ArePrinted : ℕ → List Instr → Type 0
 ArePrinted n list = AllByRecursion (IsPrintedLine n) list
 
-lines_of-text : (n : ℕ) (list : List Instr) → n ≤ 10000 → ArePrinted n list → lines_of (flat_map instruction_text list) ≡ map (λ i. body (fields_of i)) list
+lines_of-text : (n : ℕ) (list : List Instr) → n ≤ most_states → ArePrinted n list → lines_of (flat_map instruction_text list) ≡ map (λ i. body (fields_of i)) list
 unfolding instruction_text
 lines_of-text n [] few all = refl
 lines_of-text n (i ∷ list) few all =
@@ -218,7 +222,7 @@ one_line : (k : ℕ) (tokens : List (List ℕ)) (lines : List TokenLine) (i : In
 one_line k [] lines i list has line rest = (let never : false ≡ true = has in absurd (cc))
 one_line k (t ∷ tokens) lines i list has line rest = (line, rest)
 
-are_lines_again : (n k : ℕ) (list : List Instr) → n ≤ 10000 → ArePrinted n list → AreLines (token_lines k (map (λ i. body (fields_of i)) list)) list
+are_lines_again : (n k : ℕ) (list : List Instr) → n ≤ most_states → ArePrinted n list → AreLines (token_lines k (map (λ i. body (fields_of i)) list)) list
 are_lines_again n k [] few all = tt
 are_lines_again n k (i ∷ list) few all =
     let here = printed n i few all.0.sound all.0.range in

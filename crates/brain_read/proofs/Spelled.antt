@@ -5,21 +5,22 @@ use Rattle.hex_geometry.specs.declared.direction.Side.{Side}
 use Rattle.hex_geometry.specs.declared.direction.Side.TheVariants.{Left, Right}
 use Rattle.hex_geometry.specs.declared.neighbourhood.Sight.{Sight}
 use Rattle.hex_geometry.specs.declared.neighbourhood.Sight.TheVariants.{Here, Ahead, LeftAhead, RightAhead}
-use Rattle.ant_base.specs.Number.{number_of}
+use Rattle.ant_base.specs.Number.{number_of, within, number_within}
 use Rattle.word_table.specs.Words.{IsSameWord, place_in}
 use Rattle.brain_read.specs.declared.instr.Cond.{Cond}
 use Rattle.brain_read.specs.declared.instr.Cond.TheVariants.{Friend, Foe, FriendWithFood, FoeWithFood, Food, Rock, Marker, FoeMarker, Home, FoeHome}
 use Rattle.brain_read.specs.declared.instr.Instr.{Instr}
 use Rattle.brain_read.specs.declared.instr.Instr.TheVariants.{Sense, Mark, Unmark, PickUp, Drop, Turn, Move, Flip}
 use Rattle.brain_read.specs.declared.form.Form.{Form}
-use Rattle.brain_read.specs.declared.form.CondWord.{CondWord}
+use Rattle.brain_read.specs.declared.form.ConditionWord.{ConditionWord}
 use Rattle.brain_read.specs.declared.fault.LineFault.{LineFault}
 use Rattle.brain_read.specs.declared.fault.LineFault.TheVariants.{UnknownWord, BadNumber, ExtraToken}
-use Rattle.brain_read.specs.Soundness.{IsSoundCond}
-use Rattle.brain_read.specs.Steps.{Read, Step, ◌>>=◌, missing, refused, or_refused, take_word, within, take_number, take_end}
-use Rattle.brain_read.specs.Forms.{form_words, sight_words, side_words, condition_words, word_of_form, word_of_sight, word_of_side, word_of_condition, Field, fields_of_condition, fields_of, Spells, SpellsAll, IsInRange, InstrLine}
+use Rattle.brain_read.specs.Soundness.{IsSoundCondition}
+use Rattle.brain_read.specs.Steps.{Read, Step, ◌>>=◌, missing, refused, or_refused, take_word, take_number, take_end, take_sight, take_side, take_state, take_marker, take_bound, condition_from, take_condition}
+use Rattle.brain_read.specs.Forms.{most_bound, form_words, sight_words, side_words, condition_words, word_of_form, word_of_sight, word_of_side, word_of_condition, Field, fields_of_condition, fields_of, Spells, SpellsAll, IsInRange, InstrLine}
 use Rattle.brain_read.specs.Forms.Field.{Word, Number}
-use Rattle.brain_read.specs.Reading.{form_at, place_of_form, place_of_sight, place_of_side, place_of_condition, sight_at, side_at, condition_word_at, take_sight, take_side, take_state, take_marker, take_bound, condition_from, take_condition, read_sense, read_mark, read_unmark, read_pick_up, read_drop, read_turn, read_move, read_flip, read_form, read_line}
+use Rattle.brain_read.specs.Places.{form_at, place_of_form, place_of_sight, place_of_side, place_of_condition, sight_at, side_at, condition_word_at}
+use Rattle.brain_read.specs.Reading.{read_sense, read_mark, read_unmark, read_pick_up, read_drop, read_turn, read_move, read_flip, read_form, read_line}
 use Rattle.brain_read.proofs.Vocabulary.{Names, word-found, word-again, number_of-small}
 
 pub form_names : Names form_words 8 (λ i. word_of_form (form_at i))
@@ -114,9 +115,9 @@ pub marker_takes : Takes take_marker (IsWithin 0 5)
 unfolding take_marker
 marker_takes = number_takes 0 5
 
-pub bound_takes : Takes take_bound (IsWithin 1 4294967295)
+pub bound_takes : Takes take_bound (IsWithin 1 most_bound)
 unfolding take_bound
-bound_takes = number_takes 1 4294967295
+bound_takes = number_takes 1 most_bound
 
 pub state_takes : Takes take_state (λ n token. number_of token ≡ Some n)
 unfolding take_state
@@ -206,20 +207,20 @@ bind_assoc (Err refusal) f g = refl
 abbrev pub ending : (Cond → Instr) → Cond × List (List ℕ) → Read Instr
 ending g condition = take_end condition.1 >>= (λ end. Ok (g condition.0))
 
-module _ (g : Cond → Instr) (y : Instr) (P : List (List ℕ) → Type 0) (k : (c : Cond) (front : List (List ℕ)) → SpellsAll (fields_of_condition c) front → IsSoundCond c → g c ≡ y → P front) where
-  condition_rest : (w : CondWord) (token : List ℕ) (rest : List (List ℕ)) → IsSameWord (word_of_condition w) token → (condition_from w rest >>= ending g) ≡ Ok y → P (token ∷ rest)
-  condition_rest CondWord.Friend token rest h e = then_end rest (g Friend) y (λ r. P (token ∷ r)) e (λ q. k Friend (token ∷ []) (h, tt) tt q)
-  condition_rest CondWord.Foe token rest h e = then_end rest (g Foe) y (λ r. P (token ∷ r)) e (λ q. k Foe (token ∷ []) (h, tt) tt q)
-  condition_rest CondWord.FriendWithFood token rest h e = then_end rest (g FriendWithFood) y (λ r. P (token ∷ r)) e (λ q. k FriendWithFood (token ∷ []) (h, tt) tt q)
-  condition_rest CondWord.FoeWithFood token rest h e = then_end rest (g FoeWithFood) y (λ r. P (token ∷ r)) e (λ q. k FoeWithFood (token ∷ []) (h, tt) tt q)
-  condition_rest CondWord.Food token rest h e = then_end rest (g Food) y (λ r. P (token ∷ r)) e (λ q. k Food (token ∷ []) (h, tt) tt q)
-  condition_rest CondWord.Rock token rest h e = then_end rest (g Rock) y (λ r. P (token ∷ r)) e (λ q. k Rock (token ∷ []) (h, tt) tt q)
-  condition_rest CondWord.Marker token rest h e =
+module _ (g : Cond → Instr) (y : Instr) (P : List (List ℕ) → Type 0) (k : (c : Cond) (front : List (List ℕ)) → SpellsAll (fields_of_condition c) front → IsSoundCondition c → g c ≡ y → P front) where
+  condition_rest : (w : ConditionWord) (token : List ℕ) (rest : List (List ℕ)) → IsSameWord (word_of_condition w) token → (condition_from w rest >>= ending g) ≡ Ok y → P (token ∷ rest)
+  condition_rest ConditionWord.Friend token rest h e = then_end rest (g Friend) y (λ r. P (token ∷ r)) e (λ q. k Friend (token ∷ []) (h, tt) tt q)
+  condition_rest ConditionWord.Foe token rest h e = then_end rest (g Foe) y (λ r. P (token ∷ r)) e (λ q. k Foe (token ∷ []) (h, tt) tt q)
+  condition_rest ConditionWord.FriendWithFood token rest h e = then_end rest (g FriendWithFood) y (λ r. P (token ∷ r)) e (λ q. k FriendWithFood (token ∷ []) (h, tt) tt q)
+  condition_rest ConditionWord.FoeWithFood token rest h e = then_end rest (g FoeWithFood) y (λ r. P (token ∷ r)) e (λ q. k FoeWithFood (token ∷ []) (h, tt) tt q)
+  condition_rest ConditionWord.Food token rest h e = then_end rest (g Food) y (λ r. P (token ∷ r)) e (λ q. k Food (token ∷ []) (h, tt) tt q)
+  condition_rest ConditionWord.Rock token rest h e = then_end rest (g Rock) y (λ r. P (token ∷ r)) e (λ q. k Rock (token ∷ []) (h, tt) tt q)
+  condition_rest ConditionWord.Marker token rest h e =
       then_taken marker_takes rest (λ m. ending g (Marker m.0, m.1)) y (λ r. P (token ∷ r)) (sym (bind_assoc (take_marker rest) (λ m. Ok (Marker m.0, m.1)) (ending g)) ∙ e)
       (λ m number r w q. then_end r (g (Marker m)) y (λ s. P (token ∷ number ∷ s)) q (λ same. let below : m < 6 = (let high = w.high in omega arith) in k (Marker m) (token ∷ number ∷ []) (h, (w.value, tt)) below same))
-  condition_rest CondWord.FoeMarker token rest h e = then_end rest (g FoeMarker) y (λ r. P (token ∷ r)) e (λ q. k FoeMarker (token ∷ []) (h, tt) tt q)
-  condition_rest CondWord.Home token rest h e = then_end rest (g Home) y (λ r. P (token ∷ r)) e (λ q. k Home (token ∷ []) (h, tt) tt q)
-  condition_rest CondWord.FoeHome token rest h e = then_end rest (g FoeHome) y (λ r. P (token ∷ r)) e (λ q. k FoeHome (token ∷ []) (h, tt) tt q)
+  condition_rest ConditionWord.FoeMarker token rest h e = then_end rest (g FoeMarker) y (λ r. P (token ∷ r)) e (λ q. k FoeMarker (token ∷ []) (h, tt) tt q)
+  condition_rest ConditionWord.Home token rest h e = then_end rest (g Home) y (λ r. P (token ∷ r)) e (λ q. k Home (token ∷ []) (h, tt) tt q)
+  condition_rest ConditionWord.FoeHome token rest h e = then_end rest (g FoeHome) y (λ r. P (token ∷ r)) e (λ q. k FoeHome (token ∷ []) (h, tt) tt q)
 
   -- the condition at the end of a line
   then_condition : (tokens : List (List ℕ)) → (take_condition tokens >>= ending g) ≡ Ok y → P tokens
@@ -341,7 +342,7 @@ plain_again i word c tokens stands reads h =
     given (Word word) [] tokens (λ ts. take_condition ts ≡ Ok (c, [])) h (λ token rest h1 k1.
     given_end rest (λ r. take_condition (token ∷ r) ≡ Ok (c, [])) k1 (condition_step i word token [] (Ok (c, [])) stands h1 reads))
 
-condition_again : (c : Cond) (tokens : List (List ℕ)) → SpellsAll (fields_of_condition c) tokens → IsSoundCond c → take_condition tokens ≡ Ok (c, [])
+condition_again : (c : Cond) (tokens : List (List ℕ)) → SpellsAll (fields_of_condition c) tokens → IsSoundCondition c → take_condition tokens ≡ Ok (c, [])
 unfolding condition_words
 condition_again Friend tokens h sound = plain_again 0 (codes "Friend") Friend tokens refl refl h
 condition_again Foe tokens h sound = plain_again 1 (codes "Foe") Foe tokens refl refl h
@@ -367,7 +368,7 @@ form_step p word first rest i stands same next = bind_step (take_word form_words
 marker_within : (m : ℕ) (token : List ℕ) → number_of token ≡ Some m → m < 6 → IsWithin 0 5 m token
 marker_within m token is below = record { value = is; low = omega arith; high = omega arith }
 
-sense_again : (s : Sight) (m u : ℕ) (c : Cond) (tokens : List (List ℕ)) → SpellsAll (Word (word_of_sight s) ∷ Number m ∷ Number u ∷ fields_of_condition c) tokens → IsSoundCond c → read_sense tokens ≡ Ok (Sense s m u c)
+sense_again : (s : Sight) (m u : ℕ) (c : Cond) (tokens : List (List ℕ)) → SpellsAll (Word (word_of_sight s) ∷ Number m ∷ Number u ∷ fields_of_condition c) tokens → IsSoundCondition c → read_sense tokens ≡ Ok (Sense s m u c)
 unfolding read_sense
 sense_again s m u c tokens h sound =
     given (Word (word_of_sight s)) (Number m ∷ Number u ∷ fields_of_condition c) tokens (λ ts. read_sense ts ≡ Ok (Sense s m u c)) h (λ t1 r1 h1 k1.
@@ -422,7 +423,7 @@ move_again m u tokens h =
     given_end r2 (λ r. read_move (t1 ∷ t2 ∷ r) ≡ Ok (Move m u)) k2
     (then_again state_takes m t1 (t2 ∷ []) _ _ h1 (then_again state_takes u t2 [] _ _ h2 refl))))
 
-flip_again : (b m u : ℕ) (tokens : List (List ℕ)) → SpellsAll (Number b ∷ Number m ∷ Number u ∷ []) tokens → 1 ≤ b → b ≤ 4294967295 → read_flip tokens ≡ Ok (Flip b m u)
+flip_again : (b m u : ℕ) (tokens : List (List ℕ)) → SpellsAll (Number b ∷ Number m ∷ Number u ∷ []) tokens → 1 ≤ b → b ≤ most_bound → read_flip tokens ≡ Ok (Flip b m u)
 unfolding read_flip
 flip_again b m u tokens h low high =
     given (Number b) (Number m ∷ Number u ∷ []) tokens (λ ts. read_flip ts ≡ Ok (Flip b m u)) h (λ t1 r1 h1 k1.
@@ -471,15 +472,15 @@ form_stands Form.Turn = refl
 form_stands Form.Move = refl
 form_stands Form.Flip = refl
 
-pub condition_stands : (word : CondWord) → slice_get condition_words (place_of_condition word) ≡ Some (word_of_condition word)
+pub condition_stands : (word : ConditionWord) → slice_get condition_words (place_of_condition word) ≡ Some (word_of_condition word)
 unfolding condition_words
-condition_stands CondWord.Friend = refl
-condition_stands CondWord.Foe = refl
-condition_stands CondWord.FriendWithFood = refl
-condition_stands CondWord.FoeWithFood = refl
-condition_stands CondWord.Food = refl
-condition_stands CondWord.Rock = refl
-condition_stands CondWord.Marker = refl
-condition_stands CondWord.FoeMarker = refl
-condition_stands CondWord.Home = refl
-condition_stands CondWord.FoeHome = refl
+condition_stands ConditionWord.Friend = refl
+condition_stands ConditionWord.Foe = refl
+condition_stands ConditionWord.FriendWithFood = refl
+condition_stands ConditionWord.FoeWithFood = refl
+condition_stands ConditionWord.Food = refl
+condition_stands ConditionWord.Rock = refl
+condition_stands ConditionWord.Marker = refl
+condition_stands ConditionWord.FoeMarker = refl
+condition_stands ConditionWord.Home = refl
+condition_stands ConditionWord.FoeHome = refl

@@ -1,5 +1,5 @@
 -- Words and their places, numbers, and the bytes of both.
-use Rattle.std.proofs.Common.{◌≡◌, ◌+◌, ◌<◌, ◌≤◌, ℕ, zero, suc, Bool, true, false, not, ◌&&◌, ◌||◌, List, [], ◌∷◌, length, get_or, Some, None, cond, slice_get, bytes_eq, nat_le, nat_lt, eqb, refl, sym, ap, ◌∙◌, IsTrue, arith, le-leb, leb-true, ltb-false, ltb-true}
+use Rattle.std.proofs.Common.{◌≡◌, ◌+◌, ◌<◌, ◌≤◌, ℕ, zero, suc, Bool, true, false, not, ◌&&◌, ◌||◌, List, [], ◌∷◌, length, get_or, Option, Some, None, map, find, option_map, cond, slice_get, bytes_eq, nat_le, nat_lt, eqb, refl, sym, ap, ◌∙◌, IsTrue, arith, le-leb, leb-true, ltb-false, ltb-true}
 use Rattle.std.specs.List.{list_all}
 use Rattle.std.specs.Char.{to_ascii_lowercase, is_ascii_digit}
 use Rattle.std.specs.Str.{all_ascii_digits}
@@ -8,10 +8,11 @@ use Rattle.std.proofs.lemmas.Bool.{and_parts, and_from, agree_below, agree_below
 use Rattle.std.proofs.lemmas.Option.{slice_get_within, get_or_from_slice_get}
 use Rattle.std.proofs.lemmas.Slice.Eq.{bytes_eq-Decides}
 use Rattle.std.proofs.lemmas.Str.Parse.{IsNumeralModel, numerals_by_value, tells_all_ascii_digits, digits_value_short}
-use Rattle.ant_base.specs.Number.{is_number, number_of}
-use Rattle.word_table.specs.Words.{in_small_letters, IsSameWord, are_distinct, place_in}
+use Rattle.ant_base.specs.Number.{is_number, number_of, within, number_within}
+use Rattle.word_table.specs.Words.{in_small_letters, IsSameWord, same_word, are_distinct, place_in}
 use Rattle.word_table.proofs.Places.{place_in-found, place_in-only}
 use Rattle.brain_read.specs.Tokens.{is_bad_byte, has_bad_byte}
+use Rattle.brain_read.specs.Forms.{named}
 
 -- bytes from 32 to 126 are good
 pub good_byte : (byte : ℕ) → 32 ≤ byte → byte ≤ 126 → is_bad_byte byte ≡ false
@@ -75,6 +76,24 @@ word-good {words} names token i found =
 pub word-again : {words : List (List ℕ)} {n : ℕ} {word : ℕ → List ℕ} → Names words n word → (i : ℕ) (w token : List ℕ) → slice_get words i ≡ Some w → IsSameWord w token → place_in words token ≡ Some i
 word-again {words} names i w token stands same = place_in-only words token i names.distinct (record { word = w; stands = stands; same = same })
 
+-- these things stand at the places from 0 on
+abbrev pub Stand : {A : Type 0} → (ℕ → A) → List A → Type 0
+Stand at [] = Unit {0}
+Stand at (thing ∷ things) = (at 0 ≡ thing) × Stand (λ i. at (suc i)) things
+
+-- what a token names is what stands at the place of its word
+pub named-place : {A B : Type 0} (word : A → List ℕ) (at : ℕ → A) (f : A → B) (things : List A) (token : List ℕ) → Stand at things → option_map f (named word things token) ≡ option_map (λ i. f (at i)) (place_in (map word things) token)
+named-place word at f [] token stand = refl
+named-place {A} {B} word at f (thing ∷ things) token stand = go (same_word (word thing) token) (named-place word (λ i. at (suc i)) f things token stand.1)
+  where
+    later : (o : Option ℕ) → option_map (λ i. f (at (suc i))) o ≡ option_map (λ i. f (at i)) (option_map suc o)
+    later None = refl
+    later (Some i) = refl
+
+    go : (b : Bool) → option_map f (named word things token) ≡ option_map (λ i. f (at (suc i))) (place_in (map word things) token) → option_map f (cond b (Some thing) (named word things token)) ≡ option_map (λ i. f (at i)) (cond b (Some 0) (option_map suc (place_in (map word things) token)))
+    go true rest = ap (λ x. Some (f x)) (sym stand.0)
+    go false rest = rest ∙ later (place_in (map word things) token)
+
 -- the digits of a number
 pub own : IsNumeralModel (λ ds. all_ascii_digits ds ≡ true) (digits_value 10)
 own = numerals_by_value (λ ds. all_ascii_digits ds ≡ true) tells_all_ascii_digits
@@ -115,3 +134,11 @@ digits-good (byte ∷ token) all =
 -- a number has no bad byte
 pub number_of-good : (token : List ℕ) (n : ℕ) → number_of token ≡ Some n → has_bad_byte token ≡ false
 number_of-good token n is = digits-good token (digits_of token n is).digits
+
+-- every number lies between 0 and the largest of ten digits
+pub number_within-any : (token : List ℕ) → number_within 0 9999999999 token ≡ number_of token
+number_within-any token = go (number_of token) refl
+  where
+    go : (o : Option ℕ) → number_of token ≡ o → within 0 9999999999 o ≡ o
+    go None e = refl
+    go (Some n) e = ap (λ b. cond b (Some n) None) (and_from (nat_le 0 n) (nat_le n 9999999999) (le-leb 0 n (omega arith)) (le-leb n 9999999999 (number_of-small token n e)))

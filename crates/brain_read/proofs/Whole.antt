@@ -6,13 +6,15 @@ use Rattle.std.proofs.lemmas.List.{length-map}
 use Rattle.brain_read.specs.declared.fault.BrainFault.{BrainFault}
 use Rattle.brain_read.specs.declared.fault.BrainFault.TheVariants.{TooMany, Empty, NoSuchState}
 use Rattle.brain_read.specs.declared.instr.Instr.{Instr}
+use Rattle.brain_read.specs.Soundness.{most_states}
 use Rattle.brain_read.specs.Judging.{first_fault}
-use Rattle.brain_read.specs.Judging.Position.{FormWord}
+use Rattle.brain_read.specs.Judging.Position.{FormToken}
 use Rattle.brain_read.specs.Forms.{InstrLine}
 use Rattle.brain_read.specs.Steps.{Read}
 use Rattle.brain_read.specs.Reading.{read_line}
-use Rattle.brain_read.specs.BrainText.{TokenLine, lines_with_tokens, AreLines, states_of, StatesBelow, BrainText, or_later, first_line_fault, first_not_below, first_state_fault, BrainVerdict, OfLine, OfNothing, OfState}
-use Rattle.brain_read.specs.Verdict.{Placed, Judged, refusal_at, put_before, line_then, read_lines, or_state, settled_then, settle_all, settle, settle_read, read_text}
+use Rattle.brain_read.specs.BrainText.{TokenLine, lines_with_tokens, AreLines, states_of, StatesBelow, BrainText, or_later, too_many, first_line_fault, first_not_below, first_state_fault, BrainVerdict, OfLine, OfNothing, OfState}
+use Rattle.brain_read.specs.Refusals.{refusal_at}
+use Rattle.brain_read.specs.Verdict.{Placed, Judged, put_before, unless, at_line, judged_line, line_then, read_lines, or_state, settled_then, settle_all, settle, settle_read, read_text}
 use Rattle.brain_read.proofs.Spelled.{line_spelled, line_again}
 use Rattle.brain_read.proofs.Faulted.{fault_in, line_faulted}
 
@@ -40,14 +42,15 @@ put_before_ok {A} x (Err fault) ys e = (let never : ◌≡◌ {A = Judged (List 
 
 -- The reading stops at the first line at fault.
 pub lines_faulted : (before : ℕ) (lines : List TokenLine) → first_line_fault before lines ≡ fault_of_judged (read_lines before lines)
+unfolding judged_line
 lines_faulted before [] = refl
-lines_faulted before (line ∷ lines) = go (nat_le 10000 before) (read_line line.tokens) (line_faulted line.number line.tokens) (lines_faulted (before + 1) lines)
+lines_faulted before (line ∷ lines) = go (too_many before line.number) (read_line line.tokens) (line_faulted line.number line.tokens) (lines_faulted (before + 1) lines)
   where
-    go : (full : Bool) (r : Read Instr) → first_fault line.number line.tokens (FormWord ∷ []) ≡ fault_in line.number r → first_line_fault (before + 1) lines ≡ fault_of_judged (read_lines (before + 1) lines)
-        → or_later (cond full (Some (TooMany line.number)) (first_fault line.number line.tokens (FormWord ∷ []))) (first_line_fault (before + 1) lines) ≡ fault_of_judged (cond full (Err (TooMany line.number)) (line_then line.number r (read_lines (before + 1) lines)))
-    go true r here later = refl
-    go false (Ok i) here later = ap (λ f. or_later f (first_line_fault (before + 1) lines)) here ∙ later ∙ sym (put_before_fault (record { line = line.number; instruction = i }) (read_lines (before + 1) lines))
-    go false (Err refusal) here later = ap (λ f. or_later f (first_line_fault (before + 1) lines)) here
+    go : (full : Option BrainFault) (r : Read Instr) → first_fault line.number line.tokens (FormToken ∷ []) ≡ fault_in line.number r → first_line_fault (before + 1) lines ≡ fault_of_judged (read_lines (before + 1) lines)
+        → or_later (or_later full (first_fault line.number line.tokens (FormToken ∷ []))) (first_line_fault (before + 1) lines) ≡ fault_of_judged (line_then line.number (unless full (at_line line.number r)) (read_lines (before + 1) lines))
+    go (Some fault) r here later = refl
+    go None (Ok i) here later = ap (λ f. or_later f (first_line_fault (before + 1) lines)) here ∙ later ∙ sym (put_before_fault (record { line = line.number; instruction = i }) (read_lines (before + 1) lines))
+    go None (Err refusal) here later = ap (λ f. or_later f (first_line_fault (before + 1) lines)) here
 
 -- the instructions that were read are those of the lines, with their numbers
 abbrev pub ArePlaced : List TokenLine → List Placed → Type 0
@@ -63,38 +66,59 @@ instructions list = map (λ placed. placed.instruction) list
 -- what was read of the lines
 pub record AreRead (before : ℕ) (lines : List TokenLine) (list : List Placed) : Type 0 where
   pub placed : ArePlaced lines list
-  pub few : before ≤ 10000 → before + length list ≤ 10000
+  pub few : before ≤ most_states → before + length list ≤ most_states
 
-line_then_ok : (number : ℕ) (r : Read Instr) (later : Judged (List Placed)) (list : List Placed) → line_then number r later ≡ Ok list → (i : Instr) × (rest : List Placed) × (r ≡ Ok i) × (later ≡ Ok rest) × (list ≡ record { line = number; instruction = i } ∷ rest)
-line_then_ok number (Ok i) later list e = let p = put_before_ok (record { line = number; instruction = i }) later list e in (i, p.0, refl, p.1, p.2)
-line_then_ok number (Err refusal) later list e = (let never : ◌≡◌ {A = Judged (List Placed)} (Err (refusal_at number refusal)) (Ok list) = e in absurd (cc))
+-- a line that was read, and those after it
+record IsLineThen (number : ℕ) (here : Judged Instr) (later : Judged (List Placed)) (list : List Placed) : Type 0 where
+  instruction : Instr
+  rest : List Placed
+  read : here ≡ Ok instruction
+  others : later ≡ Ok rest
+  whole : list ≡ record { line = number; instruction = instruction } ∷ rest
+
+line_then_ok : (number : ℕ) (here : Judged Instr) (later : Judged (List Placed)) (list : List Placed) → line_then number here later ≡ Ok list → IsLineThen number here later list
+line_then_ok number (Ok i) later list e = let p = put_before_ok (record { line = number; instruction = i }) later list e in record { instruction = i; rest = p.0; read = refl; others = p.1; whole = p.2 }
+line_then_ok number (Err fault) later list e = (let never : ◌≡◌ {A = Judged (List Placed)} (Err fault) (Ok list) = e in absurd (cc))
+
+-- before a line that was read there is room, and its tokens are read
+record IsJudged (before number : ℕ) (tokens : List (List ℕ)) (i : Instr) : Type 0 where
+  room : before < most_states
+  read : read_line tokens ≡ Ok i
+
+judged_line-read : (before number : ℕ) (tokens : List (List ℕ)) (i : Instr) → judged_line before number tokens ≡ Ok i → IsJudged before number tokens i
+unfolding judged_line
+judged_line-read before number tokens i e = go (nat_le most_states before) refl (read_line tokens) refl e
+  where
+    go : (full : Bool) → nat_le most_states before ≡ full → (r : Read Instr) → read_line tokens ≡ r → unless (cond full (Some (TooMany number)) None) (at_line number r) ≡ Ok i → IsJudged before number tokens i
+    go true t r is q = (let never : ◌≡◌ {A = Judged Instr} (Err (TooMany number)) (Ok i) = q in absurd (cc))
+    go false t (Ok j) is q = let same : j ≡ i = (let s : ◌≡◌ {A = Judged Instr} (Ok j) (Ok i) = q in cc) in record { room = leb-false most_states before t; read = is ∙ ap Ok same }
+    go false t (Err refusal) is q = (let never : ◌≡◌ {A = Judged Instr} (Err (refusal_at number refusal)) (Ok i) = q in absurd (cc))
+
+judged_line-again : (before number : ℕ) (tokens : List (List ℕ)) (i : Instr) → before < most_states → read_line tokens ≡ Ok i → judged_line before number tokens ≡ Ok i
+unfolding judged_line
+judged_line-again before number tokens i room read =
+    ap (λ full. unless (cond full (Some (TooMany number)) None) (at_line number (read_line tokens))) (lt-leb most_states before room) ∙ ap (at_line number) read
 
 pub lines_read : (lines : List TokenLine) (before : ℕ) (list : List Placed) → read_lines before lines ≡ Ok list → AreRead before lines list
 lines_read [] before list e =
     let none : list ≡ [] = (let same : ◌≡◌ {A = Judged (List Placed)} (Ok []) (Ok list) = e in cc) in
     subst (AreRead before []) (sym none) (record { placed = tt; few = λ few. omega arith })
-lines_read (line ∷ lines) before list e = go (nat_le 10000 before) refl e (lines_read lines (before + 1))
-  where
-    go : (full : Bool) → nat_le 10000 before ≡ full → cond full (Err (TooMany line.number)) (line_then line.number (read_line line.tokens) (read_lines (before + 1) lines)) ≡ Ok list → ((later : List Placed) → read_lines (before + 1) lines ≡ Ok later → AreRead (before + 1) lines later) → AreRead before (line ∷ lines) list
-    go true t q read_later = (let never : ◌≡◌ {A = Judged (List Placed)} (Err (TooMany line.number)) (Ok list) = q in absurd (cc))
-    go false t q read_later =
-        let p = line_then_ok line.number (read_line line.tokens) (read_lines (before + 1) lines) list q in
-        let rest = read_later p.1 p.3 in
-        let room : before < 10000 = leb-false 10000 before t in
-        let few : before + 1 + length p.1 ≤ 10000 = rest.few (omega arith) in
-        subst (AreRead before (line ∷ lines)) (sym p.4) (record { placed = (refl, line_spelled line.tokens p.0 p.2, rest.placed); few = λ _. omega arith })
+lines_read (line ∷ lines) before list e =
+    let p = line_then_ok line.number (judged_line before line.number line.tokens) (read_lines (before + 1) lines) list e in
+    let here = judged_line-read before line.number line.tokens p.instruction p.read in
+    let rest = lines_read lines (before + 1) p.rest p.others in
+    let few : before + 1 + length p.rest ≤ most_states = rest.few (omega (arith, here.room)) in
+    subst (AreRead before (line ∷ lines)) (sym p.whole) (record { placed = (refl, line_spelled line.tokens p.instruction here.read, rest.placed); few = λ _. omega arith })
 
 -- lines of instructions are read
-pub lines_again : (lines : List TokenLine) (before : ℕ) (list : List Instr) → AreLines lines list → before + length list ≤ 10000 → (placed : List Placed) × (read_lines before lines ≡ Ok placed) × (instructions placed ≡ list)
+pub lines_again : (lines : List TokenLine) (before : ℕ) (list : List Instr) → AreLines lines list → before + length list ≤ most_states → (placed : List Placed) × (read_lines before lines ≡ Ok placed) × (instructions placed ≡ list)
 lines_again [] before [] are few = ([], refl, refl)
 lines_again [] before (i ∷ list) are few = absurd are
 lines_again (line ∷ lines) before [] are few = absurd are
 lines_again (line ∷ lines) before (i ∷ list) are few =
-    let rest = lines_again lines (before + 1) list are.1 (omega (arith, few)) in
-    let room : nat_le 10000 before ≡ false = lt-leb 10000 before (omega (arith, few)) in (
+    let rest = lines_again lines (before + 1) list are.1 (omega (arith, few)) in (
       record { line = line.number; instruction = i } ∷ rest.0,
-      ap (λ full. cond full (Err (TooMany line.number)) (line_then line.number (read_line line.tokens) (read_lines (before + 1) lines))) room
-          ∙ ap (λ r. line_then line.number r (read_lines (before + 1) lines)) (line_again i line.tokens are.0)
+      ap (λ here. line_then line.number here (read_lines (before + 1) lines)) (judged_line-again before line.number line.tokens i (omega (arith, few)) (line_again i line.tokens are.0))
           ∙ ap (put_before (record { line = line.number; instruction = i })) rest.1,
       ap (λ is. i ∷ is) rest.2,
     )
@@ -181,7 +205,7 @@ module _ (text : List ℕ) where
           let read = lines_read (lines_with_tokens text) 0 (p ∷ placed) is in
           let all = settle_read_all (length (p ∷ placed)) (p ∷ placed) list q in
           let size : length list ≡ length (p ∷ placed) = ap length all.0 ∙ length-map (p ∷ placed) (λ k. k.instruction) in
-          let few : 0 + length (p ∷ placed) ≤ 10000 = read.few (omega arith) in
+          let few : 0 + length (p ∷ placed) ≤ most_states = read.few (omega arith) in
           record {
             lines = subst (AreLines (lines_with_tokens text)) (sym all.0) (are_lines (lines_with_tokens text) (p ∷ placed) read.placed);
             some = omega arith;

@@ -1,4 +1,4 @@
--- The text of a brain, and what can be wrong with a text (the task's neurology; the faults are this project's own).
+-- The text of a brain, and what can be wrong with a text: what a caller of `read_brain` believes (the task's neurology; the faults are this project's own).
 use Rattle.std.specs.Prelude.{◌≡◌, ℕ, ◌+◌, ◌≤◌, ◌<◌, not, nat_lt, nat_le, List, [], ◌∷◌, length, find, Option, Some, None, option_map, if◌then◌else◌}
 use Rattle.std.specs.List.{AllByRecursion}
 use Rattle.ant_base.specs.Lines.{lines_of}
@@ -6,9 +6,10 @@ use Rattle.brain_read.specs.declared.fault.BrainFault.{BrainFault}
 use Rattle.brain_read.specs.declared.fault.BrainFault.TheVariants.{TooMany, Empty, NoSuchState, OutOfMemory}
 use Rattle.brain_read.specs.declared.instr.Instr.{Instr}
 use Rattle.brain_read.specs.declared.instr.Instr.TheVariants.{Sense, Mark, Unmark, PickUp, Drop, Turn, Move, Flip}
+use Rattle.brain_read.specs.Soundness.{most_states}
 use Rattle.brain_read.specs.Forms.{InstrLine}
 use Rattle.brain_read.specs.Judging.{first_fault}
-use Rattle.brain_read.specs.Judging.Position.{FormWord}
+use Rattle.brain_read.specs.Judging.Position.{FormToken}
 use Rattle.brain_read.specs.Tokens.{tokens_of}
 
 -- a line that has a token: its number, counted from 1, and its tokens
@@ -56,7 +57,7 @@ StatesBelow n list = AllByRecursion (λ instruction. AllByRecursion (λ state. s
 pub record BrainText (text : List ℕ) (brain : List Instr) : Type 0 where
   pub lines : AreLines (lines_with_tokens text) brain
   pub some : 1 ≤ length brain
-  pub few : length brain ≤ 10000
+  pub few : length brain ≤ most_states
   pub states : StatesBelow (length brain) brain
 
 -- the first of two faults
@@ -64,9 +65,13 @@ abbrev pub or_later : Option BrainFault → Option BrainFault → Option BrainFa
 or_later None later = later
 or_later (Some fault) later = Some fault
 
+-- the fault of a line before which there are as many instructions as a brain may have
+abbrev pub too_many : ℕ → ℕ → Option BrainFault
+too_many before line = if nat_le most_states before then Some (TooMany line) else None
+
 -- the fault of a line before which so many instructions stand
 abbrev pub line_fault : ℕ → TokenLine → Option BrainFault
-line_fault before line = if nat_le 10000 before then Some (TooMany line.number) else first_fault line.number line.tokens (FormWord ∷ [])
+line_fault before line = or_later (too_many before line.number) (first_fault line.number line.tokens (FormToken ∷ []))
 
 -- the fault of the first line at fault
 abbrev pub first_line_fault : ℕ → List TokenLine → Option BrainFault

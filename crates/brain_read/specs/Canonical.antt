@@ -1,4 +1,4 @@
--- The canonical text of a brain (this project's own).
+-- The canonical text of a brain; the clauses of `write_brain` rest on it (this project's own).
 use Rattle.std.specs.Prelude.{ℕ, List, [], ◌∷◌, codes, decimal, flat_map}
 use Rattle.ant_base.specs.Layout.{◌+++◌}
 use Rattle.brain_read.specs.declared.instr.Instr.{Instr}

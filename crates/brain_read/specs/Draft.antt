@@ -1,4 +1,5 @@
--- Instructions as they were read, before their states are held against the number of instructions (this project's own).
+-- Instructions as they were read, before their states are held against the number of instructions. A stepping stone of the reader: no clause of
+-- a public call rests on it (this project's own).
 use Rattle.std.specs.Prelude.{Result, Ok, Err}
 use Rattle.brain_read.specs.declared.draft.Draft.{Draft}
 use Rattle.brain_read.specs.declared.fault.Refusal.{Refusal}

@@ -1,18 +1,18 @@
--- The words and the forms of the language (the task's neurology).
-use Rattle.std.specs.Prelude.{◌≡◌, ℕ, ◌≤◌, ◌<◌, List, [], ◌∷◌, map, Some, codes}
+-- The words and the forms of the language; the clauses of the public calls rest on them (the task's neurology).
+use Rattle.std.specs.Prelude.{◌≡◌, ℕ, ◌≤◌, ◌<◌, List, [], ◌∷◌, map, find, Option, Some, codes}
 use Rattle.hex_geometry.specs.declared.direction.Side.{Side}
 use Rattle.hex_geometry.specs.declared.direction.Side.TheVariants.{Left, Right}
 use Rattle.hex_geometry.specs.declared.neighbourhood.Sight.{Sight}
 use Rattle.hex_geometry.specs.declared.neighbourhood.Sight.TheVariants.{Here, Ahead, LeftAhead, RightAhead}
 use Rattle.ant_base.specs.Number.{number_of}
-use Rattle.word_table.specs.Words.{IsSameWord}
+use Rattle.word_table.specs.Words.{IsSameWord, same_word}
 use Rattle.brain_read.specs.declared.instr.Cond.{Cond}
 use Rattle.brain_read.specs.declared.instr.Cond.TheVariants.{Friend, Foe, FriendWithFood, FoeWithFood, Food, Rock, Marker, FoeMarker, Home, FoeHome}
 use Rattle.brain_read.specs.declared.instr.Instr.{Instr}
 use Rattle.brain_read.specs.declared.instr.Instr.TheVariants.{Sense, Mark, Unmark, PickUp, Drop, Turn, Move, Flip}
 use Rattle.brain_read.specs.declared.form.Form.{Form}
-use Rattle.brain_read.specs.declared.form.CondWord.{CondWord}
-use Rattle.brain_read.specs.Soundness.{IsSoundCond}
+use Rattle.brain_read.specs.declared.form.ConditionWord.{ConditionWord}
+use Rattle.brain_read.specs.Soundness.{IsSoundCondition}
 
 -- the word of a form
 abbrev pub word_of_form : Form → List ℕ
@@ -38,30 +38,53 @@ word_of_side Left = codes "Left"
 word_of_side Right = codes "Right"
 
 -- the word that begins a condition
-abbrev pub word_of_condition : CondWord → List ℕ
-word_of_condition CondWord.Friend = codes "Friend"
-word_of_condition CondWord.Foe = codes "Foe"
-word_of_condition CondWord.FriendWithFood = codes "FriendWithFood"
-word_of_condition CondWord.FoeWithFood = codes "FoeWithFood"
-word_of_condition CondWord.Food = codes "Food"
-word_of_condition CondWord.Rock = codes "Rock"
-word_of_condition CondWord.Marker = codes "Marker"
-word_of_condition CondWord.FoeMarker = codes "FoeMarker"
-word_of_condition CondWord.Home = codes "Home"
-word_of_condition CondWord.FoeHome = codes "FoeHome"
+abbrev pub word_of_condition : ConditionWord → List ℕ
+word_of_condition ConditionWord.Friend = codes "Friend"
+word_of_condition ConditionWord.Foe = codes "Foe"
+word_of_condition ConditionWord.FriendWithFood = codes "FriendWithFood"
+word_of_condition ConditionWord.FoeWithFood = codes "FoeWithFood"
+word_of_condition ConditionWord.Food = codes "Food"
+word_of_condition ConditionWord.Rock = codes "Rock"
+word_of_condition ConditionWord.Marker = codes "Marker"
+word_of_condition ConditionWord.FoeMarker = codes "FoeMarker"
+word_of_condition ConditionWord.Home = codes "Home"
+word_of_condition ConditionWord.FoeHome = codes "FoeHome"
 
--- the tables of words
+-- the forms, in the order of their table
+abbrev pub forms : List Form
+forms = Form.Sense ∷ Form.Mark ∷ Form.Unmark ∷ Form.PickUp ∷ Form.Drop ∷ Form.Turn ∷ Form.Move ∷ Form.Flip ∷ []
+
+-- the sights, in the order of their table
+abbrev pub sights : List Sight
+sights = Here ∷ Ahead ∷ LeftAhead ∷ RightAhead ∷ []
+
+-- the sides, in the order of their table
+abbrev pub sides : List Side
+sides = Left ∷ Right ∷ []
+
+-- the words that begin a condition, in the order of their table
+abbrev pub conditions : List ConditionWord
+conditions = ConditionWord.Friend ∷ ConditionWord.Foe ∷ ConditionWord.FriendWithFood ∷ ConditionWord.FoeWithFood ∷ ConditionWord.Food ∷ ConditionWord.Rock ∷ ConditionWord.Marker ∷ ConditionWord.FoeMarker ∷ ConditionWord.Home ∷ ConditionWord.FoeHome ∷ []
+
+-- the table of the words of forms
 unfoldable pub form_words : List (List ℕ)
-form_words = map word_of_form (Form.Sense ∷ Form.Mark ∷ Form.Unmark ∷ Form.PickUp ∷ Form.Drop ∷ Form.Turn ∷ Form.Move ∷ Form.Flip ∷ [])
+form_words = map word_of_form forms
 
+-- the table of the words of sights
 unfoldable pub sight_words : List (List ℕ)
-sight_words = map word_of_sight (Here ∷ Ahead ∷ LeftAhead ∷ RightAhead ∷ [])
+sight_words = map word_of_sight sights
 
+-- the table of the words of sides
 unfoldable pub side_words : List (List ℕ)
-side_words = map word_of_side (Left ∷ Right ∷ [])
+side_words = map word_of_side sides
 
+-- the table of the words that begin a condition
 unfoldable pub condition_words : List (List ℕ)
-condition_words = map word_of_condition (CondWord.Friend ∷ CondWord.Foe ∷ CondWord.FriendWithFood ∷ CondWord.FoeWithFood ∷ CondWord.Food ∷ CondWord.Rock ∷ CondWord.Marker ∷ CondWord.FoeMarker ∷ CondWord.Home ∷ CondWord.FoeHome ∷ [])
+condition_words = map word_of_condition conditions
+
+-- the one of some things whose word a token is, in any ASCII case
+abbrev pub named : {A : Type 0} → (A → List ℕ) → List A → List ℕ → Option A
+named word things token = find (λ thing. same_word (word thing) token) things
 
 -- one token of an instruction's line: a word, in any ASCII case, or a number
 pub data Field : Type 0 where
@@ -70,16 +93,16 @@ pub data Field : Type 0 where
 
 -- how a condition is spelled
 abbrev pub fields_of_condition : Cond → List Field
-fields_of_condition Friend = Word (word_of_condition CondWord.Friend) ∷ []
-fields_of_condition Foe = Word (word_of_condition CondWord.Foe) ∷ []
-fields_of_condition FriendWithFood = Word (word_of_condition CondWord.FriendWithFood) ∷ []
-fields_of_condition FoeWithFood = Word (word_of_condition CondWord.FoeWithFood) ∷ []
-fields_of_condition Food = Word (word_of_condition CondWord.Food) ∷ []
-fields_of_condition Rock = Word (word_of_condition CondWord.Rock) ∷ []
-fields_of_condition (Marker i) = Word (word_of_condition CondWord.Marker) ∷ Number i ∷ []
-fields_of_condition FoeMarker = Word (word_of_condition CondWord.FoeMarker) ∷ []
-fields_of_condition Home = Word (word_of_condition CondWord.Home) ∷ []
-fields_of_condition FoeHome = Word (word_of_condition CondWord.FoeHome) ∷ []
+fields_of_condition Friend = Word (word_of_condition ConditionWord.Friend) ∷ []
+fields_of_condition Foe = Word (word_of_condition ConditionWord.Foe) ∷ []
+fields_of_condition FriendWithFood = Word (word_of_condition ConditionWord.FriendWithFood) ∷ []
+fields_of_condition FoeWithFood = Word (word_of_condition ConditionWord.FoeWithFood) ∷ []
+fields_of_condition Food = Word (word_of_condition ConditionWord.Food) ∷ []
+fields_of_condition Rock = Word (word_of_condition ConditionWord.Rock) ∷ []
+fields_of_condition (Marker i) = Word (word_of_condition ConditionWord.Marker) ∷ Number i ∷ []
+fields_of_condition FoeMarker = Word (word_of_condition ConditionWord.FoeMarker) ∷ []
+fields_of_condition Home = Word (word_of_condition ConditionWord.Home) ∷ []
+fields_of_condition FoeHome = Word (word_of_condition ConditionWord.FoeHome) ∷ []
 
 -- how an instruction is spelled: the table of forms
 abbrev pub fields_of : Instr → List Field
@@ -104,27 +127,22 @@ SpellsAll [] (token ∷ tokens) = ⊥
 SpellsAll (field ∷ fields) [] = ⊥
 SpellsAll (field ∷ fields) (token ∷ tokens) = Spells field token × SpellsAll fields tokens
 
--- the bound of an instruction is at most the last value of a u32
-abbrev pub HasBound : Instr → Type 0
-HasBound (Sense sight met unmet condition) = Unit {0}
-HasBound (Mark i next) = Unit {0}
-HasBound (Unmark i next) = Unit {0}
-HasBound (PickUp met unmet) = Unit {0}
-HasBound (Drop next) = Unit {0}
-HasBound (Turn side next) = Unit {0}
-HasBound (Move met unmet) = Unit {0}
-HasBound (Flip bound met unmet) = bound ≤ 4294967295
+-- the largest bound, the last value of a u32
+abbrev pub most_bound : ℕ
+most_bound = 4294967295
 
--- the marker of an instruction is from 0 to 5, and its bound from 1 to the last value of a u32; its states are any numbers
+-- the bound of a Flip is at most the largest
+abbrev pub HasBound : Instr → Type 0
+HasBound (Flip bound met unmet) = bound ≤ most_bound
+HasBound _ = Unit {0}
+
+-- the marker of an instruction is from 0 to 5, and its bound from 1 to the largest; its states are any numbers
 abbrev pub IsInRange : Instr → Type 0
-IsInRange (Sense sight met unmet condition) = IsSoundCond condition
+IsInRange (Sense sight met unmet condition) = IsSoundCondition condition
 IsInRange (Mark i next) = i < 6
 IsInRange (Unmark i next) = i < 6
-IsInRange (PickUp met unmet) = Unit {0}
-IsInRange (Drop next) = Unit {0}
-IsInRange (Turn side next) = Unit {0}
-IsInRange (Move met unmet) = Unit {0}
-IsInRange (Flip bound met unmet) = (1 ≤ bound) × (bound ≤ 4294967295)
+IsInRange (Flip bound met unmet) = (1 ≤ bound) × (bound ≤ most_bound)
+IsInRange _ = Unit {0}
 
 -- the tokens of a line are those of an instruction
 pub record InstrLine (tokens : List (List ℕ)) (instruction : Instr) : Type 0 where

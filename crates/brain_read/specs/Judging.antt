@@ -1,60 +1,56 @@
--- Which position of a line is at fault (this project's own: the rule of faults).
-use Rattle.std.specs.Prelude.{ℕ, List, [], ◌∷◌, ◌++◌, Option, Some, None, if◌then◌else◌}
-use Rattle.ant_base.specs.Number.{number_of}
-use Rattle.word_table.specs.Words.{place_in}
+-- Which position of a line is at fault; the clauses of `read_brain` rest on it (this project's own: the rule of faults).
+use Rattle.std.specs.Prelude.{ℕ, List, [], ◌∷◌, ◌++◌, Option, Some, None, option_map, if◌then◌else◌}
+use Rattle.ant_base.specs.Number.{number_of, number_within}
 use Rattle.brain_read.specs.declared.fault.BrainFault.{BrainFault}
 use Rattle.brain_read.specs.declared.fault.BrainFault.TheVariants.{BadByte, UnknownWord, MissingToken, BadNumber, ExtraToken}
 use Rattle.brain_read.specs.declared.form.Form.{Form}
-use Rattle.brain_read.specs.declared.form.CondWord.{CondWord}
+use Rattle.brain_read.specs.declared.form.ConditionWord.{ConditionWord}
 use Rattle.brain_read.specs.Tokens.{has_bad_byte}
-use Rattle.brain_read.specs.Steps.{within}
-use Rattle.brain_read.specs.Forms.{form_words, sight_words, side_words, condition_words}
-use Rattle.brain_read.specs.Reading.{form_at, condition_word_at}
+use Rattle.brain_read.specs.Forms.{word_of_form, word_of_sight, word_of_side, word_of_condition, forms, sights, sides, conditions, named, most_bound}
 
 -- what is wanted at a place of a line
 pub data Position : Type 0 where
-  FormWord SightWord SideWord ConditionWord MarkerNumber StateNumber BoundNumber : Position
+  FormToken SightToken SideToken ConditionToken MarkerToken StateToken BoundToken : Position
 
 -- the positions after the first word: the table of forms
 abbrev pub positions_of : Form → List Position
-positions_of Form.Sense = SightWord ∷ StateNumber ∷ StateNumber ∷ ConditionWord ∷ []
-positions_of Form.Mark = MarkerNumber ∷ StateNumber ∷ []
-positions_of Form.Unmark = MarkerNumber ∷ StateNumber ∷ []
-positions_of Form.PickUp = StateNumber ∷ StateNumber ∷ []
-positions_of Form.Drop = StateNumber ∷ []
-positions_of Form.Turn = SideWord ∷ StateNumber ∷ []
-positions_of Form.Move = StateNumber ∷ StateNumber ∷ []
-positions_of Form.Flip = BoundNumber ∷ StateNumber ∷ StateNumber ∷ []
+positions_of Form.Sense = SightToken ∷ StateToken ∷ StateToken ∷ ConditionToken ∷ []
+positions_of Form.Mark = MarkerToken ∷ StateToken ∷ []
+positions_of Form.Unmark = MarkerToken ∷ StateToken ∷ []
+positions_of Form.PickUp = StateToken ∷ StateToken ∷ []
+positions_of Form.Drop = StateToken ∷ []
+positions_of Form.Turn = SideToken ∷ StateToken ∷ []
+positions_of Form.Move = StateToken ∷ StateToken ∷ []
+positions_of Form.Flip = BoundToken ∷ StateToken ∷ StateToken ∷ []
 
 -- the positions after the word of a condition
-abbrev pub positions_of_condition : CondWord → List Position
-positions_of_condition CondWord.Marker = MarkerNumber ∷ []
+abbrev pub positions_of_condition : ConditionWord → List Position
+positions_of_condition ConditionWord.Marker = MarkerToken ∷ []
 positions_of_condition _ = []
 
--- the positions that an accepted token brings
-abbrev pub positions_at : Option ℕ → (ℕ → List Position) → Option (List Position)
-positions_at None brings = None
-positions_at (Some i) brings = Some (brings i)
+-- the positions that a token brings which brings none
+abbrev pub nothing_more : {A : Type 0} → A → List Position
+nothing_more x = []
 
 -- the positions that the token brings, where its position accepts it
 abbrev pub accepted : Position → List ℕ → Option (List Position)
-accepted FormWord token = positions_at (place_in form_words token) (λ i. positions_of (form_at i))
-accepted SightWord token = positions_at (place_in sight_words token) (λ i. [])
-accepted SideWord token = positions_at (place_in side_words token) (λ i. [])
-accepted ConditionWord token = positions_at (place_in condition_words token) (λ i. positions_of_condition (condition_word_at i))
-accepted MarkerNumber token = positions_at (within 0 5 (number_of token)) (λ n. [])
-accepted StateNumber token = positions_at (within 0 9999999999 (number_of token)) (λ n. [])
-accepted BoundNumber token = positions_at (within 1 4294967295 (number_of token)) (λ n. [])
+accepted FormToken token = option_map positions_of (named word_of_form forms token)
+accepted SightToken token = option_map nothing_more (named word_of_sight sights token)
+accepted SideToken token = option_map nothing_more (named word_of_side sides token)
+accepted ConditionToken token = option_map positions_of_condition (named word_of_condition conditions token)
+accepted MarkerToken token = option_map nothing_more (number_within 0 5 token)
+accepted StateToken token = option_map nothing_more (number_of token)
+accepted BoundToken token = option_map nothing_more (number_within 1 most_bound token)
 
 -- the fault of a token without a bad byte that its position doesn't accept
 abbrev pub fault_of : Position → ℕ → BrainFault
-fault_of FormWord line = UnknownWord line
-fault_of SightWord line = UnknownWord line
-fault_of SideWord line = UnknownWord line
-fault_of ConditionWord line = UnknownWord line
-fault_of MarkerNumber line = BadNumber line
-fault_of StateNumber line = BadNumber line
-fault_of BoundNumber line = BadNumber line
+fault_of FormToken line = UnknownWord line
+fault_of SightToken line = UnknownWord line
+fault_of SideToken line = UnknownWord line
+fault_of ConditionToken line = UnknownWord line
+fault_of MarkerToken line = BadNumber line
+fault_of StateToken line = BadNumber line
+fault_of BoundToken line = BadNumber line
 
 -- the fault of a position that doesn't accept its token; else what comes next, with the positions that the token brings
 abbrev pub judged : Option (List Position) → BrainFault → (List Position → Option BrainFault) → Option BrainFault

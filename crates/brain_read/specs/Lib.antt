@@ -4,8 +4,10 @@ pub mod Canonical
 pub mod Draft
 pub mod Forms
 pub mod Judging
+pub mod Places
 pub mod Reading
 pub mod Reads
+pub mod Refusals
 pub mod Soundness
 pub mod Steps
 pub mod Tokens

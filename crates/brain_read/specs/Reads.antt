@@ -1,4 +1,4 @@
--- That a reading of a text answers nothing else than it should (this project's own).
+-- That a reading of a text answers nothing else than it should; the clauses of `read_brain` rest on it (this project's own).
 use Rattle.std.specs.Prelude.{◌≡◌, ◌⊎◌, List, Result, Ok, Err}
 use Rattle.brain_read.specs.declared.fault.BrainFault.{BrainFault}
 use Rattle.brain_read.specs.declared.fault.BrainFault.TheVariants.{OutOfMemory}

@@ -1,11 +1,19 @@
--- One token after another: what is read of the tokens of a line, or why the first position at fault refuses (this project's own).
-use Rattle.std.specs.Prelude.{ℕ, false, ◌&&◌, nat_le, List, [], ◌∷◌, Option, Some, None, Result, Ok, Err, if◌then◌else◌}
-use Rattle.ant_base.specs.Number.{number_of}
+-- One token after another: what is read of the tokens of a line, or why the first position at fault refuses. The clauses of `Tokens` and
+-- `positions` rest on it; those of `read_brain` don't (this project's own).
+use Rattle.std.specs.Prelude.{ℕ, false, List, [], ◌∷◌, Option, Some, None, Result, Ok, Err}
+use Rattle.hex_geometry.specs.declared.direction.Side.{Side}
+use Rattle.hex_geometry.specs.declared.neighbourhood.Sight.{Sight}
+use Rattle.ant_base.specs.Number.{number_within}
 use Rattle.word_table.specs.Words.{place_in}
-use Rattle.brain_read.specs.Tokens.{has_bad_byte}
 use Rattle.brain_read.specs.declared.fault.LineFault.{LineFault}
 use Rattle.brain_read.specs.declared.fault.LineFault.TheVariants.{UnknownWord, MissingToken, BadNumber, ExtraToken}
 use Rattle.brain_read.specs.declared.fault.Refusal.{Refusal}
+use Rattle.brain_read.specs.declared.form.ConditionWord.{ConditionWord}
+use Rattle.brain_read.specs.declared.instr.Cond.{Cond}
+use Rattle.brain_read.specs.declared.instr.Cond.TheVariants.{Friend, Foe, FriendWithFood, FoeWithFood, Food, Rock, Marker, FoeMarker, Home, FoeHome}
+use Rattle.brain_read.specs.Tokens.{has_bad_byte}
+use Rattle.brain_read.specs.Forms.{sight_words, side_words, condition_words, most_bound}
+use Rattle.brain_read.specs.Places.{sight_at, side_at, condition_word_at}
 
 -- what is read, or why it is refused
 abbrev pub Read : Type 0 → Type 0
@@ -43,17 +51,57 @@ abbrev pub take_word : List (List ℕ) → List (List ℕ) → Step ℕ
 take_word words [] = Err missing
 take_word words (token ∷ rest) = or_refused (place_in words token) rest token UnknownWord
 
--- a number, where it lies between the least and the greatest that are accepted
-abbrev pub within : ℕ → ℕ → Option ℕ → Option ℕ
-within least most None = None
-within least most (Some n) = if nat_le least n && nat_le n most then Some n else None
-
 -- a number from the least to the greatest that are accepted
 abbrev pub take_number : ℕ → ℕ → List (List ℕ) → Step ℕ
 take_number least most [] = Err missing
-take_number least most (token ∷ rest) = or_refused (within least most (number_of token)) rest token BadNumber
+take_number least most (token ∷ rest) = or_refused (number_within least most token) rest token BadNumber
 
 -- the end of the line
 abbrev pub take_end : List (List ℕ) → Step (Unit {0})
 take_end [] = Ok (tt, [])
 take_end (token ∷ rest) = Err (refused token ExtraToken)
+
+-- the word of a sight
+unfoldable pub take_sight : List (List ℕ) → Step Sight
+take_sight tokens = do
+  word ← take_word sight_words tokens
+  Ok (sight_at word.0, word.1)
+
+-- the word of a side
+unfoldable pub take_side : List (List ℕ) → Step Side
+take_side tokens = do
+  word ← take_word side_words tokens
+  Ok (side_at word.0, word.1)
+
+-- a state: any number, so at most ten digits
+unfoldable pub take_state : List (List ℕ) → Step ℕ
+take_state = take_number 0 9999999999
+
+-- a marker, from 0 to 5
+unfoldable pub take_marker : List (List ℕ) → Step ℕ
+take_marker = take_number 0 5
+
+-- a bound, from 1 to the largest
+unfoldable pub take_bound : List (List ℕ) → Step ℕ
+take_bound = take_number 1 most_bound
+
+-- a condition of one word; of Marker, with the marker after it
+abbrev pub condition_from : ConditionWord → List (List ℕ) → Step Cond
+condition_from ConditionWord.Friend rest = Ok (Friend, rest)
+condition_from ConditionWord.Foe rest = Ok (Foe, rest)
+condition_from ConditionWord.FriendWithFood rest = Ok (FriendWithFood, rest)
+condition_from ConditionWord.FoeWithFood rest = Ok (FoeWithFood, rest)
+condition_from ConditionWord.Food rest = Ok (Food, rest)
+condition_from ConditionWord.Rock rest = Ok (Rock, rest)
+condition_from ConditionWord.Marker rest = do
+  marker ← take_marker rest
+  Ok (Marker marker.0, marker.1)
+condition_from ConditionWord.FoeMarker rest = Ok (FoeMarker, rest)
+condition_from ConditionWord.Home rest = Ok (Home, rest)
+condition_from ConditionWord.FoeHome rest = Ok (FoeHome, rest)
+
+-- the word of a condition, and what stands after it
+unfoldable pub take_condition : List (List ℕ) → Step Cond
+take_condition tokens = do
+  word ← take_word condition_words tokens
+  condition_from (condition_word_at word.0) word.1

@@ -1,7 +1,7 @@
--- Comments, tokens and bad bytes of a line (the task's neurology, as this project spells its files).
+-- Comments, tokens and bad bytes of a line; the clauses of the public calls rest on them (the task's neurology, as this project spells its files).
 use Rattle.std.specs.Prelude.{ℕ, Bool, true, false, not, ◌||◌, ◌&&◌, ◌==◌, nat_le, List, [], ◌∷◌, filter, if◌then◌else◌}
 use Rattle.std.specs.List.{slice_split, list_any}
-use Rattle.ant_base.specs.Lines.{is_lf, is_separator}
+use Rattle.ant_base.specs.Lines.{is_separator}
 
 -- whether a byte begins a comment
 abbrev pub begins_comment : ℕ → Bool
@@ -34,30 +34,11 @@ is_bad_byte byte = not ((byte == 9) || (byte == 10) || (byte == 13) || (nat_le 3
 abbrev pub has_bad_byte : List ℕ → Bool
 has_bad_byte token = list_any is_bad_byte token
 
--- the first line of a text, without its LF
-abbrev pub first_line : List ℕ → List ℕ
-first_line [] = []
-first_line (byte ∷ text) = if is_lf byte then [] else byte ∷ first_line text
-
--- what stands after the first line and its LF
-abbrev pub after_line : List ℕ → List ℕ
-after_line [] = []
-after_line (byte ∷ text) = if is_lf byte then text else after_line text
-
--- the tokens of a line that are left, and the text after the line
-pub record TokensLeft : Type 0 where
-  pub tokens : List (List ℕ)
-  pub after : List ℕ
-
--- all tokens of the first line of a text
-abbrev pub tokens_left : List ℕ → TokensLeft
-tokens_left text = record { tokens = tokens_of (first_line text); after = after_line text }
-
--- whether a byte belongs to a token: it is no separator, begins no comment and ends no line
+-- whether a byte of a line belongs to a token: it is no separator and begins no comment
 abbrev pub is_token_byte : ℕ → Bool
-is_token_byte byte = not (is_separator byte || begins_comment byte || is_lf byte)
+is_token_byte byte = not (is_separator byte || begins_comment byte)
 
--- whether a token stands at the front of a text
+-- whether a token stands at the front of a line
 abbrev pub begins_token : List ℕ → Bool
 begins_token [] = false
-begins_token (byte ∷ text) = is_token_byte byte
+begins_token (byte ∷ line) = is_token_byte byte

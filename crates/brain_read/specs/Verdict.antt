@@ -1,13 +1,13 @@
--- A whole text, line by line: the instructions that are read, or the fault (this project's own).
-use Rattle.std.specs.Prelude.{ℕ, ◌+◌, nat_le, List, [], ◌∷◌, ◌++◌, length, Option, Some, None, Result, Ok, Err, if◌then◌else◌}
+-- A whole text, line by line: the instructions that are read, or the fault. A stepping stone of the reader: no clause of a public call
+-- rests on it (this project's own).
+use Rattle.std.specs.Prelude.{ℕ, ◌+◌, List, [], ◌∷◌, ◌++◌, length, Option, Some, None, Result, Ok, Err}
 use Rattle.brain_read.specs.declared.fault.BrainFault.{BrainFault}
-use Rattle.brain_read.specs.declared.fault.BrainFault.TheVariants.{BadByte, UnknownWord, MissingToken, BadNumber, ExtraToken, TooMany, Empty, NoSuchState}
-use Rattle.brain_read.specs.declared.fault.LineFault.{LineFault}
-use Rattle.brain_read.specs.declared.fault.Refusal.{Refusal}
+use Rattle.brain_read.specs.declared.fault.BrainFault.TheVariants.{Empty, NoSuchState}
 use Rattle.brain_read.specs.declared.instr.Instr.{Instr}
 use Rattle.brain_read.specs.Steps.{Read}
+use Rattle.brain_read.specs.Refusals.{refusal_at}
 use Rattle.brain_read.specs.Reading.{read_line}
-use Rattle.brain_read.specs.BrainText.{TokenLine, lines_with_tokens, states_of, first_not_below}
+use Rattle.brain_read.specs.BrainText.{TokenLine, lines_with_tokens, too_many, states_of, first_not_below}
 
 -- an instruction and the number of its line
 pub record Placed : Type 0 where
@@ -17,16 +17,6 @@ pub record Placed : Type 0 where
 -- what is read of a text, or its fault
 abbrev pub Judged : Type 0 → Type 0
 Judged A = Result A BrainFault
-
--- the fault of a line that is refused
-abbrev pub fault_at : ℕ → LineFault → BrainFault
-fault_at line LineFault.UnknownWord = UnknownWord line
-fault_at line LineFault.MissingToken = MissingToken line
-fault_at line LineFault.BadNumber = BadNumber line
-fault_at line LineFault.ExtraToken = ExtraToken line
-
-abbrev pub refusal_at : ℕ → Refusal → BrainFault
-refusal_at line refusal = if refusal.bad_byte then BadByte line else fault_at line refusal.fault
 
 -- one more in front
 abbrev pub put_before : {A : Type 0} → A → Judged (List A) → Judged (List A)
@@ -38,22 +28,36 @@ abbrev pub with_front : {A : Type 0} → List A → Judged (List A) → Judged (
 with_front front (Ok xs) = Ok (front ++ xs)
 with_front front (Err fault) = Err fault
 
+-- what is judged, where there is no fault before it
+abbrev pub unless : {A : Type 0} → Option BrainFault → Judged A → Judged A
+unless None judged = judged
+unless (Some fault) judged = Err fault
+
+-- a line that was read, or its fault
+abbrev pub at_line : ℕ → Read Instr → Judged Instr
+at_line line (Ok instruction) = Ok instruction
+at_line line (Err refusal) = Err (refusal_at line refusal)
+
+-- a line before which so many instructions stand
+unfoldable pub judged_line : ℕ → ℕ → List (List ℕ) → Judged Instr
+judged_line before line tokens = unless (too_many before line) (at_line line (read_line tokens))
+
 -- a line, and then the lines after it
-abbrev pub line_then : ℕ → Read Instr → Judged (List Placed) → Judged (List Placed)
+abbrev pub line_then : ℕ → Judged Instr → Judged (List Placed) → Judged (List Placed)
 line_then number (Ok instruction) later = put_before (record { line = number; instruction = instruction }) later
-line_then number (Err refusal) later = Err (refusal_at number refusal)
+line_then number (Err fault) later = Err fault
 
 -- the instructions of the lines, where so many stand before them
 abbrev pub read_lines : ℕ → List TokenLine → Judged (List Placed)
 read_lines before [] = Ok []
-read_lines before (line ∷ lines) =
-    if nat_le 10000 before then Err (TooMany line.number) else line_then line.number (read_line line.tokens) (read_lines (before + 1) lines)
+read_lines before (line ∷ lines) = line_then line.number (judged_line before line.number line.tokens) (read_lines (before + 1) lines)
 
--- an instruction whose states are below n, or the first of them that isn't
+-- an instruction, unless there is a state that it may not name
 abbrev pub or_state : Option ℕ → Instr → Result Instr ℕ
 or_state None instruction = Ok instruction
 or_state (Some state) instruction = Err state
 
+-- an instruction whose states are below n, or the first of them that isn't
 abbrev pub settled : ℕ → Instr → Result Instr ℕ
 settled n instruction = or_state (first_not_below n (states_of instruction)) instruction
 
@@ -72,6 +76,7 @@ abbrev pub settle : List Placed → Judged (List Instr)
 settle [] = Err Empty
 settle (placed ∷ list) = settle_all (length (placed ∷ list)) (placed ∷ list)
 
+-- the brain of what was read
 abbrev pub settle_read : Judged (List Placed) → Judged (List Instr)
 settle_read (Ok list) = settle list
 settle_read (Err fault) = Err fault

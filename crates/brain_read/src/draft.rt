@@ -5,7 +5,7 @@ use crate::instr::{Cond, Instr};
 use hex_geometry::{Side, Sight};
 
 /// An instruction as it was read, before its states are held against the number of instructions (this project's own).
-#[derive(Clone, Copy, Debug, PartialEq, Eq)]
+#[derive(Clone, Copy)]
 pub enum Draft {
     Sense {
         sight: Sight,

@@ -69,7 +69,7 @@ impl<T: Drop> From<AllocFailed<T>> for BrainFault {
 
 impl Refusal {
     ghost use Rattle.std.specs.Prelude.{◌≡◌};
-    ghost use Rattle.brain_read.specs.Verdict.{refusal_at, fault_at};
+    ghost use Rattle.brain_read.specs.Refusals.{refusal_at, fault_at};
 
     /// The fault of the line of this number that was refused so.
     pub fn at(self, line: u32) -> BrainFault

@@ -19,7 +19,7 @@ pub enum Form {
 
 /// The word that a condition begins with (the task's phenomenology).
 #[derive(Clone, Copy, Debug, PartialEq, Eq)]
-pub enum CondWord {
+pub enum ConditionWord {
     Friend,
     Foe,
     FriendWithFood,
@@ -58,7 +58,7 @@ pub fn side_table() -> WordTable<2>
     WordTable::new(["Left", "Right"])
 }
 
-/// The words that begin a condition, in the order of [`CondWord`].
+/// The words that begin a condition, in the order of [`ConditionWord`].
 #[tactic(auto, unfolding(crate::specs::Forms::condition_words))]
 pub fn condition_table() -> WordTable<10>
     ensures { result ≡ condition_words }

@@ -22,7 +22,7 @@ mod write;
 
 pub use brain::Brain;
 pub use fault::{BrainFault, LineFault, Refusal};
-pub use form::{CondWord, Form, condition_table, form_table, side_table, sight_table};
+pub use form::{ConditionWord, Form, condition_table, form_table, side_table, sight_table};
 pub use hex_geometry::{OutOfMemory, Side, Sight};
 pub use instr::{Cond, Instr};
 pub use laws::{canonical_text_is_read, one_brain_or_one_fault};

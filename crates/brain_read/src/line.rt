@@ -1,5 +1,6 @@
 // One instruction from the tokens of a line.
 ghost use Rattle.std.specs.Prelude.{◌≡◌};
+ghost use Rattle.brain_read.specs.Places as places;
 ghost use Rattle.brain_read.specs.Reading as reading;
 ghost use Rattle.brain_read.specs.Draft.{as_read};
 
@@ -13,8 +14,7 @@ use word_table::word_arms;
 /// The instruction of a line.
 #[tactic(auto, unfolding(crate::specs::Reading::read_line))]
 pub fn instruction(tokens: &mut Tokens) -> Result<Draft, Refusal>
-    ensures read { reading.read_line tokens.old.tokens ≡ as_read result }
-    ensures after { tokens.new.after ≡ tokens.old.after }
+    ensures { reading.read_line tokens.old ≡ as_read result }
 {
     let place = tokens.word(&form_table())?;
     match form_at(place) {
@@ -30,7 +30,7 @@ pub fn instruction(tokens: &mut Tokens) -> Result<Draft, Refusal>
 }
 
 fn form_at(place: usize) -> Form
-    ensures { result ≡ reading.form_at place }
+    ensures { result ≡ places.form_at place }
 {
     word_arms!(
         place;
@@ -41,8 +41,7 @@ fn form_at(place: usize) -> Form
 
 #[tactic(auto, unfolding(crate::specs::Reading::read_sense))]
 fn sense(tokens: &mut Tokens) -> Result<Draft, Refusal>
-    ensures read { reading.read_sense tokens.old.tokens ≡ as_read result }
-    ensures after { tokens.new.after ≡ tokens.old.after }
+    ensures { reading.read_sense tokens.old ≡ as_read result }
 {
     let sight = sight(tokens)?;
     let yes = state(tokens)?;
@@ -59,8 +58,7 @@ fn sense(tokens: &mut Tokens) -> Result<Draft, Refusal>
 
 #[tactic(auto, unfolding(crate::specs::Reading::read_mark))]
 fn mark(tokens: &mut Tokens) -> Result<Draft, Refusal>
-    ensures read { reading.read_mark tokens.old.tokens ≡ as_read result }
-    ensures after { tokens.new.after ≡ tokens.old.after }
+    ensures { reading.read_mark tokens.old ≡ as_read result }
 {
     let mark = marker(tokens)?;
     let next = state(tokens)?;
@@ -70,8 +68,7 @@ fn mark(tokens: &mut Tokens) -> Result<Draft, Refusal>
 
 #[tactic(auto, unfolding(crate::specs::Reading::read_unmark))]
 fn unmark(tokens: &mut Tokens) -> Result<Draft, Refusal>
-    ensures read { reading.read_unmark tokens.old.tokens ≡ as_read result }
-    ensures after { tokens.new.after ≡ tokens.old.after }
+    ensures { reading.read_unmark tokens.old ≡ as_read result }
 {
     let mark = marker(tokens)?;
     let next = state(tokens)?;
@@ -81,8 +78,7 @@ fn unmark(tokens: &mut Tokens) -> Result<Draft, Refusal>
 
 #[tactic(auto, unfolding(crate::specs::Reading::read_pick_up))]
 fn pick_up(tokens: &mut Tokens) -> Result<Draft, Refusal>
-    ensures read { reading.read_pick_up tokens.old.tokens ≡ as_read result }
-    ensures after { tokens.new.after ≡ tokens.old.after }
+    ensures { reading.read_pick_up tokens.old ≡ as_read result }
 {
     let yes = state(tokens)?;
     let no = state(tokens)?;
@@ -92,8 +88,7 @@ fn pick_up(tokens: &mut Tokens) -> Result<Draft, Refusal>
 
 #[tactic(auto, unfolding(crate::specs::Reading::read_drop))]
 fn drop_food(tokens: &mut Tokens) -> Result<Draft, Refusal>
-    ensures read { reading.read_drop tokens.old.tokens ≡ as_read result }
-    ensures after { tokens.new.after ≡ tokens.old.after }
+    ensures { reading.read_drop tokens.old ≡ as_read result }
 {
     let next = state(tokens)?;
     tokens.end()?;
@@ -102,8 +97,7 @@ fn drop_food(tokens: &mut Tokens) -> Result<Draft, Refusal>
 
 #[tactic(auto, unfolding(crate::specs::Reading::read_turn))]
 fn turn(tokens: &mut Tokens) -> Result<Draft, Refusal>
-    ensures read { reading.read_turn tokens.old.tokens ≡ as_read result }
-    ensures after { tokens.new.after ≡ tokens.old.after }
+    ensures { reading.read_turn tokens.old ≡ as_read result }
 {
     let side = side(tokens)?;
     let next = state(tokens)?;
@@ -113,8 +107,7 @@ fn turn(tokens: &mut Tokens) -> Result<Draft, Refusal>
 
 #[tactic(auto, unfolding(crate::specs::Reading::read_move))]
 fn step(tokens: &mut Tokens) -> Result<Draft, Refusal>
-    ensures read { reading.read_move tokens.old.tokens ≡ as_read result }
-    ensures after { tokens.new.after ≡ tokens.old.after }
+    ensures { reading.read_move tokens.old ≡ as_read result }
 {
     let yes = state(tokens)?;
     let no = state(tokens)?;
@@ -124,8 +117,7 @@ fn step(tokens: &mut Tokens) -> Result<Draft, Refusal>
 
 #[tactic(auto, unfolding(crate::specs::Reading::read_flip))]
 fn flip(tokens: &mut Tokens) -> Result<Draft, Refusal>
-    ensures read { reading.read_flip tokens.old.tokens ≡ as_read result }
-    ensures after { tokens.new.after ≡ tokens.old.after }
+    ensures { reading.read_flip tokens.old ≡ as_read result }
 {
     let bound = bound(tokens)?;
     let yes = state(tokens)?;

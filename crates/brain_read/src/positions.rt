@@ -1,114 +1,110 @@
-// The positions of an instruction's line (the task's neurology).
+//! The positions of an instruction's line (the task's neurology). Each call takes the next token and gives what it stands for, or refuses:
+//! `MissingToken` where no token is left, `UnknownWord` and `BadNumber` where the token is none of the position. A token that is refused
+//! is passed.
 ghost use Rattle.std.specs.Prelude.{◌≡◌};
 ghost use Rattle.brain_read.specs.Steps.{with_rest};
-ghost use Rattle.brain_read.specs.Reading as reading;
+ghost use Rattle.brain_read.specs.Steps as steps;
+ghost use Rattle.brain_read.specs.Places as places;
 
 use crate::fault::Refusal;
-use crate::form::{CondWord, condition_table, side_table, sight_table};
+use crate::form::{ConditionWord, condition_table, side_table, sight_table};
 use crate::instr::Cond;
 use crate::tokens::Tokens;
 use hex_geometry::{Side, Sight};
 use word_table::word_arms;
 
 /// The next token, which should be the word of a sight.
-#[tactic(auto, unfolding(crate::specs::Reading::take_sight))]
+#[tactic(auto, unfolding(crate::specs::Steps::take_sight))]
 pub fn sight(tokens: &mut Tokens) -> Result<Sight, Refusal>
-    ensures step { reading.take_sight tokens.old.tokens ≡ with_rest tokens.new.tokens result }
-    ensures after { tokens.new.after ≡ tokens.old.after }
+    ensures { steps.take_sight tokens.old ≡ with_rest tokens.new result }
 {
     let place = tokens.word(&sight_table())?;
     Ok(sight_at(place))
 }
 
 fn sight_at(place: usize) -> Sight
-    ensures { result ≡ reading.sight_at place }
+    ensures { result ≡ places.sight_at place }
 {
     word_arms!(place; Sight::Here, Sight::Ahead, Sight::LeftAhead, Sight::RightAhead)
 }
 
 /// The next token, which should be the word of a side.
-#[tactic(auto, unfolding(crate::specs::Reading::take_side))]
+#[tactic(auto, unfolding(crate::specs::Steps::take_side))]
 pub fn side(tokens: &mut Tokens) -> Result<Side, Refusal>
-    ensures step { reading.take_side tokens.old.tokens ≡ with_rest tokens.new.tokens result }
-    ensures after { tokens.new.after ≡ tokens.old.after }
+    ensures { steps.take_side tokens.old ≡ with_rest tokens.new result }
 {
     let place = tokens.word(&side_table())?;
     Ok(side_at(place))
 }
 
 fn side_at(place: usize) -> Side
-    ensures { result ≡ reading.side_at place }
+    ensures { result ≡ places.side_at place }
 {
     word_arms!(place; Side::Left, Side::Right)
 }
 
 /// The next token, which should be a state: any number.
-#[tactic(auto, unfolding(crate::specs::Reading::take_state))]
+#[tactic(auto, unfolding(crate::specs::Steps::take_state))]
 pub fn state(tokens: &mut Tokens) -> Result<u64, Refusal>
-    ensures step { reading.take_state tokens.old.tokens ≡ with_rest tokens.new.tokens result }
-    ensures after { tokens.new.after ≡ tokens.old.after }
+    ensures { steps.take_state tokens.old ≡ with_rest tokens.new result }
 {
     tokens.number(0, 9_999_999_999)
 }
 
 /// The next token, which should be a marker, from 0 to 5.
-#[tactic(auto, unfolding(crate::specs::Reading::take_marker))]
+#[tactic(auto, unfolding(crate::specs::Steps::take_marker))]
 pub fn marker(tokens: &mut Tokens) -> Result<u8, Refusal>
-    ensures step { reading.take_marker tokens.old.tokens ≡ with_rest tokens.new.tokens result }
-    ensures after { tokens.new.after ≡ tokens.old.after }
+    ensures { steps.take_marker tokens.old ≡ with_rest tokens.new result }
 {
     let number = tokens.number(0, 5)?;
     Ok(number as u8)
 }
 
 /// The next token, which should be a bound, from 1 to 4,294,967,295.
-#[tactic(auto, unfolding(crate::specs::Reading::take_bound))]
+#[tactic(auto, unfolding(crate::specs::Steps::take_bound))]
 pub fn bound(tokens: &mut Tokens) -> Result<u32, Refusal>
-    ensures step { reading.take_bound tokens.old.tokens ≡ with_rest tokens.new.tokens result }
-    ensures after { tokens.new.after ≡ tokens.old.after }
+    ensures { steps.take_bound tokens.old ≡ with_rest tokens.new result }
 {
     let number = tokens.number(1, 4_294_967_295)?;
     Ok(number as u32)
 }
 
 /// The next token, which should be the word of a condition, and after `Marker` the marker.
-#[tactic(auto, unfolding(crate::specs::Reading::take_condition))]
+#[tactic(auto, unfolding(crate::specs::Steps::take_condition))]
 pub fn condition(tokens: &mut Tokens) -> Result<Cond, Refusal>
-    ensures step { reading.take_condition tokens.old.tokens ≡ with_rest tokens.new.tokens result }
-    ensures after { tokens.new.after ≡ tokens.old.after }
+    ensures { steps.take_condition tokens.old ≡ with_rest tokens.new result }
 {
     let place = tokens.word(&condition_table())?;
     condition_from(condition_word_at(place), tokens)
 }
 
-fn condition_word_at(place: usize) -> CondWord
-    ensures { result ≡ reading.condition_word_at place }
+fn condition_word_at(place: usize) -> ConditionWord
+    ensures { result ≡ places.condition_word_at place }
 {
     word_arms!(
         place;
-        CondWord::Friend, CondWord::Foe, CondWord::FriendWithFood, CondWord::FoeWithFood,
-        CondWord::Food, CondWord::Rock, CondWord::Marker, CondWord::FoeMarker,
-        CondWord::Home, CondWord::FoeHome
+        ConditionWord::Friend, ConditionWord::Foe, ConditionWord::FriendWithFood, ConditionWord::FoeWithFood,
+        ConditionWord::Food, ConditionWord::Rock, ConditionWord::Marker, ConditionWord::FoeMarker,
+        ConditionWord::Home, ConditionWord::FoeHome
     )
 }
 
-fn condition_from(word: CondWord, tokens: &mut Tokens) -> Result<Cond, Refusal>
-    ensures step { reading.condition_from word tokens.old.tokens ≡ with_rest tokens.new.tokens result }
-    ensures after { tokens.new.after ≡ tokens.old.after }
+fn condition_from(word: ConditionWord, tokens: &mut Tokens) -> Result<Cond, Refusal>
+    ensures { steps.condition_from word tokens.old ≡ with_rest tokens.new result }
 {
     match word {
-        CondWord::Friend => Ok(Cond::Friend),
-        CondWord::Foe => Ok(Cond::Foe),
-        CondWord::FriendWithFood => Ok(Cond::FriendWithFood),
-        CondWord::FoeWithFood => Ok(Cond::FoeWithFood),
-        CondWord::Food => Ok(Cond::Food),
-        CondWord::Rock => Ok(Cond::Rock),
-        CondWord::Marker => {
+        ConditionWord::Friend => Ok(Cond::Friend),
+        ConditionWord::Foe => Ok(Cond::Foe),
+        ConditionWord::FriendWithFood => Ok(Cond::FriendWithFood),
+        ConditionWord::FoeWithFood => Ok(Cond::FoeWithFood),
+        ConditionWord::Food => Ok(Cond::Food),
+        ConditionWord::Rock => Ok(Cond::Rock),
+        ConditionWord::Marker => {
             let mark = marker(tokens)?;
             Ok(Cond::Marker(mark))
         }
-        CondWord::FoeMarker => Ok(Cond::FoeMarker),
-        CondWord::Home => Ok(Cond::Home),
-        CondWord::FoeHome => Ok(Cond::FoeHome),
+        ConditionWord::FoeMarker => Ok(Cond::FoeMarker),
+        ConditionWord::Home => Ok(Cond::Home),
+        ConditionWord::FoeHome => Ok(Cond::FoeHome),
     }
 }

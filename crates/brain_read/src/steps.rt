@@ -1,20 +1,18 @@
 // Words, numbers and the end of a line, by their positions.
-ghost use Rattle.std.specs.Prelude.{◌≡◌, ◌≤◌, IfOk, IfSome};
-ghost use Rattle.std.specs.List.{list_any};
-ghost use Rattle.ant_base.specs.Number.{number_of};
+ghost use Rattle.std.specs.Prelude.{◌≡◌, ◌≤◌, IfOk};
 ghost use Rattle.brain_read.specs.Tokens.{is_bad_byte, has_bad_byte};
-ghost use Rattle.brain_read.specs.Steps.{with_rest, missing, refused, within, take_word, take_number, take_end};
+ghost use Rattle.brain_read.specs.Steps.{with_rest, missing, refused, take_word, take_number, take_end};
 
 use crate::fault::{LineFault, Refusal};
 use crate::tokens::Tokens;
-use ant_base::read_number;
+use ant_base::read_number_within;
 use word_table::WordTable;
 
 impl<'t> Tokens<'t> {
-    /// The place in a table, counted from 0, of the next token, which should be a word of it.
+    /// The place in a table, counted from 0, of the next token, which should be a word of it in any ASCII case. A token that is none is
+    /// refused as `UnknownWord`, a line without one as `MissingToken`; a token that is refused is passed (this project's own).
     pub fn word<const N: usize>(&mut self, table: &WordTable<N>) -> Result<usize, Refusal>
-        ensures step { take_word table.now self.old.tokens ≡ with_rest self.new.tokens result }
-        ensures after { self.new.after ≡ self.old.after }
+        ensures step { take_word table.now self.old ≡ with_rest self.new result }
     {
         let Some(token) = self.next() else {
             return Err(missing());
@@ -25,25 +23,24 @@ impl<'t> Tokens<'t> {
         }
     }
 
-    /// The value of the next token, which should be a number from `least` to `most`.
+    /// The value of the next token, which should be a number from `least` to `most`, both included, in 1 to 10 digits. A token that is none
+    /// is refused as `BadNumber`, a line without one as `MissingToken`; a token that is refused is passed (this project's own).
     pub fn number(&mut self, least: u64, most: u64) -> Result<u64, Refusal>
-        ensures step { take_number least most self.old.tokens ≡ with_rest self.new.tokens result }
+        ensures step { take_number least most self.old ≡ with_rest self.new result }
         ensures bounds { IfOk result (λ number. (least ≤ number) × (number ≤ most)) }
-        ensures after { self.new.after ≡ self.old.after }
     {
         let Some(token) = self.next() else {
             return Err(missing());
         };
-        match number_within(least, most, token) {
+        match read_number_within(token, least, most) {
             Some(number) => Ok(number),
             None => Err(refused(token, LineFault::BadNumber)),
         }
     }
 
-    /// Nothing, where no token is left.
+    /// Nothing, where no token is left; a token is refused as `ExtraToken` (this project's own).
     pub fn end(&mut self) -> Result<(), Refusal>
-        ensures step { take_end self.old.tokens ≡ with_rest self.new.tokens result }
-        ensures after { self.new.after ≡ self.old.after }
+        ensures step { take_end self.old ≡ with_rest self.new result }
     {
         match self.next() {
             Some(token) => Err(refused(token, LineFault::ExtraToken)),
@@ -82,16 +79,4 @@ fn is_bad_byte(byte: u8) -> bool
     ensures { result ≡ is_bad_byte byte }
 {
     !(byte == b'\t' || byte == b'\n' || byte == b'\r' || (32 <= byte && byte <= 126))
-}
-
-fn number_within(least: u64, most: u64, token: &[u8]) -> Option<u64>
-    ensures value { result ≡ within least most (number_of token.now) }
-    ensures bounds { IfSome result (λ number. (least ≤ number) × (number ≤ most)) }
-{
-    let number = read_number(token)?;
-    if least <= number && number <= most {
-        Some(number)
-    } else {
-        None
-    }
 }

@@ -1,53 +1,50 @@
 // The tokens of a line, one after another.
-ghost use Rattle.std.specs.Prelude.{◌≡◌, ◌≤◌, ◌∷◌, [], length, drop, not, IfNone, MatchOption};
+ghost use Rattle.std.specs.Prelude.{◌≡◌, ◌≤◌, ◌∷◌, [], length, IfNone, MatchOption};
 ghost use Rattle.std.specs.List.{prefix_len};
-ghost use Rattle.ant_base.specs.Lines.{is_lf, is_separator};
-ghost use Rattle.brain_read.specs.Tokens.{is_token_byte, begins_token, has_token, after_line, tokens_left};
+ghost use Rattle.brain_read.specs.Tokens.{is_token_byte, begins_token, has_token, tokens_of};
 
-use ant_base::is_separator;
+use ant_base::{after_separators, is_separator};
 use std::marker::Model;
 
-/// The tokens of a line that are left. A `;` begins a comment that goes to the end of the line, and what stands before it
-/// is cut into tokens by spaces, tabs and CR bytes (the task's neurology). It takes no memory, and reads each byte of the line
-/// once. Contracts see the tokens that are left, and the text after the line.
+/// The tokens of a line that are left, from the first on. A `;` begins a comment that goes to the end of the line, and what stands
+/// before it is cut into tokens by spaces, tabs and CR bytes (the task's neurology). It takes no memory, and reads each byte of the
+/// line at most twice. Contracts see the list of the tokens that are left.
 #[derive(Drop)]
 pub struct Tokens<'t> {
     rest: &'t [u8],
 }
 
 impl<'t> Model for Tokens<'t> {
-    ghost use Rattle.brain_read.specs.Tokens.{TokensLeft, tokens_left};
+    ghost use Rattle.std.specs.Prelude.{List, ℕ};
+    ghost use Rattle.brain_read.specs.Tokens.{tokens_of};
 
-    ghost Value = { TokensLeft };
+    ghost Value = { List (List ℕ) };
 
-    ghost view = { λ tokens. tokens_left tokens.rest.now };
+    ghost view = { λ tokens. tokens_of tokens.rest.now };
 }
 
 impl<'t> Tokens<'t> {
-    /// All tokens of the first line of a text.
-    pub fn new(text: &'t [u8]) -> Self
-        ensures { result ≡ tokens_left text.now }
+    /// All tokens of a line, which is given without its LF.
+    pub fn new(line: &'t [u8]) -> Self
+        ensures { result ≡ tokens_of line.now }
     {
-        Tokens { rest: text }
+        Tokens { rest: line }
     }
 
     /// Whether there is a token left.
-    pub fn has_next(&mut self) -> bool
-        ensures next { result ≡ has_token self.old.tokens }
-        ensures same { self.new ≡ self.old }
+    pub fn has_next(&self) -> bool
+        ensures { result ≡ has_token self.now }
     {
-        self.rest = past_separators(self.rest);
-        begins_token(self.rest)
+        begins_token(after_separators(self.rest))
     }
 
-    /// The next token. None at the end of the line.
+    /// The next token. None where none is left, and then none is left for good.
     pub fn next(&mut self) -> Option<&'t [u8]>
-        ensures token { MatchOption result (self.old.tokens ≡ [])
-            (λ token. self.old.tokens ≡ token.now ∷ self.new.tokens) }
-        ensures end { IfNone result (self.new.tokens ≡ []) }
-        ensures after { self.new.after ≡ self.old.after }
+        ensures token { MatchOption result (self.old ≡ [])
+            (λ token. self.old ≡ token.now ∷ self.new) }
+        ensures end { IfNone result (self.new ≡ []) }
     {
-        let start = past_separators(self.rest);
+        let start = after_separators(self.rest);
         let (token, rest) = start.split_at(token_length(start));
         self.rest = rest;
         if token.is_empty() {
@@ -55,28 +52,6 @@ impl<'t> Tokens<'t> {
         }
         Some(token)
     }
-
-    /// The text after the line.
-    pub fn after_line(self) -> &'t [u8]
-        ensures { result.now ≡ self.entry.after }
-    {
-        past_line(self.rest)
-    }
-}
-
-// What stands after the separators at the front.
-fn past_separators(text: &[u8]) -> &[u8]
-    ensures { result.now ≡ drop (prefix_len is_separator text.now) text.now }
-{
-    text.split_at(separator_count(text)).1
-}
-
-// How many separators stand at the front.
-fn separator_count(text: &[u8]) -> usize
-    ensures bytes { result ≡ prefix_len is_separator text.now }
-    ensures bound { result ≤ length text.now }
-{
-    text.iter().take_while(|byte| is_separator(**byte)).count()
 }
 
 // Whether a token stands at the front.
@@ -97,34 +72,9 @@ fn token_length(text: &[u8]) -> usize
     text.iter().take_while(|byte| is_token_byte(**byte)).count()
 }
 
-// What stands after the first line and its LF.
-fn past_line(text: &[u8]) -> &[u8]
-    ensures { result.now ≡ after_line text.now }
-{
-    past_first(text.split_at(line_length(text)).1)
-}
-
-// How many bytes stand before the first LF.
-fn line_length(text: &[u8]) -> usize
-    ensures bytes { result ≡ prefix_len (λ byte. not (is_lf byte)) text.now }
-    ensures bound { result ≤ length text.now }
-{
-    text.iter().take_while(|byte| **byte != b'\n').count()
-}
-
-// All but the first byte.
-fn past_first(text: &[u8]) -> &[u8]
-    ensures { result.now ≡ drop 1 text.now }
-{
-    match text {
-        [] => text,
-        [_, rest @ ..] => rest,
-    }
-}
-
 // Whether a byte belongs to a token.
 fn is_token_byte(byte: u8) -> bool
     ensures { result ≡ is_token_byte byte }
 {
-    !(is_separator(byte) || byte == b';' || byte == b'\n')
+    !(is_separator(byte) || byte == b';')
 }

@@ -6,12 +6,12 @@ ghost use Rattle.brain_read.specs.Forms.{word_of_form, word_of_sight, word_of_si
 ghost use Rattle.brain_read.specs.Forms.Field.{Word, Number};
 ghost use Rattle.brain_read.specs.declared.instr.Cond.TheVariants.{Marker};
 ghost use Rattle.brain_read.specs.declared.instr.Instr.TheVariants.{Sense, Drop, Turn, Flip};
-ghost use Rattle.brain_read.specs.Reading.{place_of_form, place_of_sight, place_of_side, place_of_condition};
+ghost use Rattle.brain_read.specs.Places.{place_of_form, place_of_sight, place_of_side, place_of_condition};
 ghost use Rattle.brain_read.specs.BrainText.{BrainText};
 ghost use Rattle.brain_read.specs.Canonical.{line_text, further_text, instruction_text, brain_text};
 
 use crate::brain::Brain;
-use crate::form::{CondWord, Form, condition_table, form_table, side_table, sight_table};
+use crate::form::{ConditionWord, Form, condition_table, form_table, side_table, sight_table};
 use crate::instr::{Cond, Instr};
 use ant_base::{Failed, Layout, Sink, layout};
 use hex_geometry::{Side, Sight};
@@ -30,19 +30,19 @@ fn push_lines<K: Sink>(list: &[Instr], sink: &mut K) -> Result<(), Failed>
     ensures pushed { Pushed (K.state sink.old) (K.state sink.new) (brain_text list.now) result }
     ensures bounds { OnOk result (AllByRecursion HasBound list.now) }
 {
-    for instr in list {
-        push_line(*instr, sink)?;
+    for instruction in list {
+        push_line(*instruction, sink)?;
     }
     Ok(())
 }
 
 // The line of an instruction.
 #[tactic(auto, unfolding(crate::specs::Canonical::instruction_text))]
-fn push_line<K: Sink>(instr: Instr, sink: &mut K) -> Result<(), Failed>
-    ensures pushed { Pushed (K.state sink.old) (K.state sink.new) (instruction_text instr) result }
-    ensures bound { HasBound instr }
+fn push_line<K: Sink>(instruction: Instr, sink: &mut K) -> Result<(), Failed>
+    ensures pushed { Pushed (K.state sink.old) (K.state sink.new) (instruction_text instruction) result }
+    ensures bound { HasBound instruction }
 {
-    match instr {
+    match instruction {
         Instr::Sense {
             sight,
             yes,
@@ -72,7 +72,7 @@ fn push_sense<K: Sink>(
 {
     let word = FormText(Form::Sense);
     let sight = SightText(sight);
-    layout!(word, " ", sight, " ", yes, " ", no, CondEnd(cond)).push_to(sink)
+    layout!(word, " ", sight, " ", yes, " ", no, ConditionEnd(cond)).push_to(sink)
 }
 
 // A line of a word and two numbers.
@@ -107,33 +107,33 @@ fn push_flip<K: Sink>(bound: u32, yes: u16, no: u16, sink: &mut K) -> Result<(),
 
 // The condition at the end of a line.
 #[derive(Clone, Copy)]
-struct CondEnd(Cond);
+struct ConditionEnd(Cond);
 
-impl Layout for CondEnd {
+impl Layout for ConditionEnd {
     ghost text = { λ end. further_text (fields_of_condition end.0) };
 
     fn push_to<K: Sink>(&self, sink: &mut K) -> Result<(), Failed> {
         match self.0 {
-            Cond::Friend => push_condition(CondWord::Friend, sink),
-            Cond::Foe => push_condition(CondWord::Foe, sink),
-            Cond::FriendWithFood => push_condition(CondWord::FriendWithFood, sink),
-            Cond::FoeWithFood => push_condition(CondWord::FoeWithFood, sink),
-            Cond::Food => push_condition(CondWord::Food, sink),
-            Cond::Rock => push_condition(CondWord::Rock, sink),
+            Cond::Friend => push_condition(ConditionWord::Friend, sink),
+            Cond::Foe => push_condition(ConditionWord::Foe, sink),
+            Cond::FriendWithFood => push_condition(ConditionWord::FriendWithFood, sink),
+            Cond::FoeWithFood => push_condition(ConditionWord::FoeWithFood, sink),
+            Cond::Food => push_condition(ConditionWord::Food, sink),
+            Cond::Rock => push_condition(ConditionWord::Rock, sink),
             Cond::Marker(mark) => push_marker(mark, sink),
-            Cond::FoeMarker => push_condition(CondWord::FoeMarker, sink),
-            Cond::Home => push_condition(CondWord::Home, sink),
-            Cond::FoeHome => push_condition(CondWord::FoeHome, sink),
+            Cond::FoeMarker => push_condition(ConditionWord::FoeMarker, sink),
+            Cond::Home => push_condition(ConditionWord::Home, sink),
+            Cond::FoeHome => push_condition(ConditionWord::FoeHome, sink),
         }
     }
 }
 
 // A condition of one word, and the line's end.
-fn push_condition<K: Sink>(word: CondWord, sink: &mut K) -> Result<(), Failed>
+fn push_condition<K: Sink>(word: ConditionWord, sink: &mut K) -> Result<(), Failed>
     ensures { Pushed (K.state sink.old) (K.state sink.new)
         (further_text (Word (word_of_condition word) ∷ [])) result }
 {
-    layout!(" ", CondText(word), "\n").push_to(sink)
+    layout!(" ", ConditionText(word), "\n").push_to(sink)
 }
 
 // The condition of a marker, and the line's end.
@@ -141,7 +141,7 @@ fn push_marker<K: Sink>(mark: u8, sink: &mut K) -> Result<(), Failed>
     ensures { Pushed (K.state sink.old) (K.state sink.new)
         (further_text (fields_of_condition (Marker mark))) result }
 {
-    layout!(" ", CondText(CondWord::Marker), " ", mark, "\n").push_to(sink)
+    layout!(" ", ConditionText(ConditionWord::Marker), " ", mark, "\n").push_to(sink)
 }
 
 // The word of a form.
@@ -203,9 +203,9 @@ fn side_place(side: Side) -> usize
 
 // The word that begins a condition.
 #[derive(Clone, Copy)]
-struct CondText(CondWord);
+struct ConditionText(ConditionWord);
 
-impl Layout for CondText {
+impl Layout for ConditionText {
     ghost text = { λ word. word_of_condition word.0 };
 
     #[tactic(auto, using(crate::proofs::Spelled::condition_stands))]
@@ -216,7 +216,7 @@ impl Layout for CondText {
     }
 }
 
-fn condition_place(word: CondWord) -> usize
+fn condition_place(word: ConditionWord) -> usize
     ensures { result ≡ place_of_condition word }
 {
     word as usize

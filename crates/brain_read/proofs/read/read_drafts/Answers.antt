@@ -1,14 +1,20 @@
-use Rattle.std.proofs.Common.{sym, ◌∙◌, subst}
+use Rattle.std.proofs.Common.{map, sym, ap, ◌∙◌, subst}
 use Rattle.std.proofs.lemmas.Result.{err_from_is_err_and}
-use Rattle.brain_read.specs.Answers.{FailsAs}
-use Rattle.brain_read.proofs.Progress.{reading_from-start, nothing_left}
+use Rattle.brain_read.specs.Answers.{placed_of, FailsAs, reading_from}
+use Rattle.brain_read.proofs.Progress.{reading_from-start, reading_from-end}
 use Rattle.brain_read.proofs.read.read_drafts.Goals as goal
 
-pub returns-in_err-rest-clause-lines : goal.returns-in_err-rest-clause-lines
-returns-in_err-rest-clause-lines c =
+pub returns-in_err-read_line-clause-lines : goal.returns-in_err-read_line-clause-lines
+returns-in_err-read_line-clause-lines c =
     let p = err_from_is_err_and c.from_residual.result c.from_residual.ensures.1 in
-    rw (p.1, p.2) (subst (FailsAs c.in_err-rest.field-0.0) (c.loop-rest.invariant.on ∙ reading_from-start c.args.text.now) c.in_err-rest.ensures.fault)
+    rw (p.1, p.2)
+    (subst (FailsAs c.in_err-read_line.field-0.0)
+    (ap (reading_from (map placed_of c.loop-line.drafts.items) c.loop-line.number) (sym c.in-Some.ensures.steps) ∙ c.loop-line.invariant.on ∙ reading_from-start c.args.text.now)
+    (c.in_err-read_line.ensures.fault c.next.new.self))
 
 pub returns-clause-lines : goal.returns-clause-lines
 returns-clause-lines c =
-    sym (reading_from-start c.args.text.now) ∙ sym c.loop-rest.invariant.on ∙ nothing_left _ c.loop-rest.line c.loop-rest.rest.now (sym c.is_empty.ensures ∙ c.loop-rest-test.false)
+    sym (reading_from-start c.args.text.now)
+    ∙ sym c.loop-line.invariant.on
+    ∙ ap (reading_from (map placed_of c.loop-line.drafts.items) c.loop-line.number) c.in-None.ensures.steps.0
+    ∙ reading_from-end (map placed_of c.loop-line.drafts.items) c.loop-line.number

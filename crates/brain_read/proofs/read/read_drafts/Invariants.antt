@@ -1,11 +1,8 @@
-use Rattle.std.proofs.Common.{length, map}
+use Rattle.std.proofs.Common.{map}
 use Rattle.brain_read.specs.Answers.{placed_of}
 use Rattle.brain_read.proofs.Progress.{IsUnderway}
 use Rattle.brain_read.proofs.read.read_drafts.Given as goal
 
--- the lines before were read, and the rest is still to be read
-abbrev pub invariant-loop-rest : goal.invariant-loop-rest
-invariant-loop-rest l = IsUnderway (map placed_of l.drafts.items) l.line l.rest l.fn.text
-
-abbrev pub decreases-loop-rest : goal.decreases-loop-rest
-decreases-loop-rest l = length l.rest
+-- the lines before were read, and the others are still to be read
+abbrev pub invariant-loop-line : goal.invariant-loop-line
+invariant-loop-line l = IsUnderway (map placed_of l.drafts.items) l.number l.line-iterator l.text

@@ -6,6 +6,6 @@ use Rattle.brain_read.specs.Canonical.{instruction_text}
 use Rattle.brain_read.proofs.write.push_lines.Given as goal
 
 -- the lines so far were pushed, and their bounds are those of a u32
-abbrev pub invariant-loop-instr : goal.invariant-loop-instr
-invariant-loop-instr g l =
-    PushedAll (g.K.Sink.state l.initial.sink) (g.K.Sink.state l.sink) (flat_map instruction_text (take l.instr-index l.list)) × AllByRecursion HasBound (take l.instr-index l.list)
+abbrev pub invariant-loop-instruction : goal.invariant-loop-instruction
+invariant-loop-instruction g l =
+    PushedAll (g.K.Sink.state l.initial.sink) (g.K.Sink.state l.sink) (flat_map instruction_text (take l.instruction-index l.list)) × AllByRecursion HasBound (take l.instruction-index l.list)

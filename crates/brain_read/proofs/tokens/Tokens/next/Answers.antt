@@ -1,33 +1,23 @@
-use Rattle.std.proofs.Common.{◌∙◌, sym, ap}
+use Rattle.std.proofs.Common.{◌∙◌, sym}
 use Rattle.brain_read.proofs.Cursor.{IsNext, next_of}
 use Rattle.brain_read.proofs.tokens.Tokens.next.Goals as goal
 use Rattle.brain_read.proofs.tokens.Tokens.next.Goals.{After-split_at}
 
 -- the token that was cut off is the next one
 next : (c : After-split_at) → IsNext c.self.inside.rest.now c.split_at.result.0.now c.split_at.result.1.now
-next c = next_of c.self.inside.rest.now c.past_separators-start.result.now c.split_at.result.0.now c.split_at.result.1.now c.token_length.result c.past_separators-start.ensures c.token_length.ensures.bytes c.split_at.ensures.front c.split_at.ensures.back
+next c = next_of c.self.inside.rest.now c.after_separators-start.result.now c.split_at.result.0.now c.split_at.result.1.now c.token_length.result c.after_separators-start.ensures c.token_length.ensures.bytes c.split_at.ensures.front c.split_at.ensures.back
 
 pub returns-then-is_empty-clause-token : goal.returns-then-is_empty-clause-token
 returns-then-is_empty-clause-token c =
     let n = next (goal.at.returns-then-is_empty-clause-token c).After-split_at in
-    ap (λ t. t.tokens) (sym c.self.view_is) ∙ n.ended (sym c.is_empty.ensures ∙ c.if-is_empty.true)
+    sym c.self.view_is ∙ n.ended (sym c.is_empty.ensures ∙ c.if-is_empty.true)
 
 pub returns-then-is_empty-clause-end : goal.returns-then-is_empty-clause-end
 returns-then-is_empty-clause-end c =
     let n = next (goal.at.returns-then-is_empty-clause-end c).After-split_at in
     n.left (sym c.is_empty.ensures ∙ c.if-is_empty.true)
 
-pub returns-then-is_empty-clause-after : goal.returns-then-is_empty-clause-after
-returns-then-is_empty-clause-after c =
-    let n = next (goal.at.returns-then-is_empty-clause-after c).After-split_at in
-    n.after ∙ ap (λ t. t.after) c.self.view_is
-
 pub returns-clause-token : goal.returns-clause-token
 returns-clause-token c =
     let n = next (goal.at.returns-clause-token c).After-split_at in
-    ap (λ t. t.tokens) (sym c.self.view_is) ∙ n.found (sym c.is_empty.ensures ∙ c.if-is_empty.false)
-
-pub returns-clause-after : goal.returns-clause-after
-returns-clause-after c =
-    let n = next (goal.at.returns-clause-after c).After-split_at in
-    n.after ∙ ap (λ t. t.after) c.self.view_is
+    sym c.self.view_is ∙ n.found (sym c.is_empty.ensures ∙ c.if-is_empty.false)

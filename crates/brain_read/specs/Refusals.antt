@@ -1,0 +1,17 @@
+-- The fault of a line that was refused; the clause of `Refusal::at` rests on it (this project's own).
+use Rattle.std.specs.Prelude.{ℕ, if◌then◌else◌}
+use Rattle.brain_read.specs.declared.fault.BrainFault.{BrainFault}
+use Rattle.brain_read.specs.declared.fault.BrainFault.TheVariants.{BadByte, UnknownWord, MissingToken, BadNumber, ExtraToken}
+use Rattle.brain_read.specs.declared.fault.LineFault.{LineFault}
+use Rattle.brain_read.specs.declared.fault.Refusal.{Refusal}
+
+-- the fault of a line whose token, without a bad byte, is refused
+abbrev pub fault_at : ℕ → LineFault → BrainFault
+fault_at line LineFault.UnknownWord = UnknownWord line
+fault_at line LineFault.MissingToken = MissingToken line
+fault_at line LineFault.BadNumber = BadNumber line
+fault_at line LineFault.ExtraToken = ExtraToken line
+
+-- the fault of a line that is refused
+abbrev pub refusal_at : ℕ → Refusal → BrainFault
+refusal_at line refusal = if refusal.bad_byte then BadByte line else fault_at line refusal.fault
