@@ -1,5 +1,5 @@
--- What a turn keeps of a world, and how the turn of an id is found.
-use Rattle.std.proofs.Common.{◌≡◌, ◌≢◌, ℕ, zero, suc, ◌+◌, ◌<◌, ◌≤◌, Bool, true, false, ◌||◌, Option, Some, None, List, length, refl, sym, ◌∙◌, ap, subst, arith}
+-- What a turn keeps of a world.
+use Rattle.std.proofs.Common.{◌≡◌, ◌≢◌, inl, inr, ℕ, ◌+◌, ◌<◌, ◌≤◌, Bool, true, false, ◌||◌, Option, Some, None, List, length, refl, sym, ◌∙◌, ap, subst, arith}
 use Rattle.std.proofs.lemmas.Bool.{false_from_ne_true}
 use Rattle.std.proofs.lemmas.Option.{slice_get-get_or}
 use Rattle.hex_geometry.specs.declared.position.Pos.{Pos}
@@ -11,22 +11,23 @@ use Rattle.cell_world.specs.declared.cell.Cell.{Cell}
 use Rattle.cell_world.specs.Cell.{holds_id, is_ant, cell_weight, ant_weight, one_if}
 use Rattle.cell_world.specs.Valid.{Valid, CanSet, Replaces}
 use Rattle.cell_world.specs.Limits.{most_weight}
-use Rattle.cell_world.specs.World.{Cells, World, with_cells, put, put_cell, place_in, weight}
+use Rattle.cell_world.specs.World.{Cells, World, with_cells, put, put_cell, weight}
 use Rattle.cell_world.proofs.Places.{ant-clear, clear_inside, holds_id-own}
 use Rattle.cell_world.proofs.Puts.{put_cell-other}
 use Rattle.cell_world.proofs.Valids.{put_cell-all, Valid-put}
 use Rattle.cell_world.proofs.Weights.{weight-put_two}
 use Rattle.brain_read.specs.declared.instr.Instr.{Instr}
-use Rattle.brain_read.specs.declared.instr.Instr.TheVariants.{Sense, Mark, Unmark, PickUp, Drop, Turn, Move, Flip}
+use Rattle.brain_read.specs.declared.instr.Instr.TheVariants.{Drop}
 use Rattle.brain_read.specs.Soundness.{IsSound, IsBrain}
 use Rattle.ant_turn.specs.Keeps.{Keeps}
-use Rattle.ant_turn.specs.Kills.{check_all, places_around}
+use Rattle.ant_turn.specs.Kills.{check_all, check_around_at, places_around}
 use Rattle.ant_turn.specs.Minds.{Minds, Fits, AreSound, mind_of}
 use Rattle.ant_turn.specs.Sheet.{Sheet}
-use Rattle.ant_turn.specs.Turn.{stays, rests, goes, moves, stepped, execute, acts, turn_of, turn_from, turn, own_after, saw_at, number_at, rested, is_blocked, has_ant, left_by_ant, with_ant, arrived, instruction_at}
+use Rattle.ant_turn.specs.Turn.{Outcome, arrived, execute, has_ant, instruction_at, is_blocked, left_by_ant, stepped, turn, with_ant}
 use Rattle.ant_turn.proofs.Kept.{Outlives, check_all-outlives, check_all-holds_id, check_all-Valid, check_all-weight, check_all-Fits}
 use Rattle.ant_turn.proofs.Keeping.{Keeps-self, Keeps-then, Keeps-put, Fits-put}
-use Rattle.ant_turn.proofs.OwnCells.{IsBelow, Replaces-own_after, Replaces-rested, state_after}
+use Rattle.ant_turn.proofs.OwnCells.{Stays, stays_replaces}
+use Rattle.ant_turn.proofs.Parts.{Does, execute_parts, turn_parts}
 
 -- neither of two tests holds where not one of them does
 neither : (a b : Bool) → (a || b) ≡ false → (a ≡ false) × (b ≡ false)
@@ -134,45 +135,35 @@ Keeps-check_all minds w places small valid fits =
       no_heavier = check_all-weight minds.sheet places w small valid;
     }
 
--- what a Move that goes keeps
-pub Keeps-goes : (minds : Minds) (w : World) (p : Pos) (ant : Ant) (q : Pos) (next : ℕ) → minds.sheet.corpse ≤ 9 → Valid w → Fits w minds → (w.cells p).ant ≡ Some ant → is_blocked (w.cells q) ≡ false → next < length (mind_of minds ant.colour) → Keeps minds w (with_cells w (goes minds.sheet w.cells p ant q next).cells)
+-- what an ant that goes keeps
+pub Keeps-goes : (minds : Minds) (w : World) (p : Pos) (ant : Ant) (q : Pos) (next : ℕ) → minds.sheet.corpse ≤ 9 → Valid w → Fits w minds → (w.cells p).ant ≡ Some ant → is_blocked (w.cells q) ≡ false → next < length (mind_of minds ant.colour) → Keeps minds w (with_cells w (check_around_at minds.sheet (stepped minds.sheet w.cells p ant q next) q))
 Keeps-goes minds w p ant q next small valid fits is free below =
     let first : Keeps minds w (with_cells w (stepped minds.sheet w.cells p ant q next)) = Keeps-stepped minds w p ant q next valid fits is free below in
     Keeps-then first (Keeps-check_all minds (with_cells w (stepped minds.sheet w.cells p ant q next)) (places_around q) small first.valid first.fits)
 
--- what an instruction keeps after which the ant stays
-pub Keeps-stays : (minds : Minds) (seed : ℕ) (w : World) (place : ℕ) (p : Pos) (ant : Ant) (instruction : Instr) → Valid w → Fits w minds → (w.cells p).ant ≡ Some ant → IsSound (length (mind_of minds ant.colour)) instruction → Keeps minds w (with_cells w (stays seed w.cells place p ant instruction).cells)
-Keeps-stays minds seed w place p ant instruction valid fits is sound =
-    let saw : Bool = saw_at w.cells p ant instruction in
-    let number : ℕ = number_at seed place instruction in
-    Keeps-put minds w p (own_after instruction (w.cells p) ant saw number) valid fits (ant-clear w p ant valid is) (Replaces-own_after instruction (w.cells p) ant saw number is) λ new one.
-    let below : IsBelow (length (mind_of minds ant.colour)) ant.colour new = state_after instruction (length (mind_of minds ant.colour)) (w.cells p) ant saw number sound new one in
-    subst (λ colour. new.state < length (mind_of minds colour)) (sym below.colour_kept) below.state
+-- what an ant that stays keeps
+pub Keeps-stays : (minds : Minds) (w : World) (p : Pos) (ant : Ant) (instruction : Instr) (new : Cell) → Valid w → Fits w minds → (w.cells p).ant ≡ Some ant → IsSound (length (mind_of minds ant.colour)) instruction → Stays instruction (w.cells p) ant new → Keeps minds w (put w p new)
+Keeps-stays minds w p ant instruction new valid fits is sound stays =
+    let below : stays.after.state < length (mind_of minds ant.colour) = stays.state (length (mind_of minds ant.colour)) (fits.below p ant is) sound in
+    Keeps-put minds w p new valid fits (ant-clear w p ant valid is) (stays_replaces stays is) λ it one.
+    let same : Some stays.after ≡ Some it = sym stays.holds ∙ one in
+    let after : stays.after ≡ it = cc in
+    subst (λ (a : Ant). a.state < length (mind_of minds a.colour)) after (subst (λ colour. stays.after.state < length (mind_of minds colour)) (sym stays.same_colour) below)
 
--- what a Move keeps
-Keeps-moves : (minds : Minds) (seed : ℕ) (w : World) (place : ℕ) (p : Pos) (ant : Ant) (q : Pos) (met unmet : ℕ) (blocked : Bool) → minds.sheet.corpse ≤ 9 → Valid w → Fits w minds → (w.cells p).ant ≡ Some ant → IsSound (length (mind_of minds ant.colour)) (Move met unmet) → is_blocked (w.cells q) ≡ blocked →
-    Keeps minds w (with_cells w (moves blocked minds.sheet seed w.cells place p ant q met unmet).cells)
-Keeps-moves minds seed w place p ant q met unmet true small valid fits is sound _ = Keeps-stays minds seed w place p ant (Move met unmet) valid fits is sound
-Keeps-moves minds seed w place p ant q met unmet false small valid fits is sound free = Keeps-goes minds w p ant q met small valid fits is free sound.0
+-- what an ant keeps that stays or goes
+Keeps-does : (minds : Minds) (w : World) (p : Pos) (ant : Ant) (instruction : Instr) (outcome : Outcome) → minds.sheet.corpse ≤ 9 → Valid w → Fits w minds → (w.cells p).ant ≡ Some ant → IsSound (length (mind_of minds ant.colour)) instruction →
+    Does instruction minds.sheet w.cells p ant outcome → Keeps minds w (with_cells w outcome.cells)
+Keeps-does minds w p ant instruction outcome small valid fits is sound (inl stayed) =
+    subst (λ cells. Keeps minds w (with_cells w cells)) (sym stayed.cells_after) (Keeps-stays minds w p ant instruction stayed.new valid fits is sound stayed.stays)
+Keeps-does minds w p ant instruction outcome small valid fits is sound (inr went) =
+    subst (λ (o : Outcome). Keeps minds w (with_cells w o.cells)) (sym went.is)
+    (Keeps-goes minds w p ant (adjacent_pos p ant.facing) went.next small valid fits is went.free (went.state (length (mind_of minds ant.colour)) sound))
 
 -- what a sound instruction keeps
 pub Keeps-execute : (minds : Minds) (seed : ℕ) (w : World) (place : ℕ) (p : Pos) (ant : Ant) (instruction : Instr) → minds.sheet.corpse ≤ 9 → Valid w → Fits w minds → (w.cells p).ant ≡ Some ant → IsSound (length (mind_of minds ant.colour)) instruction →
     Keeps minds w (with_cells w (execute minds.sheet seed w.cells place p ant instruction).cells)
-Keeps-execute minds seed w place p ant (Move met unmet) small valid fits is sound = Keeps-moves minds seed w place p ant (adjacent_pos p ant.facing) met unmet (is_blocked (w.cells (adjacent_pos p ant.facing))) small valid fits is sound refl
-Keeps-execute minds seed w place p ant (Sense sight met unmet condition) small valid fits is sound = Keeps-stays minds seed w place p ant (Sense sight met unmet condition) valid fits is sound
-Keeps-execute minds seed w place p ant (Mark i next) small valid fits is sound = Keeps-stays minds seed w place p ant (Mark i next) valid fits is sound
-Keeps-execute minds seed w place p ant (Unmark i next) small valid fits is sound = Keeps-stays minds seed w place p ant (Unmark i next) valid fits is sound
-Keeps-execute minds seed w place p ant (PickUp met unmet) small valid fits is sound = Keeps-stays minds seed w place p ant (PickUp met unmet) valid fits is sound
-Keeps-execute minds seed w place p ant (Drop next) small valid fits is sound = Keeps-stays minds seed w place p ant (Drop next) valid fits is sound
-Keeps-execute minds seed w place p ant (Turn side next) small valid fits is sound = Keeps-stays minds seed w place p ant (Turn side next) valid fits is sound
-Keeps-execute minds seed w place p ant (Flip bound met unmet) small valid fits is sound = Keeps-stays minds seed w place p ant (Flip bound met unmet) valid fits is sound
-
--- what a rest keeps
-pub Keeps-rests : (minds : Minds) (w : World) (p : Pos) (ant : Ant) (left : ℕ) → Valid w → Fits w minds → (w.cells p).ant ≡ Some ant → Keeps minds w (with_cells w (rests w.cells p ant left).cells)
-Keeps-rests minds w p ant left valid fits is =
-    Keeps-put minds w p (rested (w.cells p) ant left) valid fits (ant-clear w p ant valid is) (Replaces-rested (w.cells p) ant left is) λ new one.
-    let same : record ant { resting = left } ≡ new = cc in
-    subst (λ (a : Ant). a.state < length (mind_of minds a.colour)) same (fits.below p ant is)
+Keeps-execute minds seed w place p ant instruction small valid fits is sound =
+    Keeps-does minds w p ant instruction (execute minds.sheet seed w.cells place p ant instruction) small valid fits is sound (execute_parts minds.sheet seed w.cells place p ant instruction)
 
 -- each colour's brain is one
 IsBrain-of : (minds : Minds) (colour : Colour) → AreSound minds → IsBrain (mind_of minds colour)
@@ -185,22 +176,11 @@ sound_instruction minds w p ant sound fits is =
     let brain : IsBrain (mind_of minds ant.colour) = IsBrain-of minds ant.colour sound in
     brain.sound ant.state (instruction_at (mind_of minds ant.colour) ant.state) (slice_get-get_or (mind_of minds ant.colour) ant.state (Drop 0) (fits.below p ant is))
 
--- what the turn of an ant keeps
-Keeps-acts : (minds : Minds) (seed : ℕ) (w : World) (place : ℕ) (p : Pos) (ant : Ant) (resting : ℕ) → AreSound minds → Valid w → Fits w minds → (w.cells p).ant ≡ Some ant → Keeps minds w (with_cells w (acts resting minds seed w.cells place p ant).cells)
-Keeps-acts minds seed w place p ant zero sound valid fits is = Keeps-execute minds seed w place p ant (instruction_at (mind_of minds ant.colour) ant.state) sound.corpse valid fits is (sound_instruction minds w p ant sound fits is)
-Keeps-acts minds seed w place p ant (suc left) sound valid fits is = Keeps-rests minds w p ant left valid fits is
-
--- what the turn at a position keeps
-Keeps-turn_of : (minds : Minds) (seed : ℕ) (w : World) (place : ℕ) (p : Pos) (o : Option Ant) → AreSound minds → Valid w → Fits w minds → (w.cells p).ant ≡ o → Keeps minds w (with_cells w (turn_of minds seed w.cells place p o).cells)
-Keeps-turn_of minds seed w place p None sound valid fits is = Keeps-self minds w valid fits
-Keeps-turn_of minds seed w place p (Some ant) sound valid fits is = Keeps-acts minds seed w place p ant ant.resting sound valid fits is
-
--- what the turn of an ant that has a place, or is dead, keeps
-Keeps-turn_from : (minds : Minds) (seed : ℕ) (w : World) (place : ℕ) (o : Option Pos) → AreSound minds → Valid w → Fits w minds → Keeps minds w (with_cells w (turn_from minds seed w.cells place o).cells)
-Keeps-turn_from minds seed w place None sound valid fits = Keeps-self minds w valid fits
-Keeps-turn_from minds seed w place (Some p) sound valid fits = Keeps-turn_of minds seed w place p (w.cells p).ant sound valid fits refl
-
 -- what a turn keeps
 pub Keeps-turn : (minds : Minds) (seed : ℕ) (w : World) (place t : ℕ) → AreSound minds → Valid w → Fits w minds → Keeps minds w (with_cells w (turn minds seed w place t).cells)
-unfolding turn
-Keeps-turn minds seed w place t sound valid fits = Keeps-turn_from minds seed w place (place_in w t) sound valid fits
+Keeps-turn minds seed w place t sound valid fits =
+    elim (turn_parts minds seed w place t) [
+      | inl nothing ↦ subst (λ (o : Outcome). Keeps minds w (with_cells w o.cells)) (sym nothing) (Keeps-self minds w valid fits)
+      | inr acted ↦ Keeps-does minds w acted.p acted.ant (instruction_at (mind_of minds acted.ant.colour) acted.ant.state) (turn minds seed w place t) sound.corpse valid fits acted.is
+          (sound_instruction minds w acted.p acted.ant sound fits acted.is) acted.does
+    ]

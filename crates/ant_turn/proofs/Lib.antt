@@ -8,5 +8,6 @@ pub mod Kept
 pub mod KeptByRounds
 pub mod KeptByTurns
 pub mod OwnCells
+pub mod Parts
 pub mod Standing
 pub mod Turns

@@ -1,117 +1,141 @@
--- What the own cell of an ant that stays keeps.
-use Rattle.std.proofs.Common.{◌≡◌, ℕ, ◌+◌, ◌<◌, ◌≤◌, Bool, true, false, cond, ◌||◌, Some, refl, sym, ◌∙◌, ap, subst, arith}
-use Rattle.std.specs.Prelude.{nat_eq}
+-- What an ant that stays makes of its own cell.
+use Rattle.std.proofs.Common.{◌≡◌, ℕ, ◌+◌, ◌-◌, ◌<◌, ◌≤◌, Bool, true, false, if◌then◌else◌, ◌||◌, Some, refl, sym, ◌∙◌, ap, ap₂, arith}
+use Rattle.std.specs.Prelude.{◌==◌}
 use Rattle.hex_geometry.specs.Direction.{turned_by}
+use Rattle.hex_geometry.specs.declared.direction.Side.{Side}
+use Rattle.hex_geometry.specs.declared.neighbourhood.Sight.{Sight}
 use Rattle.cell_world.specs.declared.ant.Ant.{Ant}
 use Rattle.cell_world.specs.declared.ant.Colour.{Colour}
 use Rattle.cell_world.specs.declared.ant.Colour.TheVariants.{Red, Black}
 use Rattle.cell_world.specs.declared.cell.Cell.{Cell}
-use Rattle.cell_world.specs.declared.marks.Marks.{Marks}
 use Rattle.cell_world.specs.Cell.{is_ant, cell_weight, ant_weight, one_if}
-use Rattle.cell_world.specs.Marks.{with_mark, without_mark}
 use Rattle.cell_world.specs.Valid.{Replaces}
+use Rattle.brain_read.specs.declared.instr.Cond.{Cond}
 use Rattle.brain_read.specs.declared.instr.Instr.{Instr}
 use Rattle.brain_read.specs.declared.instr.Instr.TheVariants.{Sense, Mark, Unmark, PickUp, Drop, Turn, Move, Flip}
 use Rattle.brain_read.specs.Soundness.{IsSound}
-use Rattle.ant_turn.specs.Conditions.{marks_of}
-use Rattle.ant_turn.specs.Turn.{own_after, picked_up, dropped, in_state, with_ant, with_marks, rested}
+use Rattle.ant_turn.specs.Turn.{in_state, with_ant, marked, unmarked}
 
--- an ant in another state, resting or facing otherwise is the same ant and no heavier
-record SameAnt (new old : Ant) : Type 0 where
-  id : new.id ≡ old.id
-  laden : new.laden ≡ old.laden
-
--- the cell with the same ant, changed in nothing that the world keeps
-Replaces-with_ant : (cell : Cell) (ant new : Ant) → cell.ant ≡ Some ant → SameAnt new ant → Replaces cell (with_ant cell new)
-unfolding cell_weight
-Replaces-with_ant cell ant new is same = record {
-  same_kind = refl;
-  same_hill = refl;
-  same_ant = λ t held. ap (is_ant t) is ∙ ap (λ i. nat_eq i t) (sym same.id) ∙ held;
-  no_heavier =
-      let old : ant_weight cell.ant ≡ 9 + one_if ant.laden = ap ant_weight is in
-      let load : one_if new.laden ≡ one_if ant.laden = ap one_if same.laden in
-      omega arith;
-}
-
--- the same with other markers
-Replaces-with_marks : (cell : Cell) (colour : Colour) (marks : Marks) (ant new : Ant) → cell.ant ≡ Some ant → SameAnt new ant → Replaces cell (with_ant (with_marks cell colour marks) new)
-unfolding cell_weight
-Replaces-with_marks cell Red marks ant new is same = let it : Replaces cell (with_ant cell new) = Replaces-with_ant cell ant new is same in
-    record { same_kind = refl; same_hill = refl; same_ant = it.same_ant; no_heavier = it.no_heavier }
-Replaces-with_marks cell Black marks ant new is same = let it : Replaces cell (with_ant cell new) = Replaces-with_ant cell ant new is same in
-    record { same_kind = refl; same_hill = refl; same_ant = it.same_ant; no_heavier = it.no_heavier }
-
--- there is food where neither the ant's load nor the want of food bars a PickUp
-some_food : (laden : Bool) (food : ℕ) → (laden || nat_eq food 0) ≡ false → 1 ≤ food
-some_food true food free = absurd (cc)
-some_food false food free = grind arith
-
--- a particle that was picked up is one less on the cell and one more with the ant
-Replaces-picked_up : (barred : Bool) (cell : Cell) (ant : Ant) (met unmet : ℕ) → cell.ant ≡ Some ant → (ant.laden || nat_eq cell.food 0) ≡ barred → Replaces cell (picked_up barred cell ant met unmet)
-unfolding cell_weight
-Replaces-picked_up true cell ant met unmet is barred = Replaces-with_ant cell ant (in_state ant unmet) is (record { id = refl; laden = refl })
-Replaces-picked_up false cell ant met unmet is free = record {
-  same_kind = refl;
-  same_hill = refl;
-  same_ant = λ t held. ap (is_ant t) is ∙ held;
-  no_heavier =
-      let old : ant_weight cell.ant ≡ 9 + one_if ant.laden = ap ant_weight is in
-      let some : 1 ≤ cell.food = some_food ant.laden cell.food free in
-      omega arith;
-}
-
--- a particle that was dropped is one more on the cell and one less with the ant
-Replaces-dropped : (cell : Cell) (ant : Ant) (next : ℕ) → cell.ant ≡ Some ant → Replaces cell (dropped cell ant next)
-unfolding cell_weight
-Replaces-dropped cell ant next is = record {
-  same_kind = refl;
-  same_hill = refl;
-  same_ant = λ t held. ap (is_ant t) is ∙ held;
-  no_heavier = let old : ant_weight cell.ant ≡ 9 + one_if ant.laden = ap ant_weight is in omega arith;
-}
-
--- the cell of an ant that rested may replace the cell before
-pub Replaces-rested : (cell : Cell) (ant : Ant) (left : ℕ) → cell.ant ≡ Some ant → Replaces cell (rested cell ant left)
-Replaces-rested cell ant left is = Replaces-with_ant cell ant (record ant { resting = left }) is (record { id = refl; laden = refl })
-
--- the cell of an ant that stayed may replace the cell before
-pub Replaces-own_after : (instruction : Instr) (cell : Cell) (ant : Ant) (saw : Bool) (number : ℕ) → cell.ant ≡ Some ant → Replaces cell (own_after instruction cell ant saw number)
-Replaces-own_after (Sense sight met unmet condition) cell ant saw number is = Replaces-with_ant cell ant (in_state ant (cond saw met unmet)) is (record { id = refl; laden = refl })
-Replaces-own_after (Mark i next) cell ant saw number is = Replaces-with_marks cell ant.colour (with_mark (marks_of ant.colour cell) i) ant (in_state ant next) is (record { id = refl; laden = refl })
-Replaces-own_after (Unmark i next) cell ant saw number is = Replaces-with_marks cell ant.colour (without_mark (marks_of ant.colour cell) i) ant (in_state ant next) is (record { id = refl; laden = refl })
-Replaces-own_after (PickUp met unmet) cell ant saw number is = Replaces-picked_up (ant.laden || nat_eq cell.food 0) cell ant met unmet is refl
-Replaces-own_after (Drop next) cell ant saw number is = Replaces-dropped cell ant next is
-Replaces-own_after (Turn side next) cell ant saw number is = Replaces-with_ant cell ant (record ant { state = next; facing = turned_by ant.facing side }) is (record { id = refl; laden = refl })
-Replaces-own_after (Move met unmet) cell ant saw number is = Replaces-with_ant cell ant (in_state ant unmet) is (record { id = refl; laden = refl })
-Replaces-own_after (Flip bound met unmet) cell ant saw number is = Replaces-with_ant cell ant (in_state ant (cond (nat_eq number 0) met unmet)) is (record { id = refl; laden = refl })
-
--- an ant of this colour in a state below n
-pub record IsBelow (n : ℕ) (colour : Colour) (ant : Ant) : Type 0 where
-  pub colour_kept : ant.colour ≡ colour
-  pub state : ant.state < n
-
--- what holds of an ant holds of each ant that is that one
-only_ant : (n : ℕ) (colour : Colour) (new : Ant) → IsBelow n colour new → (ant : Ant) → Some new ≡ Some ant → IsBelow n colour ant
-only_ant n colour new below ant is = let same : new ≡ ant = cc in subst (IsBelow n colour) same below
+-- the new cell of an ant that stayed in a turn with this instruction: the ground, the hill and the ant are the same, the particles
+-- that lay there or were carried do so still, and the ant's state is its old one or one that the instruction names
+pub record Stays (instruction : Instr) (cell : Cell) (ant : Ant) (new : Cell) : Type 0 where
+  pub after : Ant
+  pub holds : new.ant ≡ Some after
+  pub same_kind : new.rocky ≡ cell.rocky
+  pub same_hill : new.hill ≡ cell.hill
+  pub same_id : after.id ≡ ant.id
+  pub same_colour : after.colour ≡ ant.colour
+  pub same_food : new.food + one_if after.laden ≡ cell.food + one_if ant.laden
+  pub state : (n : ℕ) → ant.state < n → IsSound n instruction → after.state < n
 
 -- both branches are below n
-either_below : (b : Bool) (met unmet n : ℕ) → met < n → unmet < n → cond b met unmet < n
+either_below : (b : Bool) (met unmet n : ℕ) → met < n → unmet < n → (if b then met else unmet) < n
 either_below true met unmet n first second = first
 either_below false met unmet n first second = second
 
--- the state after a PickUp is one that it names
-picked_up_below : (barred : Bool) (n : ℕ) (cell : Cell) (ant : Ant) (met unmet : ℕ) → met < n → unmet < n → (new : Ant) → (picked_up barred cell ant met unmet).ant ≡ Some new → IsBelow n ant.colour new
-picked_up_below true n cell ant met unmet first second = only_ant n ant.colour (in_state ant unmet) (record { colour_kept = refl; state = second })
-picked_up_below false n cell ant met unmet first second = only_ant n ant.colour (record ant { state = met; laden = true }) (record { colour_kept = refl; state = first })
+-- an ant that carries what it carried, on a cell of which at most the markers are others
+stays_alike : (instruction : Instr) (cell alike : Cell) (ant after : Ant) → alike.rocky ≡ cell.rocky → alike.hill ≡ cell.hill → alike.food ≡ cell.food → after.id ≡ ant.id → after.colour ≡ ant.colour → after.laden ≡ ant.laden →
+    ((n : ℕ) → ant.state < n → IsSound n instruction → after.state < n) → Stays instruction cell ant (with_ant alike after)
+stays_alike instruction cell alike ant after kind hill food id colour laden state = record {
+  after = after;
+  holds = refl;
+  same_kind = kind;
+  same_hill = hill;
+  same_id = id;
+  same_colour = colour;
+  same_food = ap₂ (λ lying carried. lying + one_if carried) food laden;
+  state = state;
+}
 
--- the state of an ant that stayed is one that its instruction names
-pub state_after : (instruction : Instr) (n : ℕ) (cell : Cell) (ant : Ant) (saw : Bool) (number : ℕ) → IsSound n instruction → (new : Ant) → (own_after instruction cell ant saw number).ant ≡ Some new → IsBelow n ant.colour new
-state_after (Sense sight met unmet condition) n cell ant saw number sound = only_ant n ant.colour (in_state ant (cond saw met unmet)) (record { colour_kept = refl; state = either_below saw met unmet n sound.0 sound.1 })
-state_after (Mark i next) n cell ant saw number sound = only_ant n ant.colour (in_state ant next) (record { colour_kept = refl; state = sound.1 })
-state_after (Unmark i next) n cell ant saw number sound = only_ant n ant.colour (in_state ant next) (record { colour_kept = refl; state = sound.1 })
-state_after (PickUp met unmet) n cell ant saw number sound = picked_up_below (ant.laden || nat_eq cell.food 0) n cell ant met unmet sound.0 sound.1
-state_after (Drop next) n cell ant saw number sound = only_ant n ant.colour (record ant { state = next; laden = false }) (record { colour_kept = refl; state = sound })
-state_after (Turn side next) n cell ant saw number sound = only_ant n ant.colour (record ant { state = next; facing = turned_by ant.facing side }) (record { colour_kept = refl; state = sound })
-state_after (Move met unmet) n cell ant saw number sound = only_ant n ant.colour (in_state ant unmet) (record { colour_kept = refl; state = sound.1 })
-state_after (Flip bound met unmet) n cell ant saw number sound = only_ant n ant.colour (in_state ant (cond (nat_eq number 0) met unmet)) (record { colour_kept = refl; state = either_below (nat_eq number 0) met unmet n sound.1 sound.2 })
+-- an ant that goes on in a state that its instruction names
+stays_in_state : (instruction : Instr) (cell : Cell) (ant : Ant) (state : ℕ) → ((n : ℕ) → IsSound n instruction → state < n) → Stays instruction cell ant (with_ant cell (in_state ant state))
+stays_in_state instruction cell ant state named = stays_alike instruction cell cell ant (in_state ant state) refl refl refl refl refl refl (λ n _. named n)
+
+-- an ant that rests
+pub rest_stays : (instruction : Instr) (cell : Cell) (ant : Ant) (left : ℕ) → Stays instruction cell ant (with_ant cell (record ant { resting = left }))
+rest_stays instruction cell ant left = stays_alike instruction cell cell ant (record ant { resting = left }) refl refl refl refl refl refl (λ n below _. below)
+
+-- a Sense
+pub sense_stays : (cell : Cell) (ant : Ant) (sight : Sight) (met unmet : ℕ) (condition : Cond) (first : Bool) → Stays (Sense sight met unmet condition) cell ant (with_ant cell (in_state ant (if first then met else unmet)))
+sense_stays cell ant sight met unmet condition first =
+    stays_in_state (Sense sight met unmet condition) cell ant (if first then met else unmet) (λ n sound. either_below first met unmet n sound.0 sound.1)
+
+-- a Mark
+pub mark_stays : (colour : Colour) (cell : Cell) (ant : Ant) (i next : ℕ) → Stays (Mark i next) cell ant (with_ant (marked cell colour i) (in_state ant next))
+mark_stays Red cell ant i next = stays_alike (Mark i next) cell (marked cell Red i) ant (in_state ant next) refl refl refl refl refl refl (λ n _ sound. sound.1)
+mark_stays Black cell ant i next = stays_alike (Mark i next) cell (marked cell Black i) ant (in_state ant next) refl refl refl refl refl refl (λ n _ sound. sound.1)
+
+-- an Unmark
+pub unmark_stays : (colour : Colour) (cell : Cell) (ant : Ant) (i next : ℕ) → Stays (Unmark i next) cell ant (with_ant (unmarked cell colour i) (in_state ant next))
+unmark_stays Red cell ant i next = stays_alike (Unmark i next) cell (unmarked cell Red i) ant (in_state ant next) refl refl refl refl refl refl (λ n _ sound. sound.1)
+unmark_stays Black cell ant i next = stays_alike (Unmark i next) cell (unmarked cell Black i) ant (in_state ant next) refl refl refl refl refl refl (λ n _ sound. sound.1)
+
+-- the particles are the same where one is picked up from some
+one_picked_up : (laden : Bool) (food : ℕ) → (laden || food == 0) ≡ false → food - 1 + 1 ≡ food + one_if laden
+one_picked_up true food free = absurd (cc)
+one_picked_up false food free = let some : 1 ≤ food = grind arith in omega arith
+
+-- a PickUp, where it is barred or not
+picked_up : (barred : Bool) (cell : Cell) (ant : Ant) (met unmet : ℕ) → (ant.laden || cell.food == 0) ≡ barred → Stays (PickUp met unmet) cell ant
+    (if barred then with_ant cell (in_state ant unmet) else record cell { food = cell.food - 1; ant = Some (record ant { laden = true; state = met }) })
+picked_up true cell ant met unmet _ = stays_in_state (PickUp met unmet) cell ant unmet (λ n sound. sound.1)
+picked_up false cell ant met unmet free = record {
+  after = record ant { laden = true; state = met };
+  holds = refl;
+  same_kind = refl;
+  same_hill = refl;
+  same_id = refl;
+  same_colour = refl;
+  same_food = one_picked_up ant.laden cell.food free;
+  state = λ n _ sound. sound.0;
+}
+
+-- a PickUp
+pub pick_up_stays : (cell : Cell) (ant : Ant) (met unmet : ℕ) → Stays (PickUp met unmet) cell ant
+    (if ant.laden || cell.food == 0 then with_ant cell (in_state ant unmet) else record cell { food = cell.food - 1; ant = Some (record ant { laden = true; state = met }) })
+pick_up_stays cell ant met unmet = picked_up (ant.laden || cell.food == 0) cell ant met unmet refl
+
+-- a Drop
+pub drop_stays : (cell : Cell) (ant : Ant) (next : ℕ) → Stays (Drop next) cell ant (record cell { food = cell.food + one_if ant.laden; ant = Some (record ant { laden = false; state = next }) })
+drop_stays cell ant next = record {
+  after = record ant { laden = false; state = next };
+  holds = refl;
+  same_kind = refl;
+  same_hill = refl;
+  same_id = refl;
+  same_colour = refl;
+  same_food = omega arith;
+  state = λ n _ sound. sound;
+}
+
+-- a Turn
+pub turn_stays : (cell : Cell) (ant : Ant) (side : Side) (next : ℕ) → Stays (Turn side next) cell ant (with_ant cell (record ant { facing = turned_by ant.facing side; state = next }))
+turn_stays cell ant side next = stays_alike (Turn side next) cell cell ant (record ant { facing = turned_by ant.facing side; state = next }) refl refl refl refl refl refl (λ n _ sound. sound)
+
+-- a Move that doesn't go
+pub move_stays : (cell : Cell) (ant : Ant) (met unmet : ℕ) → Stays (Move met unmet) cell ant (with_ant cell (in_state ant unmet))
+move_stays cell ant met unmet = stays_in_state (Move met unmet) cell ant unmet (λ n sound. sound.1)
+
+-- a Flip
+pub flip_stays : (cell : Cell) (ant : Ant) (bound met unmet : ℕ) (first : Bool) → Stays (Flip bound met unmet) cell ant (with_ant cell (in_state ant (if first then met else unmet)))
+flip_stays cell ant bound met unmet first =
+    stays_in_state (Flip bound met unmet) cell ant (if first then met else unmet) (λ n sound. either_below first met unmet n sound.1 sound.2)
+
+module _ {instruction : Instr} {cell : Cell} {ant : Ant} {new : Cell} (stays : Stays instruction cell ant new) (is : cell.ant ≡ Some ant) where
+  -- no ant that stays gets heavier or lighter
+  pub stays_weight : cell_weight new ≡ cell_weight cell
+  unfolding cell_weight
+  stays_weight =
+      let after : ant_weight new.ant ≡ 9 + one_if stays.after.laden = ap ant_weight stays.holds in
+      let before : ant_weight cell.ant ≡ 9 + one_if ant.laden = ap ant_weight is in
+      let food = stays.same_food in
+      omega arith
+
+  -- its cell may replace the one before
+  pub stays_replaces : Replaces cell new
+  stays_replaces = record {
+    same_kind = stays.same_kind;
+    same_hill = stays.same_hill;
+    same_ant = λ t held. ap (is_ant t) is ∙ ap (λ i. i == t) (sym stays.same_id) ∙ sym (ap (is_ant t) stays.holds) ∙ held;
+    no_heavier = let same = stays_weight in omega arith;
+  }

@@ -1,19 +1,28 @@
 -- What holds where an ant stands at its place.
-use Rattle.std.proofs.Common.{◌≡◌, ℕ, ◌≤◌, Bool, false, Some, sym, ◌∙◌, ap, ap₂, subst}
+use Rattle.std.proofs.Common.{◌≡◌, ℕ, ◌+◌, ◌≤◌, false, Some, sym, ◌∙◌, ap, ap₂, subst, arith}
 use Rattle.hex_geometry.specs.declared.position.Pos.{Pos}
 use Rattle.cell_world.specs.declared.ant.Ant.{Ant}
 use Rattle.cell_world.specs.declared.cell.Cell.{Cell}
+use Rattle.cell_world.specs.Cell.{ant_weight, cell_weight}
+use Rattle.cell_world.specs.Limits.{most_weight}
 use Rattle.cell_world.specs.Valid.{Valid, CanSet, Replaces}
 use Rattle.cell_world.specs.World.{World, with_cells, put}
 use Rattle.cell_world.proofs.Places.{ant-clear, clear_has_neighbours}
 use Rattle.cell_world.proofs.Valids.{CanSet-replaces}
-use Rattle.cell_world.proofs.Weights.{food-light}
+use Rattle.cell_world.proofs.Weights.{cell_weight-light, cell_weight-parts}
 use Rattle.brain_read.specs.declared.instr.Instr.{Instr}
 use Rattle.ant_turn.specs.Sheet.{Sheet}
 use Rattle.ant_turn.specs.Stands.{Stands}
-use Rattle.ant_turn.specs.Turn.{own_after, rested, is_blocked, left_by_ant, with_ant, arrived, stepped}
-use Rattle.ant_turn.proofs.OwnCells.{Replaces-own_after, Replaces-rested}
+use Rattle.ant_turn.specs.Turn.{is_blocked, left_by_ant, with_ant, arrived, stepped}
+use Rattle.ant_turn.proofs.OwnCells.{Stays, stays_replaces}
 use Rattle.ant_turn.proofs.KeptByTurns.{Replaces-left_by_ant, CanSet-arrived}
+
+-- on a cell of a world lies no more food than a world weighs
+pub food_is_light : (w : World) (p : Pos) → Valid w → (w.cells p).food ≤ most_weight
+food_is_light w p valid =
+    let light : cell_weight (w.cells p) ≤ most_weight = cell_weight-light w p valid in
+    let parts : cell_weight (w.cells p) ≡ (w.cells p).food + ant_weight (w.cells p).ant = cell_weight-parts (w.cells p) in
+    omega arith
 
 -- an ant that a cell of a world holds stands there
 pub Stands-there : (w : World) (p : Pos) (cell : Cell) (ant : Ant) → Valid w → cell ≡ w.cells p → cell.ant ≡ Some ant → Stands w p cell ant
@@ -26,19 +35,14 @@ Stands-there w p cell ant valid here holds =
       clear = ap (λ (c : Cell). c.rocky) here ∙ clear;
       inner = valid.rim p clear;
       near = clear_has_neighbours w p valid clear;
-      light = subst (λ (c : Cell). c.food ≤ 2340900) (sym here) (food-light w p valid);
+      light = subst (λ (c : Cell). c.food ≤ most_weight) (sym here) (food_is_light w p valid);
     }
 
 module _ {w : World} {p : Pos} {cell : Cell} {ant : Ant} (stands : Stands w p cell ant) where
-  -- the cell after an instruction after which the ant stays may replace the one there
-  pub own_replaces : (instruction : Instr) (saw : Bool) (number : ℕ) (new : Cell) → new ≡ own_after instruction cell ant saw number → Replaces (w.cells p) new
-  own_replaces instruction saw number new is =
-      subst (λ c. Replaces c new) stands.here (subst (Replaces cell) (sym is) (Replaces-own_after instruction cell ant saw number stands.holds))
-
-  -- and so may the cell after a rest
-  pub rest_replaces : (left : ℕ) (new : Cell) → new ≡ rested cell ant left → Replaces (w.cells p) new
-  rest_replaces left new is =
-      subst (λ c. Replaces c new) stands.here (subst (Replaces cell) (sym is) (Replaces-rested cell ant left stands.holds))
+  -- the cell of an ant that stays may replace the one there
+  pub own_replaces : {instruction : Instr} {kept : Cell} (new : Cell) → new ≡ kept → Stays instruction cell ant kept → Replaces (w.cells p) new
+  own_replaces new is stays =
+      subst (λ c. Replaces c new) stands.here (subst (Replaces cell) (sym is) (stays_replaces stays stands.holds))
 
   -- the world's cell is clear
   pub stands_clear : (w.cells p).rocky ≡ false

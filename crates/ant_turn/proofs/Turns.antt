@@ -8,7 +8,7 @@ use Rattle.cell_world.specs.World.{World, place_in}
 use Rattle.brain_read.specs.declared.instr.Instr.{Instr}
 use Rattle.brain_read.specs.declared.instr.Instr.TheVariants.{Drop}
 use Rattle.ant_turn.specs.Minds.{Minds, mind_of}
-use Rattle.ant_turn.specs.Turn.{idle, rests, execute, acts, turn_of, turn_from, turn}
+use Rattle.ant_turn.specs.Turn.{idle, ant_becomes, execute, acts, turn_of, turn_from, turn}
 
 -- nothing happens in the turn of an id that has no place
 pub turn-dead : (minds : Minds) (seed : ℕ) (w : World) (place t : ℕ) → place_in w t ≡ None → turn minds seed w place t ≡ idle w.cells
@@ -26,7 +26,7 @@ unfolding turn
 turn-acts minds seed w place t p ant found is = ap (turn_from minds seed w.cells place) found ∙ ap (turn_of minds seed w.cells place p) is
 
 -- the turn of an ant that rests
-pub turn-rests : (minds : Minds) (seed : ℕ) (w : World) (place t : ℕ) (p : Pos) (ant : Ant) (left : ℕ) → place_in w t ≡ Some p → (w.cells p).ant ≡ Some ant → ant.resting ≡ left + 1 → turn minds seed w place t ≡ rests w.cells p ant left
+pub turn-rests : (minds : Minds) (seed : ℕ) (w : World) (place t : ℕ) (p : Pos) (ant : Ant) (left : ℕ) → place_in w t ≡ Some p → (w.cells p).ant ≡ Some ant → ant.resting ≡ left + 1 → turn minds seed w place t ≡ ant_becomes w.cells p (record ant { resting = left })
 turn-rests minds seed w place t p ant left found is tired =
     let more : ant.resting ≡ suc left = omega arith in
     turn-acts minds seed w place t p ant found is ∙ ap (λ n. acts n minds seed w.cells place p ant) more

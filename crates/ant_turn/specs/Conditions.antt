@@ -3,20 +3,13 @@ use Rattle.std.specs.Prelude.{Bool, true, false, cond, nat_lt, Option, Some, Non
 use Rattle.hex_geometry.specs.declared.position.Pos.{Pos}
 use Rattle.cell_world.specs.declared.ant.Ant.{Ant}
 use Rattle.cell_world.specs.declared.ant.Colour.{Colour}
-use Rattle.cell_world.specs.declared.ant.Colour.TheVariants.{Red, Black}
 use Rattle.cell_world.specs.declared.cell.Cell.{Cell}
-use Rattle.cell_world.specs.declared.marks.Marks.{Marks}
-use Rattle.cell_world.specs.Cell.{is_ant_of, is_hill_of}
+use Rattle.cell_world.specs.Cell.{is_ant_of, is_hill_of, marks_of}
 use Rattle.cell_world.specs.Colour.{foe_of}
 use Rattle.cell_world.specs.Marks.{has_mark, has_any_mark}
 use Rattle.cell_world.specs.World.{World}
 use Rattle.brain_read.specs.declared.instr.Cond.{Cond}
 use Rattle.brain_read.specs.declared.instr.Cond.TheVariants.{Friend, Foe, FriendWithFood, FoeWithFood, Food, Rock, Marker, FoeMarker, Home, FoeHome}
-
--- a cell's markers of this colour
-abbrev pub marks_of : Colour → Cell → Marks
-marks_of Red cell = cell.red
-marks_of Black cell = cell.black
 
 -- whether the ant, if there is one, carries food
 abbrev pub is_laden : Option Ant → Bool

@@ -4,6 +4,7 @@ use Rattle.hex_geometry.specs.declared.position.Pos.{Pos}
 use Rattle.hex_geometry.specs.Position.{IsInner, HasNeighbours}
 use Rattle.cell_world.specs.declared.ant.Ant.{Ant}
 use Rattle.cell_world.specs.declared.cell.Cell.{Cell}
+use Rattle.cell_world.specs.Limits.{most_weight}
 use Rattle.cell_world.specs.Valid.{Valid}
 use Rattle.cell_world.specs.World.{World}
 
@@ -15,4 +16,4 @@ pub record Stands (w : World) (p : Pos) (cell : Cell) (ant : Ant) : Type 0 where
   pub clear : cell.rocky ≡ false
   pub inner : IsInner w.width w.height p
   pub near : HasNeighbours p
-  pub light : cell.food ≤ 2340900
+  pub light : cell.food ≤ most_weight

@@ -1,7 +1,6 @@
 // Which cells meet a condition.
 ghost use Rattle.std.specs.Prelude.{◌≡◌};
 ghost use Rattle.hex_geometry.specs.Position.{IsInside};
-ghost use Rattle.cell_world.specs.Cell as a_cell;
 ghost use Rattle.cell_world.specs.Marks.{has_mark};
 ghost use Rattle.cell_world.specs.Valid.{Valid};
 ghost use Rattle.ant_turn.specs.Conditions as condition;
@@ -57,16 +56,16 @@ fn clear_meets(cell: &Cell, cond: Cond, colour: Colour) -> bool
     ensures { result ≡ condition.clear_meets cell.now cond colour }
 {
     match cond {
-        Cond::Friend => is_ant_of(cell, colour),
-        Cond::Foe => is_ant_of(cell, colour.foe()),
-        Cond::FriendWithFood => is_ant_of(cell, colour) && is_laden(cell),
-        Cond::FoeWithFood => is_ant_of(cell, colour.foe()) && is_laden(cell),
+        Cond::Friend => cell.has_ant_of(colour),
+        Cond::Foe => cell.has_ant_of(colour.foe()),
+        Cond::FriendWithFood => cell.has_ant_of(colour) && is_laden(cell),
+        Cond::FoeWithFood => cell.has_ant_of(colour.foe()) && is_laden(cell),
         Cond::Food => cell.food > 0,
         Cond::Rock => false,
-        Cond::Marker(mark) => is_marked(marks_of(cell, colour), mark),
-        Cond::FoeMarker => marks_of(cell, colour.foe()).any(),
-        Cond::Home => is_hill_of(cell, colour),
-        Cond::FoeHome => is_hill_of(cell, colour.foe()),
+        Cond::Marker(mark) => is_marked(cell.marks_of(colour), mark),
+        Cond::FoeMarker => cell.marks_of(colour.foe()).any(),
+        Cond::Home => cell.is_hill_of(colour),
+        Cond::FoeHome => cell.is_hill_of(colour.foe()),
     }
 }
 
@@ -78,17 +77,6 @@ fn is_marked(marks: Marks, mark: u8) -> bool
     mark < 6 && marks.has(mark)
 }
 
-// Whether an ant of this colour is on the cell.
-#[inline]
-pub(crate) fn is_ant_of(cell: &Cell, colour: Colour) -> bool
-    ensures { result ≡ a_cell.is_ant_of colour cell.now.ant }
-{
-    match cell.ant {
-        Some(ant) => colour == ant.colour,
-        None => false,
-    }
-}
-
 // Whether an ant that carries food is on the cell.
 #[inline]
 fn is_laden(cell: &Cell) -> bool
@@ -97,27 +85,5 @@ fn is_laden(cell: &Cell) -> bool
     match cell.ant {
         Some(ant) => ant.laden,
         None => false,
-    }
-}
-
-// Whether the cell is of this colour's hill.
-#[inline]
-fn is_hill_of(cell: &Cell, colour: Colour) -> bool
-    ensures { result ≡ a_cell.is_hill_of colour cell.now.hill }
-{
-    match cell.hill {
-        Some(other) => colour == other,
-        None => false,
-    }
-}
-
-// The cell's markers of this colour.
-#[inline]
-pub(crate) fn marks_of(cell: &Cell, colour: Colour) -> Marks
-    ensures { result ≡ condition.marks_of colour cell.now }
-{
-    match colour {
-        Colour::Red => cell.red,
-        Colour::Black => cell.black,
     }
 }

@@ -1,13 +1,13 @@
 // Surrounded ants, and what is left of them.
 ghost use Rattle.std.specs.Prelude.{◌≡◌, ◌+◌, ◌≤◌, ◌<◌, ◌++◌};
 ghost use Rattle.hex_geometry.specs.Position.{IsInside, IsInner};
+ghost use Rattle.cell_world.specs.Limits.{most_weight};
 ghost use Rattle.cell_world.specs.Valid.{Valid};
 ghost use Rattle.cell_world.specs.World.{with_cells};
 ghost use Rattle.arrayvec.specs.ArrayVec.{array_vec_len};
 ghost use Rattle.ant_turn.specs.Kills as kill;
 ghost use Rattle.ant_turn.specs.Sheet.{contest};
 
-use crate::conditions::is_ant_of;
 use arrayvec::ArrayVec;
 use cell_world::{Ant, Cell, Ground};
 use hex_geometry::{Pos, neighbours};
@@ -95,7 +95,7 @@ fn is_surrounded<G: Ground>(ground: &mut G, p: Pos, ant: &Ant) -> bool
     let mut gaps = 0;
     for q in around {
         let cell = ground.cell_at(q);
-        if !is_ant_of(&cell, foe) {
+        if !cell.has_ant_of(foe) {
             if gaps == GAPS {
                 return false;
             }
@@ -107,9 +107,10 @@ fn is_surrounded<G: Ground>(ground: &mut G, p: Pos, ant: &Ant) -> bool
 
 // The cell when its ant was killed.
 #[inline]
+#[tactic(auto, unfolding(cell_world::specs::Limits::most_weight))]
 fn after_kill(cell: &Cell, ant: &Ant) -> Cell
     requires here { cell.now.ant ≡ Some ant.now }
-    requires light { cell.now.food ≤ 2340900 }
+    requires light { cell.now.food ≤ most_weight }
     ensures { result ≡ kill.after_kill contest cell.now }
 {
     Cell {

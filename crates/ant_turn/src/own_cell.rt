@@ -1,9 +1,11 @@
 // Cells as an ant leaves them in its turn.
-ghost use Rattle.std.specs.Prelude.{◌≡◌, ◌<◌, ◌≤◌, ◌-◌, false, cond};
+ghost use Rattle.std.specs.Prelude.{◌≡◌, ◌<◌, ◌≤◌, ◌+◌, ◌-◌, ◌||◌, ◌==◌, if◌then◌else◌, Some, true, false};
+ghost use Rattle.hex_geometry.specs.Direction.{turned_by};
+ghost use Rattle.cell_world.specs.Cell.{one_if};
+ghost use Rattle.cell_world.specs.Limits.{most_weight};
 ghost use Rattle.ant_turn.specs.Sheet.{contest};
 ghost use Rattle.ant_turn.specs.Turn as turn;
 
-use brain_read::Instr;
 use cell_world::{Ant, Cell, Colour};
 use hex_geometry::{Side, turned};
 
@@ -33,7 +35,7 @@ fn with_ant(cell: &Cell, ant: Ant) -> Cell
 #[inline]
 pub(crate) fn rested(cell: &Cell, ant: Ant) -> Cell
     requires { 1 ≤ ant.resting }
-    ensures { result ≡ turn.rested cell.now ant (ant.resting - 1) }
+    ensures { result ≡ turn.with_ant cell.now (record ant { resting = ant.resting - 1 }) }
 {
     with_ant(
         cell,
@@ -47,7 +49,7 @@ pub(crate) fn rested(cell: &Cell, ant: Ant) -> Cell
 // The own cell after a Sense, a Flip or a blocked Move: the ant goes on in one of two states.
 #[inline]
 pub(crate) fn branched(cell: &Cell, ant: Ant, first: bool, met: u16, unmet: u16) -> Cell
-    ensures { result ≡ turn.with_ant cell.now (turn.in_state ant (cond first met unmet)) }
+    ensures { result ≡ turn.with_ant cell.now (turn.in_state ant (if first then met else unmet)) }
 {
     with_ant(cell, in_state(ant, if first { met } else { unmet }))
 }
@@ -56,7 +58,7 @@ pub(crate) fn branched(cell: &Cell, ant: Ant, first: bool, met: u16, unmet: u16)
 #[inline]
 pub(crate) fn marked(cell: &Cell, ant: Ant, mark: u8, next: u16) -> Cell
     requires { mark < 6 }
-    ensures { result ≡ turn.own_after (Instr.Mark mark next) cell.now ant false 0 }
+    ensures { result ≡ turn.with_ant (turn.marked cell.now ant.colour mark) (turn.in_state ant next) }
 {
     let ant_after = in_state(ant, next);
     match ant.colour {
@@ -77,7 +79,7 @@ pub(crate) fn marked(cell: &Cell, ant: Ant, mark: u8, next: u16) -> Cell
 #[inline]
 pub(crate) fn unmarked(cell: &Cell, ant: Ant, mark: u8, next: u16) -> Cell
     requires { mark < 6 }
-    ensures { result ≡ turn.own_after (Instr.Unmark mark next) cell.now ant false 0 }
+    ensures { result ≡ turn.with_ant (turn.unmarked cell.now ant.colour mark) (turn.in_state ant next) }
 {
     let ant_after = in_state(ant, next);
     match ant.colour {
@@ -97,7 +99,9 @@ pub(crate) fn unmarked(cell: &Cell, ant: Ant, mark: u8, next: u16) -> Cell
 // The own cell after a PickUp.
 #[inline]
 pub(crate) fn picked_up(cell: &Cell, ant: Ant, met: u16, unmet: u16) -> Cell
-    ensures { result ≡ turn.own_after (Instr.PickUp met unmet) cell.now ant false 0 }
+    ensures { result ≡ (if ant.laden || cell.now.food == 0
+        then turn.with_ant cell.now (turn.in_state ant unmet)
+        else record cell.now { food = cell.now.food - 1; ant = Some (record ant { laden = true; state = met }) }) }
 {
     if ant.laden || cell.food == 0 {
         return with_ant(cell, in_state(ant, unmet));
@@ -115,9 +119,10 @@ pub(crate) fn picked_up(cell: &Cell, ant: Ant, met: u16, unmet: u16) -> Cell
 
 // The own cell after a Drop.
 #[inline]
+#[tactic(auto, unfolding(cell_world::specs::Limits::most_weight))]
 pub(crate) fn dropped(cell: &Cell, ant: Ant, next: u16) -> Cell
-    requires { cell.now.food ≤ 2340900 }
-    ensures { result ≡ turn.own_after (Instr.Drop next) cell.now ant false 0 }
+    requires { cell.now.food ≤ most_weight }
+    ensures { result ≡ record cell.now { food = cell.now.food + one_if ant.laden; ant = Some (record ant { laden = false; state = next }) } }
 {
     Cell {
         food: cell.food + u32::from(ant.laden),
@@ -133,7 +138,7 @@ pub(crate) fn dropped(cell: &Cell, ant: Ant, next: u16) -> Cell
 // The own cell after a Turn.
 #[inline]
 pub(crate) fn faced(cell: &Cell, ant: Ant, side: Side, next: u16) -> Cell
-    ensures { result ≡ turn.own_after (Instr.Turn side next) cell.now ant false 0 }
+    ensures { result ≡ turn.with_ant cell.now (record ant { facing = turned_by ant.facing side; state = next }) }
 {
     with_ant(
         cell,
@@ -145,7 +150,7 @@ pub(crate) fn faced(cell: &Cell, ant: Ant, side: Side, next: u16) -> Cell
     )
 }
 
-// Whether nothing can move onto the cell: it is rocky or holds an ant.
+// Whether no ant can move onto the cell: it is rocky or holds an ant.
 #[inline]
 pub(crate) fn is_blocked(cell: &Cell) -> bool
     ensures { result ≡ turn.is_blocked cell.now }

@@ -74,9 +74,10 @@ fn step<G: Ground>(
     requires there { there.now ≡ (G.world ground.old).cells q }
     requires free { turn.is_blocked there.now ≡ false }
     requires room { 9 ≤ G.room ground.old }
-    ensures world { G.world ground.new ≡ with_cells (G.world ground.old) (turn.goes contest (G.world ground.old).cells p ant q next).cells }
+    ensures world { G.world ground.new ≡ with_cells (G.world ground.old)
+        (turn.checked contest (turn.stepped contest (G.world ground.old).cells p ant q next) q).cells }
     ensures drew { result.drew ≡ false }
-    ensures killed { result.killed.items ≡ (turn.goes contest (G.world ground.old).cells p ant q next).killed }
+    ensures killed { result.killed.items ≡ (turn.checked contest (turn.stepped contest (G.world ground.old).cells p ant q next) q).killed }
     ensures room { G.room ground.old ≤ G.room ground.new + 9 }
     ensures valid { Valid (G.world ground.new) }
 {

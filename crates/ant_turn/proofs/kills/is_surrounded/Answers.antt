@@ -25,7 +25,7 @@ returns-then-gaps-eq-GAPS-clause-surrounded g c =
     let w = g.G.Ground.world c.args.ground.now in
     let ns = neighbours_of c.args.p in
     let gap : is_ant_of c.foe-foe.result (w.cells (slice_index_or ns c.loop-q.q-index (record { x = 0; y = 0 }))).ant ≡ false =
-    rw (← c.loop-q.invariant.world, ← c.neighbours-around.ensures, ← c.cell_at-cell.ensures.content, ← c.is_ant_of.ensures) c.if-not-is_ant_of.true in
+    rw (← c.loop-q.invariant.world, ← c.neighbours-around.ensures, ← c.cell_at-cell.ensures.content, ← c.has_ant_of.ensures) c.if-not-has_ant_of.true in
     let count : ants_among w.cells c.foe-foe.result (drop c.loop-q.q-index ns) + c.loop-q.q-index ≡ ants_among w.cells c.foe-foe.result ns + 1 = omega (arith, c.loop-q.invariant.count, c.if-gaps-eq-GAPS.true) in
     let few : nat_le 5 (ants_among w.cells (foe_of c.args.ant.now.colour) ns) ≡ false =
     rw (← c.foe-foe.ensures) (ants_among-few w.cells c.foe-foe.result c.args.p c.loop-q.q-index _ c.loop-q-test.true count gap) in

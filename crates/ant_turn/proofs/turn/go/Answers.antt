@@ -1,7 +1,6 @@
 -- the cell ahead is inside, and a Move that doesn't go changes the own cell alone
-use Rattle.std.proofs.Common.{false}
 use Rattle.hex_geometry.proofs.Beside.{adjacent_pos_inside}
-use Rattle.brain_read.specs.declared.instr.Instr.TheVariants.{Move}
+use Rattle.ant_turn.proofs.OwnCells.{move_stays}
 use Rattle.ant_turn.proofs.Standing.{own_replaces}
 use Rattle.ant_turn.proofs.turn.go.Goals as goal
 
@@ -10,4 +9,4 @@ cell_at-there-requires g c = rw c.adjacent-ahead.ensures.neighbour (adjacent_pos
 
 pub stay-requires-clause-replaces : goal.stay-requires-clause-replaces
 stay-requires-clause-replaces g c =
-    rw c.cell_at-there.ensures.world (own_replaces c.requires.stands (Move c.args.met c.args.unmet) false 0 c.branched.result c.branched.ensures)
+    rw c.cell_at-there.ensures.world (own_replaces c.requires.stands c.branched.result c.branched.ensures (move_stays c.args.cell.now c.args.ant c.args.met c.args.unmet))

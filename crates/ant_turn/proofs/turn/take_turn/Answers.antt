@@ -5,11 +5,13 @@ use Rattle.cell_world.specs.Valid.{Valid}
 use Rattle.cell_world.specs.World.{World, with_cells}
 use Rattle.cell_world.proofs.Places.{place_in-inside}
 use Rattle.ant_random.specs.Stream.{SeedAndPlace}
+use Rattle.brain_read.specs.declared.instr.Instr.TheVariants.{Drop}
 use Rattle.ant_turn.specs.Minds.{minds_of, mind_of}
 use Rattle.ant_turn.specs.Sheet.{contest}
-use Rattle.ant_turn.specs.Turn.{rests, execute}
-use Rattle.ant_turn.proofs.KeptByTurns.{Keeps-rests, Keeps-execute}
-use Rattle.ant_turn.proofs.Standing.{Stands-there, stands_clear, rest_replaces}
+use Rattle.ant_turn.specs.Turn.{ant_becomes, execute, with_ant}
+use Rattle.ant_turn.proofs.KeptByTurns.{Keeps-stays, Keeps-execute}
+use Rattle.ant_turn.proofs.OwnCells.{rest_stays}
+use Rattle.ant_turn.proofs.Standing.{Stands-there, stands_clear, own_replaces}
 use Rattle.ant_turn.proofs.Turns.{turn-dead, turn-empty, turn-rests, turn-executes}
 use Rattle.ant_turn.proofs.turn.take_turn.Goals as goal
 
@@ -59,8 +61,8 @@ stay-requires-clause-clear g c =
 
 pub stay-requires-clause-replaces : goal.stay-requires-clause-replaces
 stay-requires-clause-replaces g c =
-    rest_replaces (Stands-there _ c.in-Some.p c.cell_at-cell.result c.in-Some-ant.ant c.cell_at-cell.ensures.valid (rw c.cell_at-cell.ensures.world c.cell_at-cell.ensures.content) c.in-Some-ant.is)
-    (c.in-Some-ant.ant.resting - 1) c.rested.result c.rested.ensures
+    own_replaces (Stands-there _ c.in-Some.p c.cell_at-cell.result c.in-Some-ant.ant c.cell_at-cell.ensures.valid (rw c.cell_at-cell.ensures.world c.cell_at-cell.ensures.content) c.in-Some-ant.is)
+    c.rested.result c.rested.ensures (rest_stays (Drop 0) c.cell_at-cell.result c.in-Some-ant.ant (c.in-Some-ant.ant.resting - 1))
 
 pub returns-then-ant-gt0 : goal.returns-then-ant-gt0
 returns-then-ant-gt0 g c =
@@ -73,9 +75,10 @@ returns-then-ant-gt0 g c =
     let holds : (w.cells p).ant ≡ Some ant = ap (λ (cell : Cell). cell.ant) (sym here) ∙ c.in-Some-ant.is in
     let less : ant.resting ≡ ant.resting - 1 + 1 = omega (arith, c.if-ant-gt0.true) in
     let tired = turn-rests (minds_of c.args.brains) s.seed w s.place c.args.id p ant (ant.resting - 1) (sym c.place_of.ensures.place ∙ c.in-Some.is) holds less in
-    let now : g.G.Ground.world c.stay.new.ground ≡ with_cells w (rests w.cells p ant (ant.resting - 1)).cells =
+    let now : g.G.Ground.world c.stay.new.ground ≡ with_cells w (ant_becomes w.cells p (record ant { resting = ant.resting - 1 })).cells =
     rw (c.stay.ensures.world, same, c.rested.ensures, here) refl in
-    let kept = Keeps-rests (minds_of c.args.brains) w p ant (ant.resting - 1) (subst Valid same c.cell_at-cell.ensures.valid) c.requires.fit holds in
+    let kept = Keeps-stays (minds_of c.args.brains) w p ant (Drop 0) (with_ant (w.cells p) (record ant { resting = ant.resting - 1 })) (subst Valid same c.cell_at-cell.ensures.valid) c.requires.fit holds
+    (omega (arith, c.requires.fit.below p ant holds)) (rest_stays (Drop 0) (w.cells p) ant (ant.resting - 1)) in
     record {
       world = rw tired now;
       stream = rw tired (undrawn s);
