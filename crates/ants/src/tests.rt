@@ -1,4 +1,4 @@
-// What no clause says: that commands succeed, and the exact bytes that they write.
+// What no clause says: that commands succeed, and the exact bytes that they write. Each file has tables of cases, and a loop for each.
 mod brains;
 mod outside;
 mod runs;
@@ -9,6 +9,7 @@ use crate::run::run_ants;
 use crate::status::Status;
 use ant_base::{Calls, Files, MemShelf, MemSink, NoGate};
 use std::alloc::Global;
+use std::process::Abort;
 use std::test::Fail;
 use std::thread::Threads;
 
@@ -18,59 +19,43 @@ const ROOM: u64 = 2000000;
 // One red ant between rocks.
 const CLOSED: &str = "3\n3\n# # #\n # + #\n# # #\n";
 
-// A red ant with an open cell before it.
-const OPEN: &str = "4\n3\n# # # #\n # + . #\n# # # #\n";
-
-// A red ant before a cell with one food particle.
-const FED: &str = "4\n3\n# # # #\n # + 1 #\n# # # #\n";
-
-// Two red ants and a black one in a row.
-const ROW: &str = "5\n3\n# # # # #\n # + + - #\n# # # # #\n";
-
-// A red ant among six black ones.
-const SURROUNDED: &str = "5\n5\n# # # # #\n # - - . #\n# - + - #\n # - - . #\n# # # # #\n";
-
 // A red ant among four black ones, a fifth about to come.
 const CLOSING: &str =
     "7\n6\n# # # # # # #\n # . . . . . #\n# . . - # . #\n # - . + - # #\n# + . - - # #\n # # # # # # #\n";
 
-// A black ant among four red ones, beside a red ant among five black ones; a red ant is about to stand beside both.
-const NEIGHBOURS: &str =
-    "6\n6\n# # # # # #\n # . + + # #\n# + . - + #\n # - + - . #\n# . - - . #\n # # # # # #\n";
-
-// No hill, no ant.
-const EMPTY: &str = "4\n4\n# # # #\n # . . #\n# . . #\n # # # #\n";
-
-// What came of a command: how it ended, and what it wrote to out and to err.
-#[derive(Drop)]
-struct Outcome {
-    status: Status,
-    out: String,
-    err: String,
-}
-
-impl Outcome {
-    // The parts, to be compared.
-    fn parts(&self) -> (Status, &str, &str) {
-        (self.status, self.out.as_str(), self.err.as_str())
-    }
-}
-
-// What fails outside of a command: fetches and pushes to out by their numbers, and what is beyond the room of out and of err.
+// A command over a world in the files w and -, a red brain in r and a black one in b; the fetch and the push to out that fail, if there
+// are calls of these numbers; and the room of out and of err, in bytes.
 #[derive(Clone, Copy)]
-struct Faults<'f> {
-    fetches: &'f [u64],
-    pushes: &'f [u64],
+struct Job<'t> {
+    line: &'t str,
+    world: &'t str,
+    red: &'t str,
+    black: &'t str,
+    failing_fetch: u64,
+    failing_push: u64,
     room: u64,
     err_room: u64,
 }
 
-const NO_FAULTS: Faults<'static> = Faults {
-    fetches: &[],
-    pushes: &[],
+// No words and empty files; nothing fails.
+const NO_JOB: Job<'static> = Job {
+    line: "",
+    world: "",
+    red: "",
+    black: "",
+    failing_fetch: 0,
+    failing_push: 0,
     room: ROOM,
     err_room: ROOM,
 };
+
+// What came of a command.
+#[derive(Drop)]
+struct Outcome {
+    status: Status,
+    out: MemSink,
+    err: MemSink,
+}
 
 // The words of a line, which has one space between them.
 fn split(alloc: Global, line: &str) -> Result<Vec<String>, Fail> {
@@ -81,64 +66,57 @@ fn split(alloc: Global, line: &str) -> Result<Vec<String>, Fail> {
     Ok(words)
 }
 
-// A list of call numbers.
-fn calls(alloc: Global, numbers: &[u64]) -> Result<Calls, Fail> {
+// A list of one call number.
+fn only(alloc: Global, number: u64) -> Result<Calls, Fail> {
     let mut calls = Calls::new(alloc);
-    for number in numbers {
-        calls.add(*number)?;
-    }
+    calls.add(number)?;
     Ok(calls)
 }
 
-// A list of names with bytes.
-fn files(alloc: Global, contents: &[(&str, &[u8])]) -> Result<Files, Fail> {
+// The files of a command.
+fn files_of(alloc: Global, job: &Job<'_>) -> Result<Files, Fail> {
     let mut files = Files::new(alloc);
-    for (name, bytes) in contents {
-        files.add(name, bytes)?;
+    for (name, text) in [
+        ("w", job.world),
+        ("-", job.world),
+        ("r", job.red),
+        ("b", job.black),
+    ] {
+        files.add(name, text.as_bytes())?;
     }
     Ok(files)
 }
 
-// The text that a sink holds.
-fn text(alloc: Global, sink: &MemSink) -> Result<String, Fail> {
-    Ok(String::from_str(alloc, str::from_utf8(sink.held())?)?)
-}
-
-// What the command of this line answers over these files, with these faults.
-fn answer_under<R: Threads + Sync>(
-    rt: &R,
-    alloc: Global,
-    line: &str,
-    contents: &[(&str, &[u8])],
-    faults: Faults<'_>,
-) -> Result<Outcome, Fail> {
-    let words = split(alloc, line)?;
-    let mut shelf = MemShelf::new(files(alloc, contents)?, calls(alloc, faults.fetches)?);
-    let mut out = MemSink::with_room(alloc, faults.room, calls(alloc, faults.pushes)?)?;
-    let mut err = MemSink::with_room(alloc, faults.err_room, Calls::new(alloc))?;
+// Carries out a command.
+fn answer<R: Threads + Sync>(rt: &R, alloc: Global, job: &Job<'_>) -> Result<Outcome, Fail> {
+    let words = split(alloc, job.line)?;
+    let files = files_of(alloc, job)?;
+    let mut shelf = MemShelf::new(files, only(alloc, job.failing_fetch)?);
+    let mut out = MemSink::with_room(alloc, job.room, only(alloc, job.failing_push)?)?;
+    let mut err = MemSink::with_room(alloc, job.err_room, Calls::new(alloc))?;
     let status = run_ants(rt, alloc, &words, &mut shelf, &mut out, &mut err, &NoGate);
-    Ok(Outcome {
-        status,
-        out: text(alloc, &out)?,
-        err: text(alloc, &err)?,
-    })
+    Ok(Outcome { status, out, err })
 }
 
-// What the command of this line answers over these files.
-fn answer<R: Threads + Sync>(
+// Asserts what comes of a command.
+fn check<R: Threads + Sync + Abort>(
     rt: &R,
     alloc: Global,
-    line: &str,
-    contents: &[(&str, &[u8])],
-) -> Result<Outcome, Fail> {
-    answer_under(rt, alloc, line, contents, NO_FAULTS)
-}
-
-// The files of a game: the world w, the red brain r and the black brain b.
-fn game<'t>(world: &'t str, red: &'t str, black: &'t str) -> [(&'static str, &'t [u8]); 3] {
-    [
-        ("w", world.as_bytes()),
-        ("r", red.as_bytes()),
-        ("b", black.as_bytes()),
-    ]
+    job: &Job<'_>,
+    status: Status,
+    out: &str,
+    err: &str,
+) -> Result<(), Fail> {
+    let outcome = answer(rt, alloc, job)?;
+    let shown = str::from_utf8(outcome.out.held())?;
+    let told = str::from_utf8(outcome.err.held())?;
+    assert_eq!(rt;
+        (outcome.status, shown, told),
+        (status, out, err),
+        "at {}, {:?}, {:?}",
+        job.line,
+        job.world,
+        job.red
+    );
+    Ok(())
 }

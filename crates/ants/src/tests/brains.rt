@@ -1,6 +1,6 @@
 // The command `brain`.
 use crate::status::Status;
-use crate::tests::answer;
+use crate::tests::{Job, NO_JOB, check};
 use std::test::Fail;
 
 // The sample brain of the contest's task.
@@ -21,90 +21,112 @@ const SAMPLE: &str = "Sense Ahead 1 3 Food\n\
     Turn Right 8\n\
     Move 8 11\n";
 
+// Brains, and how each is printed.
+const PRINTED: [(&str, &str); 4] = [
+    (SAMPLE, SAMPLE),
+    (
+        "sense ahead 001 1 FOOD ; look\r\n\n; none\n\tdRoP 0",
+        "Sense Ahead 1 1 Food\nDrop 0\n",
+    ),
+    (
+        "sense HERE 0 0 marker 5\nmark 0 0\nUNMARK 1 0\nflip 4294967295 0 0",
+        "Sense Here 0 0 Marker 5\nMark 0 0\nUnmark 1 0\nFlip 4294967295 0 0\n",
+    ),
+    (
+        "SENSE leftahead 0 0 friendwithfood\nsense RightAhead 0 0 FOEMARKER",
+        "Sense LeftAhead 0 0 FriendWithFood\nSense RightAhead 0 0 FoeMarker\n",
+    ),
+];
+
+// Texts that are no brain, and the line that names the first fault of each.
+const REFUSED: [(&str, &str); 20] = [
+    (
+        "Drop 0\nDrop 5\nDrop 0\nDrop 0\nDrop 0\n",
+        "ants: b: line 2: no such state 5\n",
+    ),
+    ("Flip 0 0 0", "ants: b: line 1: bad number\n"),
+    ("Drop 0 0", "ants: b: line 1: extra token\n"),
+    ("Move 0", "ants: b: line 1: missing token\n"),
+    ("Jump 0", "ants: b: line 1: unknown word\n"),
+    ("", "ants: b: no instruction\n"),
+    ("; none\n \t\r\n", "ants: b: no instruction\n"),
+    ("M", "ants: b: line 1: unknown word\n"),
+    ("Mo", "ants: b: line 1: unknown word\n"),
+    ("Mov", "ants: b: line 1: unknown word\n"),
+    ("Move", "ants: b: line 1: missing token\n"),
+    ("Drop 99999999999", "ants: b: line 1: bad number\n"),
+    (
+        "Drop 9999999999",
+        "ants: b: line 1: no such state 9999999999\n",
+    ),
+    ("Flip 4294967296 0 0", "ants: b: line 1: bad number\n"),
+    ("Mark 6 0", "ants: b: line 1: bad number\n"),
+    ("Sense Here 0 0 Marker 6", "ants: b: line 1: bad number\n"),
+    ("Sense Here 0 0 Marker", "ants: b: line 1: missing token\n"),
+    ("Drop \u{e4}", "ants: b: line 1: bad byte\n"),
+    ("Drop 0 0\u{e4}", "ants: b: line 1: bad byte\n"),
+    ("Drop x \u{e4}", "ants: b: line 1: bad number\n"),
+];
+
 #[test]
 fn a_brain_is_printed_in_one_spelling(rt: HostRuntime) -> Result<(), Fail> {
-    for (brain, text) in [
-        (SAMPLE, SAMPLE),
-        (
-            "sense ahead 001 1 FOOD ; look\r\n\n; none\n\tdRoP 0",
-            "Sense Ahead 1 1 Food\nDrop 0\n",
-        ),
-        (
-            "sense HERE 0 0 marker 5\nmark 0 0\nUNMARK 1 0\nflip 4294967295 0 0",
-            "Sense Here 0 0 Marker 5\nMark 0 0\nUnmark 1 0\nFlip 4294967295 0 0\n",
-        ),
-        (
-            "SENSE leftahead 0 0 friendwithfood\nsense RightAhead 0 0 FOEMARKER",
-            "Sense LeftAhead 0 0 FriendWithFood\nSense RightAhead 0 0 FoeMarker\n",
-        ),
-    ] {
-        let answer = answer(&rt, rt.alloc(), "brain b", &[("b", brain.as_bytes())])?;
-        assert_eq!(rt; answer.parts(), (Status::Done, text, ""), "at {brain:?}");
+    for (black, text) in PRINTED {
+        let job = Job {
+            line: "brain b",
+            black,
+            ..NO_JOB
+        };
+        check(&rt, rt.alloc(), &job, Status::Done, text, "")?;
     }
     Ok(())
 }
 
 #[test]
 fn a_brain_at_fault_is_named_with_its_first_fault(rt: HostRuntime) -> Result<(), Fail> {
-    for (brain, line) in [
-        (
-            "Drop 0\nDrop 5\nDrop 0\nDrop 0\nDrop 0\n",
-            "ants: b: line 2: no such state 5\n",
-        ),
-        ("Flip 0 0 0", "ants: b: line 1: bad number\n"),
-        ("Drop 0 0", "ants: b: line 1: extra token\n"),
-        ("Move 0", "ants: b: line 1: missing token\n"),
-        ("Jump 0", "ants: b: line 1: unknown word\n"),
-        ("", "ants: b: no instruction\n"),
-        ("; none\n \t\r\n", "ants: b: no instruction\n"),
-        ("M", "ants: b: line 1: unknown word\n"),
-        ("Mo", "ants: b: line 1: unknown word\n"),
-        ("Mov", "ants: b: line 1: unknown word\n"),
-        ("Move", "ants: b: line 1: missing token\n"),
-        ("Drop 99999999999", "ants: b: line 1: bad number\n"),
-        (
-            "Drop 9999999999",
-            "ants: b: line 1: no such state 9999999999\n",
-        ),
-        ("Flip 4294967296 0 0", "ants: b: line 1: bad number\n"),
-        ("Mark 6 0", "ants: b: line 1: bad number\n"),
-        ("Sense Here 0 0 Marker 6", "ants: b: line 1: bad number\n"),
-        ("Sense Here 0 0 Marker", "ants: b: line 1: missing token\n"),
-    ] {
-        let answer = answer(&rt, rt.alloc(), "brain b", &[("b", brain.as_bytes())])?;
-        assert_eq!(rt; answer.parts(), (Status::Input, "", line), "at {brain:?}");
-    }
-    for (brain, line) in [
-        (b"Drop \x80".as_slice(), "ants: b: line 1: bad byte\n"),
-        (b"Drop 0 0\x80".as_slice(), "ants: b: line 1: bad byte\n"),
-        (b"Drop x \x80".as_slice(), "ants: b: line 1: bad number\n"),
-    ] {
-        let answer = answer(&rt, rt.alloc(), "brain b", &[("b", brain)])?;
-        assert_eq!(rt; answer.parts(), (Status::Input, "", line), "at {brain:?}");
+    for (black, err) in REFUSED {
+        let job = Job {
+            line: "brain b",
+            black,
+            ..NO_JOB
+        };
+        check(&rt, rt.alloc(), &job, Status::Input, "", err)?;
     }
     Ok(())
 }
 
 #[test]
-fn a_brain_has_up_to_10000_instructions_and_4194304_bytes(rt: HostRuntime) -> Result<(), Fail> {
-    let mut lines = "Drop 9999\n".repeat(rt.alloc(), 10000)?;
-    let answered = answer(&rt, rt.alloc(), "brain b", &[("b", lines.as_bytes())])?;
-    assert_eq!(rt; answered.parts(), (Status::Done, lines.as_str(), ""));
-    lines.push_str("Drop 9999\n")?;
-    let answered = answer(&rt, rt.alloc(), "brain b", &[("b", lines.as_bytes())])?;
-    let line = "ants: b: line 10001: too many instructions\n";
-    assert_eq!(rt; answered.parts(), (Status::Input, "", line));
+fn a_brain_has_up_to_10000_instructions(rt: HostRuntime) -> Result<(), Fail> {
+    let most = "Drop 9999\n".repeat(rt.alloc(), 10000)?;
+    let more = "Drop 9999\n".repeat(rt.alloc(), 10001)?;
+    let full = "ants: b: line 10001: too many instructions\n";
+    for (black, status, text, err) in [
+        (&most, Status::Done, most.as_str(), ""),
+        (&more, Status::Input, "", full),
+    ] {
+        let job = Job {
+            line: "brain b",
+            black,
+            ..NO_JOB
+        };
+        check(&rt, rt.alloc(), &job, status, text, err)?;
+    }
+    Ok(())
+}
 
-    let mut padded = b"Drop 0 ;".to_vec(rt.alloc())?;
-    padded.extend_from_slice(" ".repeat(rt.alloc(), 4194296)?.as_bytes())?;
-    assert_eq!(rt; padded.len(), 4194304);
-    let answered = answer(&rt, rt.alloc(), "brain b", &[("b", &padded)])?;
-    assert_eq!(rt; answered.parts(), (Status::Done, "Drop 0\n", ""));
-    padded.push(b' ')?;
-    let answered = answer(&rt, rt.alloc(), "brain b", &[("b", &padded)])?;
-    assert_eq!(rt;
-        answered.parts(),
-        (Status::Input, "", "ants: b: too long\n")
-    );
+#[test]
+fn a_file_has_up_to_4194304_bytes(rt: HostRuntime) -> Result<(), Fail> {
+    let longest = " ".repeat(rt.alloc(), 4194298)?;
+    for (start, status, text, err) in [
+        ("Drop 0", Status::Done, "Drop 0\n", ""),
+        ("Drop 0 ", Status::Input, "", "ants: b: too long\n"),
+    ] {
+        let black = format!(in rt.alloc(); "{start}{longest}")?;
+        let job = Job {
+            line: "brain b",
+            black: &black,
+            ..NO_JOB
+        };
+        check(&rt, rt.alloc(), &job, status, text, err)?;
+    }
     Ok(())
 }

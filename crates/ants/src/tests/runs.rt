@@ -1,7 +1,26 @@
 // The command `run`.
 use crate::status::Status;
-use crate::tests::{CLOSED, CLOSING, EMPTY, FED, NEIGHBOURS, OPEN, ROW, SURROUNDED, answer, game};
+use crate::tests::{CLOSED, CLOSING, Job, NO_JOB, answer, check};
 use std::test::Fail;
+
+// A red ant with an open cell before it.
+const OPEN: &str = "4\n3\n# # # #\n # + . #\n# # # #\n";
+
+// A red ant before a cell with one food particle.
+const FED: &str = "4\n3\n# # # #\n # + 1 #\n# # # #\n";
+
+// Two red ants and a black one in a row.
+const ROW: &str = "5\n3\n# # # # #\n # + + - #\n# # # # #\n";
+
+// A red ant among six black ones.
+const SURROUNDED: &str = "5\n5\n# # # # #\n # - - . #\n# - + - #\n # - - . #\n# # # # #\n";
+
+// A black ant among four red ones, beside a red ant among five black ones; a red ant is about to stand beside both.
+const NEIGHBOURS: &str =
+    "6\n6\n# # # # # #\n # . + + # #\n# + . - + #\n # - + - . #\n# . - - . #\n # # # # # #\n";
+
+// No hill, no ant.
+const EMPTY: &str = "4\n4\n# # # #\n # . . #\n# . . #\n # # # #\n";
 
 // A red ant dies after a black one's move: one round of `CLOSING` with the seed 12345, red `Flip 2 0 0`, black `Move 0 0`.
 pub const KILLED: &str = "random seed: 12345\n\
@@ -82,36 +101,164 @@ const TURNED: &str = "random seed: 12345\n\
 // The seed 7, no dump and no food on a hill.
 pub const UNPLAYED: &str = "random seed: 7\n\nscore: red 0 black 0\n";
 
+// Words of a game, its world, the brain of both colours, and its text.
+const PRINTED: [(&str, &str, &str, &str); 6] = [
+    (
+        "run w r b --seed 12345 --rounds 1 --dump 0,1",
+        CLOSED,
+        "Turn Left 0",
+        TURNED,
+    ),
+    (
+        "run w r b --dump all --rounds 1 --seed 12345",
+        CLOSED,
+        "Turn Left 0",
+        TURNED,
+    ),
+    (
+        "run w r b --rounds 1 --dump 9,1,0,1 --seed 12345",
+        CLOSED,
+        "Turn Left 0",
+        TURNED,
+    ),
+    ("run w r b --seed 7 --rounds 0", CLOSED, "Drop 0", UNPLAYED),
+    (
+        "run w r b --seed 7 --rounds 0 --dump none",
+        CLOSED,
+        "Drop 0",
+        UNPLAYED,
+    ),
+    ("run w r b --seed 7 --rounds 5", EMPTY, "Drop 0", UNPLAYED),
+];
+
 #[test]
 fn a_run_prints_its_seed_its_dumps_and_its_score(rt: HostRuntime) -> Result<(), Fail> {
-    let turning = game(CLOSED, "Turn Left 0", "Turn Left 0");
-    for line in [
-        "run w r b --seed 12345 --rounds 1 --dump 0,1",
-        "run w r b --dump all --rounds 1 --seed 12345",
-        "run w r b --rounds 1 --dump 9,1,0,1 --seed 12345",
-    ] {
-        let answer = answer(&rt, rt.alloc(), line, &turning)?;
-        assert_eq!(rt; answer.parts(), (Status::Done, TURNED, ""), "at {line}");
+    for (line, world, brain, text) in PRINTED {
+        let job = Job {
+            line,
+            world,
+            red: brain,
+            black: brain,
+            ..NO_JOB
+        };
+        check(&rt, rt.alloc(), &job, Status::Done, text, "")?;
     }
-    for (line, world) in [
-        ("run w r b --seed 7 --rounds 0", CLOSED),
-        ("run w r b --seed 7 --rounds 0 --dump none", CLOSED),
-        ("run w r b --seed 7 --rounds 5", EMPTY),
-    ] {
-        let answer = answer(&rt, rt.alloc(), line, &game(world, "Drop 0", "Drop 0"))?;
-        assert_eq!(rt; answer.parts(), (Status::Done, UNPLAYED, ""), "at {line}");
-    }
-    let killing = game(CLOSING, "Flip 2 0 0", "Move 0 0");
-    let line = "run w r b --seed 12345 --rounds 1 --dump 1";
-    let answer = answer(&rt, rt.alloc(), line, &killing)?;
-    assert_eq!(rt; answer.parts(), (Status::Done, KILLED, ""));
     Ok(())
 }
+
+#[test]
+fn a_surrounded_ant_dies_after_a_foes_move(rt: HostRuntime) -> Result<(), Fail> {
+    let job = Job {
+        line: "run w r b --seed 12345 --rounds 1 --dump 1",
+        world: CLOSING,
+        red: "Flip 2 0 0",
+        black: "Move 0 0",
+        ..NO_JOB
+    };
+    check(&rt, rt.alloc(), &job, Status::Done, KILLED, "")
+}
+
+// A game, lines of its text in their order, others between them, and the end of its text.
+#[derive(Clone, Copy)]
+struct Game {
+    line: &'static str,
+    world: &'static str,
+    red: &'static str,
+    black: &'static str,
+    lines: &'static str,
+    score: &'static str,
+}
+
+const GAMES: [Game; 7] = [
+    Game {
+        line: "run w r b --seed 1 --rounds 16 --dump 1,15,16",
+        world: OPEN,
+        red: "Move 0 0",
+        black: "Move 0 0",
+        lines: "After round 1...\n\
+                cell (1, 1): red hill; \n\
+                cell (2, 1): red ant of id 0, dir 0, food 0, state 0, resting 14\n\
+                After round 15...\n\
+                cell (1, 1): red hill; \n\
+                cell (2, 1): red ant of id 0, dir 0, food 0, state 0, resting 0\n\
+                After round 16...\n\
+                cell (1, 1): red hill; \n\
+                cell (2, 1): red ant of id 0, dir 0, food 0, state 0, resting 0\n",
+        score: "\n\nscore: red 0 black 0\n",
+    },
+    Game {
+        line: "run w r b --seed 12345 --rounds 1 --dump 1",
+        world: CLOSED,
+        red: "Flip 3 1 2\nDrop 1\nDrop 2\n",
+        black: "Flip 3 1 2\nDrop 1\nDrop 2\n",
+        lines: "After round 1...\n\
+                cell (1, 1): red hill; red ant of id 0, dir 0, food 0, state 2, resting 0\n",
+        score: "\n\nscore: red 0 black 0\n",
+    },
+    Game {
+        line: "run w r b --seed 12345 --rounds 1 --dump 1",
+        world: ROW,
+        red: "Flip 1 0 0",
+        black: "Flip 3 1 2\nDrop 1\nDrop 2\n",
+        lines: "After round 1...\n\
+                cell (1, 1): red hill; red ant of id 0, dir 0, food 0, state 0, resting 0\n\
+                cell (2, 1): red hill; red ant of id 1, dir 0, food 0, state 0, resting 0\n\
+                cell (3, 1): black hill; black ant of id 2, dir 0, food 0, state 1, resting 0\n",
+        score: "\n\nscore: red 0 black 0\n",
+    },
+    Game {
+        line: "run w r b --seed 1 --rounds 5 --dump 5",
+        world: SURROUNDED,
+        red: "Drop 0",
+        black: "Drop 0",
+        lines: "After round 5...\n\
+                cell (2, 2): red hill; red ant of id 3, dir 0, food 0, state 0, resting 0\n",
+        score: "\n\nscore: red 0 black 0\n",
+    },
+    Game {
+        line: "run w r b --seed 1 --rounds 19 --dump 16,17,18,19",
+        world: FED,
+        red: "Move 1 0\nPickUp 2 3\nPickUp 0 3\nDrop 4\nDrop 4\n",
+        black: "Drop 0",
+        lines: "After round 16...\n\
+                cell (2, 1): red ant of id 0, dir 0, food 1, state 2, resting 0\n\
+                After round 17...\n\
+                cell (2, 1): red ant of id 0, dir 0, food 1, state 3, resting 0\n\
+                After round 18...\n\
+                cell (2, 1): 1 food; red ant of id 0, dir 0, food 0, state 4, resting 0\n\
+                After round 19...\n\
+                cell (2, 1): 1 food; red ant of id 0, dir 0, food 0, state 4, resting 0\n",
+        score: "\n\nscore: red 0 black 0\n",
+    },
+    Game {
+        line: "run w r b --seed 1 --rounds 1 --dump 1",
+        world: NEIGHBOURS,
+        red: "Move 0 0",
+        black: "Drop 0",
+        lines: "After round 1...\n\
+                cell (1, 2): red hill; \n\
+                cell (2, 2): red ant of id 2, dir 0, food 0, state 0, resting 14\n\
+                cell (3, 2): 3 food; black hill; \n\
+                cell (2, 3): red hill; red ant of id 6, dir 0, food 0, state 0, resting 0\n",
+        score: "\n\nscore: red 0 black 3\n",
+    },
+    Game {
+        line: "run w r b --seed 1 --rounds 3 --dump 2,3",
+        world: CLOSED,
+        red: "Mark 3 1\nMark 0 2\nUnmark 3 2\n",
+        black: "Mark 3 1\nMark 0 2\nUnmark 3 2\n",
+        lines: "After round 2...\n\
+                cell (1, 1): red hill; red marks: 03; red ant of id 0, dir 0, food 0, state 2, resting 0\n\
+                After round 3...\n\
+                cell (1, 1): red hill; red marks: 0; red ant of id 0, dir 0, food 0, state 2, resting 0\n",
+        score: "\n\nscore: red 0 black 0\n",
+    },
+];
 
 // Whether the lines of `wanted` are lines of `text`, in this order, others between them.
 fn has_lines(text: &str, wanted: &str) -> bool {
     let mut lines = text.split('\n');
-    for line in wanted.split('\n') {
+    for line in wanted.split_terminator('\n') {
         if !lines.any(|other| other == line) {
             return false;
         }
@@ -121,107 +268,27 @@ fn has_lines(text: &str, wanted: &str) -> bool {
 
 #[test]
 fn a_run_follows_the_rules_of_the_world(rt: HostRuntime) -> Result<(), Fail> {
-    for (line, world, red, black, lines, score) in [
-        (
-            "run w r b --seed 1 --rounds 16 --dump 1,15,16",
-            OPEN,
-            "Move 0 0",
-            "Move 0 0",
-            "After round 1...\n\
-                cell (1, 1): red hill; \n\
-                cell (2, 1): red ant of id 0, dir 0, food 0, state 0, resting 14\n\
-                After round 15...\n\
-                cell (1, 1): red hill; \n\
-                cell (2, 1): red ant of id 0, dir 0, food 0, state 0, resting 0\n\
-                After round 16...\n\
-                cell (1, 1): red hill; \n\
-                cell (2, 1): red ant of id 0, dir 0, food 0, state 0, resting 0\n",
-            "\n\nscore: red 0 black 0\n",
-        ),
-        (
-            "run w r b --seed 12345 --rounds 1 --dump 1",
-            CLOSED,
-            "Flip 3 1 2\nDrop 1\nDrop 2\n",
-            "Flip 3 1 2\nDrop 1\nDrop 2\n",
-            "After round 1...\n\
-                cell (1, 1): red hill; red ant of id 0, dir 0, food 0, state 2, resting 0\n",
-            "\n\nscore: red 0 black 0\n",
-        ),
-        (
-            "run w r b --seed 12345 --rounds 1 --dump 1",
-            ROW,
-            "Flip 1 0 0",
-            "Flip 3 1 2\nDrop 1\nDrop 2\n",
-            "After round 1...\n\
-                cell (1, 1): red hill; red ant of id 0, dir 0, food 0, state 0, resting 0\n\
-                cell (2, 1): red hill; red ant of id 1, dir 0, food 0, state 0, resting 0\n\
-                cell (3, 1): black hill; black ant of id 2, dir 0, food 0, state 1, resting 0\n",
-            "\n\nscore: red 0 black 0\n",
-        ),
-        (
-            "run w r b --seed 1 --rounds 5 --dump 5",
-            SURROUNDED,
-            "Drop 0",
-            "Drop 0",
-            "After round 5...\n\
-                cell (2, 2): red hill; red ant of id 3, dir 0, food 0, state 0, resting 0\n",
-            "\n\nscore: red 0 black 0\n",
-        ),
-        (
-            "run w r b --seed 1 --rounds 19 --dump 16,17,18,19",
-            FED,
-            "Move 1 0\nPickUp 2 3\nPickUp 0 3\nDrop 4\nDrop 4\n",
-            "Drop 0",
-            "After round 16...\n\
-                cell (2, 1): red ant of id 0, dir 0, food 1, state 2, resting 0\n\
-                After round 17...\n\
-                cell (2, 1): red ant of id 0, dir 0, food 1, state 3, resting 0\n\
-                After round 18...\n\
-                cell (2, 1): 1 food; red ant of id 0, dir 0, food 0, state 4, resting 0\n\
-                After round 19...\n\
-                cell (2, 1): 1 food; red ant of id 0, dir 0, food 0, state 4, resting 0\n",
-            "\n\nscore: red 0 black 0\n",
-        ),
-        (
-            "run w r b --seed 1 --rounds 1 --dump 1",
-            NEIGHBOURS,
-            "Move 0 0",
-            "Drop 0",
-            "After round 1...\n\
-                cell (1, 2): red hill; \n\
-                cell (2, 2): red ant of id 2, dir 0, food 0, state 0, resting 14\n\
-                cell (3, 2): 3 food; black hill; \n\
-                cell (2, 3): red hill; red ant of id 6, dir 0, food 0, state 0, resting 0\n",
-            "\n\nscore: red 0 black 3\n",
-        ),
-        (
-            "run w r b --seed 1 --rounds 3 --dump 2,3",
-            CLOSED,
-            "Mark 3 1\nMark 0 2\nUnmark 3 2\n",
-            "Mark 3 1\nMark 0 2\nUnmark 3 2\n",
-            "After round 2...\n\
-                cell (1, 1): red hill; red marks: 03; red ant of id 0, dir 0, food 0, state 2, resting 0\n\
-                After round 3...\n\
-                cell (1, 1): red hill; red marks: 0; red ant of id 0, dir 0, food 0, state 2, resting 0\n",
-            "\n\nscore: red 0 black 0\n",
-        ),
-    ] {
-        let answer = answer(&rt, rt.alloc(), line, &game(world, red, black))?;
-        assert_eq!(rt;
-            (answer.status, answer.err.as_str()),
-            (Status::Done, ""),
-            "at {line}, {red:?}"
-        );
-        assert!(rt;
-            has_lines(answer.out.as_str(), lines),
-            "{lines:?} in {:?}",
-            answer.out
-        );
-        assert!(rt;
-            answer.out.ends_with(score),
-            "{score:?} in {:?}",
-            answer.out
-        );
+    for game in GAMES {
+        let Game {
+            line,
+            world,
+            red,
+            black,
+            lines,
+            score,
+        } = game;
+        let job = Job {
+            line,
+            world,
+            red,
+            black,
+            ..NO_JOB
+        };
+        let outcome = answer(&rt, rt.alloc(), &job)?;
+        let out = str::from_utf8(outcome.out.held())?;
+        assert_eq!(rt; outcome.status, Status::Done);
+        assert!(rt; has_lines(out, lines), "{lines:?} in {out:?}");
+        assert!(rt; out.ends_with(score), "{score:?} in {out:?}");
     }
     Ok(())
 }

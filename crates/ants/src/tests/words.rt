@@ -1,40 +1,47 @@
 // Words that are no command.
 use crate::status::Status;
-use crate::tests::{CLOSED, answer};
+use crate::tests::{CLOSED, Job, NO_JOB, check};
 use std::test::Fail;
+
+// Words, and the line that names the first one with which no command begins.
+const REFUSED: [(&str, &str); 26] = [
+    ("", "ants: word 1 refused\n"),
+    ("Show w 1", "ants: word 1 refused\n"),
+    ("shows w 1", "ants: word 1 refused\n"),
+    ("show", "ants: word 2 refused\n"),
+    ("show  1", "ants: word 2 refused\n"),
+    ("show --w 1", "ants: word 2 refused\n"),
+    ("show w", "ants: word 3 refused\n"),
+    ("show w 4294967296", "ants: word 3 refused\n"),
+    ("show w 00000000001", "ants: word 3 refused\n"),
+    ("show w -1", "ants: word 3 refused\n"),
+    ("show w 1 2", "ants: word 4 refused\n"),
+    ("brain", "ants: word 2 refused\n"),
+    ("brain b b", "ants: word 3 refused\n"),
+    ("run", "ants: word 2 refused\n"),
+    ("run w r b", "ants: word 5 refused\n"),
+    ("run w r b --seed 1", "ants: word 7 refused\n"),
+    ("run w r b --seed 1 --seed 2", "ants: word 7 refused\n"),
+    ("run w r b --seed --rounds 1", "ants: word 6 refused\n"),
+    ("run w r b --rounds 1000001", "ants: word 6 refused\n"),
+    ("run w r b --dump 1,,2", "ants: word 6 refused\n"),
+    ("run w r b --dump 1,", "ants: word 6 refused\n"),
+    ("run w r b --dump 0,1000001", "ants: word 6 refused\n"),
+    ("run w r b --dump none,1", "ants: word 6 refused\n"),
+    ("run w r b --seed 1 --rounds", "ants: word 8 refused\n"),
+    ("run w r b --Dump all", "ants: word 5 refused\n"),
+    ("run w r b --seed 1 --rounds 1 1", "ants: word 9 refused\n"),
+];
 
 #[test]
 fn the_first_word_with_which_no_command_begins_is_refused(rt: HostRuntime) -> Result<(), Fail> {
-    for (line, err) in [
-        ("", "ants: word 1 refused\n"),
-        ("Show w 1", "ants: word 1 refused\n"),
-        ("shows w 1", "ants: word 1 refused\n"),
-        ("show", "ants: word 2 refused\n"),
-        ("show  1", "ants: word 2 refused\n"),
-        ("show --w 1", "ants: word 2 refused\n"),
-        ("show w", "ants: word 3 refused\n"),
-        ("show w 4294967296", "ants: word 3 refused\n"),
-        ("show w 00000000001", "ants: word 3 refused\n"),
-        ("show w -1", "ants: word 3 refused\n"),
-        ("show w 1 2", "ants: word 4 refused\n"),
-        ("brain", "ants: word 2 refused\n"),
-        ("brain b b", "ants: word 3 refused\n"),
-        ("run", "ants: word 2 refused\n"),
-        ("run w r b", "ants: word 5 refused\n"),
-        ("run w r b --seed 1", "ants: word 7 refused\n"),
-        ("run w r b --seed 1 --seed 2", "ants: word 7 refused\n"),
-        ("run w r b --seed --rounds 1", "ants: word 6 refused\n"),
-        ("run w r b --rounds 1000001", "ants: word 6 refused\n"),
-        ("run w r b --dump 1,,2", "ants: word 6 refused\n"),
-        ("run w r b --dump 1,", "ants: word 6 refused\n"),
-        ("run w r b --dump 0,1000001", "ants: word 6 refused\n"),
-        ("run w r b --dump none,1", "ants: word 6 refused\n"),
-        ("run w r b --seed 1 --rounds", "ants: word 8 refused\n"),
-        ("run w r b --Dump all", "ants: word 5 refused\n"),
-        ("run w r b --seed 1 --rounds 1 1", "ants: word 9 refused\n"),
-    ] {
-        let answer = answer(&rt, rt.alloc(), line, &[("w", CLOSED.as_bytes())])?;
-        assert_eq!(rt; answer.parts(), (Status::Words, "", err), "at {line:?}");
+    for (line, err) in REFUSED {
+        let job = Job {
+            line,
+            world: CLOSED,
+            ..NO_JOB
+        };
+        check(&rt, rt.alloc(), &job, Status::Words, "", err)?;
     }
     Ok(())
 }
