@@ -51,14 +51,15 @@ none_of_other text other =
     let no : is_number text ≡ false = ap (λ b. (nat_le 1 (length text) && nat_le (length text) 10) && b) other ∙ and-false (nat_le 1 (length text) && nat_le (length text) 10) in
     rw no refl
 
-own : IsNumeralModel (λ ds. all_ascii_digits ds ≡ true) (digits_value 10)
-own = numerals_by_value (λ ds. all_ascii_digits ds ≡ true) tells_all_ascii_digits
+-- texts of digits alone are read as numerals in base ten
+pub all_ascii_digits-IsNumeralModel : IsNumeralModel (λ ds. all_ascii_digits ds ≡ true) (digits_value 10)
+all_ascii_digits-IsNumeralModel = numerals_by_value (λ ds. all_ascii_digits ds ≡ true) tells_all_ascii_digits
 
 -- a printed number is read back
 pub number_of-decimal : (n : ℕ) → n < 10000000000 → number_of (decimal n) ≡ Some n
 unfolding number_of
 number_of-decimal n small =
-    let digits : all_ascii_digits (decimal n) ≡ true = digits_decimal own n (omega arith) in
+    let digits : all_ascii_digits (decimal n) ≡ true = digits_decimal all_ascii_digits-IsNumeralModel n (omega arith) in
     let low : nat_le 1 (length (decimal n)) ≡ true = le-leb 1 (length (decimal n)) (decimal_nonempty n (omega arith)) in
     let high : nat_le (length (decimal n)) 10 ≡ true = le-leb (length (decimal n)) 10 (length-decimal-le 10 n (omega arith) small (omega arith)) in
-    rw (low, high, digits) (ap Some (digits_value-decimal own n (omega arith)))
+    rw (low, high, digits) (ap Some (digits_value-decimal all_ascii_digits-IsNumeralModel n (omega arith)))

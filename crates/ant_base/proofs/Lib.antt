@@ -4,3 +4,4 @@ pub mod Linewise
 pub mod Numbered
 pub mod Pushing
 pub mod Streaming
+pub mod Worked

@@ -1,15 +1,10 @@
 -- Lines of a text, and separators in a line (the contest's files).
 use Rattle.std.specs.Prelude.{ℕ, ◌-◌, Bool, not, ◌||◌, List, [], ◌∷◌, length, take, drop, ◌==◌, if◌then◌else◌}
-use Rattle.std.specs.List.{list_all, prefix_len, suffix_len}
+use Rattle.std.specs.List.{list_all, prefix_len, suffix_len, onto_first}
 
 -- whether a byte is LF
 abbrev pub is_lf : ℕ → Bool
 is_lf byte = byte == 10
-
--- a byte put in front of the first line
-abbrev pub onto_first : ℕ → List (List ℕ) → List (List ℕ)
-onto_first byte [] = (byte ∷ []) ∷ []
-onto_first byte (line ∷ lines) = (byte ∷ line) ∷ lines
 
 -- the lines of a text: its pieces between LF bytes, and no further line after a last LF
 abbrev pub lines_of : List ℕ → List (List ℕ)

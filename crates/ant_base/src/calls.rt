@@ -21,7 +21,7 @@ impl Model for Calls {
 }
 
 impl Calls {
-    /// An empty list.
+    /// An empty list (this project's own). It takes no memory.
     pub fn new(alloc: Global) -> Self
         ensures { result ≡ [] }
     {
@@ -30,7 +30,7 @@ impl Calls {
         }
     }
 
-    /// Adds a call number last. A refusal changes nothing.
+    /// Adds a call number, from 1, last (this project's own). It is refused for want of memory alone, and then changes nothing.
     pub fn add(&mut self, number: u64) -> Result<(), OutOfMemory>
         ensures added { OnOk result (self.new ≡ self.old ++ number ∷ []) }
         ensures refused { OnErr result (self.new ≡ self.old) }

@@ -1,5 +1,6 @@
 // A shelf of files.
 ghost use Rattle.std.specs.Prelude.{◌≡◌, ◌≢◌, ◌<◌, ◌≤◌, IfOk, IfSome, Err, length, if◌then◌else◌};
+ghost use Rattle.std.specs.IoError.{error_kind};
 ghost use Rattle.ant_base.specs.Faults.{one_more};
 ghost use Rattle.ant_base.specs.Shelf.{Fetches, is_failed, longest};
 ghost use Rattle.ant_base.specs.Streams.{silent_shelf};
@@ -14,7 +15,7 @@ use std::marker::Model;
 /// Files by their names, and standard input under the name `-` (this project's own).
 ///
 /// It tells no content, and is sure of no name. A second fetch of `-` gets what is left there, commonly nothing. It reads no further than
-/// 4,194,305 bytes. The count of faults stays at the last value of a u64.
+/// 4,194,305 bytes. The count of faults rises by one at each fetch that is `Failed` and at no other, and stays at the last value of a u64.
 #[derive(Drop)]
 pub struct FileShelf<'r, R> {
     rt: &'r R,
@@ -30,14 +31,14 @@ impl<'r, R> Model for FileShelf<'r, R> {
 }
 
 impl<'r, R: Files + Input> FileShelf<'r, R> {
-    /// The files and the standard input of this runtime, without a fault.
+    /// The files and the standard input of this runtime, without a fault (this project's own).
     pub fn new(rt: &'r R) -> Self
         ensures { result ≡ 0 }
     {
         FileShelf { rt, faults: 0 }
     }
 
-    /// The count of faults.
+    /// The count of faults, from 0 (this project's own).
     pub fn faults(&self) -> u64
         ensures { result ≡ self.now }
     {
@@ -91,7 +92,9 @@ fn read_content<R: Read + Drop>(alloc: Global, reader: R) -> Result<Vec<u8>, Fet
 
 // Want of memory is told from a failed read.
 fn fault_of(error: io::Error) -> FetchFault
-    ensures { result ≢ FetchFault.TooLong }
+    ensures memory { error_kind error ≡ ErrorKind.OutOfMemory → result ≡ FetchFault.OutOfMemory }
+    ensures failed { error_kind error ≢ ErrorKind.OutOfMemory → result ≡ FetchFault.Failed }
+    ensures no_length { result ≢ FetchFault.TooLong }
 {
     match error.kind() {
         ErrorKind::OutOfMemory => FetchFault::OutOfMemory,

@@ -31,7 +31,7 @@ impl Model for Files {
 }
 
 impl Files {
-    /// An empty list.
+    /// An empty list (this project's own). It takes no memory, and keeps the allocator for what is added.
     pub fn new(alloc: Global) -> Self
         ensures { result ≡ [] }
     {
@@ -41,7 +41,7 @@ impl Files {
         }
     }
 
-    /// Adds a name with its bytes last. A refusal changes nothing.
+    /// Adds a name with its bytes last (this project's own). It is refused for want of memory alone, and then changes nothing.
     pub fn add(&mut self, name: &str, bytes: &[u8]) -> Result<(), OutOfMemory>
         ensures added { OnOk result (self.new ≡ self.old ++ (name.now, bytes.now) ∷ []) }
         ensures refused { OnErr result (self.new ≡ self.old) }

@@ -9,7 +9,7 @@ use itoa::Buffer;
 
 /// A value that is printed as one exact text (this project's own).
 pub trait Layout {
-    /// The text.
+    /// The text that is printed.
     ghost text: { Self → List ℕ };
 
     /// Pushes the text. At `Failed` a front of it was appended, and the count of faults rose.

@@ -23,7 +23,7 @@ impl<'t> Model for Lines<'t> {
 }
 
 impl<'t> Lines<'t> {
-    /// All lines of the text.
+    /// All lines of the text (the contest's files). The text may be empty, and then has none.
     pub fn new(text: &'t [u8]) -> Self
         ensures lines { result ≡ lines_of text.now }
         ensures few { length result ≤ length text.now }
@@ -84,7 +84,7 @@ pub fn is_separator(byte: u8) -> bool
     matches!(byte, b' ' | b'\t' | b'\r')
 }
 
-/// Whether a line has separators alone.
+/// Whether a line has separators alone, as an empty one has (the contest's files).
 pub fn is_blank(line: &[u8]) -> bool
     ensures { result ≡ is_blank line.now }
 {
@@ -98,7 +98,7 @@ pub fn after_separators(text: &[u8]) -> &[u8]
     text.split_at(separators_in_front(text)).1
 }
 
-/// A line without the separators at its front and at its end.
+/// A line without the separators at its front and at its end; those between other bytes stay (the contest's files).
 pub fn trimmed(line: &[u8]) -> &[u8]
     ensures { result.now ≡ trimmed line.now }
 {

@@ -30,7 +30,7 @@ impl Model for MemShelf {
 }
 
 impl MemShelf {
-    /// A shelf that has these files, whose fetches of the given numbers fail; the first fetch has the number 1.
+    /// A shelf that has these files, whose fetches of the given numbers fail; the first fetch has the number 1 (this project's own).
     pub fn new(files: Files, failing: Calls) -> Self
         ensures { result ≡ record { files = files; failing = failing; calls = 0; faults = 0 } }
     {

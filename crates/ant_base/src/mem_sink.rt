@@ -32,7 +32,8 @@ impl Model for MemSink {
 }
 
 impl MemSink {
-    /// A sink that holds nothing, with room for so many bytes, whose pushes of the given numbers fail; the first push has the number 1.
+    /// A sink that holds nothing, with room for so many bytes, whose pushes of the given numbers fail; the first push has the number 1
+    /// (this project's own). It is refused where the room can't be had at once.
     pub fn with_room(alloc: Global, room: u64, failing: Calls) -> Result<Self, OutOfMemory>
         ensures { IfOk result (λ s. s ≡ record { held = []; room = room; failing = failing; calls = 0; faults = 0 }) }
     {
@@ -45,7 +46,7 @@ impl MemSink {
         })
     }
 
-    /// The bytes held.
+    /// The bytes held, the first that were pushed first (this project's own).
     pub fn held(&self) -> &[u8]
         ensures { result.now ≡ self.now.held }
     {

@@ -7,7 +7,7 @@ use std::alloc::{AllocError, AllocFailed, Global};
 // The length of the longest content that is answered, in bytes.
 pub(crate) const LONGEST: usize = 4_194_304;
 
-/// Why a name's content was not fetched.
+/// Why a name's content was not fetched (this project's own). The shelf's contents stay as they were.
 #[derive(Clone, Copy, Debug, PartialEq, Eq)]
 pub enum FetchFault {
     /// The content could not be read, and the shelf's count of faults rose.
@@ -33,7 +33,7 @@ pub trait Shelf {
     /// The content under each name, where the shelf tells it; of which names it is sure; and the count of faults.
     ghost state: { Self → ShelfState };
 
-    /// The content under the name, at most 4,194,304 bytes.
+    /// The content under the name, at most 4,194,304 bytes; `TooLong` where it has more.
     ///
     /// At `Failed` the count of faults rose, and the shelf wasn't sure of the name. No fetch changes the contents, makes the shelf
     /// less sure, or lowers the count.

@@ -1,7 +1,7 @@
 // Where output goes.
 ghost use Rattle.ant_base.specs.Sink.{SinkState, Pushed};
 
-/// A push that failed. The sink took a front of the piece, and its count of faults rose.
+/// A push that failed (this project's own). The sink took a front of the piece, and its count of faults rose.
 #[derive(Clone, Copy, Debug, PartialEq, Eq)]
 pub struct Failed;
 

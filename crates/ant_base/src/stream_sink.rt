@@ -12,17 +12,17 @@ use std::marker::Model;
 /// A sink over a writer (this project's own). It tells no bytes.
 ///
 /// It writes by a loop, and flushes after each piece that ends in LF. A write that takes nothing of what is left is a fault, as is a
-/// flush that fails. The count of faults stays at the last value of a u64.
+/// flush that fails. The count of faults rises by one at each push that is `Failed` and at no other, and stays at the last value of a u64.
 #[derive(Drop)]
 pub struct StreamSink<W> {
     stream: W,
     faults: u64,
 }
 
-/// A sink on standard output, which gets what was pushed at each piece that ends in LF.
+/// A sink on standard output, which gets what was pushed at each piece that ends in LF (this project's own).
 pub type OutSink = StreamSink<BufWriter<Stdout>>;
 
-/// A sink on standard error.
+/// A sink on standard error (this project's own).
 pub type ErrSink = StreamSink<Stderr>;
 
 impl<W> Model for StreamSink<W> {
@@ -34,14 +34,14 @@ impl<W> Model for StreamSink<W> {
 }
 
 impl<W: Write> StreamSink<W> {
-    /// A sink over this writer, without a fault.
+    /// A sink over this writer, without a fault (this project's own).
     pub fn new(stream: W) -> Self
         ensures { result ≡ 0 }
     {
         StreamSink { stream, faults: 0 }
     }
 
-    /// The count of faults.
+    /// The count of faults, from 0 (this project's own).
     pub fn faults(&self) -> u64
         ensures { result ≡ self.now }
     {

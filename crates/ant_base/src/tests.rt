@@ -2,8 +2,9 @@
 use crate::*;
 use std::alloc::{AllocError, Global};
 use std::fs;
-use std::test::Fail;
+use std::io::BufWriter;
 
+// A sink of this room, whose pushes of these numbers fail.
 fn sink_with(alloc: Global, room: u64, failing: &[u64]) -> Result<MemSink, OutOfMemory> {
     let mut calls = Calls::new(alloc);
     for number in failing {
@@ -13,46 +14,24 @@ fn sink_with(alloc: Global, room: u64, failing: &[u64]) -> Result<MemSink, OutOf
 }
 
 #[test]
-fn a_sink_holds_what_fits(rt: HostRuntime) -> Result<(), Fail> {
+fn a_sink_holds_what_fits(rt: HostRuntime) {
     let text = b"random seed: 12345\n";
-    for room in 0..19 {
-        let mut sink = sink_with(rt.alloc(), room, &[])?;
-        assert_eq!(rt;
-            layout!("random seed: ", 12345u32, "\n").push_to(&mut sink),
-            Err(Failed),
-            "at {room}"
-        );
-        assert_eq!(rt; sink.held(), &text[..room as usize], "at {room}");
+    for room in 0..20 {
+        let mut sink = sink_with(rt.alloc(), room, &[]).expect(&rt, "memory");
+        let pushed = layout!("random seed: ", 12345u32, "\n").push_to(&mut sink);
+        assert!(rt; pushed.is_ok() == (room == 19));
+        assert!(rt; sink.held() == &text[..room as usize]);
     }
-    let mut sink = sink_with(rt.alloc(), 19, &[])?;
-    assert_eq!(rt;
-        layout!("random seed: ", 12345u32, "\n").push_to(&mut sink),
-        Ok(())
-    );
-    assert_eq!(rt; sink.held(), text.as_slice());
-    assert_eq!(rt;
-        sink.push(b""),
-        Ok(()),
-        "nothing fits where nothing is left"
-    );
-    assert_eq!(rt; sink.push(b"x"), Err(Failed));
-    Ok(())
 }
 
 #[test]
-fn a_push_fails_by_its_number(rt: HostRuntime) -> Result<(), Fail> {
-    let mut sink = sink_with(rt.alloc(), 9, &[4, 2])?;
-    for (piece, answer, held) in [
-        ("a", Ok(()), "a"),
-        ("b", Err(Failed), "a"),
-        ("c", Ok(()), "ac"),
-        ("", Err(Failed), "ac"),
-        ("d", Ok(()), "acd"),
-    ] {
-        assert_eq!(rt; sink.push(piece.as_bytes()), answer, "at {piece:?}");
-        assert_eq!(rt; sink.held(), held.as_bytes(), "at {piece:?}");
+fn a_push_fails_by_its_number_or_for_want_of_room(rt: HostRuntime) {
+    let mut sink = sink_with(rt.alloc(), 6, &[4, 2]).expect(&rt, "memory");
+    for piece in ["a", "b", "c", "x", "d", "efgh", "", "i"] {
+        let pushed = sink.push(piece.as_bytes());
+        assert!(rt; pushed.is_ok() == sink.held().ends_with(piece.as_bytes()));
     }
-    Ok(())
+    assert!(rt; sink.held() == b"acdefg".as_slice());
 }
 
 // Three squares.
@@ -75,109 +54,120 @@ impl Parts for Squares {
     }
 }
 
+// Whether a value is printed as this text.
+fn prints<L: Layout>(alloc: Global, value: &L, text: &str) -> bool {
+    match sink_with(alloc, 20, &[]) {
+        Ok(mut sink) => value.push_to(&mut sink).is_ok() && sink.held() == text.as_bytes(),
+        Err(_) => false,
+    }
+}
+
 #[test]
-fn values_print_as_their_texts(rt: HostRuntime) -> Result<(), Fail> {
-    let mut sink = sink_with(rt.alloc(), 100, &[])?;
-    let none: Option<u8> = None;
-    assert_eq!(rt;
-        layout!(0u8, " ", 255u8, " ", 65535u16, " ", 4294967295u32).push_to(&mut sink),
-        Ok(())
-    );
-    assert_eq!(rt;
-        layout!(" ", none, Some("some"), " ", Each(Squares)).push_to(&mut sink),
-        Ok(())
-    );
-    assert_eq!(rt; push_number(&mut sink, u64::MAX), Ok(()));
-    assert_eq!(rt;
-        sink.held(),
-        b"0 255 65535 4294967295 some 0;1;4;18446744073709551615".as_slice()
-    );
-    Ok(())
+fn values_print_as_their_texts(rt: HostRuntime) {
+    let alloc = rt.alloc();
+    assert!(rt; prints(alloc, &0u8, "0"));
+    assert!(rt; prints(alloc, &65535u16, "65535"));
+    assert!(rt; prints(alloc, &4294967295u32, "4294967295"));
+    assert!(rt; prints(alloc, &u64::MAX, "18446744073709551615"));
+    assert!(rt; prints(alloc, &("of ", 10usize), "of 10"));
+    assert!(rt; prints(alloc, &Some("some"), "some"));
+    assert!(rt; prints(alloc, &None::<u8>, ""));
+    assert!(rt; prints(alloc, &Each(Squares), "0;1;4;"));
+}
+
+#[test]
+fn a_number_is_pushed_as_its_digits(rt: HostRuntime) {
+    let mut sink = sink_with(rt.alloc(), 9, &[]).expect(&rt, "memory");
+    assert!(rt; push_number(&mut sink, 12345).is_ok());
+    assert!(rt; sink.held() == b"12345".as_slice());
+}
+
+// Whether each text is the number.
+fn are_number(texts: &[&str], number: Option<u64>) -> bool {
+    for text in texts {
+        if read_number(text.as_bytes()) != number {
+            return false;
+        }
+    }
+    true
 }
 
 #[test]
 fn numbers_have_one_to_ten_digits(rt: HostRuntime) {
-    for (text, number) in [
-        ("0", Some(0)),
-        ("00012", Some(12)),
-        ("0000000000", Some(0)),
-        ("4294967296", Some(4294967296)),
-        ("9999999999", Some(9999999999)),
-        ("", None),
-        ("00000000000", None),
-        ("12345678901", None),
-        ("1a", None),
-        ("a1", None),
-        ("-1", None),
-        ("+1", None),
-        (" 1", None),
-        ("1 ", None),
-        ("1/", None),
-        ("1:", None),
-    ] {
-        assert_eq!(rt; read_number(text.as_bytes()), number, "at {text:?}");
+    assert!(rt; are_number(&["0", "0000000000"], Some(0)));
+    assert!(rt; are_number(&["12", "00012"], Some(12)));
+    assert!(rt; are_number(&["4294967296"], Some(4294967296)));
+    assert!(rt; are_number(&["9999999999"], Some(9999999999)));
+    assert!(rt; are_number(&["", "00000000000", "12345678901"], None));
+    assert!(rt; are_number(&["1a", "a1", "-1", "+1", " 1", "1 ", "1/", "1:"], None));
+}
+
+// Whether these are the lines of a text.
+fn has_lines(text: &[u8], lines: &[&str]) -> bool {
+    let mut rest = Lines::new(text);
+    for line in lines {
+        if rest.next() != Some(line.as_bytes()) {
+            return false;
+        }
     }
+    rest.next().is_none()
 }
 
 #[test]
 fn no_line_follows_a_last_lf(rt: HostRuntime) {
-    let mut lines = Lines::new(b"");
-    assert_eq!(rt; lines.next(), None);
-    let mut lines = Lines::new(b"\n");
-    assert_eq!(rt; lines.next(), Some(b"".as_slice()));
-    assert_eq!(rt; lines.next(), None);
-    let mut lines = Lines::new(b"4\r\n\n # \t.\n\nend");
-    assert_eq!(rt; lines.next(), Some(b"4\r".as_slice()));
-    assert_eq!(rt; lines.next(), Some(b"".as_slice()));
-    assert_eq!(rt; lines.next(), Some(b" # \t.".as_slice()));
-    assert_eq!(rt; lines.next(), Some(b"".as_slice()));
-    assert_eq!(rt; lines.next(), Some(b"end".as_slice()));
-    assert_eq!(rt; lines.next(), None);
+    assert!(rt; has_lines(b"", &[]));
+    assert!(rt; has_lines(b"\n", &[""]));
+    assert!(rt; has_lines(b"4\r\n\n # \t.\n\nend", &["4\r", "", " # \t.", "", "end"]));
+}
+
+// Whether this stands within the separators of a line.
+fn has_within(line: &[u8], inner: &[u8]) -> bool {
+    trimmed(line) == inner && is_blank(line) == inner.is_empty()
 }
 
 #[test]
 fn separators_are_space_tab_and_cr(rt: HostRuntime) {
-    for (line, inner, blank) in [
-        ("", "", true),
-        (" \t\r", "", true),
-        ("4", "4", false),
-        (" 4\r", "4", false),
-        ("\t# .\r ", "# .", false),
-        ("\x0b4\x0c", "\x0b4\x0c", false),
-    ] {
-        assert_eq!(rt; trimmed(line.as_bytes()), inner.as_bytes(), "at {line:?}");
-        assert_eq!(rt; is_blank(line.as_bytes()), blank, "at {line:?}");
+    assert!(rt; has_within(b"", b""));
+    assert!(rt; has_within(b" \t\r", b""));
+    assert!(rt; has_within(b" 4\r", b"4"));
+    assert!(rt; has_within(b"\t# .\r ", b"# ."));
+    assert!(rt; has_within(b"\x0b4\x0c", b"\x0b4\x0c"));
+}
+
+// Whether a fetch gives this content.
+fn gives<S: Shelf>(shelf: &mut S, alloc: Global, name: &str, content: &str) -> bool {
+    match shelf.fetch(alloc, name) {
+        Ok(bytes) => bytes.as_slice() == content.as_bytes(),
+        Err(_) => false,
     }
 }
 
-#[test]
-fn a_shelf_in_memory_gives_what_was_added_first(rt: HostRuntime) -> Result<(), Fail> {
-    let mut files = Files::new(rt.alloc());
-    files.add("w", b"first")?;
-    files.add("", b"empty name")?;
-    files.add("w", b"second")?;
-    let mut failing = Calls::new(rt.alloc());
+// Whether a fetch fails.
+fn fails<S: Shelf>(shelf: &mut S, alloc: Global, name: &str) -> bool {
+    matches!(shelf.fetch(alloc, name), Err(FetchFault::Failed))
+}
+
+// A shelf of three files, two of them of one name, whose second fetch fails.
+fn shelf_of_three(alloc: Global) -> Result<MemShelf, OutOfMemory> {
+    let mut files = Files::new(alloc);
+    for (name, bytes) in [("w", "first"), ("", "empty name"), ("w", "second")] {
+        files.add(name, bytes.as_bytes())?;
+    }
+    let mut failing = Calls::new(alloc);
     failing.add(2)?;
-    let mut shelf = MemShelf::new(files, failing);
-    assert_eq!(rt;
-        shelf.fetch(rt.alloc(), "w")?.as_slice(),
-        b"first".as_slice()
-    );
-    assert_eq!(rt;
-        shelf.fetch(rt.alloc(), "w").err(),
-        Some(FetchFault::Failed),
-        "call 2"
-    );
-    assert_eq!(rt;
-        shelf.fetch(rt.alloc(), "r").err(),
-        Some(FetchFault::Failed),
-        "no such name"
-    );
-    assert_eq!(rt;
-        shelf.fetch(rt.alloc(), "")?.as_slice(),
-        b"empty name".as_slice()
-    );
-    Ok(())
+    Ok(MemShelf::new(files, failing))
+}
+
+#[test]
+fn a_shelf_in_memory_gives_what_was_added_first(rt: HostRuntime) {
+    let alloc = rt.alloc();
+    let mut shelf = shelf_of_three(alloc).expect(&rt, "memory");
+    assert!(rt; gives(&mut shelf, alloc, "w", "first"));
+    // call 2, and no such name
+    for name in ["w", "r"] {
+        assert!(rt; fails(&mut shelf, alloc, name));
+    }
+    assert!(rt; gives(&mut shelf, alloc, "", "empty name"));
 }
 
 // So many bytes.
@@ -185,63 +175,94 @@ fn content_of(alloc: Global, length: usize) -> Result<Vec<u8>, AllocError> {
     vec![in alloc; b'x'; length]
 }
 
-#[test]
-fn the_longest_content_has_4194304_bytes(rt: HostRuntime) -> Result<(), Fail> {
-    let mut bytes = content_of(rt.alloc(), 4194304)?;
-    let mut files = Files::new(rt.alloc());
-    files.add("longest", &bytes)?;
-    fs::write(&rt, "longest", bytes.as_slice())?;
-    bytes.push(b'y')?;
-    files.add("longer", &bytes)?;
-    fs::write(&rt, "longer", bytes.as_slice())?;
+// The length of what a fetch gives, where it isn't too long.
+fn length_of<S: Shelf>(shelf: &mut S, alloc: Global, name: &str) -> Result<usize, FetchFault> {
+    shelf.fetch(alloc, name).map(|content| content.len())
+}
 
-    let mut shelf = MemShelf::new(files, Calls::new(rt.alloc()));
-    assert_eq!(rt; shelf.fetch(rt.alloc(), "longest")?.len(), 4194304);
-    assert_eq!(rt;
-        shelf.fetch(rt.alloc(), "longer").err(),
-        Some(FetchFault::TooLong)
-    );
-
-    let mut shelf = FileShelf::new(&rt);
-    assert_eq!(rt; shelf.fetch(rt.alloc(), "longest")?.len(), 4194304);
-    assert_eq!(rt;
-        shelf.fetch(rt.alloc(), "longer").err(),
-        Some(FetchFault::TooLong)
-    );
-    assert_eq!(rt; shelf.faults(), 0);
-    fs::remove_file(&rt, "longest")?;
-    fs::remove_file(&rt, "longer")?;
-    Ok(())
+// Whether the first file is given whole and the second is too long.
+fn stops_after_the_longest<S: Shelf>(shelf: &mut S, alloc: Global) -> bool {
+    length_of(shelf, alloc, "longest") == Ok(4194304)
+        && length_of(shelf, alloc, "longer") == Err(FetchFault::TooLong)
 }
 
 #[test]
-fn a_shelf_of_files_reads_them(rt: HostRuntime) -> Result<(), Fail> {
+fn a_shelf_in_memory_gives_4194304_bytes(rt: HostRuntime) {
+    let alloc = rt.alloc();
+    let mut files = Files::new(alloc);
+    for (name, length) in [("longest", 4194304), ("longer", 4194305)] {
+        let bytes = content_of(alloc, length).expect(&rt, "memory");
+        files.add(name, &bytes).expect(&rt, "memory");
+    }
+    let mut shelf = MemShelf::new(files, Calls::new(alloc));
+    assert!(rt; stops_after_the_longest(&mut shelf, alloc));
+}
+
+// Whether a file could be made.
+fn is_written<R: fs::Files>(rt: &R, name: &str, bytes: &[u8]) -> bool {
+    fs::write(rt, name, bytes).is_ok()
+}
+
+// Whether a file could be taken away.
+fn is_removed<R: fs::Files>(rt: &R, name: &str) -> bool {
+    fs::remove_file(rt, name).is_ok()
+}
+
+#[test]
+fn a_shelf_of_files_gives_4194304_bytes(rt: HostRuntime) {
+    let alloc = rt.alloc();
+    for (name, length) in [("longest", 4194304), ("longer", 4194305)] {
+        let bytes = content_of(alloc, length).expect(&rt, "memory");
+        assert!(rt; is_written(&rt, name, &bytes));
+    }
     let mut shelf = FileShelf::new(&rt);
-    fs::write(&rt, "w", "3\n3\n")?;
-    assert_eq!(rt;
-        shelf.fetch(rt.alloc(), "w")?.as_slice(),
-        b"3\n3\n".as_slice()
-    );
-    assert_eq!(rt;
-        shelf.fetch(rt.alloc(), "w")?.as_slice(),
-        b"3\n3\n".as_slice(),
-        "a second time"
-    );
-    assert_eq!(rt; shelf.faults(), 0);
-    assert_eq!(rt;
-        shelf.fetch(rt.alloc(), "none").err(),
-        Some(FetchFault::Failed),
-        "no such file"
-    );
-    assert_eq!(rt; shelf.faults(), 1);
-    assert_eq!(rt;
-        shelf.fetch(rt.alloc(), ".").err(),
-        Some(FetchFault::Failed),
-        "a folder"
-    );
-    assert_eq!(rt; shelf.faults(), 2);
-    fs::remove_file(&rt, "w")?;
-    Ok(())
+    assert!(rt; stops_after_the_longest(&mut shelf, alloc));
+    assert!(rt; shelf.faults() == 0);
+    assert!(rt; is_removed(&rt, "longest"));
+    assert!(rt; is_removed(&rt, "longer"));
+}
+
+#[test]
+fn a_shelf_of_files_reads_them(rt: HostRuntime) {
+    let alloc = rt.alloc();
+    let mut shelf = FileShelf::new(&rt);
+    assert!(rt; is_written(&rt, "-w", b"3\n3\n"));
+    // a second time too
+    for _ in 0..2 {
+        assert!(rt; gives(&mut shelf, alloc, "-w", "3\n3\n"));
+    }
+    assert!(rt; shelf.faults() == 0);
+    // no such file, and a folder
+    for name in ["none", "."] {
+        assert!(rt; fails(&mut shelf, alloc, name));
+    }
+    assert!(rt; shelf.faults() == 2);
+    assert!(rt; is_removed(&rt, "-w"));
+}
+
+#[test]
+fn a_dash_alone_is_standard_input(rt: HostRuntime) {
+    let alloc = rt.alloc();
+    let mut shelf = FileShelf::new(&rt);
+    assert!(rt; is_written(&rt, "-", b"a file"));
+    assert!(rt; !gives(&mut shelf, alloc, "-", "a file"));
+    assert!(rt; gives(&mut shelf, alloc, "./-", "a file"));
+    assert!(rt; is_removed(&rt, "-"));
+}
+
+#[test]
+fn a_file_holds_what_was_pushed(rt: HostRuntime) {
+    let alloc = rt.alloc();
+    let file = fs::create(&rt, "pushed").expect(&rt, "made");
+    let mut sink = StreamSink::new(BufWriter::new(alloc, file).expect(&rt, "memory"));
+    let mut shelf = FileShelf::new(&rt);
+    // an LF at the end of a piece flushes
+    assert!(rt; sink.push(b"one\n").is_ok());
+    assert!(rt; gives(&mut shelf, alloc, "pushed", "one\n"));
+    assert!(rt; sink.push(b"two").is_ok());
+    assert!(rt; sink.push(b"\n").is_ok());
+    assert!(rt; gives(&mut shelf, alloc, "pushed", "one\ntwo\n"));
+    assert!(rt; is_removed(&rt, "pushed"));
 }
 
 // A gate that was passed by its own caller alone.

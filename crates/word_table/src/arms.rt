@@ -1,4 +1,5 @@
 // From a word's place to what it stands for.
+ghost use Rattle.std.specs.Prelude.{◌≡◌, ◌<◌};
 
 /// The match from a word's place in its table, counted from 0, to what the word stands for: `word_arms!(i; Side::Left,
 /// Side::Right)` is `Side::Left` at 0, and at each other place `Side::Right`. Used in a function's body, for up to 12
@@ -20,4 +21,12 @@ macro_rules! word_arms {
     ($place:expr; $($value:expr),+ $(,)?) => {
         $crate::word_arms!(@count $place; []; [0 1 2 3 4 5 6 7 8 9 10]; $($value),+)
     };
+}
+
+// The arms of a table of 12 words stand in the order of its places.
+fn arm_of_twelve(place: usize) -> usize
+    requires { place < 12 }
+    ensures { result ≡ place }
+{
+    word_arms!(place; 0, 1, 2, 3, 4, 5, 6, 7, 8, 9, 10, 11)
 }

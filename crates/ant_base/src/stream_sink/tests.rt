@@ -1,8 +1,8 @@
-// Sinks over writers that take what they like, over a real file, and over the standard streams.
+// Sinks over writers that take what they like, and over the standard streams.
 use super::*;
+use std::alloc::Global;
+use std::io;
 use std::io::ErrorKind;
-use std::test::Fail;
-use std::{fs, io};
 
 // A writer that takes at most so many bytes at a time, and then stops taking.
 #[derive(Drop)]
@@ -11,7 +11,6 @@ struct Slow {
     most: usize,
     stop: Stop,
     flushes: u64,
-    flush_fails: bool,
 }
 
 // How a writer stops.
@@ -20,25 +19,31 @@ enum Stop {
     Never,
     TakesNothing(usize),
     Fails(usize),
+    FlushFails,
+}
+
+impl Stop {
+    // How many bytes there is still room for, where so many were taken.
+    fn left(self, taken: usize) -> io::Result<usize> {
+        match self {
+            Stop::TakesNothing(room) => Ok(room.saturating_sub(taken)),
+            Stop::Fails(room) if taken < room => Ok(room - taken),
+            Stop::Fails(_) => Err(io::Error::from(ErrorKind::Other)),
+            Stop::Never | Stop::FlushFails => Ok(usize::MAX),
+        }
+    }
 }
 
 impl Write for Slow {
     fn write(&mut self, buf: &[u8]) -> io::Result<usize> {
-        let left = match self.stop {
-            Stop::Never => buf.len(),
-            Stop::TakesNothing(room) => room.saturating_sub(self.got.len()),
-            Stop::Fails(room) if self.got.len() >= room => return Err(io::Error::from(
-                ErrorKind::Other,
-            )),
-            Stop::Fails(room) => room.saturating_sub(self.got.len()),
-        };
+        let left = self.stop.left(self.got.len())?;
         let taken = buf.len().min(self.most).min(left);
         self.got.extend_from_slice(&buf[..taken])?;
         Ok(taken)
     }
 
     fn flush(&mut self) -> io::Result<()> {
-        if self.flush_fails {
+        if matches!(self.stop, Stop::FlushFails) {
             return Err(io::Error::from(ErrorKind::Other));
         }
         self.flushes = self.flushes.saturating_add(1);
@@ -46,105 +51,75 @@ impl Write for Slow {
     }
 }
 
-#[test]
-fn a_slow_writer_gets_the_whole_piece(rt: HostRuntime) -> Result<(), Fail> {
-    for most in [1, 2, 3, 100] {
-        let mut sink = StreamSink::new(Slow {
-            got: Vec::new(rt.alloc()),
-            most,
-            stop: Stop::Never,
-            flushes: 0,
-            flush_fails: false,
-        });
-        assert_eq!(rt; sink.push(b"ab"), Ok(()));
-        assert_eq!(rt; sink.stream.flushes, 0, "no LF yet, at {most}");
-        assert_eq!(rt; sink.push(b""), Ok(()));
-        assert_eq!(rt; sink.push(b"cde\n"), Ok(()));
-        assert_eq!(rt; sink.push(b"f\ng"), Ok(()));
-        assert_eq!(rt;
-            sink.stream.got.as_slice(),
-            b"abcde\nf\ng".as_slice(),
-            "at {most}"
-        );
-        assert_eq!(rt; sink.stream.flushes, 1, "at {most}");
-        assert_eq!(rt; sink.faults(), 0, "at {most}");
-    }
-    Ok(())
+// A sink over such a writer.
+fn slow_sink(alloc: Global, most: usize, stop: Stop) -> StreamSink<Slow> {
+    StreamSink::new(Slow {
+        got: Vec::new(alloc),
+        most,
+        stop,
+        flushes: 0,
+    })
 }
 
 #[test]
-fn a_writer_that_stops_is_a_fault(rt: HostRuntime) -> Result<(), Fail> {
-    for room in 0..4 {
+fn a_slow_writer_gets_the_whole_piece(rt: HostRuntime) {
+    for most in [1, 2, 3, 100] {
+        let mut sink = slow_sink(rt.alloc(), most, Stop::Never);
+        for (piece, got, flushes) in [
+            ("ab", "ab", 0),
+            ("", "ab", 0),
+            ("cde\n", "abcde\n", 1),
+            ("f\ng", "abcde\nf\ng", 1),
+        ] {
+            assert!(rt; sink.push(piece.as_bytes()).is_ok());
+            assert!(rt; sink.stream.got.as_slice() == got.as_bytes());
+            assert!(rt; sink.stream.flushes == flushes);
+        }
+        assert!(rt; sink.faults() == 0);
+    }
+}
+
+// Whether a sink over a writer that stops after so many bytes holds a front, and counts two faults.
+fn counts_faults(mut sink: StreamSink<Slow>, front: &str) -> bool {
+    let first = sink.push(b"abc\n");
+    let nothing = sink.push(b"");
+    let last = sink.push(b"d");
+    first.is_err()
+        && nothing.is_ok()
+        && last.is_err()
+        && sink.faults() == 2
+        && sink.stream.got.as_slice() == front.as_bytes()
+}
+
+#[test]
+fn a_writer_that_stops_is_a_fault(rt: HostRuntime) {
+    for (room, front) in [(0, ""), (1, "a"), (2, "ab"), (3, "abc")] {
         for stop in [Stop::TakesNothing(room), Stop::Fails(room)] {
-            let mut sink = StreamSink::new(Slow {
-                got: Vec::new(rt.alloc()),
-                most: 2,
-                stop,
-                flushes: 0,
-                flush_fails: false,
-            });
-            assert_eq!(rt; sink.push(b"abc\n"), Err(Failed), "at {room}");
-            assert_eq!(rt; sink.stream.got.as_slice(), &b"abc\n"[..room], "at {room}");
-            assert_eq!(rt; sink.faults(), 1, "at {room}");
-            assert_eq!(rt;
-                sink.push(b""),
-                Ok(()),
-                "an empty piece needs no write, at {room}"
-            );
-            assert_eq!(rt; sink.push(b"d"), Err(Failed), "at {room}");
-            assert_eq!(rt; sink.faults(), 2, "at {room}");
+            assert!(rt; counts_faults(slow_sink(rt.alloc(), 2, stop), front));
         }
     }
-    Ok(())
 }
 
 #[test]
-fn a_flush_that_fails_is_a_fault(rt: HostRuntime) -> Result<(), Fail> {
-    let mut sink = StreamSink::new(Slow {
-        got: Vec::new(rt.alloc()),
-        most: 9,
-        stop: Stop::Never,
-        flushes: 0,
-        flush_fails: true,
-    });
-    assert_eq!(rt; sink.push(b"a"), Ok(()));
-    assert_eq!(rt; sink.faults(), 0);
-    assert_eq!(rt; sink.push(b"b\n"), Err(Failed));
-    assert_eq!(rt; sink.faults(), 1);
-    Ok(())
+fn a_flush_that_fails_is_a_fault(rt: HostRuntime) {
+    let mut sink = slow_sink(rt.alloc(), 9, Stop::FlushFails);
+    assert!(rt; sink.push(b"a").is_ok());
+    assert!(rt; sink.faults() == 0);
+    assert!(rt; sink.push(b"b\n").is_err());
+    assert!(rt; sink.faults() == 1);
 }
 
 #[test]
-fn a_file_holds_what_was_pushed(rt: HostRuntime) -> Result<(), Fail> {
-    let mut sink = StreamSink::new(BufWriter::new(rt.alloc(), fs::create(&rt, "pushed")?)?);
-    assert_eq!(rt; sink.push(b"one\n"), Ok(()));
-    assert_eq!(rt;
-        fs::read(&rt, "pushed")?.as_slice(),
-        b"one\n".as_slice(),
-        "an LF flushes"
-    );
-    assert_eq!(rt; sink.push(b"two"), Ok(()));
-    assert_eq!(rt; sink.push(b"\n"), Ok(()));
-    assert_eq!(rt;
-        fs::read(&rt, "pushed")?.as_slice(),
-        b"one\ntwo\n".as_slice()
-    );
-    assert_eq!(rt; sink.faults(), 0);
-    fs::remove_file(&rt, "pushed")?;
-    Ok(())
-}
-
-#[test]
-fn standard_output_takes_a_line(rt: HostRuntime) -> Result<(), Fail> {
-    let mut out: OutSink = StreamSink::new(BufWriter::new(rt.alloc(), rt.stdout())?);
-    assert_eq!(rt; out.push(b"a line\n"), Ok(()));
-    assert_eq!(rt; out.faults(), 0);
-    Ok(())
+fn standard_output_takes_a_line(rt: HostRuntime) {
+    let stream = BufWriter::new(rt.alloc(), rt.stdout()).expect(&rt, "memory");
+    let mut out: OutSink = StreamSink::new(stream);
+    assert!(rt; out.push(b"a line\n").is_ok());
+    assert!(rt; out.faults() == 0);
 }
 
 #[test]
 fn standard_error_takes_a_line(rt: HostRuntime) {
     let mut err: ErrSink = StreamSink::new(rt.stderr());
-    assert_eq!(rt; err.push(b"a line\n"), Ok(()));
-    assert_eq!(rt; err.faults(), 0);
+    assert!(rt; err.push(b"a line\n").is_ok());
+    assert!(rt; err.faults() == 0);
 }

@@ -1,0 +1,40 @@
+-- Lines, separators and numbers of small texts, worked out.
+use Rattle.std.proofs.Common.{◌≡◌, [], ◌∷◌, ◌++◌, map, Some, None, codes, refl}
+use Rattle.ant_base.specs.Lines.{lines_of, first_line, after_line, after_separators, trimmed}
+use Rattle.ant_base.specs.Number.{number_of, number_within}
+
+-- an empty line in the middle counts, and a last line needs no LF
+pub lines_between : lines_of (97 ∷ 10 ∷ 10 ∷ 98 ∷ []) ≡ codes "a" ∷ [] ∷ codes "b" ∷ []
+lines_between = refl
+
+-- no line follows a last LF
+pub lines_before_a_last_lf : map lines_of ((97 ∷ 10 ∷ []) ∷ (10 ∷ []) ∷ [] ∷ []) ≡ (codes "a" ∷ []) ∷ ([] ∷ []) ∷ [] ∷ []
+lines_before_a_last_lf = refl
+
+-- the first line is cut off, and its LF is gone
+pub first_of_two_lines : first_line (97 ∷ 10 ∷ 98 ∷ []) ≡ codes "a"
+first_of_two_lines = refl
+
+pub after_the_first : after_line (97 ∷ 10 ∷ 98 ∷ []) ≡ codes "b"
+after_the_first = refl
+
+-- space, tab and CR go at both ends, and stay within
+pub trimmed_lines : map trimmed ((32 ∷ 9 ∷ codes "# ." ++ 13 ∷ []) ∷ (32 ∷ 9 ∷ 13 ∷ []) ∷ []) ≡ codes "# ." ∷ [] ∷ []
+trimmed_lines = refl
+
+pub after_a_tab : after_separators (9 ∷ codes "4 ") ≡ codes "4 "
+after_a_tab = refl
+
+-- leading zeros are read, up to ten digits in all
+pub numbers_of_texts : map number_of (codes "007" ∷ codes "4294967296" ∷ codes "0000000000" ∷ []) ≡ Some 7 ∷ Some 4294967296 ∷ Some 0 ∷ []
+unfolding number_of
+numbers_of_texts = refl
+
+pub texts_without_a_number : map number_of ([] ∷ codes "12345678901" ∷ codes "00000000000" ∷ codes "+1" ∷ codes "1 " ∷ []) ≡ None ∷ None ∷ None ∷ None ∷ None ∷ []
+unfolding number_of
+texts_without_a_number = refl
+
+-- both bounds are included
+pub numbers_within : map (number_within 3 5) (codes "2" ∷ codes "3" ∷ codes "05" ∷ codes "6" ∷ codes "x" ∷ []) ≡ None ∷ Some 3 ∷ Some 5 ∷ None ∷ None ∷ []
+unfolding number_of
+numbers_within = refl
