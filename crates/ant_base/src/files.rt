@@ -1,9 +1,9 @@
 // Names with bytes.
-ghost use Rattle.std.specs.Prelude.{◌≡◌, ◌++◌, [], ◌∷◌, OnOk, OnErr, option_copied};
+ghost use Rattle.std.specs.Prelude.{◌≡◌, ◌++◌, [], ◌∷◌, OnOk, OnErr, IfOk, option_copied, string_bytes};
 ghost use Rattle.ant_base.specs.MemShelf.{content_of};
 
 use crate::OutOfMemory;
-use std::alloc::Global;
+use std::alloc::{AllocError, Global};
 use std::marker::Model;
 
 /// A list of names with bytes (this project's own). A name that was added twice has the bytes that were added first.
@@ -46,9 +46,8 @@ impl Files {
         ensures added { OnOk result (self.new ≡ self.old ++ (name.now, bytes.now) ∷ []) }
         ensures refused { OnErr result (self.new ≡ self.old) }
     {
-        let name = String::from_str(self.alloc, name)?;
-        let bytes = bytes.to_vec(self.alloc)?;
-        self.entries.push(Entry { name, bytes })?;
+        let entry = entry_of(self.alloc, name, bytes)?;
+        self.entries.push(entry)?;
         Ok(())
     }
 
@@ -63,4 +62,14 @@ impl Files {
         }
         None
     }
+}
+
+// An entry of this name and these bytes.
+fn entry_of(alloc: Global, name: &str, bytes: &[u8]) -> Result<Entry, AllocError>
+    ensures { IfOk result (λ entry. (string_bytes entry.name ≡ name.now) × (entry.bytes.items ≡ bytes.now)) }
+{
+    Ok(Entry {
+        name: String::from_str(alloc, name)?,
+        bytes: bytes.to_vec(alloc)?,
+    })
 }

@@ -75,11 +75,17 @@ fn values_print_as_their_texts(rt: HostRuntime) {
     assert!(rt; prints(alloc, &Each(Squares), "0;1;4;"));
 }
 
+// Whether a number is pushed as this text.
+fn pushes(alloc: Global, number: u64, text: &str) -> bool {
+    match sink_with(alloc, 20, &[]) {
+        Ok(mut sink) => push_number(&mut sink, number).is_ok() && sink.held() == text.as_bytes(),
+        Err(_) => false,
+    }
+}
+
 #[test]
 fn a_number_is_pushed_as_its_digits(rt: HostRuntime) {
-    let mut sink = sink_with(rt.alloc(), 9, &[]).expect(&rt, "memory");
-    assert!(rt; push_number(&mut sink, 12345).is_ok());
-    assert!(rt; sink.held() == b"12345".as_slice());
+    assert!(rt; pushes(rt.alloc(), 12345, "12345"));
 }
 
 // Whether each text is the number.

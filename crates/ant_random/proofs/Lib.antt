@@ -1,4 +1,4 @@
 pub mod JumpLemmas
 pub mod StepLemmas
 pub mod StreamLaws
-pub mod WorkedRows
+pub mod Worked

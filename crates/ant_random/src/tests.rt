@@ -1,4 +1,4 @@
-// The worked rows of the stream of seed 12345, and each call once on its happy path.
+// The task's own numbers of seed 12345, and each call once on its happy path.
 ghost use Rattle.std.specs.Prelude.{◌≡◌, ◌-◌, ◌^◌, ◌<◌};
 
 use crate::steps::Steps;

@@ -1,6 +1,7 @@
 // The table, and the search in it.
 ghost use Rattle.std.specs.Prelude.{◌≡◌, ◌<◌, ℕ, List, Some, IfSome, IsTrue, map, slice_get};
-ghost use Rattle.word_table.specs.Words.{are_distinct, same_word, place_in, IsWordAt};
+ghost use Rattle.std.specs.Str.{str_eq_ignore_ascii_case};
+ghost use Rattle.word_table.specs.Words.{are_distinct, place_in, IsWordAt};
 
 use std::convert::AsStr;
 use std::marker::Model;
@@ -8,7 +9,7 @@ use std::marker::Model;
 /// A table of `N` words that differ in any ASCII case (this project's own).
 pub type WordTable<const N: usize> = Words<&'static str, N>;
 
-/// A table of `N` texts that differ in any ASCII case. Contracts see it as the list of its texts.
+/// A table of `N` texts that differ in any ASCII case (this project's own). Contracts see it as the list of its texts.
 #[derive(Drop)]
 pub struct Words<T: AsStr, const N: usize> {
     words: [T; N],
@@ -26,7 +27,8 @@ impl<T: AsStr, const N: usize> Model for Words<T, N> {
 }
 
 impl<T: AsStr, const N: usize> Words<T, N> {
-    /// The table of these words, in this order. It takes no memory.
+    /// The table of these words, in this order (this project's own). It takes no memory. Words that differ in ASCII case alone are refused
+    /// when the program is checked.
     pub fn new(words: [T; N]) -> Words<T, N>
         requires { IsTrue (are_distinct (map T.text words)) }
         ensures { result ≡ map T.text words }
@@ -34,7 +36,7 @@ impl<T: AsStr, const N: usize> Words<T, N> {
         Words { words }
     }
 
-    /// The place, counted from 0, of the word that the text is in some ASCII case. None where it is no word.
+    /// The place, counted from 0, of the word that the text is in some ASCII case; `None` exactly where it is no word (this project's own).
     pub fn find(&self, text: &[u8]) -> Option<usize>
         ensures place { result ≡ place_in self.now text.now }
         ensures below { IfSome result (λ i. i < N) }
@@ -45,7 +47,7 @@ impl<T: AsStr, const N: usize> Words<T, N> {
         self.place(text)
     }
 
-    /// The word at a place.
+    /// The word at a place, counted from 0 and below `N`, as it was spelled (this project's own).
     pub fn word(&self, i: usize) -> &str
         requires { i < N }
         ensures { slice_get self.now i ≡ Some result.now }
@@ -66,7 +68,7 @@ impl<T: AsStr, const N: usize> Words<T, N> {
     }
 }
 
-/// A law: in a table whose words differ in any ASCII case, a word is found at the place where it stands.
+/// A law: in a table whose words differ in any ASCII case, a word is found at the place where it stands (this project's own).
 pub fn word_is_found()
     ensures { (words : List (List ℕ)) (i : ℕ) (word : List ℕ) → IsTrue (are_distinct words)
         → slice_get words i ≡ Some word → place_in words word ≡ Some i }
@@ -74,7 +76,7 @@ pub fn word_is_found()
 
 // The word is the text in some ASCII case.
 fn is_word(word: &str, text: &[u8]) -> bool
-    ensures { result ≡ same_word word.now text.now }
+    ensures { result ≡ str_eq_ignore_ascii_case word.now text.now }
 {
     word.as_bytes().eq_ignore_ascii_case(text)
 }

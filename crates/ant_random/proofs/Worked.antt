@@ -1,8 +1,8 @@
--- Worked rows of the stream of seed 12345.
+-- The stream of seed 12345, worked out: the task's own numbers.
 use Rattle.std.proofs.Common.{◌≡◌, ℕ, ◌%◌, ◌^◌, [], ◌∷◌, map, refl}
 use Rattle.ant_random.specs.Stream.{state_at, random_at, drawn}
 
--- the first four states after the seed, of which 30 bits count
+-- the first four states after the seed, modulo 2 ^ 30; the first number is read off the fourth
 pub first_states : map (λ (i : ℕ). state_at 12345 i % 2 ^ 30) (1 ∷ 2 ∷ 3 ∷ 4 ∷ []) ≡ 1002789326 ∷ 564419495 ∷ 715774868 ∷ 471436709 ∷ []
 unfolding state_at
 first_states = refl
