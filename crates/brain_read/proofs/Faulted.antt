@@ -13,7 +13,7 @@ use Rattle.brain_read.specs.declared.form.Form.{Form}
 use Rattle.brain_read.specs.declared.form.ConditionWord.{ConditionWord}
 use Rattle.brain_read.specs.Tokens.{has_bad_byte}
 use Rattle.brain_read.specs.Steps.{Read, Step, ◌>>=◌, or_refused, take_word, take_number, take_end, take_sight, take_side, take_state, take_marker, take_bound, condition_from, take_condition}
-use Rattle.brain_read.specs.Forms.{word_of_form, word_of_sight, word_of_side, word_of_condition, forms, sights, sides, conditions, form_words, sight_words, side_words, condition_words, named, most_bound}
+use Rattle.brain_read.specs.Forms.{word_of_form, word_of_sight, word_of_side, word_of_condition, forms, sights, sides, conditions, form_words, sight_words, side_words, condition_words, most_bound}
 use Rattle.brain_read.specs.Places.{form_at, sight_at, side_at, condition_word_at}
 use Rattle.brain_read.specs.Reading.{read_sense, read_mark, read_unmark, read_pick_up, read_drop, read_turn, read_move, read_flip, read_form, read_line}
 use Rattle.brain_read.specs.Refusals.{fault_at, refusal_at}

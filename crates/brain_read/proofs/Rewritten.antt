@@ -24,7 +24,7 @@ use Rattle.brain_read.specs.Forms.{word_of_sight, word_of_side, Field, fields_of
 use Rattle.brain_read.specs.Forms.Field.{Word, Number}
 use Rattle.brain_read.specs.BrainText.{TokenLine, with_line, token_lines, AreLines, states_of, StatesBelow, BrainText}
 use Rattle.brain_read.specs.Canonical.{field_text, further_text, line_text, instruction_text, brain_text}
-use Rattle.brain_read.proofs.Vocabulary.{own}
+use Rattle.brain_read.proofs.Vocabulary.{all_ascii_digits-IsNumeralModel}
 use Rattle.brain_read.proofs.Cursor.{plain, pieces, pieces-cons}
 
 -- whether a byte belongs to a token of a text's line
@@ -60,7 +60,7 @@ nonempty (byte ∷ text) some = refl
 
 number_token : (n : ℕ) → n < 10000000000 → IsToken (decimal n)
 number_token n small = record {
-  bytes = digits_token (decimal n) (digits_decimal own n (omega arith));
+  bytes = digits_token (decimal n) (digits_decimal all_ascii_digits-IsNumeralModel n (omega arith));
   some = nonempty (decimal n) (decimal_nonempty n (omega arith));
 }
 

@@ -1,5 +1,5 @@
 -- Words and their places, numbers, and the bytes of both.
-use Rattle.std.proofs.Common.{◌≡◌, ◌+◌, ◌<◌, ◌≤◌, ℕ, zero, suc, Bool, true, false, not, ◌&&◌, ◌||◌, List, [], ◌∷◌, length, get_or, Option, Some, None, map, find, option_map, cond, slice_get, bytes_eq, nat_le, nat_lt, eqb, refl, sym, ap, ◌∙◌, IsTrue, arith, le-leb, leb-true, ltb-false, ltb-true}
+use Rattle.std.proofs.Common.{◌≡◌, ◌+◌, ◌<◌, ◌≤◌, ℕ, zero, suc, Bool, true, false, not, ◌&&◌, ◌||◌, List, [], ◌∷◌, length, get_or, Option, Some, None, map, option_map, cond, slice_get, bytes_eq, nat_le, nat_lt, eqb, refl, sym, ap, ◌∙◌, IsTrue, arith, le-leb, leb-true, ltb-false, ltb-true}
 use Rattle.std.specs.List.{list_all}
 use Rattle.std.specs.Char.{to_ascii_lowercase, is_ascii_digit}
 use Rattle.std.specs.Str.{all_ascii_digits}
@@ -94,9 +94,9 @@ named-place {A} {B} word at f (thing ∷ things) token stand = go (same_word (wo
     go true rest = ap (λ x. Some (f x)) (sym stand.0)
     go false rest = rest ∙ later (place_in (map word things) token)
 
--- the digits of a number
-pub own : IsNumeralModel (λ ds. all_ascii_digits ds ≡ true) (digits_value 10)
-own = numerals_by_value (λ ds. all_ascii_digits ds ≡ true) tells_all_ascii_digits
+-- the value of digits is that of a numeral
+pub all_ascii_digits-IsNumeralModel : IsNumeralModel (λ ds. all_ascii_digits ds ≡ true) (digits_value 10)
+all_ascii_digits-IsNumeralModel = numerals_by_value (λ ds. all_ascii_digits ds ≡ true) tells_all_ascii_digits
 
 -- a number, as its digits
 record IsDigits (token : List ℕ) (n : ℕ) : Type 0 where
@@ -119,7 +119,7 @@ digits_of token n is = go (is_number token) refl is
 pub number_of-small : (token : List ℕ) (n : ℕ) → number_of token ≡ Some n → n ≤ 9999999999
 number_of-small token n is =
     let d = digits_of token n is in
-    let small = digits_value_short own token 10 d.digits d.short in
+    let small = digits_value_short all_ascii_digits-IsNumeralModel token 10 d.digits d.short in
     omega (arith, small, d.value)
 
 digits-good : (token : List ℕ) → all_ascii_digits token ≡ true → has_bad_byte token ≡ false

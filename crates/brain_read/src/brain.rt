@@ -5,7 +5,8 @@ ghost use Rattle.brain_read.specs.Soundness.{IsSound, IsBrain};
 use crate::instr::Instr;
 use std::marker::Model;
 
-/// A brain: its instructions, by state from 0 (the task's neurology).
+/// A brain: 1 to 10,000 instructions, by state from 0. Every state that they name is below their number, every marker is below 6 and
+/// every bound is at least 1 (the task's neurology). Contracts see the list of the instructions.
 #[derive(Drop)]
 pub struct Brain {
     list: Vec<Instr>,
@@ -24,7 +25,8 @@ impl Model for Brain {
 }
 
 impl Brain {
-    /// The brain of this list.
+    /// The brain of this list, whose instruction at place i, from 0, is that of state i. It takes no memory and is never refused: the caller
+    /// knows that the list is a brain's (the task's neurology).
     pub fn from_list(list: Vec<Instr>) -> Brain
         requires { IsBrain list.items }
         ensures { result ≡ list.items }
@@ -32,7 +34,7 @@ impl Brain {
         Brain { list }
     }
 
-    /// How many states it has, from 1 to 10,000.
+    /// How many states it has, from 1 to 10,000 (the task's neurology).
     #[inline]
     pub fn len(&self) -> u32
         ensures length { result ≡ length self.now }
@@ -41,7 +43,7 @@ impl Brain {
         self.list.len() as u32
     }
 
-    /// The instruction of this state, which is below the length.
+    /// The instruction of this state, which is from 0 and below the length (the task's neurology).
     #[inline]
     pub fn at(&self, state: u16) -> Instr
         requires { state < length self.now }

@@ -18,11 +18,14 @@ pub enum LineFault {
 /// is none of tab, LF, CR and 32 to 126 (this project's own).
 #[derive(Clone, Copy, Debug, PartialEq, Eq)]
 pub struct Refusal {
+    /// What is wrong with the position, whatever bytes its token has.
     pub fault: LineFault,
+    /// Whether the token there has a bad byte; false where there is no token.
     pub bad_byte: bool,
 }
 
-/// The fault of a text that should be a brain's. Lines are counted from 1 (this project's own).
+/// The fault of a text that is no brain's: the first line at fault, with its first position at fault; where no line is at fault, `Empty`
+/// or `NoSuchState`. Lines are counted from 1, lines without a token included (this project's own).
 #[derive(Clone, Copy, Debug, PartialEq, Eq)]
 pub enum BrainFault {
     /// A token has a byte that is none of tab, LF, CR and 32 to 126.
@@ -37,11 +40,11 @@ pub enum BrainFault {
     ExtraToken { line: u32 },
     /// The line has a token, and 10,000 instructions were read before it.
     TooMany { line: u32 },
-    /// There is no instruction.
+    /// No line has a token, so there is no instruction.
     Empty,
-    /// A state is not below the number of instructions: the first such line, and its first such state.
+    /// No line is at fault, and a state is not below the number of instructions: the first such line, and its first such state, from 0.
     NoSuchState { line: u32, state: u64 },
-    /// Memory could not be had.
+    /// Memory could not be had; it says nothing of the text.
     OutOfMemory,
 }
 
@@ -71,7 +74,8 @@ impl Refusal {
     ghost use Rattle.std.specs.Prelude.{◌≡◌};
     ghost use Rattle.brain_read.specs.Refusals.{refusal_at, fault_at};
 
-    /// The fault of the line of this number that was refused so.
+    /// The fault of the line of this number, from 1, that was refused so: `BadByte` where the token has a bad byte, else the fault of
+    /// the position (this project's own).
     pub fn at(self, line: u32) -> BrainFault
         ensures { result ≡ refusal_at line self }
     {

@@ -4,7 +4,7 @@ ghost use Rattle.brain_read.specs.Forms.{form_words, sight_words, side_words, co
 
 use word_table::WordTable;
 
-/// The form of an instruction: the word that it begins with (the task's neurology).
+/// The form of an instruction: the word that it begins with, in the order of [`form_table`] (the task's neurology).
 #[derive(Clone, Copy, Debug, PartialEq, Eq)]
 pub enum Form {
     Sense,
@@ -17,7 +17,7 @@ pub enum Form {
     Flip,
 }
 
-/// The word that a condition begins with (the task's phenomenology).
+/// The word that a condition begins with, in the order of [`condition_table`] (the task's phenomenology).
 #[derive(Clone, Copy, Debug, PartialEq, Eq)]
 pub enum ConditionWord {
     Friend,
@@ -32,7 +32,7 @@ pub enum ConditionWord {
     FoeHome,
 }
 
-/// The words that begin an instruction, in the order of [`Form`].
+/// The words that begin an instruction, in the order of [`Form`], spelled as the canonical text has them (the task's neurology).
 #[tactic(auto, unfolding(crate::specs::Forms::form_words))]
 pub fn form_table() -> WordTable<8>
     ensures { result ≡ form_words }
@@ -42,7 +42,7 @@ pub fn form_table() -> WordTable<8>
     ])
 }
 
-/// The words of the sights.
+/// The words of the sights, in the order of [`Sight`](hex_geometry::Sight), spelled as the canonical text has them (the task's geometry).
 #[tactic(auto, unfolding(crate::specs::Forms::sight_words))]
 pub fn sight_table() -> WordTable<4>
     ensures { result ≡ sight_words }
@@ -50,7 +50,7 @@ pub fn sight_table() -> WordTable<4>
     WordTable::new(["Here", "Ahead", "LeftAhead", "RightAhead"])
 }
 
-/// The words of the sides.
+/// The words of the sides, in the order of [`Side`](hex_geometry::Side), spelled as the canonical text has them (the task's geometry).
 #[tactic(auto, unfolding(crate::specs::Forms::side_words))]
 pub fn side_table() -> WordTable<2>
     ensures { result ≡ side_words }
@@ -58,7 +58,7 @@ pub fn side_table() -> WordTable<2>
     WordTable::new(["Left", "Right"])
 }
 
-/// The words that begin a condition, in the order of [`ConditionWord`].
+/// The words that begin a condition, in the order of [`ConditionWord`], spelled as the canonical text has them (the task's phenomenology).
 #[tactic(auto, unfolding(crate::specs::Forms::condition_words))]
 pub fn condition_table() -> WordTable<10>
     ensures { result ≡ condition_words }

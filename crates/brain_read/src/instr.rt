@@ -36,12 +36,12 @@ pub enum Instr {
         no: u16,
         cond: Cond,
     },
-    /// Sets the own colour's marker on the own cell.
+    /// Sets the own colour's marker of this number on the own cell, and goes to `next`.
     Mark {
         mark: u8,
         next: u16,
     },
-    /// Clears the own colour's marker on the own cell.
+    /// Clears the own colour's marker of this number on the own cell, and goes to `next`.
     Unmark {
         mark: u8,
         next: u16,
@@ -51,11 +51,11 @@ pub enum Instr {
         yes: u16,
         no: u16,
     },
-    /// Puts down the food particle, if the ant carries one.
+    /// Puts down the food particle, if the ant carries one, and goes to `next` in any case.
     Drop {
         next: u16,
     },
-    /// Turns by one direction.
+    /// Turns by one direction, and goes to `next`.
     Turn {
         side: Side,
         next: u16,

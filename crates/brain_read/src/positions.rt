@@ -13,7 +13,7 @@ use crate::tokens::Tokens;
 use hex_geometry::{Side, Sight};
 use word_table::word_arms;
 
-/// The next token, which should be the word of a sight.
+/// The next token, which should be the word of a sight, in any ASCII case (the task's geometry).
 #[tactic(auto, unfolding(crate::specs::Steps::take_sight))]
 pub fn sight(tokens: &mut Tokens) -> Result<Sight, Refusal>
     ensures { steps.take_sight tokens.old ≡ with_rest tokens.new result }
@@ -28,7 +28,7 @@ fn sight_at(place: usize) -> Sight
     word_arms!(place; Sight::Here, Sight::Ahead, Sight::LeftAhead, Sight::RightAhead)
 }
 
-/// The next token, which should be the word of a side.
+/// The next token, which should be the word of a side, in any ASCII case (the task's geometry).
 #[tactic(auto, unfolding(crate::specs::Steps::take_side))]
 pub fn side(tokens: &mut Tokens) -> Result<Side, Refusal>
     ensures { steps.take_side tokens.old ≡ with_rest tokens.new result }
@@ -43,7 +43,7 @@ fn side_at(place: usize) -> Side
     word_arms!(place; Side::Left, Side::Right)
 }
 
-/// The next token, which should be a state: any number.
+/// The next token, which should be a state: any number of 1 to 10 digits, from 0 to 9,999,999,999 (the task's neurology).
 #[tactic(auto, unfolding(crate::specs::Steps::take_state))]
 pub fn state(tokens: &mut Tokens) -> Result<u64, Refusal>
     ensures { steps.take_state tokens.old ≡ with_rest tokens.new result }
@@ -51,7 +51,7 @@ pub fn state(tokens: &mut Tokens) -> Result<u64, Refusal>
     tokens.number(0, 9_999_999_999)
 }
 
-/// The next token, which should be a marker, from 0 to 5.
+/// The next token, which should be a marker, from 0 to 5 (the task's chemistry).
 #[tactic(auto, unfolding(crate::specs::Steps::take_marker))]
 pub fn marker(tokens: &mut Tokens) -> Result<u8, Refusal>
     ensures { steps.take_marker tokens.old ≡ with_rest tokens.new result }
@@ -60,7 +60,7 @@ pub fn marker(tokens: &mut Tokens) -> Result<u8, Refusal>
     Ok(number as u8)
 }
 
-/// The next token, which should be a bound, from 1 to 4,294,967,295.
+/// The next token, which should be a bound, from 1 to 4,294,967,295 (the task's neurology; the largest bound is this project's own).
 #[tactic(auto, unfolding(crate::specs::Steps::take_bound))]
 pub fn bound(tokens: &mut Tokens) -> Result<u32, Refusal>
     ensures { steps.take_bound tokens.old ≡ with_rest tokens.new result }
@@ -69,7 +69,8 @@ pub fn bound(tokens: &mut Tokens) -> Result<u32, Refusal>
     Ok(number as u32)
 }
 
-/// The next token, which should be the word of a condition, and after `Marker` the marker.
+/// The next token, which should be the word of a condition, in any ASCII case; after `Marker` also the token behind it, which should be
+/// the marker, from 0 to 5 (the task's phenomenology).
 #[tactic(auto, unfolding(crate::specs::Steps::take_condition))]
 pub fn condition(tokens: &mut Tokens) -> Result<Cond, Refusal>
     ensures { steps.take_condition tokens.old ≡ with_rest tokens.new result }

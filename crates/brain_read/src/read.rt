@@ -29,7 +29,8 @@ pub struct DraftLine {
 }
 
 /// The brain of a text of at most 4,194,304 bytes, or the text's fault (the task's neurology; the faults and their order are
-/// this project's own). Besides want of memory it answers exactly what the text is: every text has one brain or one fault.
+/// this project's own). `OutOfMemory` may be answered at any text; every other answer follows from the text alone, since every text
+/// has one brain or one fault.
 pub fn read_brain(alloc: Global, text: &[u8]) -> Result<Brain, BrainFault>
     requires { length text.now ≤ longest }
     ensures brain { IfOk result (λ brain. BrainText text.now brain) }

@@ -1,4 +1,5 @@
-// What no clause says: the worked texts and their faults, and that the calls that take memory get it.
+// What no clause says: which bytes are accepted and printed, and which fault others have, written out; and that the calls that take memory
+// get it.
 ghost use Rattle.std.specs.Prelude.{◌≡◌, ◌∷◌, [], IfOk};
 ghost use Rattle.hex_geometry.specs.declared.direction.Side.TheVariants.{Left};
 ghost use Rattle.brain_read.specs.declared.instr.Instr.TheVariants.{Turn};
