@@ -1,6 +1,6 @@
 //! The positions of an instruction's line (the task's neurology). Each call takes the next token and gives what it stands for, or refuses:
-//! `MissingToken` where no token is left, `UnknownWord` and `BadNumber` where the token is none of the position. A token that is refused
-//! is passed.
+//! `MissingToken` where no token is left, `UnknownWord` and `BadNumber` where the token is none of the position. Which tokens are left after
+//! a refusal isn't told.
 ghost use Rattle.std.specs.Prelude.{◌≡◌};
 ghost use Rattle.brain_read.specs.Steps.{with_rest};
 ghost use Rattle.brain_read.specs.Steps as steps;

@@ -1,5 +1,5 @@
 // Words, numbers and the end of a line, by their positions.
-ghost use Rattle.std.specs.Prelude.{◌≡◌, ◌≤◌, IfOk};
+ghost use Rattle.std.specs.Prelude.{◌≡◌, ◌≤◌, drop, IfOk};
 ghost use Rattle.brain_read.specs.Tokens.{is_bad_byte, has_bad_byte};
 ghost use Rattle.brain_read.specs.Steps.{with_rest, missing, refused, take_word, take_number, take_end};
 
@@ -13,6 +13,7 @@ impl<'t> Tokens<'t> {
     /// refused as `UnknownWord`, a line without one as `MissingToken`; a token that is refused is passed (this project's own).
     pub fn word<const N: usize>(&mut self, table: &WordTable<N>) -> Result<usize, Refusal>
         ensures step { take_word table.now self.old ≡ with_rest self.new result }
+        ensures passed { self.new ≡ drop 1 self.old }
     {
         let Some(token) = self.next() else {
             return Err(missing());
@@ -27,6 +28,7 @@ impl<'t> Tokens<'t> {
     /// is refused as `BadNumber`, a line without one as `MissingToken`; a token that is refused is passed (this project's own).
     pub fn number(&mut self, least: u64, most: u64) -> Result<u64, Refusal>
         ensures step { take_number least most self.old ≡ with_rest self.new result }
+        ensures passed { self.new ≡ drop 1 self.old }
         ensures bounds { IfOk result (λ number. (least ≤ number) × (number ≤ most)) }
     {
         let Some(token) = self.next() else {
@@ -41,6 +43,7 @@ impl<'t> Tokens<'t> {
     /// Nothing, where no token is left; a token is refused as `ExtraToken` (this project's own).
     pub fn end(&mut self) -> Result<(), Refusal>
         ensures step { take_end self.old ≡ with_rest self.new result }
+        ensures passed { self.new ≡ drop 1 self.old }
     {
         match self.next() {
             Some(token) => Err(refused(token, LineFault::ExtraToken)),
