@@ -82,7 +82,7 @@ side_words = map word_of_side sides
 unfoldable pub condition_words : List (List ℕ)
 condition_words = map word_of_condition conditions
 
--- the one of some things whose word a token is, in any ASCII case
+-- which of some things a token names: the first whose word it is, in any ASCII case
 abbrev pub named : {A : Type 0} → (A → List ℕ) → List A → List ℕ → Option A
 named word things token = find (λ thing. same_word (word thing) token) things
 

@@ -28,7 +28,7 @@ abbrev pub positions_of_condition : ConditionWord → List Position
 positions_of_condition ConditionWord.Marker = MarkerToken ∷ []
 positions_of_condition _ = []
 
--- the positions that a token brings which brings none
+-- no further position, whatever the token stands for
 abbrev pub nothing_more : {A : Type 0} → A → List Position
 nothing_more x = []
 

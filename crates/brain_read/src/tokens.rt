@@ -7,8 +7,8 @@ use ant_base::{after_separators, is_separator};
 use std::marker::Model;
 
 /// The tokens of a line that are left, from the first on. A `;` begins a comment that goes to the end of the line, and what stands
-/// before it is cut into tokens by spaces, tabs and CR bytes (the task's neurology). It takes no memory, and reads each byte of the
-/// line at most twice. Contracts see the list of the tokens that are left.
+/// before it is cut into tokens by spaces, tabs and CR bytes (the task's neurology). It takes no memory. Contracts see the list of the
+/// tokens that are left.
 #[derive(Drop)]
 pub struct Tokens<'t> {
     rest: &'t [u8],
@@ -24,21 +24,21 @@ impl<'t> Model for Tokens<'t> {
 }
 
 impl<'t> Tokens<'t> {
-    /// All tokens of a line, which is given without its LF.
+    /// All tokens of a line, which is given without its LF (the task's neurology).
     pub fn new(line: &'t [u8]) -> Self
         ensures { result ≡ tokens_of line.now }
     {
         Tokens { rest: line }
     }
 
-    /// Whether there is a token left.
+    /// Whether there is a token left (this project's own).
     pub fn has_next(&self) -> bool
         ensures { result ≡ has_token self.now }
     {
         begins_token(after_separators(self.rest))
     }
 
-    /// The next token. None where none is left, and then none is left for good.
+    /// The next token; None where none is left (this project's own).
     pub fn next(&mut self) -> Option<&'t [u8]>
         ensures token { MatchOption result (self.old ≡ [])
             (λ token. self.old ≡ token.now ∷ self.new) }
