@@ -1,11 +1,12 @@
 -- Who is killed, and that nobody else is.
-use Rattle.std.proofs.Common.{◌≡◌, inl, inr, ℕ, zero, suc, ◌<◌, ◌≤◌, true, List, [], ◌∷◌, length, take, slice_index_or, Some, None, refl, sym, ap, ◌∙◌, subst, arith}
-use Rattle.std.specs.List.{Contains}
-use Rattle.std.proofs.lemmas.List.Elements.{Contains-append_cases, Contains-append_left, Contains-append_right}
+use Rattle.std.proofs.Common.{◌≡◌, ◌≢◌, inl, inr, ℕ, zero, suc, ◌<◌, ◌≤◌, true, List, [], ◌∷◌, ◌++◌, length, take, slice_index_or, Some, None, refl, sym, ap, ◌∙◌, subst, arith}
+use Rattle.std.specs.List.{AllPairs, Contains}
+use Rattle.std.proofs.lemmas.List.Elements.{All-contains_itself, Contains-append_cases, Contains-append_left, Contains-append_right}
+use Rattle.std.proofs.lemmas.List.Kept.{AllPairs-cons}
 use Rattle.std.proofs.lemmas.Bool.{both_ways, false_from_ne_true, true_from_ne_false}
 use Rattle.hex_geometry.specs.declared.position.Pos.{Pos}
 use Rattle.cell_world.specs.Cell.{holds_id}
-use Rattle.cell_world.specs.World.{Cells, World, place_in, with_cells}
+use Rattle.cell_world.specs.World.{Cells, World, place_in, put_cell, with_cells}
 use Rattle.cell_world.specs.Valid.{Valid}
 use Rattle.cell_world.proofs.Places.{Holder, is_ant-true, holds_id-own, place_in-nowhere, place_in-none, place_in-found, place_in-put_gone, place_in-put_other}
 use Rattle.ant_turn.specs.Kills.{after_kill, check_at, check_all, is_surrounded, killed_at, killed_all}
@@ -111,3 +112,21 @@ check_all-place_in sheet (p ∷ places) w t spared =
     let next : World = with_cells w (check_at sheet w.cells p) in
     check_all-place_in sheet places next t (λ later. spared (Contains-append_right (killed_at sheet w.cells p) (killed_all sheet next.cells places) t later))
     ∙ check_at-place_in sheet w p t (λ first. spared (Contains-append_left (killed_at sheet w.cells p) (killed_all sheet next.cells places) t first))
+
+-- nobody is killed twice
+pub killed_all-differ : (sheet : Sheet) (places : List Pos) (w : World) → sheet.corpse ≤ 9 → Valid w → AllPairs ◌≢◌ (killed_all sheet w.cells places)
+killed_all-differ sheet [] w light valid = λ i j d lt within. absurd (omega (arith, within))
+killed_all-differ sheet (p ∷ places) w light valid =
+    let next : World = with_cells w (check_at sheet w.cells p) in
+    let still : Valid next = check_at-Valid sheet w p light valid in
+    check_at-cases sheet w.cells p
+    (λ now killed. AllPairs ◌≢◌ (killed_all sheet now places) → ((u : ℕ) → Contains killed u → Contains (killed_all sheet now places) u → ⊥) → AllPairs ◌≢◌ (killed ++ killed_all sheet now places))
+    (λ differ _. differ)
+    (λ it differ apart. AllPairs-cons ◌≢◌ it.ant.id (killed_all sheet (put_cell w.cells p (after_kill sheet (w.cells p))) places)
+    (λ k d inside same. apart it.ant.id (0, omega arith, refl)
+    (subst (Contains (killed_all sheet (put_cell w.cells p (after_kill sheet (w.cells p))) places)) (sym same) (All-contains_itself (killed_all sheet (put_cell w.cells p (after_kill sheet (w.cells p))) places) k d inside))) differ)
+    (killed_all-differ sheet places next light still)
+    (λ u first later.
+    let gone : place_in next u ≡ None = killed_at-gone sheet w p u valid first in
+    let there = killed_all-alive sheet places next u still later in
+    let both : None ≡ Some there.0 = sym gone ∙ there.1 in cc)

@@ -58,7 +58,7 @@ execute_parts sheet seed cells place p ant (Flip bound met unmet) =
     inl (stays_there true (flip_stays (cells p) ant bound met unmet (drawn seed place bound == 0)))
 
 -- what the turn of an ant comes to
-acts_parts : (minds : Minds) (seed : ℕ) (cells : Cells) (place : ℕ) (p : Pos) (ant : Ant) (resting : ℕ) → Does (instruction_at (mind_of minds ant.colour) ant.state) minds.sheet cells p ant (acts resting minds seed cells place p ant)
+pub acts_parts : (minds : Minds) (seed : ℕ) (cells : Cells) (place : ℕ) (p : Pos) (ant : Ant) (resting : ℕ) → Does (instruction_at (mind_of minds ant.colour) ant.state) minds.sheet cells p ant (acts resting minds seed cells place p ant)
 acts_parts minds seed cells place p ant zero = execute_parts minds.sheet seed cells place p ant (instruction_at (mind_of minds ant.colour) ant.state)
 acts_parts minds seed cells place p ant (suc left) = inl (stays_there false (rest_stays (instruction_at (mind_of minds ant.colour) ant.state) (cells p) ant left))
 

@@ -1,7 +1,10 @@
 pub mod Conditions
+pub mod FoodLaws
 pub mod Keeps
+pub mod KillLaws
 pub mod Kills
 pub mod Minds
+pub mod QuietLaws
 pub mod Rounds
 pub mod Sheet
 pub mod Stands

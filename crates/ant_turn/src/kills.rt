@@ -61,7 +61,7 @@ pub fn check_around<G: Ground>(ground: &mut G, p: Pos) -> ArrayVec<u32, 7>
 }
 
 // The check of one cell: where its ant is surrounded, kills it and adds its id.
-#[inline]
+#[inline(always)]
 fn check<G: Ground>(ground: &mut G, p: Pos, killed: &mut ArrayVec<u32, 7>)
     requires inside { IsInside (G.world ground.old).width (G.world ground.old).height p }
     requires room { 1 ≤ G.room ground.old }
@@ -83,6 +83,7 @@ fn check<G: Ground>(ground: &mut G, p: Pos, killed: &mut ArrayVec<u32, 7>)
 }
 
 // Whether the ant at `p` has foes on at least 5 of the six neighbours.
+#[inline(never)]
 fn is_surrounded<G: Ground>(ground: &mut G, p: Pos, ant: &Ant) -> bool
     requires valid { Valid (G.world ground.old) }
     requires here { ((G.world ground.old).cells p).ant ≡ Some ant.now }

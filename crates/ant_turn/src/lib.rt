@@ -17,4 +17,8 @@ pub use brains::Brains;
 pub use conditions::matches;
 pub use kills::{check_around, surrounded};
 pub use turn::{Deed, take_turn};
-pub use turn_laws::{openings_fit, rounds_keep, turns_draw, turns_keep};
+pub use turn_laws::{
+    idle_turns, openings_fit, rounds_keep, rounds_keep_food, turns_are_near, turns_draw,
+    turns_follow, turns_keep, turns_keep_ants, turns_keep_food, turns_keep_weight,
+    turns_kill_alone,
+};

@@ -1,4 +1,7 @@
-// What turns and rounds keep, and how many random numbers they use.
+// What turns and rounds keep and change, and how many random numbers they use.
+ghost use Rattle.ant_turn.specs.FoodLaws.{RoundsKeepFood, TurnsKeepAnts, TurnsKeepFood, TurnsKeepWeight};
+ghost use Rattle.ant_turn.specs.KillLaws.{TurnsKillAlone};
+ghost use Rattle.ant_turn.specs.QuietLaws.{IdleTurns, TurnsAreNear, TurnsFollow};
 ghost use Rattle.ant_turn.specs.TurnLaws.{OpeningsFit, RoundsKeep, TurnsDraw, TurnsKeep};
 
 /// At the start of a game each ant's state, which is 0, is below the length of its colour's brain (the task's biology).
@@ -23,4 +26,51 @@ pub fn rounds_keep()
 /// The call does nothing: its clause is the law.
 pub fn turns_draw()
     ensures { TurnsDraw }
+{}
+
+/// A turn makes no food and loses none, lying and carried, but that each killed ant leaves the rules' 3 particles (the task's martial
+/// arts). The call does nothing: its clause is the law.
+pub fn turns_keep_food()
+    ensures { TurnsKeepFood }
+{}
+
+/// A turn changes a world's weight by its kills alone: each killed ant weighed 9 and leaves 3, so that each takes 6 away (the task's
+/// martial arts; the weight is this project's own). The call does nothing: its clause is the law.
+pub fn turns_keep_weight()
+    ensures { TurnsKeepWeight }
+{}
+
+/// As many ants fewer are alive after a turn as it killed (the task's martial arts). The call does nothing: its clause is the law.
+pub fn turns_keep_ants()
+    ensures { TurnsKeepAnts }
+{}
+
+/// Over any number of rounds the food of a world, and 3 particles for each ant that is alive, together stay the same (the task's
+/// martial arts). The call does nothing: its clause is the law.
+pub fn rounds_keep_food()
+    ensures { RoundsKeepFood }
+{}
+
+/// The killed were alive, are gone and are pairwise different; every other ant stays where it is, but that the ant whose turn it is may
+/// move; and the dead stay dead (the task's martial arts and biology). The call does nothing: its clause is the law.
+pub fn turns_kill_alone()
+    ensures { TurnsKillAlone }
+{}
+
+/// The turn of a dead ant changes nothing, and that of a resting ant its resting count alone; neither uses a random number (the task's
+/// kinetics). The call does nothing: its clause is the law.
+pub fn idle_turns()
+    ensures { IdleTurns }
+{}
+
+/// Some turns and then the next ones are all of them, and so with rounds (the task's kinetics). The call does nothing: its clause is
+/// the law.
+pub fn turns_follow()
+    ensures { TurnsFollow }
+{}
+
+/// The turn of an ant changes no cell but its own, the one ahead of it and the six around that one (the task's kinetics). The call does
+/// nothing: its clause is the law.
+pub fn turns_are_near()
+    ensures { TurnsAreNear }
 {}

@@ -1,0 +1,5 @@
+use Rattle.ant_turn.proofs.Quiet.{turn-elsewhere}
+use Rattle.ant_turn.proofs.turn_laws.turns_are_near.Goals as goal
+
+pub returns : goal.returns
+returns c = turn-elsewhere

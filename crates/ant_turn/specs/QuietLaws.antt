@@ -1,0 +1,29 @@
+-- What turns leave as it is, and how turns and rounds follow one another (the task's kinetics).
+use Rattle.std.specs.Prelude.{◌≡◌, ◌≢◌, ℕ, ◌+◌, Some, None}
+use Rattle.std.specs.List.{Contains}
+use Rattle.hex_geometry.specs.declared.position.Pos.{Pos}
+use Rattle.hex_geometry.specs.Neighbourhood.{adjacent_pos}
+use Rattle.cell_world.specs.declared.ant.Ant.{Ant}
+use Rattle.cell_world.specs.World.{World, place_in, put}
+use Rattle.ant_turn.specs.Kills.{places_around}
+use Rattle.ant_turn.specs.Minds.{Minds}
+use Rattle.ant_turn.specs.Rounds.{Moment, after_turn, after_turns, after_rounds}
+use Rattle.ant_turn.specs.Turn.{turn, with_ant}
+
+-- what the turn of an ant that is dead or rests does
+pub record IdleTurns : Type 0 where
+  -- the turn of a dead ant changes nothing and uses no random number
+  pub dead : (minds : Minds) (seed : ℕ) (m : Moment) (t : ℕ) → place_in m.world t ≡ None → after_turn minds seed m t ≡ m
+  -- the turn of an ant that rests changes its resting count alone, by one, and uses no random number
+  pub resting : (minds : Minds) (seed : ℕ) (m : Moment) (t : ℕ) (p : Pos) (ant : Ant) (left : ℕ) → place_in m.world t ≡ Some p → (m.world.cells p).ant ≡ Some ant → ant.resting ≡ left + 1 →
+      after_turn minds seed m t ≡ record m { world = put m.world p (with_ant (m.world.cells p) (record ant { resting = left })) }
+
+-- turns and rounds are taken one after another: some and then more are all of them
+pub record TurnsFollow : Type 0 where
+  pub turns : (minds : Minds) (seed : ℕ) (m : Moment) (from n more : ℕ) → after_turns minds seed (after_turns minds seed m from n) (from + n) more ≡ after_turns minds seed m from (n + more)
+  pub rounds : (minds : Minds) (seed : ℕ) (m : Moment) (r more : ℕ) → after_rounds minds seed (after_rounds minds seed m r) more ≡ after_rounds minds seed m (r + more)
+
+-- the turn of an ant changes no cell but its own, the one ahead, and the neighbours of that
+abbrev pub TurnsAreNear : Type 0
+TurnsAreNear = (minds : Minds) (seed : ℕ) (w : World) (place t : ℕ) (p : Pos) (ant : Ant) (q : Pos) → place_in w t ≡ Some p → (w.cells p).ant ≡ Some ant → q ≢ p → (Contains (places_around (adjacent_pos p ant.facing)) q → ⊥) →
+    (turn minds seed w place t).cells q ≡ w.cells q
