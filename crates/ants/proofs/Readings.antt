@@ -9,7 +9,8 @@ use Rattle.ants.specs.declared.stop.FileFault.TheVariants.{TooLong, World, Brain
 use Rattle.ants.specs.Files.{File, FileKind, Content, IsAccepted, IsFirst, IsNoText, IsRefused, Refuses, Told}
 use Rattle.ants.specs.Files.FileKind.{WorldFile, BrainFile}
 use Rattle.ants.specs.Jobs.{files_of}
-use Rattle.ants.specs.Performing.{FailsAt, IsAtFault, IsBadInput, IsUnread, IsUnsure, IsReadAs, IsTextFault, KeepsShelf, ReadingStops, ReadsFile, StopsFor}
+use Rattle.ants.specs.Performing.{AreSure, IsAtFault, IsBadInput, IsUnread, IsUnsure, KeepsShelf, StopsFor}
+use Rattle.ants.specs.Steps.{FailsAt, IsReadAs, IsTextFault, LeavesShelf, ReadingStops, ReadsFile}
 use Rattle.ants.specs.declared.stop.Stop.{Stop}
 use Rattle.ants.specs.Stopping.{Reason, reason_of}
 use Rattle.brain_read.specs.declared.fault.BrainFault.{BrainFault}
@@ -18,13 +19,30 @@ use Rattle.brain_read.specs.BrainText.{BrainVerdict, IsFaultOf}
 use Rattle.ants.specs.Stopping.Reason.{AtWord, AtFile, AtOutput, AtInput, AtMemory}
 
 -- what is kept twice is kept
-pub keeps_then : (first second third : ShelfState) → KeepsShelf first second → KeepsShelf second third → KeepsShelf first third
+keeps_then : (first second third : ShelfState) → KeepsShelf first second → KeepsShelf second third → KeepsShelf first third
 keeps_then first second third one two =
     record {
       files = two.files ∙ one.files;
       sure = λ name is. two.sure name (one.sure name is);
       later = omega arith;
     }
+
+-- a shelf that is sure of some files still is when they are read
+still_sure : (first second : ShelfState) (files : List File) → KeepsShelf first second → AreSure first files → AreSure second files
+still_sure first second [] keeps sure = tt
+still_sure first second (file ∷ files) keeps sure = (keeps.sure file.name sure.0, still_sure first second files keeps sure.1)
+
+-- what the reading of a file and then of others leaves
+pub leaves_then : (first second third : ShelfState) (file : File) (files : List File) → LeavesShelf (file ∷ []) first second → LeavesShelf files second third → LeavesShelf (file ∷ files) first third
+leaves_then first second third file files one two =
+    record {
+      keeps = keeps_then first second third one.keeps two.keeps;
+      quiet = λ sure. two.quiet (still_sure first second files one.keeps sure.1) ∙ one.quiet (sure.0, tt);
+    }
+
+-- what the reading of the first of some files leaves
+pub leaves_first : (first second : ShelfState) (file : File) (files : List File) → LeavesShelf (file ∷ []) first second → LeavesShelf (file ∷ files) first second
+leaves_first first second file files one = record { keeps = one.keeps; quiet = λ sure. one.quiet (sure.0, tt) }
 
 -- where one of some files is such, it is such by a weaker fact too, and where shelves tell the same
 pub IsFirst-weaker : (told other : Told) (P Q : File → Type 0) (files : List File) → told ≡ other → ((file : File) → P file → Q file) → IsFirst told P files → IsFirst other Q files
@@ -52,17 +70,17 @@ pub IsRefused-told : (told other : Told) (file : File) (fault : FileFault) → t
 IsRefused-told told other file fault same refused = subst (λ (t : Told). IsRefused t file fault) same refused
 
 -- the reading of the files after an accepted one stopped
-pub stops_later : (first second third : ShelfState) (file : File) (content : Content) (files : List File) (reason : Reason) → IsAccepted first.files file content → KeepsShelf first second → ReadingStops second third files reason → ReadingStops first third (file ∷ files) reason
-stops_later first second third file content files (AtWord word) accepted keeps stops = stops
-stops_later first second third file content files (AtFile name) accepted keeps stops =
+pub stops_later : (first second third : ShelfState) (file : File) (content : Content) (files : List File) (reason : Reason) → IsAccepted first.files file content → LeavesShelf (file ∷ []) first second → ReadingStops second third files reason → ReadingStops first third (file ∷ files) reason
+stops_later first second third file content files (AtWord word) accepted leaves stops = stops
+stops_later first second third file content files (AtFile name) accepted leaves stops =
     record {
-      first = inr (content, accepted, IsFirst-weaker second.files first.files (IsUnsure second name) (IsUnsure first name) files keeps.files (λ f unsure. record { named = unsure.named; unsure = unsure_before first second name keeps unsure.unsure }) stops.first);
-      rose = rose_before first.faults second.faults third.faults keeps.later stops.rose;
+      first = inr (content, accepted, IsFirst-weaker second.files first.files (IsUnsure second name) (IsUnsure first name) files leaves.keeps.files (λ f unsure. record { named = unsure.named; unsure = unsure_before first second name leaves.keeps unsure.unsure }) stops.first);
+      rose = rose_before first.faults second.faults third.faults leaves.keeps.later stops.rose;
     }
-stops_later first second third file content files AtOutput accepted keeps stops = stops
-stops_later first second third file content files (AtInput name fault) accepted keeps stops =
-    inr (content, accepted, IsFirst-weaker second.files first.files (IsAtFault second.files name fault) (IsAtFault first.files name fault) files keeps.files (λ f at. record { named = at.named; refused = IsRefused-told second.files first.files f fault keeps.files at.refused }) stops)
-stops_later first second third file content files AtMemory accepted keeps stops = stops
+stops_later first second third file content files AtOutput accepted leaves stops = stops
+stops_later first second third file content files (AtInput name fault) accepted leaves stops =
+    inr (content, accepted, IsFirst-weaker second.files first.files (IsAtFault second.files name fault) (IsAtFault first.files name fault) files leaves.keeps.files (λ f at. record { named = at.named; refused = IsRefused-told second.files first.files f fault leaves.keeps.files at.refused }) stops)
+stops_later first second third file content files AtMemory accepted leaves stops = stops
 
 -- the reading of the first of some files stopped
 pub stops_first : (first second : ShelfState) (file : File) (files : List File) (reason : Reason) → ReadingStops first second (file ∷ []) reason → ReadingStops first second (file ∷ files) reason

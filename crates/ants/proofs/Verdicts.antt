@@ -4,7 +4,7 @@ use Rattle.std.specs.Prelude.{IsSomeAnd}
 use Rattle.ant_base.specs.Shelf.{ShelfState, IsContent, longest}
 use Rattle.ant_base.specs.Sink.{SinkState}
 use Rattle.brain_read.proofs.Whole as whole
-use Rattle.command_words.proofs.Reading as words_laws
+use Rattle.command_words.proofs.WordLaws as words_laws
 use Rattle.command_words.specs.Command.{PlainCommand, IsCommand}
 use Rattle.ants.specs.declared.status.Status.{Status}
 use Rattle.ants.specs.declared.status.Status.TheVariants as status

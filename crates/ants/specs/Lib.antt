@@ -1,8 +1,7 @@
 pub mod Files
 pub mod Jobs
 pub mod Performing
-pub mod Planning
 pub mod Running
-pub mod Settings
 pub mod Status
+pub mod Steps
 pub mod Stopping

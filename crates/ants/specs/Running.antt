@@ -6,13 +6,12 @@ use Rattle.ant_base.specs.Sink.{SinkState, Pushed}
 use Rattle.ant_base.specs.declared.sink.Failed.{Failed}
 use Rattle.command_words.specs.Command.{PlainCommand, IsCommand, IsRefusedAt}
 use Rattle.ants.specs.declared.status.Status.{Status}
-use Rattle.ants.specs.declared.stop.Stop.{Stop}
 use Rattle.ants.specs.declared.status.Status.TheVariants as status
 use Rattle.ants.specs.declared.stop.FileFault.{FileFault}
 use Rattle.ants.specs.Files.{AreAccepted, Content, IsFirst}
 use Rattle.ants.specs.Jobs.{files_of}
-use Rattle.ants.specs.Performing.{IsAtFault, IsDone, StopsFor}
-use Rattle.ants.specs.Stopping.{Reason, fault_line, reason_of, status_of}
+use Rattle.ants.specs.Performing.{AreSure, IsAtFault, IsDone, StopsFor}
+use Rattle.ants.specs.Stopping.{Reason, fault_line, status_of}
 use Rattle.ants.specs.Stopping.Reason.{AtWord, AtFile, AtOutput, AtInput, AtMemory}
 
 -- the words are a command, and it was carried out
@@ -41,11 +40,6 @@ Ends words shelf new_shelf out new_out (Some (AtFile name)) = RunsInto words she
 Ends words shelf new_shelf out new_out (Some AtOutput) = RunsInto words shelf new_shelf out new_out AtOutput
 Ends words shelf new_shelf out new_out (Some (AtInput name fault)) = RunsInto words shelf new_shelf out new_out (AtInput name fault)
 Ends words shelf new_shelf out new_out (Some AtMemory) = RunsInto words shelf new_shelf out new_out AtMemory
-
--- how a result ends the program
-abbrev pub ending_of : {U : Type 0} → Result U Stop → Option Reason
-ending_of (Ok done) = None
-ending_of (Err stop) = Some (reason_of stop)
 
 -- the errors got the line of the reason, or a front of it where they failed; and nothing where there is none
 abbrev pub Reports : SinkState → SinkState → Option Reason → Type 0
@@ -97,3 +91,7 @@ IsRefusing words shelf new_shelf ended = IsAtBadInput words shelf new_shelf → 
 -- the words are no command
 abbrev pub IsNoCommand : List (List ℕ) → Type 0
 IsNoCommand words = (command : PlainCommand) → ¬ IsCommand words command
+
+-- where the words are a command, and the shelf was sure of each of its files, the shelf's count of faults stays: no other name was fetched
+abbrev pub IsQuiet : List (List ℕ) → ShelfState → ShelfState → Type 0
+IsQuiet words shelf new_shelf = (command : PlainCommand) → IsCommand words command → AreSure shelf (files_of command) → new_shelf.faults ≡ shelf.faults

@@ -1,6 +1,7 @@
 // The command `brain`.
 ghost use Rattle.command_words.specs.Command.PlainCommand.{BrainCommand};
-ghost use Rattle.ants.specs.Performing.{EndsAs, KeepsShelf};
+ghost use Rattle.ants.specs.Jobs.{files_of};
+ghost use Rattle.ants.specs.Steps.{EndsAs, LeavesShelf};
 
 use crate::fetching::brain_of_file;
 use crate::stop::Stop;
@@ -16,7 +17,7 @@ pub fn brain<'w, S: Shelf, K: Sink>(
     out: &mut K,
 ) -> Result<(), Stop<'w>>
     ensures ends { EndsAs (BrainCommand name.now) (S.state shelf.old) (S.state shelf.new) (K.state out.old) (K.state out.new) result }
-    ensures keeps { KeepsShelf (S.state shelf.old) (S.state shelf.new) }
+    ensures leaves { LeavesShelf (files_of (BrainCommand name.now)) (S.state shelf.old) (S.state shelf.new) }
 {
     let brain = brain_of_file(alloc, shelf, name)?;
     match write_brain(&brain, out) {

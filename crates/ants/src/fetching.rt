@@ -1,10 +1,10 @@
 // The files of a command, fetched and read one after another.
-ghost use Rattle.std.specs.Prelude.{◌≤◌, length};
+ghost use Rattle.std.specs.Prelude.{◌≤◌, [], ◌∷◌, length};
 ghost use Rattle.ants.specs.Files.{FileKind};
 ghost use Rattle.ants.specs.Files.FileKind.{BrainFile, WorldFile};
 ghost use Rattle.ants.specs.Files.Content.{BrainContent, WorldContent};
 ghost use Rattle.ants.specs.Jobs.{brain_file, world_file};
-ghost use Rattle.ants.specs.Performing.{Fetched, IsReadAs, KeepsShelf, ReadsFile};
+ghost use Rattle.ants.specs.Steps.{Fetched, IsReadAs, LeavesShelf, ReadsFile};
 
 use crate::stop::{FileFault, Stop};
 use ant_base::{FetchFault, Shelf};
@@ -16,7 +16,7 @@ use world_read::{WorldFault, read_world};
 // The bytes of a file, whatever it is to be read as.
 fn bytes_of<'w, S: Shelf>(alloc: Global, shelf: &mut S, name: &'w str) -> Result<Vec<u8>, Stop<'w>>
     ensures fetched { (kind : FileKind) → Fetched (S.state shelf.old) (S.state shelf.new) (record { name = name.now; kind = kind }) result }
-    ensures keeps { KeepsShelf (S.state shelf.old) (S.state shelf.new) }
+    ensures leaves { (kind : FileKind) → LeavesShelf (record { name = name.now; kind = kind } ∷ []) (S.state shelf.old) (S.state shelf.new) }
 {
     match shelf.fetch(alloc, name) {
         Ok(bytes) => Ok(bytes),
@@ -61,7 +61,7 @@ pub fn world_of_file<'w, S: Shelf>(
     name: &'w str,
 ) -> Result<World, Stop<'w>>
     ensures reads { ReadsFile WorldContent (S.state shelf.old) (S.state shelf.new) (world_file name.now) result }
-    ensures keeps { KeepsShelf (S.state shelf.old) (S.state shelf.new) }
+    ensures leaves { LeavesShelf (world_file name.now ∷ []) (S.state shelf.old) (S.state shelf.new) }
 {
     match bytes_of(alloc, shelf, name) {
         Ok(bytes) => world_in(alloc, name, &bytes),
@@ -76,7 +76,7 @@ pub fn brain_of_file<'w, S: Shelf>(
     name: &'w str,
 ) -> Result<Brain, Stop<'w>>
     ensures reads { ReadsFile BrainContent (S.state shelf.old) (S.state shelf.new) (brain_file name.now) result }
-    ensures keeps { KeepsShelf (S.state shelf.old) (S.state shelf.new) }
+    ensures leaves { LeavesShelf (brain_file name.now ∷ []) (S.state shelf.old) (S.state shelf.new) }
 {
     match bytes_of(alloc, shelf, name) {
         Ok(bytes) => brain_in(alloc, name, &bytes),

@@ -1,5 +1,5 @@
 // The command `run`.
-ghost use Rattle.std.specs.Prelude.{◌≡◌, ◌≤◌, IfOk};
+ghost use Rattle.std.specs.Prelude.{◌≡◌, ◌≤◌, [], ◌∷◌, IfOk};
 ghost use Rattle.ant_base.specs.Sink.{Pushed};
 ghost use Rattle.ant_turn.specs.Minds.{Fits};
 ghost use Rattle.cell_world.specs.Grid.{world_of};
@@ -7,9 +7,8 @@ ghost use Rattle.command_words.specs.Command.PlainCommand.{RunCommand};
 ghost use Rattle.command_words.specs.Slots.{DumpChoice};
 ghost use Rattle.command_words.specs.Words.{plain_dumps};
 ghost use Rattle.match_run.specs.Run.{run_text};
-ghost use Rattle.ants.specs.Jobs.{chosen_rounds, contest_minds};
-ghost use Rattle.ants.specs.Performing.{EndsAs, KeepsShelf};
-ghost use Rattle.ants.specs.Settings.{ReadsSetting};
+ghost use Rattle.ants.specs.Jobs.{brain_file, chosen_rounds, contest_minds, world_file};
+ghost use Rattle.ants.specs.Steps.{EndsAs, LeavesShelf, ReadsSetting};
 
 use crate::fetching::{brain_of_file, world_of_file};
 use crate::stop::Stop;
@@ -66,7 +65,7 @@ fn setting_of<'w, S: Shelf>(
     shelf: &mut S,
 ) -> Result<Setting, Stop<'w>>
     ensures reads { ReadsSetting (S.state shelf.old) (S.state shelf.new) names.entry.world.now names.entry.red.now names.entry.black.now result }
-    ensures keeps { KeepsShelf (S.state shelf.old) (S.state shelf.new) }
+    ensures leaves { LeavesShelf (world_file names.entry.world.now ∷ brain_file names.entry.red.now ∷ brain_file names.entry.black.now ∷ []) (S.state shelf.old) (S.state shelf.new) }
 {
     let world = world_of_file(alloc, shelf, names.world)?;
     let red = brain_of_file(alloc, shelf, names.red)?;
@@ -101,7 +100,7 @@ pub fn run<'w, S: Shelf, K: Sink>(
 ) -> Result<(), Stop<'w>>
     requires { plan.now.rounds ≤ 1000000 }
     ensures ends { (dumps : DumpChoice) → plan.now.dumps ≡ chosen_rounds dumps → EndsAs (RunCommand names.entry.world.now names.entry.red.now names.entry.black.now plan.now.seed plan.now.rounds dumps) (S.state shelf.old) (S.state shelf.new) (K.state out.old) (K.state out.new) result }
-    ensures keeps { KeepsShelf (S.state shelf.old) (S.state shelf.new) }
+    ensures leaves { LeavesShelf (world_file names.entry.world.now ∷ brain_file names.entry.red.now ∷ brain_file names.entry.black.now ∷ []) (S.state shelf.old) (S.state shelf.new) }
 {
     let setting = setting_of(alloc, names, shelf)?;
     match play(setting, plan, out) {

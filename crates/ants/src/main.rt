@@ -17,22 +17,31 @@ mod tests;
 use crate::run::run_ants;
 use crate::status::Status;
 use crate::stop::Stop;
-use ant_base::{ErrSink, FileShelf, Layout, NoGate, OutSink};
+use ant_base::{ErrSink, FileShelf, Layout, NoGate, OutSink, Sink};
 use std::alloc::AllocError;
 use std::env;
-use std::io::BufWriter;
+use std::io::{BufWriter, ErrorKind};
 use std::process::ExitCode;
+
+// Says that memory can't be had, before any command is known.
+fn out_of_memory<K: Sink>(err: &mut K) -> ExitCode {
+    let _ = Stop::Memory.push_to(err);
+    ExitCode::from(Status::Memory.number())
+}
 
 fn main(rt: HostRuntime) -> ExitCode {
     let alloc = rt.alloc();
-    let Ok(args) = env::args(&rt) else {
-        return ExitCode::FAILURE;
-    };
     let mut err = ErrSink::new(rt.stderr());
+    let args = match env::args(&rt) {
+        Ok(args) => args,
+        Err(error) => match error.kind() {
+            ErrorKind::OutOfMemory => return out_of_memory(&mut err),
+            _ => return ExitCode::FAILURE,
+        },
+    };
     let words: Result<Vec<String>, AllocError> = args.skip(1).collect(alloc);
     let (Ok(words), Ok(output)) = (words, BufWriter::new(alloc, rt.stdout())) else {
-        let _ = Stop::Memory.push_to(&mut err);
-        return ExitCode::from(Status::Memory.number());
+        return out_of_memory(&mut err);
     };
     let mut shelf = FileShelf::new(&rt);
     let mut out = OutSink::new(output);

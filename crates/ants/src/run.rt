@@ -2,8 +2,8 @@
 ghost use Rattle.std.specs.Prelude.{◌≡◌, ◌↔◌};
 ghost use Rattle.command_words.specs.Words.{plain_dumps, texts};
 ghost use Rattle.ants.specs.Performing.{KeepsShelf};
-ghost use Rattle.ants.specs.Planning.{IsPlanned};
-ghost use Rattle.ants.specs.Running.{Ends, IsComplete, IsNoCommand, IsRefusing, IsRun, ending_of};
+ghost use Rattle.ants.specs.Running.{Ends, IsComplete, IsNoCommand, IsQuiet, IsRefusing, IsRun};
+ghost use Rattle.ants.specs.Steps.{IsPlanned, ending_of};
 
 use crate::brain::brain;
 use crate::game::{Names, dumps_of, run};
@@ -43,6 +43,7 @@ fn carry_out<'w, S: Shelf, K: Sink>(
     out: &mut K,
 ) -> Result<(), Stop<'w>>
     ensures ends { Ends (texts words.now) (S.state shelf.old) (S.state shelf.new) (K.state out.old) (K.state out.new) (ending_of result) }
+    ensures quiet { IsQuiet (texts words.now) (S.state shelf.old) (S.state shelf.new) }
     ensures keeps { KeepsShelf (S.state shelf.old) (S.state shelf.new) }
 {
     match read_words(words) {
@@ -67,11 +68,18 @@ fn carry_out<'w, S: Shelf, K: Sink>(
 
 /// Does all that the program does, over a shelf of files, an output and a place for faults (this project's own).
 ///
-/// `words` doesn't hold the program's name. `Done`: the output got the command's whole text and nothing else, and the errors nothing.
-/// `Words`: exactly where the words are no command; nothing was fetched. `Read`: the shelf failed at a file of which it wasn't sure.
-/// `Write`: the output failed, and holds a front of the text. `Input`: a file is too long or not in its grammar, and each before it was
-/// accepted. `Memory`: memory could not be had. At every status but `Done` the errors got one line, or a front of it where they failed.
-/// The shelf keeps its contents and what it is sure of. The runtime and the gate serve looks made at the same time; no command uses them.
+/// `words` doesn't hold the program's name. The words are read first; then each file is fetched and read before the next one, in the order
+/// of its word; then the text is written. The answer is
+/// - `Done`: the output got the command's whole text and nothing else; the errors got nothing.
+/// - `Words`: exactly where the words are no command; nothing was fetched, and the output got nothing.
+/// - `Read`: a file of which the shelf wasn't sure was not read, and each before it was accepted; the output got nothing.
+/// - `Write`: the output failed, and got a front of the text.
+/// - `Input`: a file is too long or not in its grammar, and each before it was accepted; the output got nothing.
+/// - `Memory`: memory could not be had; the output got nothing.
+///
+/// At each but `Done` the errors got one line, which names the word (from 1) or the file and the place in it; or a front of that line,
+/// where they failed. The shelf keeps its contents and all of which it is sure, and its count of faults rises only where it isn't sure of
+/// each file of the command. The runtime and the gate serve looks made at the same time; no command uses them.
 pub fn run_ants<R: Threads + Sync, S: Shelf, K: Sink, E: Sink, G: Gate>(
     _rt: &R,
     alloc: Global,
@@ -85,6 +93,7 @@ pub fn run_ants<R: Threads + Sync, S: Shelf, K: Sink, E: Sink, G: Gate>(
     ensures words { (result ≡ Status.Words) ↔ IsNoCommand (texts words.now) }
     ensures complete { IsComplete (texts words.now) (S.state shelf.old) (S.state shelf.new) (K.state out.old) (K.state out.new) result }
     ensures refusing { IsRefusing (texts words.now) (S.state shelf.old) (S.state shelf.new) result }
+    ensures quiet { IsQuiet (texts words.now) (S.state shelf.old) (S.state shelf.new) }
     ensures keeps { KeepsShelf (S.state shelf.old) (S.state shelf.new) }
 {
     match carry_out(alloc, words, shelf, out) {

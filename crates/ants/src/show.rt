@@ -2,8 +2,8 @@
 ghost use Rattle.ant_base.specs.Sink.{Pushed};
 ghost use Rattle.command_words.specs.Command.PlainCommand.{ShowCommand};
 ghost use Rattle.ants.specs.Files.Content.{WorldContent};
-ghost use Rattle.ants.specs.Jobs.{show_output};
-ghost use Rattle.ants.specs.Performing.{EndsAs, KeepsShelf};
+ghost use Rattle.ants.specs.Jobs.{files_of, show_output};
+ghost use Rattle.ants.specs.Steps.{EndsAs, LeavesShelf};
 
 use crate::fetching::world_of_file;
 use crate::stop::Stop;
@@ -30,7 +30,7 @@ pub fn show<'w, S: Shelf, K: Sink>(
     out: &mut K,
 ) -> Result<(), Stop<'w>>
     ensures ends { EndsAs (ShowCommand name.now seed) (S.state shelf.old) (S.state shelf.new) (K.state out.old) (K.state out.new) result }
-    ensures keeps { KeepsShelf (S.state shelf.old) (S.state shelf.new) }
+    ensures leaves { LeavesShelf (files_of (ShowCommand name.now seed)) (S.state shelf.old) (S.state shelf.new) }
 {
     let world = world_of_file(alloc, shelf, name)?;
     match push_show(&world, seed, out) {

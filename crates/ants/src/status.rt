@@ -20,7 +20,8 @@ pub enum Status {
 }
 
 impl Status {
-    /// The exit status of the program: 0, 2, 3, 4, 5, 6 in the order of the variants.
+    /// The number with which the program exits: 0, 2, 3, 4, 5, 6 in the order of the variants (this project's own). 1 is that of a program
+    /// that the system gave no words.
     pub fn number(&self) -> u8
         ensures { result ≡ number_of self.now }
     {

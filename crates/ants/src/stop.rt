@@ -134,7 +134,7 @@ impl Layout for Stop<'_> {
 }
 
 impl Stop<'_> {
-    /// The status of a command that stopped so.
+    /// The status of a command that stopped so (this project's own).
     pub fn status(&self) -> Status
         ensures { result ≡ status_of (reason_of self.now) }
     {

@@ -16,6 +16,7 @@ returns-in-Ok g c =
       words = (no_command-run _ _ _ _ _ _ _ _ run, words-run _ _ _ _ _ _ _ _ run);
       complete = IsComplete-run _ _ _ _ _ _ _ _ run;
       refusing = IsRefusing-run _ _ _ _ _ _ _ _ run;
+      quiet = c.in-Ok.ensures.quiet;
       keeps = c.in-Ok.ensures.keeps;
     }
 
@@ -28,5 +29,6 @@ returns-in-Err g c =
       words = (no_command-run _ _ _ _ _ _ _ _ run, words-run _ _ _ _ _ _ _ _ run);
       complete = IsComplete-run _ _ _ _ _ _ _ _ run;
       refusing = IsRefusing-run _ _ _ _ _ _ _ _ run;
+      quiet = c.in-Err.ensures.quiet;
       keeps = c.in-Err.ensures.keeps;
     }
