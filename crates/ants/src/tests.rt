@@ -25,7 +25,7 @@ const CLOSING: &str =
 
 // A command over a world in the files w and -, a red brain in r and a black one in b; the fetch and the push to out that fail, if there
 // are calls of these numbers; and the room of out and of err, in bytes.
-#[derive(Clone, Copy)]
+#[derive(Clone, Copy, Debug)]
 struct Job<'t> {
     line: &'t str,
     world: &'t str,
@@ -73,18 +73,18 @@ fn only(alloc: Global, number: u64) -> Result<Calls, Fail> {
     Ok(calls)
 }
 
+// These files and one more.
+fn with_file(mut files: Files, name: &str, text: &str) -> Result<Files, Fail> {
+    files.add(name, text.as_bytes())?;
+    Ok(files)
+}
+
 // The files of a command.
 fn files_of(alloc: Global, job: &Job<'_>) -> Result<Files, Fail> {
-    let mut files = Files::new(alloc);
-    for (name, text) in [
-        ("w", job.world),
-        ("-", job.world),
-        ("r", job.red),
-        ("b", job.black),
-    ] {
-        files.add(name, text.as_bytes())?;
-    }
-    Ok(files)
+    let world = with_file(Files::new(alloc), "w", job.world)?;
+    let both = with_file(world, "-", job.world)?;
+    let red = with_file(both, "r", job.red)?;
+    with_file(red, "b", job.black)
 }
 
 // Carries out a command.
@@ -110,13 +110,52 @@ fn check<R: Threads + Sync + Abort>(
     let outcome = answer(rt, alloc, job)?;
     let shown = str::from_utf8(outcome.out.held())?;
     let told = str::from_utf8(outcome.err.held())?;
-    assert_eq!(rt;
-        (outcome.status, shown, told),
-        (status, out, err),
-        "at {}, {:?}, {:?}",
-        job.line,
-        job.world,
-        job.red
-    );
+    assert_eq!(rt; shown, out, "at {job:?}");
+    assert_eq!(rt; told, err, "at {job:?}");
+    assert_eq!(rt; outcome.status, status, "at {job:?}");
+    Ok(())
+}
+
+// What the rows of a table vary of a command.
+#[derive(Clone, Copy)]
+enum Given {
+    Line,
+    World,
+    Black,
+}
+
+impl<'t> Job<'t> {
+    // The command with this text in one of its places.
+    fn with(self, given: Given, text: &'t str) -> Job<'t> {
+        match given {
+            Given::Line => Job { line: text, ..self },
+            Given::World => Job {
+                world: text,
+                ..self
+            },
+            Given::Black => Job {
+                black: text,
+                ..self
+            },
+        }
+    }
+}
+
+// Asserts of each row what comes of the command with its first text: the second is what the output gets at Done, and else the errors.
+fn check_rows<R: Threads + Sync + Abort>(
+    rt: &R,
+    alloc: Global,
+    job: Job<'_>,
+    given: Given,
+    status: Status,
+    rows: &[(&str, &str)],
+) -> Result<(), Fail> {
+    for (text, wanted) in rows {
+        let (out, err) = match status {
+            Status::Done => (*wanted, ""),
+            _ => ("", *wanted),
+        };
+        check(rt, alloc, &job.with(given, text), status, out, err)?;
+    }
     Ok(())
 }

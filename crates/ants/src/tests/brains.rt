@@ -1,6 +1,6 @@
 // The command `brain`.
 use crate::status::Status;
-use crate::tests::{Job, NO_JOB, check};
+use crate::tests::{Given, Job, NO_JOB, check_rows};
 use std::test::Fail;
 
 // The sample brain of the contest's task.
@@ -68,65 +68,51 @@ const REFUSED: [(&str, &str); 20] = [
     ("Drop x \u{e4}", "ants: b: line 1: bad number\n"),
 ];
 
+// The command, over any brain.
+const PRINT: Job<'static> = Job {
+    line: "brain b",
+    ..NO_JOB
+};
+
 #[test]
 fn a_brain_is_printed_in_one_spelling(rt: HostRuntime) -> Result<(), Fail> {
-    for (black, text) in PRINTED {
-        let job = Job {
-            line: "brain b",
-            black,
-            ..NO_JOB
-        };
-        check(&rt, rt.alloc(), &job, Status::Done, text, "")?;
-    }
-    Ok(())
+    check_rows(&rt, rt.alloc(), PRINT, Given::Black, Status::Done, &PRINTED)
 }
 
 #[test]
 fn a_brain_at_fault_is_named_with_its_first_fault(rt: HostRuntime) -> Result<(), Fail> {
-    for (black, err) in REFUSED {
-        let job = Job {
-            line: "brain b",
-            black,
-            ..NO_JOB
-        };
-        check(&rt, rt.alloc(), &job, Status::Input, "", err)?;
-    }
-    Ok(())
+    check_rows(
+        &rt,
+        rt.alloc(),
+        PRINT,
+        Given::Black,
+        Status::Input,
+        &REFUSED,
+    )
 }
 
 #[test]
-fn a_brain_has_up_to_10000_instructions(rt: HostRuntime) -> Result<(), Fail> {
+fn a_brain_has_up_to_10000_instructions_and_4194304_bytes(rt: HostRuntime) -> Result<(), Fail> {
     let most = "Drop 9999\n".repeat(rt.alloc(), 10000)?;
     let more = "Drop 9999\n".repeat(rt.alloc(), 10001)?;
-    let full = "ants: b: line 10001: too many instructions\n";
-    for (black, status, text, err) in [
-        (&most, Status::Done, most.as_str(), ""),
-        (&more, Status::Input, "", full),
-    ] {
-        let job = Job {
-            line: "brain b",
-            black,
-            ..NO_JOB
-        };
-        check(&rt, rt.alloc(), &job, status, text, err)?;
-    }
-    Ok(())
-}
-
-#[test]
-fn a_file_has_up_to_4194304_bytes(rt: HostRuntime) -> Result<(), Fail> {
-    let longest = " ".repeat(rt.alloc(), 4194298)?;
-    for (start, status, text, err) in [
-        ("Drop 0", Status::Done, "Drop 0\n", ""),
-        ("Drop 0 ", Status::Input, "", "ants: b: too long\n"),
-    ] {
-        let black = format!(in rt.alloc(); "{start}{longest}")?;
-        let job = Job {
-            line: "brain b",
-            black: &black,
-            ..NO_JOB
-        };
-        check(&rt, rt.alloc(), &job, status, text, err)?;
-    }
-    Ok(())
+    let blank = " ".repeat(rt.alloc(), 4194298)?;
+    let longest = format!(in rt.alloc(); "Drop 0{blank}")?;
+    let longer = format!(in rt.alloc(); "Drop 0{blank} ")?;
+    let printed = [(most.as_str(), most.as_str()), (&longest, "Drop 0\n")];
+    check_rows(&rt, rt.alloc(), PRINT, Given::Black, Status::Done, &printed)?;
+    let refused = [
+        (
+            more.as_str(),
+            "ants: b: line 10001: too many instructions\n",
+        ),
+        (&longer, "ants: b: too long\n"),
+    ];
+    check_rows(
+        &rt,
+        rt.alloc(),
+        PRINT,
+        Given::Black,
+        Status::Input,
+        &refused,
+    )
 }

@@ -1,8 +1,11 @@
 // Files that can't be read, and output that fails.
 use crate::status::Status;
-use crate::tests::runs::{KILLED, UNPLAYED};
-use crate::tests::{CLOSED, CLOSING, Job, NO_JOB, answer, check};
+use crate::tests::runs::{KILLED, KILLING, UNPLAYED};
+use crate::tests::{CLOSED, Given, Job, NO_JOB, answer, check, check_rows};
+use std::alloc::Global;
+use std::process::Abort;
 use std::test::Fail;
+use std::thread::Threads;
 
 // A game without a round, of the files w, r and b.
 const UNPLAYED_GAME: Job<'static> = Job {
@@ -38,60 +41,61 @@ const NOT_ACCEPTED: [(&str, &str); 4] = [
 ];
 
 #[test]
-fn the_first_file_that_is_not_read_is_named(rt: HostRuntime) -> Result<(), Fail> {
-    for (line, err) in NOT_THERE {
-        let job = Job {
-            line,
-            ..UNPLAYED_GAME
+fn the_first_file_that_is_not_read_or_at_fault_is_named(rt: HostRuntime) -> Result<(), Fail> {
+    let job = UNPLAYED_GAME;
+    check_rows(&rt, rt.alloc(), job, Given::Line, Status::Read, &NOT_THERE)?;
+    check_rows(
+        &rt,
+        rt.alloc(),
+        job,
+        Given::Line,
+        Status::Input,
+        &NOT_ACCEPTED,
+    )
+}
+
+// Asserts that the command fetches its files in this order and nothing more: of each the line where its fetch fails.
+fn check_fetches<R: Threads + Sync + Abort>(
+    rt: &R,
+    alloc: Global,
+    job: Job<'_>,
+    lines: &[&str],
+    text: &str,
+) -> Result<(), Fail> {
+    let mut next = 1;
+    for line in lines {
+        let failing = Job {
+            failing_fetch: next,
+            ..job
         };
-        check(&rt, rt.alloc(), &job, Status::Read, "", err)?;
+        check(rt, alloc, &failing, Status::Read, "", line)?;
+        next = next.saturating_add(1);
     }
-    Ok(())
+    let whole = Job {
+        failing_fetch: next,
+        ..job
+    };
+    check(rt, alloc, &whole, Status::Done, text, "")
 }
 
 #[test]
-fn a_file_at_fault_is_named_before_one_that_is_not_read(rt: HostRuntime) -> Result<(), Fail> {
-    for (line, err) in NOT_ACCEPTED {
-        let job = Job {
-            line,
-            ..UNPLAYED_GAME
-        };
-        check(&rt, rt.alloc(), &job, Status::Input, "", err)?;
-    }
-    Ok(())
-}
-
-#[test]
-fn a_fetch_that_fails_is_named_by_its_file(rt: HostRuntime) -> Result<(), Fail> {
-    for (failing_fetch, status, out, err) in [
-        (1, Status::Read, "", "ants: w: not read\n"),
-        (2, Status::Read, "", "ants: r: not read\n"),
-        (3, Status::Read, "", "ants: b: not read\n"),
-        (4, Status::Done, UNPLAYED, ""),
-    ] {
-        let job = Job {
-            failing_fetch,
-            ..UNPLAYED_GAME
-        };
-        check(&rt, rt.alloc(), &job, status, out, err)?;
-    }
-    Ok(())
-}
-
-#[test]
-fn a_name_that_stands_twice_is_fetched_twice(rt: HostRuntime) -> Result<(), Fail> {
-    for (failing_fetch, status, out, err) in [
-        (3, Status::Read, "", "ants: b: not read\n"),
-        (4, Status::Done, UNPLAYED, ""),
-    ] {
-        let job = Job {
-            line: "run w b b --seed 7 --rounds 0",
-            failing_fetch,
-            ..UNPLAYED_GAME
-        };
-        check(&rt, rt.alloc(), &job, status, out, err)?;
-    }
-    Ok(())
+fn each_file_is_fetched_once_in_the_order_of_its_word(rt: HostRuntime) -> Result<(), Fail> {
+    let lines = [
+        "ants: w: not read\n",
+        "ants: r: not read\n",
+        "ants: b: not read\n",
+    ];
+    check_fetches(&rt, rt.alloc(), UNPLAYED_GAME, &lines, UNPLAYED)?;
+    let twice = UNPLAYED_GAME.with(Given::Line, "run w b b --seed 7 --rounds 0");
+    let lines = [
+        "ants: w: not read\n",
+        "ants: b: not read\n",
+        "ants: b: not read\n",
+    ];
+    check_fetches(&rt, rt.alloc(), twice, &lines, UNPLAYED)?;
+    let brain = UNPLAYED_GAME.with(Given::Line, "brain b");
+    let lines = ["ants: b: not read\n"];
+    check_fetches(&rt, rt.alloc(), brain, &lines, "Move 0 0\n")
 }
 
 #[test]
@@ -106,11 +110,6 @@ fn output_that_is_full_holds_the_front_of_the_text(rt: HostRuntime) -> Result<()
         check(&rt, rt.alloc(), &job, Status::Write, front, err)?;
     }
     let job = Job {
-        room: 37,
-        ..UNPLAYED_GAME
-    };
-    check(&rt, rt.alloc(), &job, Status::Done, UNPLAYED, "")?;
-    let job = Job {
         room: 5,
         err_room: 8,
         ..UNPLAYED_GAME
@@ -122,11 +121,8 @@ fn output_that_is_full_holds_the_front_of_the_text(rt: HostRuntime) -> Result<()
 fn a_push_that_fails_ends_the_text(rt: HostRuntime) -> Result<(), Fail> {
     for failing_push in 1..10000 {
         let job = Job {
-            line: "run w r b --seed 12345 --rounds 1 --dump 1",
-            world: CLOSING,
-            red: "Flip 2 0 0",
             failing_push,
-            ..UNPLAYED_GAME
+            ..KILLING
         };
         let outcome = answer(&rt, rt.alloc(), &job)?;
         let out = str::from_utf8(outcome.out.held())?;

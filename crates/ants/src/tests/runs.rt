@@ -1,6 +1,6 @@
 // The command `run`.
 use crate::status::Status;
-use crate::tests::{CLOSED, CLOSING, Job, NO_JOB, answer, check};
+use crate::tests::{CLOSED, CLOSING, Given, Job, NO_JOB, answer, check_rows};
 use std::test::Fail;
 
 // A red ant with an open cell before it.
@@ -101,61 +101,52 @@ const TURNED: &str = "random seed: 12345\n\
 // The seed 7, no dump and no food on a hill.
 pub const UNPLAYED: &str = "random seed: 7\n\nscore: red 0 black 0\n";
 
-// Words of a game, its world, the brain of both colours, and its text.
-const PRINTED: [(&str, &str, &str, &str); 6] = [
-    (
-        "run w r b --seed 12345 --rounds 1 --dump 0,1",
-        CLOSED,
-        "Turn Left 0",
-        TURNED,
-    ),
-    (
-        "run w r b --dump all --rounds 1 --seed 12345",
-        CLOSED,
-        "Turn Left 0",
-        TURNED,
-    ),
-    (
-        "run w r b --rounds 1 --dump 9,1,0,1 --seed 12345",
-        CLOSED,
-        "Turn Left 0",
-        TURNED,
-    ),
-    ("run w r b --seed 7 --rounds 0", CLOSED, "Drop 0", UNPLAYED),
-    (
-        "run w r b --seed 7 --rounds 0 --dump none",
-        CLOSED,
-        "Drop 0",
-        UNPLAYED,
-    ),
-    ("run w r b --seed 7 --rounds 5", EMPTY, "Drop 0", UNPLAYED),
+// A round in which the one ant turns left.
+const TURNING: Job<'static> = Job {
+    world: CLOSED,
+    red: "Turn Left 0",
+    black: "Turn Left 0",
+    ..NO_JOB
+};
+
+// Words that ask for all dumps of it.
+const DUMPED: [(&str, &str); 3] = [
+    ("run w r b --seed 12345 --rounds 1 --dump 0,1", TURNED),
+    ("run w r b --dump all --rounds 1 --seed 12345", TURNED),
+    ("run w r b --rounds 1 --dump 9,1,0,1 --seed 12345", TURNED),
 ];
+
+// Words that ask for no round, or for no dump.
+const BARE: [(&str, &str); 3] = [
+    ("run w r b --seed 7 --rounds 0", UNPLAYED),
+    ("run w r b --seed 7 --rounds 0 --dump none", UNPLAYED),
+    ("run w r b --seed 7 --rounds 5", UNPLAYED),
+];
+
+// A round in which a surrounded ant dies.
+pub const KILLING: Job<'static> = Job {
+    line: "run w r b --seed 12345 --rounds 1 --dump 1",
+    world: CLOSING,
+    red: "Flip 2 0 0",
+    black: "Move 0 0",
+    ..NO_JOB
+};
 
 #[test]
 fn a_run_prints_its_seed_its_dumps_and_its_score(rt: HostRuntime) -> Result<(), Fail> {
-    for (line, world, brain, text) in PRINTED {
-        let job = Job {
-            line,
-            world,
-            red: brain,
-            black: brain,
-            ..NO_JOB
-        };
-        check(&rt, rt.alloc(), &job, Status::Done, text, "")?;
-    }
-    Ok(())
-}
-
-#[test]
-fn a_surrounded_ant_dies_after_a_foes_move(rt: HostRuntime) -> Result<(), Fail> {
-    let job = Job {
-        line: "run w r b --seed 12345 --rounds 1 --dump 1",
-        world: CLOSING,
-        red: "Flip 2 0 0",
-        black: "Move 0 0",
-        ..NO_JOB
-    };
-    check(&rt, rt.alloc(), &job, Status::Done, KILLED, "")
+    check_rows(&rt, rt.alloc(), TURNING, Given::Line, Status::Done, &DUMPED)?;
+    check_rows(&rt, rt.alloc(), TURNING, Given::Line, Status::Done, &BARE)?;
+    let empty = TURNING.with(Given::World, EMPTY);
+    check_rows(&rt, rt.alloc(), empty, Given::Line, Status::Done, &BARE)?;
+    let killing = [(KILLING.line, KILLED)];
+    check_rows(
+        &rt,
+        rt.alloc(),
+        KILLING,
+        Given::Line,
+        Status::Done,
+        &killing,
+    )
 }
 
 // A game, lines of its text in their order, others between them, and the end of its text.

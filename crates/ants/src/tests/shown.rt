@@ -1,6 +1,6 @@
 // The command `show`.
 use crate::status::Status;
-use crate::tests::{CLOSED, Job, NO_JOB, answer, check};
+use crate::tests::{CLOSED, Given, Job, NO_JOB, answer, check_rows};
 use std::alloc::Global;
 use std::test::Fail;
 
@@ -18,14 +18,18 @@ const SHOWN: &str = "random seed: 12345\n\
     cell (1, 2): rock\n\
     cell (2, 2): rock\n";
 
-// Words, and worlds that are all the same.
-const SPELLED: [(&str, &str); 6] = [
-    ("show w 12345", CLOSED),
-    ("show - 12345", CLOSED),
-    ("show w 0000012345", CLOSED),
-    ("show w 12345", "3\n3\n# # #\n# + #\n# # #\n"),
-    ("show w 12345", "0003\n03\n###\n#+#\n###"),
-    ("show w 12345", "3\r\n3\r\n# # #\r\n # + #\r\n# # #\r\n\r\n"),
+// Words that show one world.
+const CALLED: [(&str, &str); 3] = [
+    ("show w 12345", SHOWN),
+    ("show - 12345", SHOWN),
+    ("show w 0000012345", SHOWN),
+];
+
+// Texts of one world.
+const SPELLED: [(&str, &str); 3] = [
+    ("3\n3\n# # #\n# + #\n# # #\n", SHOWN),
+    ("0003\n03\n###\n#+#\n###", SHOWN),
+    ("3\r\n3\r\n# # #\r\n # + #\r\n# # #\r\n\r\n", SHOWN),
 ];
 
 // Texts that are no world, and the line that names the first fault of each.
@@ -48,30 +52,22 @@ const REFUSED: [(&str, &str); 10] = [
     ),
 ];
 
+// The command, over the world of one red ant.
+const SHOW: Job<'static> = Job {
+    line: "show w 12345",
+    world: CLOSED,
+    ..NO_JOB
+};
+
 #[test]
 fn show_prints_the_seed_and_the_world_at_the_start(rt: HostRuntime) -> Result<(), Fail> {
-    for (line, world) in SPELLED {
-        let job = Job {
-            line,
-            world,
-            ..NO_JOB
-        };
-        check(&rt, rt.alloc(), &job, Status::Done, SHOWN, "")?;
-    }
-    Ok(())
+    check_rows(&rt, rt.alloc(), SHOW, Given::Line, Status::Done, &CALLED)?;
+    check_rows(&rt, rt.alloc(), SHOW, Given::World, Status::Done, &SPELLED)
 }
 
 #[test]
 fn a_world_at_fault_is_named_with_its_first_fault(rt: HostRuntime) -> Result<(), Fail> {
-    for (world, err) in REFUSED {
-        let job = Job {
-            line: "show w 1",
-            world,
-            ..NO_JOB
-        };
-        check(&rt, rt.alloc(), &job, Status::Input, "", err)?;
-    }
-    Ok(())
+    check_rows(&rt, rt.alloc(), SHOW, Given::World, Status::Input, &REFUSED)
 }
 
 // The text of a world of 130 rows, whose cells are red hill but for the rim, and so many in each row.
@@ -87,23 +83,13 @@ fn hill(alloc: Global, cells: u8) -> Result<String, Fail> {
 #[test]
 fn a_world_holds_up_to_16384_ants(rt: HostRuntime) -> Result<(), Fail> {
     let most = hill(rt.alloc(), 128)?;
-    let job = Job {
-        line: "show w 1",
-        world: &most,
-        ..NO_JOB
-    };
-    let shown = answer(&rt, rt.alloc(), &job)?;
-    let end = "\n\
-        cell (128, 128): red hill; red ant of id 16383, dir 0, food 0, state 0, resting 0\n\
-        cell (129, 128): rock\n";
+    let shown = answer(&rt, rt.alloc(), &SHOW.with(Given::World, &most))?;
+    let last =
+        "\ncell (128, 128): red hill; red ant of id 16383, dir 0, food 0, state 0, resting 0\n";
     assert_eq!(rt; shown.status, Status::Done);
-    assert!(rt; str::from_utf8(shown.out.held())?.contains(end));
+    assert!(rt; str::from_utf8(shown.out.held())?.contains(last));
 
     let more = hill(rt.alloc(), 129)?;
-    let job = Job {
-        world: &more,
-        ..job
-    };
-    let err = "ants: w: too many ants, 16512\n";
-    check(&rt, rt.alloc(), &job, Status::Input, "", err)
+    let refused = [(more.as_str(), "ants: w: too many ants, 16512\n")];
+    check_rows(&rt, rt.alloc(), SHOW, Given::World, Status::Input, &refused)
 }

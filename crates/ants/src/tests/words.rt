@@ -1,6 +1,6 @@
 // Words that are no command.
 use crate::status::Status;
-use crate::tests::{CLOSED, Job, NO_JOB, check};
+use crate::tests::{CLOSED, Given, Job, NO_JOB, check_rows};
 use std::test::Fail;
 
 // Words, and the line that names the first one with which no command begins.
@@ -35,13 +35,9 @@ const REFUSED: [(&str, &str); 26] = [
 
 #[test]
 fn the_first_word_with_which_no_command_begins_is_refused(rt: HostRuntime) -> Result<(), Fail> {
-    for (line, err) in REFUSED {
-        let job = Job {
-            line,
-            world: CLOSED,
-            ..NO_JOB
-        };
-        check(&rt, rt.alloc(), &job, Status::Words, "", err)?;
-    }
-    Ok(())
+    let job = Job {
+        world: CLOSED,
+        ..NO_JOB
+    };
+    check_rows(&rt, rt.alloc(), job, Given::Line, Status::Words, &REFUSED)
 }
