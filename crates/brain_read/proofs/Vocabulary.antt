@@ -9,7 +9,8 @@ use Rattle.std.proofs.lemmas.Option.{slice_get_within, get_or_from_slice_get}
 use Rattle.std.proofs.lemmas.Slice.Eq.{bytes_eq-Decides}
 use Rattle.std.proofs.lemmas.Str.Parse.{IsNumeralModel, numerals_by_value, tells_all_ascii_digits, digits_value_short}
 use Rattle.ant_base.specs.Number.{is_number, number_of, within, number_within}
-use Rattle.word_table.specs.Words.{in_small_letters, IsSameWord, same_word, are_distinct, place_in}
+use Rattle.std.specs.Str.{str_to_ascii_lowercase, str_eq_ignore_ascii_case}
+use Rattle.word_table.specs.Words.{IsSameWord, are_distinct, place_in}
 use Rattle.word_table.proofs.Places.{place_in-found, place_in-only}
 use Rattle.brain_read.specs.Tokens.{is_bad_byte, has_bad_byte}
 use Rattle.brain_read.specs.Forms.{named}
@@ -32,7 +33,7 @@ is_bad_byte-lower byte =
     good_byte (byte + 32) (omega arith) (omega arith) ∙ sym (good_byte byte (omega arith) (omega arith)))
     (λ _. refl))
 
-has_bad_byte-lower : (token : List ℕ) → has_bad_byte (in_small_letters token) ≡ has_bad_byte token
+has_bad_byte-lower : (token : List ℕ) → has_bad_byte (str_to_ascii_lowercase token) ≡ has_bad_byte token
 has_bad_byte-lower [] = refl
 has_bad_byte-lower (byte ∷ token) = rw (is_bad_byte-lower byte, has_bad_byte-lower token) refl
 
@@ -64,7 +65,7 @@ word-found {words} {n} {word} names token i found =
     let within : i < n = (let inside = slice_get_within words i at.word at.stands in omega (arith, names.count)) in
     let equal : bytes_eq (get_or words i []) (word i) ≡ true = agree_below_at (λ k. bytes_eq (get_or words k []) (word k)) (λ _. true) n i names.named within in
     let is : get_or words i [] ≡ word i = (bytes_eq-Decides (get_or words i []) (word i)).0 equal in
-    ap in_small_letters (sym is ∙ get_or_from_slice_get words i at.word [] at.stands) ∙ at.same
+    ap str_to_ascii_lowercase (sym is ∙ get_or_from_slice_get words i at.word [] at.stands) ∙ at.same
 
 -- a word that is found has no bad byte
 pub word-good : {words : List (List ℕ)} {n : ℕ} {word : ℕ → List ℕ} → Names words n word → (token : List ℕ) (i : ℕ) → place_in words token ≡ Some i → has_bad_byte token ≡ false
@@ -84,7 +85,7 @@ Stand at (thing ∷ things) = (at 0 ≡ thing) × Stand (λ i. at (suc i)) thing
 -- what a token names is what stands at the place of its word
 pub named-place : {A B : Type 0} (word : A → List ℕ) (at : ℕ → A) (f : A → B) (things : List A) (token : List ℕ) → Stand at things → option_map f (named word things token) ≡ option_map (λ i. f (at i)) (place_in (map word things) token)
 named-place word at f [] token stand = refl
-named-place {A} {B} word at f (thing ∷ things) token stand = go (same_word (word thing) token) (named-place word (λ i. at (suc i)) f things token stand.1)
+named-place {A} {B} word at f (thing ∷ things) token stand = go (str_eq_ignore_ascii_case (word thing) token) (named-place word (λ i. at (suc i)) f things token stand.1)
   where
     later : (o : Option ℕ) → option_map (λ i. f (at (suc i))) o ≡ option_map (λ i. f (at i)) (option_map suc o)
     later None = refl

@@ -5,7 +5,8 @@ use Rattle.hex_geometry.specs.declared.direction.Side.TheVariants.{Left, Right}
 use Rattle.hex_geometry.specs.declared.neighbourhood.Sight.{Sight}
 use Rattle.hex_geometry.specs.declared.neighbourhood.Sight.TheVariants.{Here, Ahead, LeftAhead, RightAhead}
 use Rattle.ant_base.specs.Number.{number_of}
-use Rattle.word_table.specs.Words.{IsSameWord, same_word}
+use Rattle.std.specs.Str.{str_eq_ignore_ascii_case}
+use Rattle.word_table.specs.Words.{IsSameWord}
 use Rattle.brain_read.specs.declared.instr.Cond.{Cond}
 use Rattle.brain_read.specs.declared.instr.Cond.TheVariants.{Friend, Foe, FriendWithFood, FoeWithFood, Food, Rock, Marker, FoeMarker, Home, FoeHome}
 use Rattle.brain_read.specs.declared.instr.Instr.{Instr}
@@ -84,7 +85,7 @@ condition_words = map word_of_condition conditions
 
 -- which of some things a token names: the first whose word it is, in any ASCII case
 abbrev pub named : {A : Type 0} → (A → List ℕ) → List A → List ℕ → Option A
-named word things token = find (λ thing. same_word (word thing) token) things
+named word things token = find (λ thing. str_eq_ignore_ascii_case (word thing) token) things
 
 -- one token of an instruction's line: a word, in any ASCII case, or a number
 pub data Field : Type 0 where
