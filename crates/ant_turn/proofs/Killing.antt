@@ -1,8 +1,8 @@
 -- Who dies in a turn, and who stays where.
-use Rattle.std.proofs.Common.{◌≡◌, ◌≢◌, inl, inr, ℕ, ◌≤◌, false, List, [], Some, None, refl, sym, ◌∙◌, ap, subst, arith}
+use Rattle.std.proofs.Common.{◌≡◌, ◌≢◌, ◌⊎◌, inl, inr, ℕ, ◌≤◌, true, false, List, [], Some, None, refl, sym, ◌∙◌, ap, subst, arith}
 use Rattle.std.specs.List.{AllPairs, Contains}
 use Rattle.std.specs.Prelude.{IsSome, nat_eq}
-use Rattle.std.proofs.lemmas.Bool.{cases_eq, false_from_ne_true, eqb-true}
+use Rattle.std.proofs.lemmas.Bool.{both_ways, cases_eq, false_from_ne_true, eqb-true, true_from_ne_false}
 use Rattle.hex_geometry.specs.declared.position.Pos.{Pos}
 use Rattle.hex_geometry.specs.Neighbourhood.{adjacent_pos}
 use Rattle.cell_world.specs.declared.ant.Ant.{Ant}
@@ -10,20 +10,22 @@ use Rattle.cell_world.specs.declared.cell.Cell.{Cell}
 use Rattle.cell_world.specs.Cell.{holds_id, is_ant}
 use Rattle.cell_world.specs.Valid.{Valid}
 use Rattle.cell_world.specs.World.{World, place_in, put, put_cell, with_cells}
-use Rattle.cell_world.proofs.Places.{Holder, ant-clear, holds_id-own, place_in-ant, place_in-put_new, place_in-put_other}
+use Rattle.cell_world.proofs.Places.{Holder, ant-clear, holds_id-own, place_in-ant, place_in-found, place_in-holds, place_in-put_new, place_in-put_other}
 use Rattle.cell_world.proofs.Puts.{put_cell-other}
 use Rattle.cell_world.proofs.Valids.{CanSet-replaces, Valid-put}
 use Rattle.brain_read.specs.declared.instr.Instr.{Instr}
 use Rattle.ant_turn.specs.FoodLaws.{killed_in, world_after}
 use Rattle.ant_turn.specs.KillLaws.{KillsAlone}
-use Rattle.ant_turn.specs.Kills.{places_around}
+use Rattle.ant_turn.specs.Kills.{check_all, places_around}
 use Rattle.ant_turn.specs.Minds.{Minds, mind_of}
 use Rattle.ant_turn.specs.Sheet.{Sheet}
-use Rattle.ant_turn.specs.Turn.{Outcome, arrived, instruction_at, is_blocked, left_by_ant, stepped, turn, with_ant}
+use Rattle.ant_turn.specs.Turn.{Outcome, acts, arrived, instruction_at, is_blocked, left_by_ant, stepped, turn, with_ant}
 use Rattle.ant_turn.proofs.Deaths.{check_all-place_in, killed_all-alive, killed_all-differ, killed_all-gone}
 use Rattle.ant_turn.proofs.KeptByTurns.{CanSet-arrived, Replaces-left_by_ant, free_apart, free_empty}
 use Rattle.ant_turn.proofs.OwnCells.{Stays}
-use Rattle.ant_turn.proofs.Parts.{Does, turn_parts}
+use Rattle.ant_turn.proofs.Parts.{Does, acts_parts, turn_parts}
+use Rattle.ant_turn.proofs.Kept.{check_all-holds_id}
+use Rattle.ant_turn.proofs.Turns.{turn-acts}
 
 -- what an outcome does to who is alive, and where
 record Spares (w : World) (t : ℕ) (now : World) (killed : List ℕ) : Type 0 where
@@ -102,15 +104,47 @@ does-Spares sheet w t p ant instruction outcome light valid found is id (inr wen
       dead_stay = λ dead. let both : None ≡ Some p = sym dead ∙ found in absurd (cc);
     })
 
+-- the ant at its place is that ant
+own_id : (w : World) (t : ℕ) (p : Pos) (ant : Ant) → place_in w t ≡ Some p → (w.cells p).ant ≡ Some ant → ant.id ≡ t
+own_id w t p ant found is =
+    let holder : Holder t (w.cells p).ant = place_in-ant w t p found in
+    let one : Some ant ≡ Some holder.ant = sym is ∙ holder.is in
+    let same : ant ≡ holder.ant = cc in
+    ap (λ (a : Ant). a.id) same ∙ holder.id
+
 -- who dies in a turn, and who stays where
 pub turn-KillsAlone : (minds : Minds) (seed : ℕ) (w : World) (place t : ℕ) → minds.sheet.corpse ≤ 9 → Valid w → KillsAlone minds seed w place t
 turn-KillsAlone minds seed w place t light valid =
     let it : Spares w t (world_after minds seed w place t) (killed_in minds seed w place t) = elim (turn_parts minds seed w place t) [
       | inl nothing ↦ subst (λ (o : Outcome). Spares w t (with_cells w o.cells) o.killed) (sym nothing) (Spares-all w t w (λ _. refl))
-      | inr acted ↦
-          let holder : Holder t (w.cells acted.p).ant = place_in-ant w t acted.p acted.place in
-          let one : Some acted.ant ≡ Some holder.ant = sym acted.is ∙ holder.is in
-          let same : acted.ant ≡ holder.ant = cc in
-          does-Spares minds.sheet w t acted.p acted.ant (instruction_at (mind_of minds acted.ant.colour) acted.ant.state) (turn minds seed w place t) light valid acted.place acted.is (ap (λ (a : Ant). a.id) same ∙ holder.id) acted.does
+      | inr acted ↦ does-Spares minds.sheet w t acted.p acted.ant (instruction_at (mind_of minds acted.ant.colour) acted.ant.state) (turn minds seed w place t) light valid acted.place acted.is (own_id w t acted.p acted.ant acted.place acted.is) acted.does
     ] in
     record { were_alive = it.were_alive; are_gone = it.are_gone; differ = it.differ; others_stay = it.others_stay; own_lives = it.own_lives; dead_stay = it.dead_stay }
+
+-- an ant that lives on after checks is where it was
+check_all-own : (sheet : Sheet) (places : List Pos) (w : World) (t : ℕ) (p q : Pos) → Valid w → place_in w t ≡ Some p → place_in (with_cells w (check_all sheet w.cells places)) t ≡ Some q → q ≡ p
+check_all-own sheet places w t p q valid before after =
+    let there : holds_id t (check_all sheet w.cells places q) ≡ true = place_in-holds (with_cells w (check_all sheet w.cells places)) t q after in
+    let held : holds_id t (w.cells q) ≡ true = true_from_ne_false (holds_id t (w.cells q)) (λ free. both_ways (holds_id t (check_all sheet w.cells places q)) (check_all-holds_id sheet places w.cells t q free) there) in
+    let one : Some q ≡ Some p = sym (place_in-found w t q valid held) ∙ before in cc
+
+-- an ant that stays or goes is where it was, or ahead
+does-own : (sheet : Sheet) (w : World) (t : ℕ) (p : Pos) (ant : Ant) (instruction : Instr) (outcome : Outcome) (q : Pos) → Valid w → place_in w t ≡ Some p → (w.cells p).ant ≡ Some ant → ant.id ≡ t →
+    Does instruction sheet w.cells p ant outcome → place_in (with_cells w outcome.cells) t ≡ Some q → (q ≡ p) ⊎ (q ≡ adjacent_pos p ant.facing)
+does-own sheet w t p ant instruction outcome q valid found is id (inl stayed) now =
+    let there : place_in (put w p stayed.new) t ≡ Some q = subst (λ cells. place_in (with_cells w cells) t ≡ Some q) stayed.cells_after now in
+    let one : Some q ≡ Some p = sym there ∙ place_in-put_other w p stayed.new t (stays-holds_id t stayed.stays is) ∙ found in
+    inl (cc)
+does-own sheet w t p ant instruction outcome q valid found is id (inr went) now =
+    let ahead : Pos = adjacent_pos p ant.facing in
+    let there : World = with_cells w (stepped sheet w.cells p ant ahead went.next) in
+    let own : place_in there t ≡ Some ahead = ap (place_in there) (sym id) ∙ step-own sheet w p ant ahead went.next valid is went.free in
+    inr (check_all-own sheet (places_around ahead) there t ahead q (step-Valid sheet w p ant ahead went.next valid is went.free) own (subst (λ (o : Outcome). place_in (with_cells w o.cells) t ≡ Some q) went.is now))
+
+-- where an ant is after its turn
+pub turn-own : (minds : Minds) (seed : ℕ) (w : World) (place t : ℕ) (p : Pos) (ant : Ant) (q : Pos) → Valid w → place_in w t ≡ Some p → (w.cells p).ant ≡ Some ant → place_in (world_after minds seed w place t) t ≡ Some q →
+    (q ≡ p) ⊎ (q ≡ adjacent_pos p ant.facing)
+turn-own minds seed w place t p ant q valid found is now =
+    does-own minds.sheet w t p ant (instruction_at (mind_of minds ant.colour) ant.state) (acts ant.resting minds seed w.cells place p ant) q valid found is (own_id w t p ant found is)
+    (acts_parts minds seed w.cells place p ant ant.resting)
+    (subst (λ (o : Outcome). place_in (with_cells w o.cells) t ≡ Some q) (turn-acts minds seed w place t p ant found is) now)

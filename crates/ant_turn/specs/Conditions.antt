@@ -1,5 +1,5 @@
 -- Which cells meet a condition (the task's phenomenology).
-use Rattle.std.specs.Prelude.{Bool, true, false, cond, nat_lt, Option, Some, None, ◌&&◌}
+use Rattle.std.specs.Prelude.{Bool, true, false, if◌then◌else◌, nat_lt, Option, Some, None, ◌&&◌}
 use Rattle.hex_geometry.specs.declared.position.Pos.{Pos}
 use Rattle.cell_world.specs.declared.ant.Ant.{Ant}
 use Rattle.cell_world.specs.declared.ant.Colour.{Colour}
@@ -44,7 +44,7 @@ clear_meets cell FoeHome colour = is_hill_of (foe_of colour) cell.hill
 
 -- whether a cell meets a condition for an ant of this colour: on a rocky cell Rock holds and no other
 unfoldable pub meets : Cell → Cond → Colour → Bool
-meets cell condition colour = cond cell.rocky (is_rock_condition condition) (clear_meets cell condition colour)
+meets cell condition colour = if cell.rocky then is_rock_condition condition else clear_meets cell condition colour
 
 -- whether the cell at a position does
 abbrev pub matches_at : World → Pos → Cond → Colour → Bool

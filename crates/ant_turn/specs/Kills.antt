@@ -1,5 +1,5 @@
 -- Surrounded ants (the task's martial arts).
-use Rattle.std.specs.Prelude.{ℕ, ◌+◌, Bool, false, cond, nat_le, List, [], ◌∷◌, ◌++◌, length, filter, Option, Some, None}
+use Rattle.std.specs.Prelude.{ℕ, ◌+◌, Bool, false, if◌then◌else◌, nat_le, List, [], ◌∷◌, ◌++◌, length, filter, Option, Some, None}
 use Rattle.hex_geometry.specs.declared.position.Pos.{Pos}
 use Rattle.hex_geometry.specs.Neighbourhood.{neighbours_of}
 use Rattle.cell_world.specs.declared.ant.Ant.{Ant}
@@ -23,7 +23,7 @@ has_foes sheet cells places (Some ant) = nat_le sheet.surround (ants_among cells
 unfoldable pub is_surrounded : Sheet → Cells → Pos → Bool
 is_surrounded sheet cells p = has_foes sheet cells (neighbours_of p) (cells p).ant
 
--- the food that a killed ant leaves
+-- the food that a killed ant leaves: its corpse, and what it carried
 abbrev pub corpse_food : Sheet → Option Ant → ℕ
 corpse_food sheet None = 0
 corpse_food sheet (Some ant) = sheet.corpse + one_if ant.laden
@@ -32,9 +32,9 @@ corpse_food sheet (Some ant) = sheet.corpse + one_if ant.laden
 abbrev pub after_kill : Sheet → Cell → Cell
 after_kill sheet cell = record cell { food = cell.food + corpse_food sheet cell.ant; ant = None }
 
--- the check of one cell: a surrounded ant is killed
+-- the check of one cell: where an ant is surrounded it is killed, and else nothing happens
 unfoldable pub check_at : Sheet → Cells → Pos → Cells
-check_at sheet cells p = cond (is_surrounded sheet cells p) (put_cell cells p (after_kill sheet (cells p))) cells
+check_at sheet cells p = if is_surrounded sheet cells p then put_cell cells p (after_kill sheet (cells p)) else cells
 
 -- checks of cells in order, each of what those before left
 abbrev pub check_all : Sheet → Cells → List Pos → Cells
@@ -48,7 +48,7 @@ id_of (Some ant) = ant.id ∷ []
 
 -- the ant that the check of one cell kills
 unfoldable pub killed_at : Sheet → Cells → Pos → List ℕ
-killed_at sheet cells p = cond (is_surrounded sheet cells p) (id_of (cells p).ant) []
+killed_at sheet cells p = if is_surrounded sheet cells p then id_of (cells p).ant else []
 
 -- the ants that checks of cells in order kill, in that order
 abbrev pub killed_all : Sheet → Cells → List Pos → List ℕ

@@ -1,10 +1,12 @@
 -- What turns leave as it is, and how turns and rounds follow one another (the task's kinetics).
-use Rattle.std.specs.Prelude.{◌≡◌, ◌≢◌, ℕ, ◌+◌, Some, None}
+use Rattle.std.specs.Prelude.{◌≡◌, ◌≢◌, ◌⊎◌, ℕ, ◌+◌, Some, None}
 use Rattle.std.specs.List.{Contains}
 use Rattle.hex_geometry.specs.declared.position.Pos.{Pos}
 use Rattle.hex_geometry.specs.Neighbourhood.{adjacent_pos}
 use Rattle.cell_world.specs.declared.ant.Ant.{Ant}
+use Rattle.cell_world.specs.Valid.{Valid}
 use Rattle.cell_world.specs.World.{World, place_in, put}
+use Rattle.ant_turn.specs.FoodLaws.{world_after}
 use Rattle.ant_turn.specs.Kills.{places_around}
 use Rattle.ant_turn.specs.Minds.{Minds}
 use Rattle.ant_turn.specs.Rounds.{Moment, after_turn, after_turns, after_rounds}
@@ -23,7 +25,11 @@ pub record TurnsFollow : Type 0 where
   pub turns : (minds : Minds) (seed : ℕ) (m : Moment) (from n more : ℕ) → after_turns minds seed (after_turns minds seed m from n) (from + n) more ≡ after_turns minds seed m from (n + more)
   pub rounds : (minds : Minds) (seed : ℕ) (m : Moment) (r more : ℕ) → after_rounds minds seed (after_rounds minds seed m r) more ≡ after_rounds minds seed m (r + more)
 
--- the turn of an ant changes no cell but its own, the one ahead, and the neighbours of that
-abbrev pub TurnsAreNear : Type 0
-TurnsAreNear = (minds : Minds) (seed : ℕ) (w : World) (place t : ℕ) (p : Pos) (ant : Ant) (q : Pos) → place_in w t ≡ Some p → (w.cells p).ant ≡ Some ant → q ≢ p → (Contains (places_around (adjacent_pos p ant.facing)) q → ⊥) →
-    (turn minds seed w place t).cells q ≡ w.cells q
+-- how far the turn of an ant reaches
+pub record TurnsAreNear : Type 0 where
+  -- it changes no cell but its own, the one ahead, and the neighbours of that
+  pub cells : (minds : Minds) (seed : ℕ) (w : World) (place t : ℕ) (p : Pos) (ant : Ant) (q : Pos) → place_in w t ≡ Some p → (w.cells p).ant ≡ Some ant → q ≢ p → (Contains (places_around (adjacent_pos p ant.facing)) q → ⊥) →
+      (turn minds seed w place t).cells q ≡ w.cells q
+  -- an ant that lives on is where it was, or on the cell ahead
+  pub own : (minds : Minds) (seed : ℕ) (w : World) (place t : ℕ) (p : Pos) (ant : Ant) (q : Pos) → Valid w → place_in w t ≡ Some p → (w.cells p).ant ≡ Some ant → place_in (world_after minds seed w place t) t ≡ Some q →
+      (q ≡ p) ⊎ (q ≡ adjacent_pos p ant.facing)

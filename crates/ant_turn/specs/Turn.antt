@@ -79,7 +79,7 @@ ant_becomes cells p ant = cell_becomes cells p (with_ant (cells p) ant)
 abbrev pub checked : Sheet → Cells → Pos → Outcome
 checked sheet cells q = record { cells = check_around_at sheet cells q; drew = false; killed = killed_around sheet cells q }
 
--- what the ant of p does by its instruction
+-- what the ant of p does by its instruction, on these cells and at this place of a seed's stream
 abbrev pub execute : Sheet → ℕ → Cells → ℕ → Pos → Ant → Instr → Outcome
 -- the state becomes met if the sensed cell meets the condition for the ant's colour, else unmet
 execute sheet seed cells place p ant (Sense sight met unmet condition) =

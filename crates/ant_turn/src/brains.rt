@@ -5,7 +5,7 @@ ghost use Rattle.ant_turn.specs.Minds.{minds_of, mind_of};
 use brain_read::Brain;
 use cell_world::Colour;
 
-/// The brains of the two colours (the task's game play).
+/// The brains of the two colours (the task's game play). They are lent: copies share them.
 #[derive(Clone, Copy)]
 pub struct Brains<'b> {
     /// The brain of the red ants.

@@ -2,7 +2,8 @@
 //!
 //! The task's phenomenology, martial arts and kinetics: which cells meet a condition, which ants are surrounded and killed, and what
 //! the ant of an id does in its turn. `take_turn` makes any `Ground`'s world what the definition of a turn says; `after_turns` and
-//! `after_rounds` of the definitions are such turns one after another, which a game folds, and the laws say what they keep.
+//! `after_rounds` of the definitions are such turns one after another, which a game folds. The laws say in the task's own words what
+//! turns do: food is kept but for corpses, the killed are gone and nobody else, a turn changes only what is near.
 //! No call takes memory or is refused. This crate stands on `brain_read`, `cell_world` and `ant_random`.
 #![tactic(auto)]
 

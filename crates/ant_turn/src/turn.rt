@@ -21,12 +21,13 @@ use brain_read::Instr;
 use cell_world::{Ant, Cell, Ground};
 use hex_geometry::{Pos, adjacent, sensed};
 
-/// What a turn did besides changing the ground (this project's own).
+/// What a turn did besides changing the ground (this project's own; the draw and the kills are the task's number generation and martial
+/// arts).
 #[derive(Drop)]
 pub struct Deed {
-    /// Whether a random number was drawn.
+    /// Whether a random number was drawn, as by each Flip and by nothing else.
     pub drew: bool,
-    /// The ids of the killed ants, in the order of the checks.
+    /// The ids of the killed ants, counted from 0, in the order of the checks: at most 7, each once.
     pub killed: ArrayVec<u32, 7>,
 }
 

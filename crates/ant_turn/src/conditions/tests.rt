@@ -1,4 +1,4 @@
-// What no clause says: the conditions in a worked world.
+// Conditions of a hill cell with its ant, a cell with food and a rocky cell, for both colours.
 use super::*;
 use cell_world::{Kind, World};
 

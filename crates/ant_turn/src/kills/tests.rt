@@ -1,4 +1,4 @@
-// What no clause says: worked worlds, on which ants stand as after a move.
+// Checks in worlds whose ants stand as after a Move.
 ghost use Rattle.std.specs.Prelude.{◌↔◌, IsTrue};
 ghost use Rattle.hex_geometry.specs.Position.{IsInner};
 

@@ -1,4 +1,4 @@
-// What no clause says: a worked round, in which each ant of a world takes its turn.
+// A round in which each ant of a world takes its turn: red ants flip, black ones move, and one Move kills.
 ghost use Rattle.std.specs.Prelude.{◌≡◌, [], ◌∷◌, IfOk};
 ghost use Rattle.brain_read.specs.Soundness.{IsSound};
 
