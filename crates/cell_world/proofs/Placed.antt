@@ -40,16 +40,16 @@ sum_over-found width test zero one = refl
 sum_over-found width test (suc n) one =
     ap (λ k. k + one_if (test (pos_at width n))) (sum_over-found width test n one) ∙ step (first_of width test n) refl (test (pos_at width n)) refl
   where
-  step : (found : Option Pos) → first_of width test n ≡ found → (here : Bool) → test (pos_at width n) ≡ here → one_if (is_some found) + one_if here ≡ one_if (is_some (or_here found here (pos_at width n)))
-  step None f true h = refl
-  step None f false h = refl
-  step (Some q) f false h = refl
-  step (Some q) f true h =
-      let it = first_of-found width test n q f in
-      let same : pos_at width it.number ≡ pos_at width n = it.at ∙ one q (pos_at width n) it.passes h in
-      let number : it.number ≡ n = sym (index_of-pos_at width it.number) ∙ ap (index_of width) same ∙ index_of-pos_at width n in
-      let early = it.early in
-      absurd (omega arith)
+    step : (found : Option Pos) → first_of width test n ≡ found → (here : Bool) → test (pos_at width n) ≡ here → one_if (is_some found) + one_if here ≡ one_if (is_some (or_here found here (pos_at width n)))
+    step None f true h = refl
+    step None f false h = refl
+    step (Some q) f false h = refl
+    step (Some q) f true h =
+        let it = first_of-found width test n q f in
+        let same : pos_at width it.number ≡ pos_at width n = it.at ∙ one q (pos_at width n) it.passes h in
+        let number : it.number ≡ n = sym (index_of-pos_at width it.number) ∙ ap (index_of width) same ∙ index_of-pos_at width n in
+        let early = it.early in
+        absurd (omega arith)
 
 -- the cells that hold an ant are as many as its places: one or none
 held_once : (w : World) (t : ℕ) → Valid w → total (λ cell. one_if (holds_id t cell)) w ≡ one_if (is_some (place_in w t))
@@ -61,13 +61,13 @@ below-placed : (w : World) (t : ℕ) → Valid w → total (λ cell. one_if (is_
 below-placed w zero valid =
     sum_over-same w.width (λ p. one_if (is_below 0 (w.cells p).ant)) (λ p. 0) (area w) (λ i _. none_below (w.cells (pos_at w.width i)).ant) ∙ nothing w.width (area w)
   where
-  none_below : (o : Option Ant) → one_if (is_below 0 o) ≡ 0
-  none_below None = refl
-  none_below (Some ant) = ap one_if (le-ltb ant.id 0 (omega arith))
+    none_below : (o : Option Ant) → one_if (is_below 0 o) ≡ 0
+    none_below None = refl
+    none_below (Some ant) = ap one_if (le-ltb ant.id 0 (omega arith))
 
-  nothing : (width n : ℕ) → sum_over width (λ p. 0) n ≡ 0
-  nothing width zero = refl
-  nothing width (suc n) = let front = nothing width n in omega arith
+    nothing : (width n : ℕ) → sum_over width (λ p. 0) n ≡ 0
+    nothing width zero = refl
+    nothing width (suc n) = let front = nothing width n in omega arith
 below-placed w (suc t) valid =
     sum_over-same w.width (λ p. one_if (is_below (suc t) (w.cells p).ant)) (λ p. one_if (is_below t (w.cells p).ant) + one_if (holds_id t (w.cells p))) (area w) (λ i _. is_below-next t (w.cells (pos_at w.width i)).ant)
     ∙ sum_over-both w.width (λ p. one_if (is_below t (w.cells p).ant)) (λ p. one_if (holds_id t (w.cells p))) (area w)

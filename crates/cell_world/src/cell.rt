@@ -5,18 +5,19 @@ ghost use Rattle.cell_world.specs.Cell.{is_ant_of, is_hill_of, marks_of};
 use crate::ant::{Ant, Colour};
 use crate::marks::Marks;
 
-/// A cell (the task's geography, chemistry and biology). In a world, a rocky cell has no food, marks, ant or hill.
+/// A cell of the world, rocky or clear (the task's geography, chemistry and biology). In a world, a rocky cell has no food, marks,
+/// ant or hill, and an ant that stands on a cell stands on no other.
 #[derive(Clone, Copy, Debug, PartialEq, Eq)]
 pub struct Cell {
-    /// Whether it is rock.
+    /// Whether it is rock, which no ant enters.
     pub rocky: bool,
     /// The colour of the hill to which it belongs, if it belongs to one.
     pub hill: Option<Colour>,
-    /// How many food particles lie on it.
+    /// How many food particles lie on it, from 0; what its ant carries isn't counted. In a world at most 2,340,900.
     pub food: u32,
-    /// The markers of the red ants.
+    /// The markers of the red ants on it.
     pub red: Marks,
-    /// The markers of the black ants.
+    /// The markers of the black ants on it.
     pub black: Marks,
     /// The ant that stands on it, if there is one.
     pub ant: Option<Ant>,

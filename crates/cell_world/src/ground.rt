@@ -7,10 +7,10 @@ ghost use Rattle.cell_world.specs.Valid.{Valid, CanSet};
 use crate::cell::Cell;
 use hex_geometry::Pos;
 
-/// A world that can be read and changed cell by cell.
+/// A world that can be read and changed cell by cell (this project's own). The rules of a turn are written once, over any ground.
 ///
 /// Its meanings are a world, which keeps what every world keeps, and its room, the number of calls of `set` that it can still take.
-/// The rules of a turn are written once, over any ground.
+/// No call is refused, and reading changes neither of the two.
 pub trait Ground {
     /// The world that it stands for.
     ghost world: { Self → World };
@@ -18,7 +18,7 @@ pub trait Ground {
     /// How many more cells it can take.
     ghost room: { Self → ℕ };
 
-    /// The content of the cell at `p`, which is inside.
+    /// The content of the cell at `p`, which is inside the world (the task's geography).
     fn cell_at(&mut self, p: Pos) -> Cell
         requires { IsInside (world self.old).width (world self.old).height p }
         ensures content { result ≡ (world self.old).cells p }
@@ -26,14 +26,16 @@ pub trait Ground {
         ensures room { room self.new ≡ room self.old }
         ensures valid { Valid (world self.new) };
 
-    /// The position whose cell holds the ant of this id, `None` exactly where there is none.
+    /// The position whose cell holds the ant of this id, counted from 0, and `None` exactly where no cell holds it: it is dead, or was
+    /// never made (the task's biology).
     fn place_of(&mut self, id: u32) -> Option<Pos>
         ensures place { result ≡ place_in (world self.old) id }
         ensures world { world self.new ≡ world self.old }
         ensures room { room self.new ≡ room self.old }
         ensures valid { Valid (world self.new) };
 
-    /// Replaces the cell at `p`, and leaves all others. The old cell and the new one are clear and of the same hill.
+    /// Puts this cell at `p`, and leaves every other as it is. The old cell and the new one are clear and of the same hill, an ant on
+    /// the new one is known and stands on no other cell, and the world stays light enough. It takes one of the ground's room.
     fn set(&mut self, p: Pos, cell: Cell)
         requires { CanSet (world self.old) (room self.old) p cell }
         ensures set { world self.new ≡ put (world self.old) p cell }

@@ -2,18 +2,18 @@
 ghost use Rattle.std.specs.Prelude.{◌≡◌};
 ghost use Rattle.cell_world.specs.Opening.{is_hill, is_rock};
 
-/// What a cell is at the start of a game (the task's geography).
+/// What a cell is at the start of a game, as a world file says it of each cell (the task's geography).
 #[derive(Clone, Copy, Debug, PartialEq, Eq)]
 pub enum Kind {
-    /// A rocky cell.
+    /// A rocky cell: `#` in a world file.
     Rock,
-    /// A clear cell without food, of no hill.
+    /// A clear cell without food, of no hill: `.`.
     Clear,
-    /// A clear cell of the red hill, on which a red ant begins.
+    /// A clear cell of the red hill, on which a red ant begins: `+`.
     RedHill,
-    /// A clear cell of the black hill, on which a black ant begins.
+    /// A clear cell of the black hill, on which a black ant begins: `-`.
     BlackHill,
-    /// A clear cell with so many food particles, from 1 to 9.
+    /// A clear cell of no hill with so many food particles, from 1 to 9: the digit.
     Food(u8),
 }
 

@@ -2,21 +2,21 @@
 ghost use Rattle.std.specs.Prelude.{◌≡◌, ◌<◌};
 ghost use Rattle.cell_world.specs.Marks.{no_marks, has_mark, with_mark, without_mark, has_any_mark};
 
-/// A set of the markers 0 to 5, those of one colour on one cell (the task's chemistry).
+/// A set of markers, which are numbered from 0 to 5: those of one colour that are set on one cell (the task's chemistry).
 #[derive(Clone, Copy, Debug, PartialEq, Eq)]
 pub struct Marks {
     set: [bool; 6],
 }
 
 impl Marks {
-    /// The empty set.
+    /// The empty set (the task's chemistry).
     pub fn none() -> Marks
         ensures { result ≡ no_marks }
     {
         Marks { set: [false; 6] }
     }
 
-    /// Whether marker `i`, which is below 6, is in the set.
+    /// Whether marker `i`, which is from 0 to 5, is in the set (the task's chemistry).
     #[inline]
     pub fn has(&self, i: u8) -> bool
         requires { i < 6 }
@@ -25,7 +25,7 @@ impl Marks {
         self.set[i as usize]
     }
 
-    /// The set with marker `i`, which is below 6.
+    /// The same set, with marker `i`, which is from 0 to 5; the other markers are as they were (the task's chemistry).
     #[inline]
     pub fn with(self, i: u8) -> Marks
         requires { i < 6 }
@@ -36,7 +36,7 @@ impl Marks {
         Marks { set }
     }
 
-    /// The set without marker `i`, which is below 6.
+    /// The same set, without marker `i`, which is from 0 to 5; the other markers are as they were (the task's chemistry).
     #[inline]
     pub fn without(self, i: u8) -> Marks
         requires { i < 6 }
@@ -47,7 +47,7 @@ impl Marks {
         Marks { set }
     }
 
-    /// Whether any marker is in the set.
+    /// Whether any of the six markers is in the set (the task's chemistry).
     #[inline]
     pub fn any(&self) -> bool
         ensures { result ≡ has_any_mark self.now }

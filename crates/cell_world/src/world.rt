@@ -14,6 +14,8 @@ use std::marker::Model;
 
 mod counts;
 mod ground;
+#[cfg(test)]
+mod tests;
 
 /// A world (the task's geography, chemistry and biology).
 ///
@@ -42,8 +44,9 @@ impl Model for World {
 }
 
 impl World {
-    /// The world of these kinds, in row order, at the start of a game: width and height are from 3 to 512, there are width times
-    /// height kinds, the rim is rock, at most 16,384 kinds are hills and food is from 1 to 9. It is refused for want of memory alone.
+    /// The world of these kinds at the start of a game (the task's geography and biology). The kinds stand in row order: row by row from
+    /// the top, each row from the left. Width and height are from 3 to 512, there are width times height kinds, the rim is rock, at most
+    /// 16,384 kinds are hills and food is from 1 to 9. It is refused for want of memory alone.
     pub fn build(
         alloc: Global,
         width: u16,
@@ -62,7 +65,7 @@ impl World {
         })
     }
 
-    /// How many columns there are, from 3 to 512.
+    /// How many columns there are, from 3 to 512 (the task's geography).
     #[inline]
     pub fn width(&self) -> u16
         ensures width { result ≡ self.now.width }
@@ -71,7 +74,7 @@ impl World {
         self.width
     }
 
-    /// How many rows there are, from 3 to 512.
+    /// How many rows there are, from 3 to 512 (the task's geography).
     #[inline]
     pub fn height(&self) -> u16
         ensures height { result ≡ self.now.height }
@@ -80,7 +83,7 @@ impl World {
         self.height
     }
 
-    /// How many ids were ever made, at most 16,384; the ids are the numbers below it.
+    /// How many ids were ever made, at most 16,384; the ids are the numbers below it, also those of the dead (the task's biology).
     #[inline]
     pub fn ant_count(&self) -> u32
         ensures ids { result ≡ self.now.ids }
@@ -89,7 +92,8 @@ impl World {
         self.places.len() as u32
     }
 
-    /// The content of the cell at `p`, which is inside.
+    /// The content of the cell at `p`, which is inside: its column is below the width and its row below the height (the task's
+    /// geography).
     #[inline]
     pub fn cell(&self, p: Pos) -> Cell
         requires { IsInside self.now.width self.now.height p }
@@ -99,7 +103,8 @@ impl World {
         self.cells[p.y as usize * self.width as usize + p.x as usize]
     }
 
-    /// The position whose cell holds the ant of this id, `None` exactly where no cell holds it.
+    /// The position whose cell holds the ant of this id, counted from 0, and `None` exactly where no cell holds it: it is dead, or was
+    /// never made (the task's biology).
     #[inline]
     pub fn ant_place(&self, id: u32) -> Option<Pos>
         ensures place { result ≡ place_in (world_of self.now) id }

@@ -1,1 +1,2 @@
 mod Breaks
+pub mod Worked

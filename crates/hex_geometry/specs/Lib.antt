@@ -1,3 +1,4 @@
 pub mod Direction
+pub mod Laws
 pub mod Neighbourhood
 pub mod Position

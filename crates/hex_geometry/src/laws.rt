@@ -2,6 +2,7 @@
 ghost use Rattle.std.specs.Prelude.{◌≡◌, ◌≤◌};
 ghost use Rattle.hex_geometry.specs.declared.direction.Dir.{Dir};
 ghost use Rattle.hex_geometry.specs.declared.position.Pos.{Pos};
+ghost use Rattle.hex_geometry.specs.Laws.{NeighboursAreMutual, TurnsGoRound};
 ghost use Rattle.hex_geometry.specs.Neighbourhood.{adjacent_point, adjacent_pos};
 ghost use Rattle.hex_geometry.specs.Position.{point_of};
 
@@ -9,4 +10,16 @@ ghost use Rattle.hex_geometry.specs.Position.{point_of};
 /// (the task's geometry).
 pub fn neighbours_are_the_tables()
     ensures { (p : Pos) (d : Dir) → 1 ≤ p.x → 1 ≤ p.y → point_of (adjacent_pos p d) ≡ adjacent_point (point_of p) d }
+{}
+
+/// A law: off the first row and column, neighbourhood is mutual, the opposite direction leads back, the six neighbours are pairwise two,
+/// and none of them is the position itself; the neighbours of a position off the rim of a world are inside it (the task's geometry).
+pub fn neighbours_are_mutual()
+    ensures { NeighboursAreMutual }
+{}
+
+/// A law: a turn to the one side undoes one to the other, six turns to a side are none, and three lead to the opposite direction
+/// (the task's geometry).
+pub fn turns_go_round()
+    ensures { TurnsGoRound }
 {}

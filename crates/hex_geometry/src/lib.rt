@@ -17,7 +17,7 @@ mod position;
 mod tests;
 
 pub use direction::{Dir, Side, turned};
-pub use laws::neighbours_are_the_tables;
+pub use laws::{neighbours_are_mutual, neighbours_are_the_tables, turns_go_round};
 pub use memory::OutOfMemory;
 pub use neighbourhood::{Sight, adjacent, neighbours, sensed};
 pub use position::Pos;

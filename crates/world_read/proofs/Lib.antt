@@ -9,4 +9,5 @@ pub mod RowReads
 pub mod TextReads
 pub mod Told
 pub mod Verdicts
+pub mod Worked
 pub mod WrongReads

@@ -11,7 +11,7 @@ use crate::score::Score;
 use crate::world::World;
 
 impl World {
-    /// How many ants of this colour are alive.
+    /// How many ants of this colour are alive, at most 16,384 (the task's biology).
     pub fn alive(&self, colour: Colour) -> u32
         ensures alive { result ≡ alive_of (world_of self.now) colour }
         ensures world { IsWorld self.now }
@@ -19,7 +19,7 @@ impl World {
         ants_in(&self.cells, colour) as u32
     }
 
-    /// The food on the cells of this colour's hill.
+    /// The food particles on the cells of this colour's hill, at most 2,340,900; carried food isn't counted (the task's game play).
     pub fn hill_food(&self, colour: Colour) -> u32
         ensures food { result ≡ hill_food_of (world_of self.now) colour }
         ensures world { IsWorld self.now }
@@ -27,7 +27,7 @@ impl World {
         food_in(&self.cells, colour)
     }
 
-    /// The food on the red hill and on the black hill.
+    /// The food on the red hill and on the black hill (the task's game play).
     #[tactic(auto, unfolding(crate::specs::Score::score_of))]
     pub fn score(&self) -> Score
         ensures score { result ≡ score_of (world_of self.now) }

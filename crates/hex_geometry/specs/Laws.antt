@@ -1,0 +1,34 @@
+-- How neighbours and turns lie to each other (the task's geometry).
+use Rattle.std.specs.Prelude.{◌≡◌, ◌≢◌, ℕ, ◌≤◌, AllPairs, Contains}
+use Rattle.std.specs.Fn.{iterate}
+use Rattle.hex_geometry.specs.Direction.{opposite, turned_by}
+use Rattle.hex_geometry.specs.Neighbourhood.{adjacent_pos, neighbours_of}
+use Rattle.hex_geometry.specs.Position.{IsInner, IsInside}
+use Rattle.hex_geometry.specs.declared.direction.Dir.{Dir}
+use Rattle.hex_geometry.specs.declared.direction.Side.{Side}
+use Rattle.hex_geometry.specs.declared.direction.Side.TheVariants.{Left, Right}
+use Rattle.hex_geometry.specs.declared.position.Pos.{Pos}
+
+-- off the first row and column
+pub record NeighboursAreMutual : Type 0 where
+  -- the neighbour in the opposite direction of a neighbour is the position itself
+  pub back : (p : Pos) (d : Dir) → 1 ≤ p.x → 1 ≤ p.y → adjacent_pos (adjacent_pos p d) (opposite d) ≡ p
+  -- a neighbour's neighbours have the position among them
+  pub both_ways : (p q : Pos) → 1 ≤ p.x → 1 ≤ p.y → Contains (neighbours_of p) q → Contains (neighbours_of q) p
+  -- the six are pairwise two
+  pub distinct : (p : Pos) → 1 ≤ p.x → 1 ≤ p.y → AllPairs ◌≢◌ (neighbours_of p)
+  -- and none of them is the position itself
+  pub other : (p : Pos) (d : Dir) → 1 ≤ p.x → 1 ≤ p.y → adjacent_pos p d ≢ p
+  -- the neighbours of a position of a world that isn't on the rim are positions of that world
+  pub inside : (width height : ℕ) (p : Pos) (d : Dir) → IsInner width height p → IsInside width height (adjacent_pos p d)
+
+-- how turns follow on each other
+pub record TurnsGoRound : Type 0 where
+  -- a turn to the one side undoes one to the other
+  pub left_then_right : (d : Dir) → turned_by (turned_by d Left) Right ≡ d
+  pub right_then_left : (d : Dir) → turned_by (turned_by d Right) Left ≡ d
+  -- six turns to the left are none, and so are six to the right
+  pub six_left : (d : Dir) → iterate (λ e. turned_by e Left) 6 d ≡ d
+  pub six_right : (d : Dir) → iterate (λ e. turned_by e Right) 6 d ≡ d
+  -- three turns to a side lead to the opposite direction
+  pub three : (d : Dir) (side : Side) → iterate (λ e. turned_by e side) 3 d ≡ opposite d
