@@ -9,4 +9,4 @@ pub mod Completions
 pub mod Sayings
 pub mod Reading
 pub mod WordLaws
-pub mod Refusals
+pub mod WorkedLines
