@@ -15,7 +15,7 @@ use Rattle.brain_read.specs.Tokens.{has_bad_byte}
 use Rattle.brain_read.specs.Steps.{Read, Step, ◌>>=◌, or_refused, take_word, take_number, take_end, take_sight, take_side, take_state, take_marker, take_bound, condition_from, take_condition}
 use Rattle.brain_read.specs.Forms.{word_of_form, word_of_sight, word_of_side, word_of_condition, forms, sights, sides, conditions, form_words, sight_words, side_words, condition_words, most_bound}
 use Rattle.brain_read.specs.Places.{form_at, sight_at, side_at, condition_word_at}
-use Rattle.brain_read.specs.Reading.{read_sense, read_mark, read_unmark, read_pick_up, read_drop, read_turn, read_move, read_flip, read_form, read_line}
+use Rattle.brain_read.specs.Reading.{read_sense, read_marked, read_branches, read_drop, read_turn, read_flip, read_form, read_line}
 use Rattle.brain_read.specs.Refusals.{fault_at, refusal_at}
 use Rattle.brain_read.specs.Judging.{Position, positions_of, positions_of_condition, nothing_more, accepted, fault_of, judged, first_fault}
 use Rattle.brain_read.specs.Judging.Position.{FormToken, SightToken, SideToken, ConditionToken, MarkerToken, StateToken, BoundToken}
@@ -139,23 +139,17 @@ sense_fault line tokens =
     state_judges.steps line r1 (StateToken ∷ ConditionToken ∷ []) _ (λ m r2.
     state_judges.steps line r2 (ConditionToken ∷ []) _ (λ u r3. condition_fault line (Sense s m u) r3)))
 
-mark_fault : (line : ℕ) (tokens : List (List ℕ)) → first_fault line tokens (positions_of Form.Mark) ≡ fault_in line (read_mark tokens)
-unfolding read_mark
-mark_fault line tokens =
+marked_fault : (line : ℕ) (make : ℕ → ℕ → Instr) (tokens : List (List ℕ)) → first_fault line tokens (MarkerToken ∷ StateToken ∷ []) ≡ fault_in line (read_marked make tokens)
+unfolding read_marked
+marked_fault line make tokens =
     marker_judges.steps line tokens (StateToken ∷ []) _ (λ m r1.
-    state_judges.steps line r1 [] _ (λ n r2. end_fault line r2 (Mark m n)))
+    state_judges.steps line r1 [] _ (λ n r2. end_fault line r2 (make m n)))
 
-unmark_fault : (line : ℕ) (tokens : List (List ℕ)) → first_fault line tokens (positions_of Form.Unmark) ≡ fault_in line (read_unmark tokens)
-unfolding read_unmark
-unmark_fault line tokens =
-    marker_judges.steps line tokens (StateToken ∷ []) _ (λ m r1.
-    state_judges.steps line r1 [] _ (λ n r2. end_fault line r2 (Unmark m n)))
-
-pick_up_fault : (line : ℕ) (tokens : List (List ℕ)) → first_fault line tokens (positions_of Form.PickUp) ≡ fault_in line (read_pick_up tokens)
-unfolding read_pick_up
-pick_up_fault line tokens =
+branches_fault : (line : ℕ) (make : ℕ → ℕ → Instr) (tokens : List (List ℕ)) → first_fault line tokens (StateToken ∷ StateToken ∷ []) ≡ fault_in line (read_branches make tokens)
+unfolding read_branches
+branches_fault line make tokens =
     state_judges.steps line tokens (StateToken ∷ []) _ (λ m r1.
-    state_judges.steps line r1 [] _ (λ u r2. end_fault line r2 (PickUp m u)))
+    state_judges.steps line r1 [] _ (λ u r2. end_fault line r2 (make m u)))
 
 drop_fault : (line : ℕ) (tokens : List (List ℕ)) → first_fault line tokens (positions_of Form.Drop) ≡ fault_in line (read_drop tokens)
 unfolding read_drop
@@ -167,12 +161,6 @@ turn_fault line tokens =
     side_judges.steps line tokens (StateToken ∷ []) _ (λ s r1.
     state_judges.steps line r1 [] _ (λ n r2. end_fault line r2 (Turn s n)))
 
-move_fault : (line : ℕ) (tokens : List (List ℕ)) → first_fault line tokens (positions_of Form.Move) ≡ fault_in line (read_move tokens)
-unfolding read_move
-move_fault line tokens =
-    state_judges.steps line tokens (StateToken ∷ []) _ (λ m r1.
-    state_judges.steps line r1 [] _ (λ u r2. end_fault line r2 (Move m u)))
-
 flip_fault : (line : ℕ) (tokens : List (List ℕ)) → first_fault line tokens (positions_of Form.Flip) ≡ fault_in line (read_flip tokens)
 unfolding read_flip
 flip_fault line tokens =
@@ -182,12 +170,12 @@ flip_fault line tokens =
 
 form_fault : (line : ℕ) (form : Form) (tokens : List (List ℕ)) → first_fault line tokens (positions_of form ++ []) ≡ fault_in line (read_form form tokens)
 form_fault line Form.Sense tokens = sense_fault line tokens
-form_fault line Form.Mark tokens = mark_fault line tokens
-form_fault line Form.Unmark tokens = unmark_fault line tokens
-form_fault line Form.PickUp tokens = pick_up_fault line tokens
+form_fault line Form.Mark tokens = marked_fault line Mark tokens
+form_fault line Form.Unmark tokens = marked_fault line Unmark tokens
+form_fault line Form.PickUp tokens = branches_fault line PickUp tokens
 form_fault line Form.Drop tokens = drop_fault line tokens
 form_fault line Form.Turn tokens = turn_fault line tokens
-form_fault line Form.Move tokens = move_fault line tokens
+form_fault line Form.Move tokens = branches_fault line Move tokens
 form_fault line Form.Flip tokens = flip_fault line tokens
 
 form_judges : Judges FormToken (take_word form_words) (λ i. positions_of (form_at i))

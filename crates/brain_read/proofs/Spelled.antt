@@ -20,7 +20,7 @@ use Rattle.brain_read.specs.Steps.{Read, Step, ◌>>=◌, missing, refused, or_r
 use Rattle.brain_read.specs.Forms.{most_bound, form_words, sight_words, side_words, condition_words, word_of_form, word_of_sight, word_of_side, word_of_condition, Field, fields_of_condition, fields_of, Spells, SpellsAll, IsInRange, InstrLine}
 use Rattle.brain_read.specs.Forms.Field.{Word, Number}
 use Rattle.brain_read.specs.Places.{form_at, place_of_form, place_of_sight, place_of_side, place_of_condition, sight_at, side_at, condition_word_at}
-use Rattle.brain_read.specs.Reading.{read_sense, read_mark, read_unmark, read_pick_up, read_drop, read_turn, read_move, read_flip, read_form, read_line}
+use Rattle.brain_read.specs.Reading.{read_sense, read_marked, read_branches, read_drop, read_turn, read_flip, read_form, read_line}
 use Rattle.brain_read.proofs.Vocabulary.{Names, word-found, word-again, number_of-small}
 
 pub form_names : Names form_words 8 (λ i. word_of_form (form_at i))
@@ -244,35 +244,23 @@ sense_spelled tokens i e =
     then_condition (Sense s m u) i (λ r. IsRest (codes "Sense") i (t1 ∷ t2 ∷ t3 ∷ r)) (λ c front hc sound q.
     subst (λ j. IsRest (codes "Sense") j (t1 ∷ t2 ∷ t3 ∷ front)) q (record { spelled = λ first h. (h, (h1, (h2, (h3, hc)))); in_range = sound })) r3 e3)))
 
-mark_spelled : (tokens : List (List ℕ)) (i : Instr) → read_mark tokens ≡ Ok i → IsRest (codes "Mark") i tokens
-unfolding read_mark
-mark_spelled tokens i e =
-    then_taken marker_takes tokens _ i (IsRest (codes "Mark") i) e (λ m t1 r1 h1 e1.
-    then_taken state_takes r1 _ i (λ r. IsRest (codes "Mark") i (t1 ∷ r)) e1 (λ n t2 r2 h2 e2.
-    then_end r2 (Mark m n) i (λ r. IsRest (codes "Mark") i (t1 ∷ t2 ∷ r)) e2 (λ q.
-    subst (λ j. IsRest (codes "Mark") j (t1 ∷ t2 ∷ [])) q (record { spelled = λ first h. (h, (h1.value, (h2, tt))); in_range = below_six m t1 h1 }))))
-  where
-    below_six : (m : ℕ) (t : List ℕ) → IsWithin 0 5 m t → m < 6
-    below_six m t w = let high = w.high in omega arith
+-- a marker within its bounds is below 6
+below_six : (m : ℕ) (token : List ℕ) → IsWithin 0 5 m token → m < 6
+below_six m token w = let high = w.high in omega arith
 
-unmark_spelled : (tokens : List (List ℕ)) (i : Instr) → read_unmark tokens ≡ Ok i → IsRest (codes "Unmark") i tokens
-unfolding read_unmark
-unmark_spelled tokens i e =
-    then_taken marker_takes tokens _ i (IsRest (codes "Unmark") i) e (λ m t1 r1 h1 e1.
-    then_taken state_takes r1 _ i (λ r. IsRest (codes "Unmark") i (t1 ∷ r)) e1 (λ n t2 r2 h2 e2.
-    then_end r2 (Unmark m n) i (λ r. IsRest (codes "Unmark") i (t1 ∷ t2 ∷ r)) e2 (λ q.
-    subst (λ j. IsRest (codes "Unmark") j (t1 ∷ t2 ∷ [])) q (record { spelled = λ first h. (h, (h1.value, (h2, tt))); in_range = below_six m t1 h1 }))))
-  where
-    below_six : (m : ℕ) (t : List ℕ) → IsWithin 0 5 m t → m < 6
-    below_six m t w = let high = w.high in omega arith
+marked_spelled : (word : List ℕ) (make : ℕ → ℕ → Instr) → ((m n : ℕ) (t1 t2 : List ℕ) → IsWithin 0 5 m t1 → number_of t2 ≡ Some n → IsRest word (make m n) (t1 ∷ t2 ∷ [])) → (tokens : List (List ℕ)) (i : Instr) → read_marked make tokens ≡ Ok i → IsRest word i tokens
+unfolding read_marked
+marked_spelled word make made tokens i e =
+    then_taken marker_takes tokens _ i (IsRest word i) e (λ m t1 r1 h1 e1.
+    then_taken state_takes r1 _ i (λ r. IsRest word i (t1 ∷ r)) e1 (λ n t2 r2 h2 e2.
+    then_end r2 (make m n) i (λ r. IsRest word i (t1 ∷ t2 ∷ r)) e2 (λ q. subst (λ j. IsRest word j (t1 ∷ t2 ∷ [])) q (made m n t1 t2 h1 h2))))
 
-pick_up_spelled : (tokens : List (List ℕ)) (i : Instr) → read_pick_up tokens ≡ Ok i → IsRest (codes "PickUp") i tokens
-unfolding read_pick_up
-pick_up_spelled tokens i e =
-    then_taken state_takes tokens _ i (IsRest (codes "PickUp") i) e (λ m t1 r1 h1 e1.
-    then_taken state_takes r1 _ i (λ r. IsRest (codes "PickUp") i (t1 ∷ r)) e1 (λ u t2 r2 h2 e2.
-    then_end r2 (PickUp m u) i (λ r. IsRest (codes "PickUp") i (t1 ∷ t2 ∷ r)) e2 (λ q.
-    subst (λ j. IsRest (codes "PickUp") j (t1 ∷ t2 ∷ [])) q (record { spelled = λ first h. (h, (h1, (h2, tt))); in_range = tt }))))
+branches_spelled : (word : List ℕ) (make : ℕ → ℕ → Instr) → ((m u : ℕ) (t1 t2 : List ℕ) → number_of t1 ≡ Some m → number_of t2 ≡ Some u → IsRest word (make m u) (t1 ∷ t2 ∷ [])) → (tokens : List (List ℕ)) (i : Instr) → read_branches make tokens ≡ Ok i → IsRest word i tokens
+unfolding read_branches
+branches_spelled word make made tokens i e =
+    then_taken state_takes tokens _ i (IsRest word i) e (λ m t1 r1 h1 e1.
+    then_taken state_takes r1 _ i (λ r. IsRest word i (t1 ∷ r)) e1 (λ u t2 r2 h2 e2.
+    then_end r2 (make m u) i (λ r. IsRest word i (t1 ∷ t2 ∷ r)) e2 (λ q. subst (λ j. IsRest word j (t1 ∷ t2 ∷ [])) q (made m u t1 t2 h1 h2))))
 
 drop_spelled : (tokens : List (List ℕ)) (i : Instr) → read_drop tokens ≡ Ok i → IsRest (codes "Drop") i tokens
 unfolding read_drop
@@ -289,14 +277,6 @@ turn_spelled tokens i e =
     then_end r2 (Turn s n) i (λ r. IsRest (codes "Turn") i (t1 ∷ t2 ∷ r)) e2 (λ q.
     subst (λ j. IsRest (codes "Turn") j (t1 ∷ t2 ∷ [])) q (record { spelled = λ first h. (h, (h1, (h2, tt))); in_range = tt }))))
 
-move_spelled : (tokens : List (List ℕ)) (i : Instr) → read_move tokens ≡ Ok i → IsRest (codes "Move") i tokens
-unfolding read_move
-move_spelled tokens i e =
-    then_taken state_takes tokens _ i (IsRest (codes "Move") i) e (λ m t1 r1 h1 e1.
-    then_taken state_takes r1 _ i (λ r. IsRest (codes "Move") i (t1 ∷ r)) e1 (λ u t2 r2 h2 e2.
-    then_end r2 (Move m u) i (λ r. IsRest (codes "Move") i (t1 ∷ t2 ∷ r)) e2 (λ q.
-    subst (λ j. IsRest (codes "Move") j (t1 ∷ t2 ∷ [])) q (record { spelled = λ first h. (h, (h1, (h2, tt))); in_range = tt }))))
-
 flip_spelled : (tokens : List (List ℕ)) (i : Instr) → read_flip tokens ≡ Ok i → IsRest (codes "Flip") i tokens
 unfolding read_flip
 flip_spelled tokens i e =
@@ -311,12 +291,12 @@ whole word i first rest h r = record { spelled = r.spelled first h; in_range = r
 
 form_spelled : (form : Form) (first : List ℕ) (rest : List (List ℕ)) (i : Instr) → IsSameWord (word_of_form form) first → read_form form rest ≡ Ok i → InstrLine (first ∷ rest) i
 form_spelled Form.Sense first rest i h e = whole (codes "Sense") i first rest h (sense_spelled rest i e)
-form_spelled Form.Mark first rest i h e = whole (codes "Mark") i first rest h (mark_spelled rest i e)
-form_spelled Form.Unmark first rest i h e = whole (codes "Unmark") i first rest h (unmark_spelled rest i e)
-form_spelled Form.PickUp first rest i h e = whole (codes "PickUp") i first rest h (pick_up_spelled rest i e)
+form_spelled Form.Mark first rest i h e = whole (codes "Mark") i first rest h (marked_spelled (codes "Mark") Mark (λ m n t1 t2 w is. record { spelled = λ word same. (same, (w.value, (is, tt))); in_range = below_six m t1 w }) rest i e)
+form_spelled Form.Unmark first rest i h e = whole (codes "Unmark") i first rest h (marked_spelled (codes "Unmark") Unmark (λ m n t1 t2 w is. record { spelled = λ word same. (same, (w.value, (is, tt))); in_range = below_six m t1 w }) rest i e)
+form_spelled Form.PickUp first rest i h e = whole (codes "PickUp") i first rest h (branches_spelled (codes "PickUp") PickUp (λ m u t1 t2 h1 h2. record { spelled = λ word same. (same, (h1, (h2, tt))); in_range = tt }) rest i e)
 form_spelled Form.Drop first rest i h e = whole (codes "Drop") i first rest h (drop_spelled rest i e)
 form_spelled Form.Turn first rest i h e = whole (codes "Turn") i first rest h (turn_spelled rest i e)
-form_spelled Form.Move first rest i h e = whole (codes "Move") i first rest h (move_spelled rest i e)
+form_spelled Form.Move first rest i h e = whole (codes "Move") i first rest h (branches_spelled (codes "Move") Move (λ m u t1 t2 h1 h2. record { spelled = λ word same. (same, (h1, (h2, tt))); in_range = tt }) rest i e)
 form_spelled Form.Flip first rest i h e = whole (codes "Flip") i first rest h (flip_spelled rest i e)
 
 -- what is read of a line is spelled so
@@ -377,28 +357,20 @@ sense_again s m u c tokens h sound =
     then_again sight_takes s t1 (t2 ∷ t3 ∷ r3) _ _ h1 (then_again state_takes m t2 (t3 ∷ r3) _ _ h2 (then_again state_takes u t3 r3 _ _ h3
     (bind_step (take_condition r3) (ending (Sense s m u)) (c, []) (Ok (Sense s m u c)) (condition_again c r3 k3 sound) refl))))))
 
-mark_again : (m n : ℕ) (tokens : List (List ℕ)) → SpellsAll (Number m ∷ Number n ∷ []) tokens → m < 6 → read_mark tokens ≡ Ok (Mark m n)
-unfolding read_mark
-mark_again m n tokens h below =
-    given (Number m) (Number n ∷ []) tokens (λ ts. read_mark ts ≡ Ok (Mark m n)) h (λ t1 r1 h1 k1.
-    given (Number n) [] r1 (λ r. read_mark (t1 ∷ r) ≡ Ok (Mark m n)) k1 (λ t2 r2 h2 k2.
-    given_end r2 (λ r. read_mark (t1 ∷ t2 ∷ r) ≡ Ok (Mark m n)) k2
+marked_again : (make : ℕ → ℕ → Instr) (m n : ℕ) (tokens : List (List ℕ)) → SpellsAll (Number m ∷ Number n ∷ []) tokens → m < 6 → read_marked make tokens ≡ Ok (make m n)
+unfolding read_marked
+marked_again make m n tokens h below =
+    given (Number m) (Number n ∷ []) tokens (λ ts. read_marked make ts ≡ Ok (make m n)) h (λ t1 r1 h1 k1.
+    given (Number n) [] r1 (λ r. read_marked make (t1 ∷ r) ≡ Ok (make m n)) k1 (λ t2 r2 h2 k2.
+    given_end r2 (λ r. read_marked make (t1 ∷ t2 ∷ r) ≡ Ok (make m n)) k2
     (then_again marker_takes m t1 (t2 ∷ []) _ _ (marker_within m t1 h1 below) (then_again state_takes n t2 [] _ _ h2 refl))))
 
-unmark_again : (m n : ℕ) (tokens : List (List ℕ)) → SpellsAll (Number m ∷ Number n ∷ []) tokens → m < 6 → read_unmark tokens ≡ Ok (Unmark m n)
-unfolding read_unmark
-unmark_again m n tokens h below =
-    given (Number m) (Number n ∷ []) tokens (λ ts. read_unmark ts ≡ Ok (Unmark m n)) h (λ t1 r1 h1 k1.
-    given (Number n) [] r1 (λ r. read_unmark (t1 ∷ r) ≡ Ok (Unmark m n)) k1 (λ t2 r2 h2 k2.
-    given_end r2 (λ r. read_unmark (t1 ∷ t2 ∷ r) ≡ Ok (Unmark m n)) k2
-    (then_again marker_takes m t1 (t2 ∷ []) _ _ (marker_within m t1 h1 below) (then_again state_takes n t2 [] _ _ h2 refl))))
-
-pick_up_again : (m u : ℕ) (tokens : List (List ℕ)) → SpellsAll (Number m ∷ Number u ∷ []) tokens → read_pick_up tokens ≡ Ok (PickUp m u)
-unfolding read_pick_up
-pick_up_again m u tokens h =
-    given (Number m) (Number u ∷ []) tokens (λ ts. read_pick_up ts ≡ Ok (PickUp m u)) h (λ t1 r1 h1 k1.
-    given (Number u) [] r1 (λ r. read_pick_up (t1 ∷ r) ≡ Ok (PickUp m u)) k1 (λ t2 r2 h2 k2.
-    given_end r2 (λ r. read_pick_up (t1 ∷ t2 ∷ r) ≡ Ok (PickUp m u)) k2
+branches_again : (make : ℕ → ℕ → Instr) (m u : ℕ) (tokens : List (List ℕ)) → SpellsAll (Number m ∷ Number u ∷ []) tokens → read_branches make tokens ≡ Ok (make m u)
+unfolding read_branches
+branches_again make m u tokens h =
+    given (Number m) (Number u ∷ []) tokens (λ ts. read_branches make ts ≡ Ok (make m u)) h (λ t1 r1 h1 k1.
+    given (Number u) [] r1 (λ r. read_branches make (t1 ∷ r) ≡ Ok (make m u)) k1 (λ t2 r2 h2 k2.
+    given_end r2 (λ r. read_branches make (t1 ∷ t2 ∷ r) ≡ Ok (make m u)) k2
     (then_again state_takes m t1 (t2 ∷ []) _ _ h1 (then_again state_takes u t2 [] _ _ h2 refl))))
 
 drop_again : (n : ℕ) (tokens : List (List ℕ)) → SpellsAll (Number n ∷ []) tokens → read_drop tokens ≡ Ok (Drop n)
@@ -414,14 +386,6 @@ turn_again s n tokens h =
     given (Number n) [] r1 (λ r. read_turn (t1 ∷ r) ≡ Ok (Turn s n)) k1 (λ t2 r2 h2 k2.
     given_end r2 (λ r. read_turn (t1 ∷ t2 ∷ r) ≡ Ok (Turn s n)) k2
     (then_again side_takes s t1 (t2 ∷ []) _ _ h1 (then_again state_takes n t2 [] _ _ h2 refl))))
-
-move_again : (m u : ℕ) (tokens : List (List ℕ)) → SpellsAll (Number m ∷ Number u ∷ []) tokens → read_move tokens ≡ Ok (Move m u)
-unfolding read_move
-move_again m u tokens h =
-    given (Number m) (Number u ∷ []) tokens (λ ts. read_move ts ≡ Ok (Move m u)) h (λ t1 r1 h1 k1.
-    given (Number u) [] r1 (λ r. read_move (t1 ∷ r) ≡ Ok (Move m u)) k1 (λ t2 r2 h2 k2.
-    given_end r2 (λ r. read_move (t1 ∷ t2 ∷ r) ≡ Ok (Move m u)) k2
-    (then_again state_takes m t1 (t2 ∷ []) _ _ h1 (then_again state_takes u t2 [] _ _ h2 refl))))
 
 flip_again : (b m u : ℕ) (tokens : List (List ℕ)) → SpellsAll (Number b ∷ Number m ∷ Number u ∷ []) tokens → 1 ≤ b → b ≤ most_bound → read_flip tokens ≡ Ok (Flip b m u)
 unfolding read_flip
@@ -440,13 +404,13 @@ line_again (Sense s m u c) tokens line =
     (λ first rest h k. form_step 0 (codes "Sense") first rest (Sense s m u c) refl h (sense_again s m u c rest k line.in_range))
 line_again (Mark m n) tokens line =
     given (Word (codes "Mark")) (Number m ∷ Number n ∷ []) tokens (λ ts. read_line ts ≡ Ok (Mark m n)) line.spelled
-    (λ first rest h k. form_step 1 (codes "Mark") first rest (Mark m n) refl h (mark_again m n rest k line.in_range))
+    (λ first rest h k. form_step 1 (codes "Mark") first rest (Mark m n) refl h (marked_again Mark m n rest k line.in_range))
 line_again (Unmark m n) tokens line =
     given (Word (codes "Unmark")) (Number m ∷ Number n ∷ []) tokens (λ ts. read_line ts ≡ Ok (Unmark m n)) line.spelled
-    (λ first rest h k. form_step 2 (codes "Unmark") first rest (Unmark m n) refl h (unmark_again m n rest k line.in_range))
+    (λ first rest h k. form_step 2 (codes "Unmark") first rest (Unmark m n) refl h (marked_again Unmark m n rest k line.in_range))
 line_again (PickUp m u) tokens line =
     given (Word (codes "PickUp")) (Number m ∷ Number u ∷ []) tokens (λ ts. read_line ts ≡ Ok (PickUp m u)) line.spelled
-    (λ first rest h k. form_step 3 (codes "PickUp") first rest (PickUp m u) refl h (pick_up_again m u rest k))
+    (λ first rest h k. form_step 3 (codes "PickUp") first rest (PickUp m u) refl h (branches_again PickUp m u rest k))
 line_again (Drop n) tokens line =
     given (Word (codes "Drop")) (Number n ∷ []) tokens (λ ts. read_line ts ≡ Ok (Drop n)) line.spelled
     (λ first rest h k. form_step 4 (codes "Drop") first rest (Drop n) refl h (drop_again n rest k))
@@ -455,7 +419,7 @@ line_again (Turn s n) tokens line =
     (λ first rest h k. form_step 5 (codes "Turn") first rest (Turn s n) refl h (turn_again s n rest k))
 line_again (Move m u) tokens line =
     given (Word (codes "Move")) (Number m ∷ Number u ∷ []) tokens (λ ts. read_line ts ≡ Ok (Move m u)) line.spelled
-    (λ first rest h k. form_step 6 (codes "Move") first rest (Move m u) refl h (move_again m u rest k))
+    (λ first rest h k. form_step 6 (codes "Move") first rest (Move m u) refl h (branches_again Move m u rest k))
 line_again (Flip b m u) tokens line =
     given (Word (codes "Flip")) (Number b ∷ Number m ∷ Number u ∷ []) tokens (λ ts. read_line ts ≡ Ok (Flip b m u)) line.spelled
     (λ first rest h k. form_step 7 (codes "Flip") first rest (Flip b m u) refl h (flip_again b m u rest k line.in_range.0 line.in_range.1))

@@ -17,29 +17,21 @@ read_sense tokens = do
   end ← take_end condition.1
   Ok (Sense sight.0 met.0 unmet.0 condition.0)
 
--- what stands after `Mark`
-unfoldable pub read_mark : List (List ℕ) → Read Instr
-read_mark tokens = do
+-- what stands after `Mark` and `Unmark`: a marker and a state
+unfoldable pub read_marked : (ℕ → ℕ → Instr) → List (List ℕ) → Read Instr
+read_marked make tokens = do
   marker ← take_marker tokens
   next ← take_state marker.1
   end ← take_end next.1
-  Ok (Mark marker.0 next.0)
+  Ok (make marker.0 next.0)
 
--- what stands after `Unmark`
-unfoldable pub read_unmark : List (List ℕ) → Read Instr
-read_unmark tokens = do
-  marker ← take_marker tokens
-  next ← take_state marker.1
-  end ← take_end next.1
-  Ok (Unmark marker.0 next.0)
-
--- what stands after `PickUp`
-unfoldable pub read_pick_up : List (List ℕ) → Read Instr
-read_pick_up tokens = do
+-- what stands after `PickUp` and `Move`: two states
+unfoldable pub read_branches : (ℕ → ℕ → Instr) → List (List ℕ) → Read Instr
+read_branches make tokens = do
   met ← take_state tokens
   unmet ← take_state met.1
   end ← take_end unmet.1
-  Ok (PickUp met.0 unmet.0)
+  Ok (make met.0 unmet.0)
 
 -- what stands after `Drop`
 unfoldable pub read_drop : List (List ℕ) → Read Instr
@@ -56,14 +48,6 @@ read_turn tokens = do
   end ← take_end next.1
   Ok (Turn side.0 next.0)
 
--- what stands after `Move`
-unfoldable pub read_move : List (List ℕ) → Read Instr
-read_move tokens = do
-  met ← take_state tokens
-  unmet ← take_state met.1
-  end ← take_end unmet.1
-  Ok (Move met.0 unmet.0)
-
 -- what stands after `Flip`
 unfoldable pub read_flip : List (List ℕ) → Read Instr
 read_flip tokens = do
@@ -76,12 +60,12 @@ read_flip tokens = do
 -- what stands after the word of a form
 abbrev pub read_form : Form → List (List ℕ) → Read Instr
 read_form Form.Sense tokens = read_sense tokens
-read_form Form.Mark tokens = read_mark tokens
-read_form Form.Unmark tokens = read_unmark tokens
-read_form Form.PickUp tokens = read_pick_up tokens
+read_form Form.Mark tokens = read_marked Mark tokens
+read_form Form.Unmark tokens = read_marked Unmark tokens
+read_form Form.PickUp tokens = read_branches PickUp tokens
 read_form Form.Drop tokens = read_drop tokens
 read_form Form.Turn tokens = read_turn tokens
-read_form Form.Move tokens = read_move tokens
+read_form Form.Move tokens = read_branches Move tokens
 read_form Form.Flip tokens = read_flip tokens
 
 -- the instruction of a line, or why the line is refused

@@ -3,6 +3,7 @@ ghost use Rattle.std.specs.Prelude.{◌≡◌};
 ghost use Rattle.brain_read.specs.Places as places;
 ghost use Rattle.brain_read.specs.Reading as reading;
 ghost use Rattle.brain_read.specs.Draft.{as_read};
+ghost use Rattle.brain_read.specs.declared.instr.Instr.TheVariants.{Mark, Unmark, PickUp, Move};
 
 use crate::draft::Draft;
 use crate::fault::Refusal;
@@ -56,9 +57,9 @@ fn sense(tokens: &mut Tokens) -> Result<Draft, Refusal>
     })
 }
 
-#[tactic(auto, unfolding(crate::specs::Reading::read_mark))]
+#[tactic(auto, unfolding(crate::specs::Reading::read_marked))]
 fn mark(tokens: &mut Tokens) -> Result<Draft, Refusal>
-    ensures { reading.read_mark tokens.old ≡ as_read result }
+    ensures { reading.read_marked Mark tokens.old ≡ as_read result }
 {
     let mark = marker(tokens)?;
     let next = state(tokens)?;
@@ -66,9 +67,9 @@ fn mark(tokens: &mut Tokens) -> Result<Draft, Refusal>
     Ok(Draft::Mark { mark, next })
 }
 
-#[tactic(auto, unfolding(crate::specs::Reading::read_unmark))]
+#[tactic(auto, unfolding(crate::specs::Reading::read_marked))]
 fn unmark(tokens: &mut Tokens) -> Result<Draft, Refusal>
-    ensures { reading.read_unmark tokens.old ≡ as_read result }
+    ensures { reading.read_marked Unmark tokens.old ≡ as_read result }
 {
     let mark = marker(tokens)?;
     let next = state(tokens)?;
@@ -76,9 +77,9 @@ fn unmark(tokens: &mut Tokens) -> Result<Draft, Refusal>
     Ok(Draft::Unmark { mark, next })
 }
 
-#[tactic(auto, unfolding(crate::specs::Reading::read_pick_up))]
+#[tactic(auto, unfolding(crate::specs::Reading::read_branches))]
 fn pick_up(tokens: &mut Tokens) -> Result<Draft, Refusal>
-    ensures { reading.read_pick_up tokens.old ≡ as_read result }
+    ensures { reading.read_branches PickUp tokens.old ≡ as_read result }
 {
     let yes = state(tokens)?;
     let no = state(tokens)?;
@@ -105,9 +106,9 @@ fn turn(tokens: &mut Tokens) -> Result<Draft, Refusal>
     Ok(Draft::Turn { side, next })
 }
 
-#[tactic(auto, unfolding(crate::specs::Reading::read_move))]
+#[tactic(auto, unfolding(crate::specs::Reading::read_branches))]
 fn step(tokens: &mut Tokens) -> Result<Draft, Refusal>
-    ensures { reading.read_move tokens.old ≡ as_read result }
+    ensures { reading.read_branches Move tokens.old ≡ as_read result }
 {
     let yes = state(tokens)?;
     let no = state(tokens)?;
