@@ -10,6 +10,7 @@ pub mod Kept
 pub mod KeptByRounds
 pub mod KeptByTurns
 pub mod Killing
+pub mod MarksKept
 pub mod OwnCells
 pub mod Parts
 pub mod Quiet

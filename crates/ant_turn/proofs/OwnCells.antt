@@ -1,5 +1,5 @@
 -- What an ant that stays makes of its own cell.
-use Rattle.std.proofs.Common.{◌≡◌, ℕ, ◌+◌, ◌-◌, ◌<◌, ◌≤◌, Bool, true, false, if◌then◌else◌, ◌||◌, Some, refl, sym, ◌∙◌, ap, ap₂, arith}
+use Rattle.std.proofs.Common.{◌≡◌, ℕ, ◌+◌, ◌-◌, ◌<◌, ◌≤◌, Bool, true, false, if◌then◌else◌, ◌||◌, Some, refl, sym, ◌∙◌, ap, ap₂, subst, arith}
 use Rattle.std.specs.Prelude.{◌==◌}
 use Rattle.hex_geometry.specs.Direction.{turned_by}
 use Rattle.hex_geometry.specs.declared.direction.Side.{Side}
@@ -8,7 +8,8 @@ use Rattle.cell_world.specs.declared.ant.Ant.{Ant}
 use Rattle.cell_world.specs.declared.ant.Colour.{Colour}
 use Rattle.cell_world.specs.declared.ant.Colour.TheVariants.{Red, Black}
 use Rattle.cell_world.specs.declared.cell.Cell.{Cell}
-use Rattle.cell_world.specs.Cell.{is_ant, cell_weight, ant_weight, one_if}
+use Rattle.cell_world.specs.Cell.{is_ant, cell_weight, ant_weight, marks_of, one_if}
+use Rattle.cell_world.specs.Colour.{foe_of}
 use Rattle.cell_world.specs.Valid.{Replaces}
 use Rattle.brain_read.specs.declared.instr.Cond.{Cond}
 use Rattle.brain_read.specs.declared.instr.Instr.{Instr}
@@ -16,8 +17,14 @@ use Rattle.brain_read.specs.declared.instr.Instr.TheVariants.{Sense, Mark, Unmar
 use Rattle.brain_read.specs.Soundness.{IsSound}
 use Rattle.ant_turn.specs.Turn.{in_state, with_ant, marked, unmarked}
 
+-- a cell with the same markers of both colours has the same of each
+pub same_marks : (colour : Colour) (old new : Cell) → new.red ≡ old.red → new.black ≡ old.black → marks_of colour new ≡ marks_of colour old
+same_marks Red old new red black = red
+same_marks Black old new red black = black
+
 -- the new cell of an ant that stayed in a turn with this instruction: the ground, the hill and the ant are the same, the particles
--- that lay there or were carried do so still, and the ant's state is its old one or one that the instruction names
+-- that lay there or were carried do so still, the foe's markers are the same, and the ant's state is its old one or one that the
+-- instruction names
 pub record Stays (instruction : Instr) (cell : Cell) (ant : Ant) (new : Cell) : Type 0 where
   pub after : Ant
   pub holds : new.ant ≡ Some after
@@ -25,6 +32,7 @@ pub record Stays (instruction : Instr) (cell : Cell) (ant : Ant) (new : Cell) : 
   pub same_hill : new.hill ≡ cell.hill
   pub same_id : after.id ≡ ant.id
   pub same_colour : after.colour ≡ ant.colour
+  pub foe_marks : marks_of (foe_of ant.colour) new ≡ marks_of (foe_of ant.colour) cell
   pub same_food : new.food + one_if after.laden ≡ cell.food + one_if ant.laden
   pub state : (n : ℕ) → ant.state < n → IsSound n instruction → after.state < n
 
@@ -34,26 +42,27 @@ either_below true met unmet n first second = first
 either_below false met unmet n first second = second
 
 -- an ant that carries what it carried, on a cell of which at most the markers are others
-stays_alike : (instruction : Instr) (cell alike : Cell) (ant after : Ant) → alike.rocky ≡ cell.rocky → alike.hill ≡ cell.hill → alike.food ≡ cell.food → after.id ≡ ant.id → after.colour ≡ ant.colour → after.laden ≡ ant.laden →
+stays_alike : (instruction : Instr) (cell alike : Cell) (ant after : Ant) → alike.rocky ≡ cell.rocky → alike.hill ≡ cell.hill → alike.food ≡ cell.food → marks_of (foe_of ant.colour) alike ≡ marks_of (foe_of ant.colour) cell → after.id ≡ ant.id → after.colour ≡ ant.colour → after.laden ≡ ant.laden →
     ((n : ℕ) → ant.state < n → IsSound n instruction → after.state < n) → Stays instruction cell ant (with_ant alike after)
-stays_alike instruction cell alike ant after kind hill food id colour laden state = record {
+stays_alike instruction cell alike ant after kind hill food marks id colour laden state = record {
   after = after;
   holds = refl;
   same_kind = kind;
   same_hill = hill;
   same_id = id;
   same_colour = colour;
+  foe_marks = same_marks (foe_of ant.colour) alike (with_ant alike after) refl refl ∙ marks;
   same_food = ap₂ (λ lying carried. lying + one_if carried) food laden;
   state = state;
 }
 
 -- an ant that goes on in a state that its instruction names
 stays_in_state : (instruction : Instr) (cell : Cell) (ant : Ant) (state : ℕ) → ((n : ℕ) → IsSound n instruction → state < n) → Stays instruction cell ant (with_ant cell (in_state ant state))
-stays_in_state instruction cell ant state named = stays_alike instruction cell cell ant (in_state ant state) refl refl refl refl refl refl (λ n _. named n)
+stays_in_state instruction cell ant state named = stays_alike instruction cell cell ant (in_state ant state) refl refl refl refl refl refl refl (λ n _. named n)
 
 -- an ant that rests
 pub rest_stays : (instruction : Instr) (cell : Cell) (ant : Ant) (left : ℕ) → Stays instruction cell ant (with_ant cell (record ant { resting = left }))
-rest_stays instruction cell ant left = stays_alike instruction cell cell ant (record ant { resting = left }) refl refl refl refl refl refl (λ n below _. below)
+rest_stays instruction cell ant left = stays_alike instruction cell cell ant (record ant { resting = left }) refl refl refl refl refl refl refl (λ n below _. below)
 
 -- a Sense
 pub sense_stays : (cell : Cell) (ant : Ant) (sight : Sight) (met unmet : ℕ) (condition : Cond) (first : Bool) → Stays (Sense sight met unmet condition) cell ant (with_ant cell (in_state ant (if first then met else unmet)))
@@ -61,14 +70,14 @@ sense_stays cell ant sight met unmet condition first =
     stays_in_state (Sense sight met unmet condition) cell ant (if first then met else unmet) (λ n sound. either_below first met unmet n sound.0 sound.1)
 
 -- a Mark
-pub mark_stays : (colour : Colour) (cell : Cell) (ant : Ant) (i next : ℕ) → Stays (Mark i next) cell ant (with_ant (marked cell colour i) (in_state ant next))
-mark_stays Red cell ant i next = stays_alike (Mark i next) cell (marked cell Red i) ant (in_state ant next) refl refl refl refl refl refl (λ n _ sound. sound.1)
-mark_stays Black cell ant i next = stays_alike (Mark i next) cell (marked cell Black i) ant (in_state ant next) refl refl refl refl refl refl (λ n _ sound. sound.1)
+pub mark_stays : (colour : Colour) (cell : Cell) (ant : Ant) (i next : ℕ) → colour ≡ ant.colour → Stays (Mark i next) cell ant (with_ant (marked cell colour i) (in_state ant next))
+mark_stays Red cell ant i next own = stays_alike (Mark i next) cell (marked cell Red i) ant (in_state ant next) refl refl refl (subst (λ own_colour. marks_of (foe_of own_colour) (marked cell Red i) ≡ marks_of (foe_of own_colour) cell) own refl) refl refl refl (λ n _ sound. sound.1)
+mark_stays Black cell ant i next own = stays_alike (Mark i next) cell (marked cell Black i) ant (in_state ant next) refl refl refl (subst (λ own_colour. marks_of (foe_of own_colour) (marked cell Black i) ≡ marks_of (foe_of own_colour) cell) own refl) refl refl refl (λ n _ sound. sound.1)
 
 -- an Unmark
-pub unmark_stays : (colour : Colour) (cell : Cell) (ant : Ant) (i next : ℕ) → Stays (Unmark i next) cell ant (with_ant (unmarked cell colour i) (in_state ant next))
-unmark_stays Red cell ant i next = stays_alike (Unmark i next) cell (unmarked cell Red i) ant (in_state ant next) refl refl refl refl refl refl (λ n _ sound. sound.1)
-unmark_stays Black cell ant i next = stays_alike (Unmark i next) cell (unmarked cell Black i) ant (in_state ant next) refl refl refl refl refl refl (λ n _ sound. sound.1)
+pub unmark_stays : (colour : Colour) (cell : Cell) (ant : Ant) (i next : ℕ) → colour ≡ ant.colour → Stays (Unmark i next) cell ant (with_ant (unmarked cell colour i) (in_state ant next))
+unmark_stays Red cell ant i next own = stays_alike (Unmark i next) cell (unmarked cell Red i) ant (in_state ant next) refl refl refl (subst (λ own_colour. marks_of (foe_of own_colour) (unmarked cell Red i) ≡ marks_of (foe_of own_colour) cell) own refl) refl refl refl (λ n _ sound. sound.1)
+unmark_stays Black cell ant i next own = stays_alike (Unmark i next) cell (unmarked cell Black i) ant (in_state ant next) refl refl refl (subst (λ own_colour. marks_of (foe_of own_colour) (unmarked cell Black i) ≡ marks_of (foe_of own_colour) cell) own refl) refl refl refl (λ n _ sound. sound.1)
 
 -- the particles are the same where one is picked up from some
 one_picked_up : (laden : Bool) (food : ℕ) → (laden || food == 0) ≡ false → food - 1 + 1 ≡ food + one_if laden
@@ -86,6 +95,7 @@ picked_up false cell ant met unmet free = record {
   same_hill = refl;
   same_id = refl;
   same_colour = refl;
+  foe_marks = same_marks (foe_of ant.colour) cell (record cell { food = cell.food - 1; ant = Some (record ant { laden = true; state = met }) }) refl refl;
   same_food = one_picked_up ant.laden cell.food free;
   state = λ n _ sound. sound.0;
 }
@@ -104,13 +114,14 @@ drop_stays cell ant next = record {
   same_hill = refl;
   same_id = refl;
   same_colour = refl;
+  foe_marks = same_marks (foe_of ant.colour) cell (record cell { food = cell.food + one_if ant.laden; ant = Some (record ant { laden = false; state = next }) }) refl refl;
   same_food = omega arith;
   state = λ n _ sound. sound;
 }
 
 -- a Turn
 pub turn_stays : (cell : Cell) (ant : Ant) (side : Side) (next : ℕ) → Stays (Turn side next) cell ant (with_ant cell (record ant { facing = turned_by ant.facing side; state = next }))
-turn_stays cell ant side next = stays_alike (Turn side next) cell cell ant (record ant { facing = turned_by ant.facing side; state = next }) refl refl refl refl refl refl (λ n _ sound. sound)
+turn_stays cell ant side next = stays_alike (Turn side next) cell cell ant (record ant { facing = turned_by ant.facing side; state = next }) refl refl refl refl refl refl refl (λ n _ sound. sound)
 
 -- a Move that doesn't go
 pub move_stays : (cell : Cell) (ant : Ant) (met unmet : ℕ) → Stays (Move met unmet) cell ant (with_ant cell (in_state ant unmet))

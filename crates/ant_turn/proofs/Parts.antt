@@ -48,8 +48,8 @@ move_parts sheet cells p ant met unmet false free = inr (record { next = met; fr
 pub execute_parts : (sheet : Sheet) (seed : ℕ) (cells : Cells) (place : ℕ) (p : Pos) (ant : Ant) (instruction : Instr) → Does instruction sheet cells p ant (execute sheet seed cells place p ant instruction)
 execute_parts sheet seed cells place p ant (Sense sight met unmet condition) =
     inl (stays_there false (sense_stays (cells p) ant sight met unmet condition (meets (cells (sensed_pos p ant.facing sight)) condition ant.colour)))
-execute_parts sheet seed cells place p ant (Mark i next) = inl (stays_there false (mark_stays ant.colour (cells p) ant i next))
-execute_parts sheet seed cells place p ant (Unmark i next) = inl (stays_there false (unmark_stays ant.colour (cells p) ant i next))
+execute_parts sheet seed cells place p ant (Mark i next) = inl (stays_there false (mark_stays ant.colour (cells p) ant i next refl))
+execute_parts sheet seed cells place p ant (Unmark i next) = inl (stays_there false (unmark_stays ant.colour (cells p) ant i next refl))
 execute_parts sheet seed cells place p ant (PickUp met unmet) = inl (stays_there false (pick_up_stays (cells p) ant met unmet))
 execute_parts sheet seed cells place p ant (Drop next) = inl (stays_there false (drop_stays (cells p) ant next))
 execute_parts sheet seed cells place p ant (Turn side next) = inl (stays_there false (turn_stays (cells p) ant side next))

@@ -4,6 +4,8 @@ use Rattle.std.specs.List.{Contains}
 use Rattle.hex_geometry.specs.declared.position.Pos.{Pos}
 use Rattle.hex_geometry.specs.Neighbourhood.{adjacent_pos}
 use Rattle.cell_world.specs.declared.ant.Ant.{Ant}
+use Rattle.cell_world.specs.declared.ant.Colour.{Colour}
+use Rattle.cell_world.specs.Cell.{marks_of}
 use Rattle.cell_world.specs.Valid.{Valid}
 use Rattle.cell_world.specs.World.{World, place_in, put}
 use Rattle.ant_turn.specs.FoodLaws.{world_after}
@@ -33,3 +35,6 @@ pub record TurnsAreNear : Type 0 where
   -- an ant that lives on is where it was, or on the cell ahead
   pub own : (minds : Minds) (seed : ℕ) (w : World) (place t : ℕ) (p : Pos) (ant : Ant) (q : Pos) → Valid w → place_in w t ≡ Some p → (w.cells p).ant ≡ Some ant → place_in (world_after minds seed w place t) t ≡ Some q →
       (q ≡ p) ⊎ (q ≡ adjacent_pos p ant.facing)
+  -- it changes no marker but its own colour's on its own cell
+  pub marks : (minds : Minds) (seed : ℕ) (w : World) (place t : ℕ) (p : Pos) (ant : Ant) (colour : Colour) (q : Pos) → place_in w t ≡ Some p → (w.cells p).ant ≡ Some ant → (colour ≡ ant.colour → q ≡ p → ⊥) →
+      marks_of colour ((turn minds seed w place t).cells q) ≡ marks_of colour (w.cells q)

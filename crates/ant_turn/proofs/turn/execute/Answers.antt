@@ -1,4 +1,5 @@
 -- the sensed cell is inside, and each instruction's own cell may replace the one there
+use Rattle.std.proofs.Common.{refl}
 use Rattle.std.specs.Prelude.{◌==◌}
 use Rattle.hex_geometry.proofs.Beside.{sensed_pos_inside}
 use Rattle.ant_turn.proofs.OwnCells.{sense_stays, mark_stays, unmark_stays, pick_up_stays, drop_stays, turn_stays, flip_stays}
@@ -14,10 +15,10 @@ stay-requires-clause-replaces g c =
     (own_replaces c.requires.stands c.branched.result c.branched.ensures (sense_stays c.args.cell.now c.args.ant c.in-Sense.sight c.in-Sense.yes c.in-Sense.no c.in-Sense.cond c.meets-saw.result))
 
 pub stay-requires-in-Mark-clause-replaces : goal.stay-requires-in-Mark-clause-replaces
-stay-requires-in-Mark-clause-replaces g c = own_replaces c.requires.stands c.marked.result c.marked.ensures (mark_stays c.args.ant.colour c.args.cell.now c.args.ant c.in-Mark.mark c.in-Mark.next)
+stay-requires-in-Mark-clause-replaces g c = own_replaces c.requires.stands c.marked.result c.marked.ensures (mark_stays c.args.ant.colour c.args.cell.now c.args.ant c.in-Mark.mark c.in-Mark.next refl)
 
 pub stay-requires-in-Unmark-clause-replaces : goal.stay-requires-in-Unmark-clause-replaces
-stay-requires-in-Unmark-clause-replaces g c = own_replaces c.requires.stands c.unmarked.result c.unmarked.ensures (unmark_stays c.args.ant.colour c.args.cell.now c.args.ant c.in-Unmark.mark c.in-Unmark.next)
+stay-requires-in-Unmark-clause-replaces g c = own_replaces c.requires.stands c.unmarked.result c.unmarked.ensures (unmark_stays c.args.ant.colour c.args.cell.now c.args.ant c.in-Unmark.mark c.in-Unmark.next refl)
 
 pub stay-requires-in-PickUp-clause-replaces : goal.stay-requires-in-PickUp-clause-replaces
 stay-requires-in-PickUp-clause-replaces g c = own_replaces c.requires.stands c.picked_up.result c.picked_up.ensures (pick_up_stays c.args.cell.now c.args.ant c.in-PickUp.yes c.in-PickUp.no)
