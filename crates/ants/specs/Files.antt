@@ -6,10 +6,8 @@ use Rattle.brain_read.specs.declared.instr.Instr.{Instr}
 use Rattle.brain_read.specs.BrainText.{BrainText, BrainVerdict}
 use Rattle.cell_world.specs.Grid.{Grid}
 use Rattle.world_read.specs.declared.fault.WorldFault.{WorldFault}
-use Rattle.cell_world.specs.declared.kind.Kind.{Kind}
-use Rattle.cell_world.specs.Opening.{opening}
 use Rattle.world_read.specs.Faulty.{IsWorldFault}
-use Rattle.world_read.specs.Grammar.{IsWorldText}
+use Rattle.world_read.specs.Opened.{OpensAs}
 use Rattle.ants.specs.declared.stop.FileFault.{FileFault}
 use Rattle.ants.specs.declared.stop.FileFault.TheVariants.{TooLong, World, Brain}
 
@@ -27,12 +25,6 @@ pub record File : Type 0 where
 pub data Content : Type 0 where
   WorldContent : Grid → Content
   BrainContent : List Instr → Content
-
--- bytes are the text of a world that opens as this grid
-pub record OpensAs (bytes : List ℕ) (grid : Grid) : Type 0 where
-  pub kinds : List Kind
-  pub text : IsWorldText bytes grid.width grid.height kinds
-  pub opened : grid ≡ opening grid.width grid.height kinds
 
 -- bytes are read as this content in a file of this kind
 abbrev pub Reads : FileKind → List ℕ → Content → Type 0

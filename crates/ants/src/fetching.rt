@@ -1,5 +1,6 @@
 // The files of a command, fetched and read one after another.
 ghost use Rattle.std.specs.Prelude.{◌≤◌, [], ◌∷◌, length};
+ghost use Rattle.ant_base.specs.Shelf.{longest};
 ghost use Rattle.ants.specs.Files.{FileKind};
 ghost use Rattle.ants.specs.Files.FileKind.{BrainFile, WorldFile};
 ghost use Rattle.ants.specs.Files.Content.{BrainContent, WorldContent};
@@ -28,7 +29,7 @@ fn bytes_of<'w, S: Shelf>(alloc: Global, shelf: &mut S, name: &'w str) -> Result
 
 // The world that the bytes of a file are.
 fn world_in<'w>(alloc: Global, name: &'w str, bytes: &[u8]) -> Result<World, Stop<'w>>
-    requires { length bytes.now ≤ 4194304 }
+    requires { length bytes.now ≤ longest }
     ensures { IsReadAs WorldContent WorldFile bytes.now name.now result }
 {
     match read_world(alloc, bytes) {
@@ -42,7 +43,7 @@ fn world_in<'w>(alloc: Global, name: &'w str, bytes: &[u8]) -> Result<World, Sto
 
 // The brain that the bytes of a file are.
 fn brain_in<'w>(alloc: Global, name: &'w str, bytes: &[u8]) -> Result<Brain, Stop<'w>>
-    requires { length bytes.now ≤ 4194304 }
+    requires { length bytes.now ≤ longest }
     ensures { IsReadAs BrainContent BrainFile bytes.now name.now result }
 {
     match read_brain(alloc, bytes) {

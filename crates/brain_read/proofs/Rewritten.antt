@@ -24,7 +24,7 @@ use Rattle.brain_read.specs.Forms.{word_of_sight, word_of_side, Field, fields_of
 use Rattle.brain_read.specs.Forms.Field.{Word, Number}
 use Rattle.brain_read.specs.BrainText.{TokenLine, with_line, token_lines, AreLines, states_of, StatesBelow, BrainText}
 use Rattle.brain_read.specs.Canonical.{field_text, further_text, line_text, instruction_text, brain_text}
-use Rattle.brain_read.proofs.Vocabulary.{all_ascii_digits-IsNumeralModel}
+use Rattle.ant_base.proofs.Digits.{all_ascii_digits-IsNumeralModel}
 use Rattle.brain_read.proofs.Cursor.{plain, pieces, pieces-cons}
 
 -- whether a byte belongs to a token of a text's line

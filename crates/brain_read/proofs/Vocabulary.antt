@@ -7,7 +7,8 @@ use Rattle.std.specs.Str.Parse.{digits_value}
 use Rattle.std.proofs.lemmas.Bool.{and_parts, and_from, agree_below, agree_below_at, or_right, cond_both, not-true}
 use Rattle.std.proofs.lemmas.Option.{slice_get_within, get_or_from_slice_get}
 use Rattle.std.proofs.lemmas.Slice.Eq.{bytes_eq-Decides}
-use Rattle.std.proofs.lemmas.Str.Parse.{IsNumeralModel, numerals_by_value, tells_all_ascii_digits, digits_value_short}
+use Rattle.std.proofs.lemmas.Str.Parse.{digits_value_short}
+use Rattle.ant_base.proofs.Digits.{all_ascii_digits-IsNumeralModel}
 use Rattle.ant_base.specs.Number.{is_number, number_of, within, number_within}
 use Rattle.std.specs.Str.{str_to_ascii_lowercase, str_eq_ignore_ascii_case}
 use Rattle.word_table.specs.Words.{IsSameWord, are_distinct, place_in}
@@ -94,10 +95,6 @@ named-place {A} {B} word at f (thing ∷ things) token stand = go (str_eq_ignore
     go : (b : Bool) → option_map f (named word things token) ≡ option_map (λ i. f (at (suc i))) (place_in (map word things) token) → option_map f (cond b (Some thing) (named word things token)) ≡ option_map (λ i. f (at i)) (cond b (Some 0) (option_map suc (place_in (map word things) token)))
     go true rest = ap (λ x. Some (f x)) (sym stand.0)
     go false rest = rest ∙ later (place_in (map word things) token)
-
--- the value of digits is that of a numeral
-pub all_ascii_digits-IsNumeralModel : IsNumeralModel (λ ds. all_ascii_digits ds ≡ true) (digits_value 10)
-all_ascii_digits-IsNumeralModel = numerals_by_value (λ ds. all_ascii_digits ds ≡ true) tells_all_ascii_digits
 
 -- a number, as its digits
 record IsDigits (token : List ℕ) (n : ℕ) : Type 0 where

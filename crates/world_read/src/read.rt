@@ -1,5 +1,6 @@
 // World texts read.
 ghost use Rattle.std.specs.Prelude.{◌≡◌, ◌≤◌, [], length, IfErr, IfOk};
+ghost use Rattle.ant_base.specs.Shelf.{longest};
 ghost use Rattle.cell_world.specs.Grid.{Grid};
 ghost use Rattle.world_read.specs.Answers.{AnswersFault, AnswersWorld, IsFaultOf};
 ghost use Rattle.world_read.specs.Faulty.{IsWorldFault};
@@ -21,7 +22,7 @@ use std::alloc::Global;
 /// Every text is that of one opening world or has one fault. `OutOfMemory` may be answered at any text; every other answer is the
 /// text's. While it reads, it holds the kinds of the cells, for which it takes room once.
 pub fn read_world(alloc: Global, text: &[u8]) -> Result<World, WorldFault>
-    requires { length text.now ≤ 4194304 }
+    requires { length text.now ≤ longest }
     ensures answer { ReadsAs (world_of_text text.now) result }
     ensures opening { IfOk result IsOpeningWorld }
     ensures world { IfOk result (λ world. OpensAs text.now world) }
