@@ -14,7 +14,7 @@ use std::marker::Model;
 /// It writes by a loop, and flushes after each piece that ends in LF. A write that takes nothing of what is left is a fault, as is a
 /// flush that fails. The count of faults rises by one at each push that is `Failed` and at no other, and stays at the last value of a u64.
 #[derive(Drop)]
-pub struct StreamSink<W> {
+pub struct StreamSink<W: Write> {
     stream: W,
     faults: u64,
 }
@@ -25,36 +25,38 @@ pub type OutSink = StreamSink<BufWriter<Stdout>>;
 /// A sink on standard error (this project's own).
 pub type ErrSink = StreamSink<Stderr>;
 
-impl<W> Model for StreamSink<W> {
-    ghost use Rattle.std.specs.Prelude.{ℕ};
+impl<W: Write> Model for StreamSink<W> {
+    ghost use Rattle.ant_base.specs.Streams.{StreamState};
 
-    ghost Value = { ℕ };
+    ghost Value = { StreamState };
 
-    ghost view = { λ s. s.faults };
+    ghost view = { λ s. record { written = W.contents s.stream; faults = s.faults } };
 }
 
 impl<W: Write> StreamSink<W> {
     /// A sink over this writer, without a fault (this project's own).
     pub fn new(stream: W) -> Self
-        ensures { result ≡ 0 }
+        ensures { result ≡ record { written = W.contents stream; faults = 0 } }
     {
         StreamSink { stream, faults: 0 }
     }
 
     /// The count of faults, from 0 (this project's own).
     pub fn faults(&self) -> u64
-        ensures { result ≡ self.now }
+        ensures { result ≡ self.now.faults }
     {
         self.faults
     }
 }
 
 impl<W: Write> Sink for StreamSink<W> {
-    ghost state = { silent_sink };
+    ghost state = { λ s. silent_sink s.faults };
 
     fn push(&mut self, piece: &[u8]) -> Result<(), Failed>
-        ensures sink { Pushed (silent_sink self.old) (silent_sink self.new) piece.now result }
-        ensures count { self.new ≡ (if is_ok result then self.old else one_more self.old) }
+        ensures sink { Pushed (silent_sink self.old.faults) (silent_sink self.new.faults) piece.now result }
+        ensures count { self.new.faults ≡ (if is_ok result then self.old.faults else one_more self.old.faults) }
+        // Where the writer tells its bytes.
+        ensures written { OnOk result (Appends self.old.written self.new.written piece.now) }
     {
         let written = write_whole(&mut self.stream, piece);
         if written.is_err() {
