@@ -37,7 +37,7 @@ fn worlds_cells_ants_and_scores_may_go_to_threads(rt: HostRuntime) {
         facing: Dir::East,
         laden: false,
     };
-    assert_eq!(rt; shared(&cell).ant.as_ref().map(shared), Some(&ant));
-    let score = shared(&world).score();
+    assert_eq!(rt; shared(&cell).ant, Some(*shared(&ant)));
+    let score = world.score();
     assert_eq!(rt; *shared(&score), Score { red: 0, black: 0 });
 }
