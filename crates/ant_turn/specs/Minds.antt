@@ -17,8 +17,12 @@ pub record Minds : Type 0 where
   pub sheet : Sheet
 
 -- two brains under the contest's rules
+abbrev pub contest_minds : List Instr → List Instr → Minds
+contest_minds red black = record { red = red; black = black; sheet = contest }
+
+-- the same, of brains that are lent
 abbrev pub minds_of : Brains → Minds
-minds_of brains = record { red = brains.red.now; black = brains.black.now; sheet = contest }
+minds_of brains = contest_minds brains.red.now brains.black.now
 
 -- the brain of a colour
 abbrev pub mind_of : Minds → Colour → List Instr

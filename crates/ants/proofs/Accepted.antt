@@ -1,13 +1,13 @@
 -- What was accepted of the files of a game can be played.
 use Rattle.std.proofs.Common.{◌≡◌, List, ◌∷◌, [], sym, subst, Ok}
-use Rattle.ant_turn.specs.Minds.{Fits}
+use Rattle.ant_turn.specs.Minds.{Fits, contest_minds}
 use Rattle.ant_turn.proofs.Fitting.{Fits-opening}
 use Rattle.brain_read.specs.declared.instr.Instr.{Instr}
 use Rattle.brain_read.proofs.Sound.{brain_of}
 use Rattle.cell_world.specs.Grid.{Grid, world_of}
 use Rattle.ants.specs.Files.{IsAccepted, Told}
 use Rattle.ants.specs.Files.Content.{WorldContent, BrainContent}
-use Rattle.ants.specs.Jobs.{brain_file, contest_minds, world_file}
+use Rattle.ants.specs.Jobs.{brain_file, world_file}
 use Rattle.std.proofs.Common.{ℕ}
 
 -- a world and two brains that were accepted fit

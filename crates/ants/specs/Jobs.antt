@@ -1,9 +1,7 @@
 -- What each command reads and writes (this project's own): one equation a command.
 use Rattle.std.specs.Prelude.{ℕ, List, [], ◌∷◌, ◌++◌}
 use Rattle.ant_base.specs.Layout.{◌+++◌}
-use Rattle.ant_turn.specs.Minds.{Minds}
-use Rattle.ant_turn.specs.Sheet.{contest}
-use Rattle.brain_read.specs.declared.instr.Instr.{Instr}
+use Rattle.ant_turn.specs.Minds.{contest_minds}
 use Rattle.brain_read.specs.Canonical.{brain_text}
 use Rattle.cell_world.specs.Grid.{world_of}
 use Rattle.command_words.specs.Slots.{DumpChoice}
@@ -40,10 +38,6 @@ show_output seed (BrainContent list) = []
 unfoldable pub brain_output : Content → List ℕ
 brain_output (WorldContent grid) = []
 brain_output (BrainContent list) = brain_text list
-
--- the brains of a game under the contest's rules
-abbrev pub contest_minds : List Instr → List Instr → Minds
-contest_minds red black = record { red = red; black = black; sheet = contest }
 
 -- the rounds that the words of a command choose
 abbrev pub chosen_rounds : DumpChoice → Dumps

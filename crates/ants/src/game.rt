@@ -1,13 +1,13 @@
 // The command `run`.
 ghost use Rattle.std.specs.Prelude.{◌≡◌, ◌≤◌, [], ◌∷◌, IfOk};
 ghost use Rattle.ant_base.specs.Sink.{Pushed};
-ghost use Rattle.ant_turn.specs.Minds.{Fits};
+ghost use Rattle.ant_turn.specs.Minds.{Fits, contest_minds};
 ghost use Rattle.cell_world.specs.Grid.{world_of};
 ghost use Rattle.command_words.specs.Command.PlainCommand.{RunCommand};
 ghost use Rattle.command_words.specs.Slots.{DumpChoice};
 ghost use Rattle.command_words.specs.Words.{plain_dumps};
 ghost use Rattle.match_run.specs.Run.{run_text};
-ghost use Rattle.ants.specs.Jobs.{brain_file, chosen_rounds, contest_minds, world_file};
+ghost use Rattle.ants.specs.Jobs.{brain_file, chosen_rounds, world_file};
 ghost use Rattle.ants.specs.Steps.{EndsAs, LeavesShelf, ReadsSetting};
 
 use crate::fetching::{brain_of_file, world_of_file};

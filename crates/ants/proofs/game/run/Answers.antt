@@ -5,7 +5,8 @@ use Rattle.cell_world.specs.Grid.{world_of}
 use Rattle.match_run.specs.declared.dumps.Dumps.{Dumps}
 use Rattle.match_run.specs.Run.{run_text}
 use Rattle.ants.specs.Files.Content.{WorldContent, BrainContent}
-use Rattle.ants.specs.Jobs.{contest_minds, match_output}
+use Rattle.ant_turn.specs.Minds.{contest_minds}
+use Rattle.ants.specs.Jobs.{match_output}
 use Rattle.ants.proofs.Accepted.{Fits-accepted}
 use Rattle.ants.proofs.game.run.Goals as goal
 
