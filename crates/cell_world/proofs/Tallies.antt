@@ -14,22 +14,10 @@ pub food_of-put : (w : World) (p : Pos) (cell : Cell) → IsInside w.width w.hei
 unfolding food_of
 food_of-put w p cell inside = total-put food_in w p cell inside
 
--- and after changes of two cells
-pub food_of-put_two : (w : World) (p : Pos) (here : Cell) (q : Pos) (there : Cell) → p ≢ q → IsInside w.width w.height p → IsInside w.width w.height q →
-    food_of (put (put w p here) q there) + (food_in (w.cells p) + food_in (w.cells q)) ≡ food_of w + (food_in here + food_in there)
-unfolding food_of
-food_of-put_two w p here q there apart at_p at_q = total-put_two food_in w p here q there apart at_p at_q
-
 -- the ants of a colour after a change of one cell
 pub alive_of-put : (w : World) (colour : Colour) (p : Pos) (cell : Cell) → IsInside w.width w.height p → alive_of (put w p cell) colour + alive_in colour (w.cells p) ≡ alive_of w colour + alive_in colour cell
 unfolding alive_of
 alive_of-put w colour p cell inside = total-put (alive_in colour) w p cell inside
-
--- and after changes of two cells
-pub alive_of-put_two : (w : World) (colour : Colour) (p : Pos) (here : Cell) (q : Pos) (there : Cell) → p ≢ q → IsInside w.width w.height p → IsInside w.width w.height q →
-    alive_of (put (put w p here) q there) colour + (alive_in colour (w.cells p) + alive_in colour (w.cells q)) ≡ alive_of w colour + (alive_in colour here + alive_in colour there)
-unfolding alive_of
-alive_of-put_two w colour p here q there apart at_p at_q = total-put_two (alive_in colour) w p here q there apart at_p at_q
 
 -- the food on a hill after a change of one cell
 pub hill_food_of-put : (w : World) (colour : Colour) (p : Pos) (cell : Cell) → IsInside w.width w.height p → hill_food_of (put w p cell) colour + hill_food_in colour (w.cells p) ≡ hill_food_of w colour + hill_food_in colour cell

@@ -32,13 +32,6 @@ pub cell_weight-rock : cell_weight rock ≡ 0
 unfolding rock cell_weight
 cell_weight-rock = refl
 
--- two cells together weigh at most as much as the world
-pub cell_weight-two-le-weight : (w : World) (p q : Pos) → p ≢ q → IsInside w.width w.height p → IsInside w.width w.height q → cell_weight (w.cells p) + cell_weight (w.cells q) ≤ weight w
-cell_weight-two-le-weight w p q apart at_p at_q =
-    let both : weight (put (put w p rock) q rock) + (cell_weight (w.cells p) + cell_weight (w.cells q)) ≡ weight w + (cell_weight rock + cell_weight rock) = weight-put_two w p rock q rock apart at_p at_q in
-    let none : cell_weight rock ≡ 0 = cell_weight-rock in
-    omega arith
-
 -- what a cell weighs: its food and its ant
 pub cell_weight-parts : (cell : Cell) → cell_weight cell ≡ cell.food + ant_weight cell.ant
 unfolding cell_weight

@@ -92,9 +92,6 @@ walk-further kind due later words i word within is stands =
     walk-more kind due words i word within is
     ∙ ap (λ o. go_on o (i + 1) (λ later. walk kind (drop (i + 1) (texts words)) later (take (i + 1) (texts words)))) stands
 
-pub walk-done : (kind : CommandKind) (due : List Slot) (words : List (String Global)) (i : ℕ) → length words ≤ i → walk kind (drop i (texts words)) due (take i (texts words)) ≡ Ok due
-walk-done kind due words i past = ap (λ rest. walk kind rest due (take i (texts words))) (texts-past words i past)
-
 -- what a part of the words says of a word's bytes
 pub due_after-texts : (kind : CommandKind) (due : List Slot) (words : List (String Global)) (i : ℕ) (text : List ℕ) (word : String Global) (later : Option (List Slot)) → text ≡ string_bytes word → later ≡ due_after kind due (texts (take i words)) text → due_after kind due (take i (texts words)) (string_bytes word) ≡ later
 due_after-texts kind due words i text word later is says =

@@ -92,11 +92,6 @@ adjacent_pos_one p NorthWest NorthWest hx hy same = refl
 adjacent_pos_one p NorthEast NorthEast hx hy same = refl
 adjacent_pos_one p d e hx hy same = absurd (let columns = ap (λ q. q.x) same in let rows = ap (λ q. q.y) same in omega (arith, columns, rows))
 
--- sensing here is sensing the own position
-pub sensed_pos_here : (p : Pos) (d : Dir) → sensed_pos p d Here ≡ p
-unfolding sensed_pos
-sensed_pos_here p d = refl
-
 -- what an ant that is not on the rim senses is inside
 pub sensed_pos_inside : {w h : ℕ} {p : Pos} (d : Dir) (sight : Sight) → IsInner w h p → IsInside w h (sensed_pos p d sight)
 unfolding sensed_pos

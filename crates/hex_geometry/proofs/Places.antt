@@ -1,8 +1,8 @@
 -- The laws of positions.
 use Rattle.hex_geometry.specs.Position.{HasNeighbours, IsInner, IsInside, same_pos}
 use Rattle.hex_geometry.specs.declared.position.Pos.{Pos}
-use Rattle.std.proofs.Common.{◌≡◌, ◌≢◌, ℕ, ◌≤◌, ◌==◌, true, false, inl, inr, refl, sym, ◌∙◌, ap, arith, subst}
-use Rattle.std.proofs.lemmas.Bool.{cases_Bool, and_parts, and_from, eqb-true, eq-eqb, false_from_ne_true, false≢true}
+use Rattle.std.proofs.Common.{◌≡◌, ◌≢◌, ℕ, ◌≤◌, ◌==◌, true, false, refl, sym, ◌∙◌, ap, arith, subst}
+use Rattle.std.proofs.lemmas.Bool.{and_parts, and_from, eqb-true, eq-eqb, false_from_ne_true, false≢true}
 
 -- positions with one column and one row are one
 pub pos_same : {p q : Pos} → p.x ≡ q.x → p.y ≡ q.y → p ≡ q
@@ -33,14 +33,6 @@ same_pos_false p q apart e = false≢true (sym apart ∙ same_pos_equal p q e)
 -- it does not hold of two positions
 pub same_pos_apart : (p q : Pos) → p ≢ q → same_pos p q ≡ false
 same_pos_apart p q apart = false_from_ne_true (same_pos p q) (λ same. apart (same_pos_true p q same))
-
--- the order of the two does not matter
-pub same_pos_flip : (p q : Pos) → same_pos p q ≡ same_pos q p
-same_pos_flip p q =
-    elim (cases_Bool (same_pos p q)) [
-      | inl same ↦ same ∙ sym (same_pos_equal q p (sym (same_pos_true p q same)))
-      | inr apart ↦ apart ∙ sym (same_pos_apart q p (λ e. same_pos_false p q apart (sym e)))
-    ]
 
 -- a position that is not on the rim is inside
 pub inner_inside : {w h : ℕ} {p : Pos} → IsInner w h p → IsInside w h p

@@ -1,10 +1,10 @@
 -- The laws of directions and of turning.
-use Rattle.hex_geometry.specs.Direction.{dir_of, number_of, opposite, turn_of, turned_by}
+use Rattle.hex_geometry.specs.Direction.{dir_of, number_of, opposite, turned_by}
 use Rattle.hex_geometry.specs.declared.direction.Dir.{Dir}
 use Rattle.hex_geometry.specs.declared.direction.Dir.TheVariants.{East, SouthEast, SouthWest, West, NorthWest, NorthEast}
 use Rattle.hex_geometry.specs.declared.direction.Side.{Side}
 use Rattle.hex_geometry.specs.declared.direction.Side.TheVariants.{Left, Right}
-use Rattle.std.proofs.Common.{◌≡◌, ℕ, zero, suc, ◌+◌, ◌%◌, ◌<◌, refl, sym, ◌∙◌, ap, arith}
+use Rattle.std.proofs.Common.{◌≡◌, ℕ, zero, suc, ◌<◌, refl, arith}
 use Rattle.std.specs.Fn.{iterate}
 
 -- a direction's number is below six
@@ -33,15 +33,6 @@ number_of_dir_of (suc (suc zero)) _ = refl
 number_of_dir_of (suc (suc (suc zero))) _ = refl
 number_of_dir_of (suc (suc (suc (suc zero)))) _ = refl
 number_of_dir_of (suc (suc (suc (suc (suc n))))) below = omega arith
-
--- directions of one number are one
-pub number_of_same : (d e : Dir) → number_of d ≡ number_of e → d ≡ e
-number_of_same d e same = sym (dir_of_number_of d) ∙ ap dir_of same ∙ dir_of_number_of e
-
--- a turn adds to the number, modulo six
-pub number_of_turned_by : (d : Dir) (side : Side) → number_of (turned_by d side) ≡ (number_of d + turn_of side) % 6
-unfolding turned_by
-number_of_turned_by d side = number_of_dir_of _ (omega arith)
 
 -- left and then right is as before
 pub left_then_right : (d : Dir) → turned_by (turned_by d Left) Right ≡ d
@@ -82,16 +73,6 @@ six_right SouthWest = refl
 six_right West = refl
 six_right NorthWest = refl
 six_right NorthEast = refl
-
--- the opposite of the opposite direction is the direction itself
-pub opposite_twice : (d : Dir) → opposite (opposite d) ≡ d
-unfolding opposite
-opposite_twice East = refl
-opposite_twice SouthEast = refl
-opposite_twice SouthWest = refl
-opposite_twice West = refl
-opposite_twice NorthWest = refl
-opposite_twice NorthEast = refl
 
 -- three turns to one side lead to the opposite direction
 pub three_turns : (d : Dir) (side : Side) → iterate (λ e. turned_by e side) 3 d ≡ opposite d
