@@ -1,5 +1,5 @@
 -- The food and the ants of a world, and what a change of its cells does to their number.
-use Rattle.std.proofs.Common.{◌≡◌, ◌≢◌, ◌+◌}
+use Rattle.std.proofs.Common.{◌≡◌, ◌+◌}
 use Rattle.hex_geometry.specs.declared.position.Pos.{Pos}
 use Rattle.hex_geometry.specs.Position.{IsInside}
 use Rattle.cell_world.specs.declared.ant.Colour.{Colour}
@@ -7,7 +7,7 @@ use Rattle.cell_world.specs.declared.cell.Cell.{Cell}
 use Rattle.cell_world.specs.Cell.{food_in}
 use Rattle.cell_world.specs.Score.{alive_in, alive_of, food_of, hill_food_in, hill_food_of}
 use Rattle.cell_world.specs.World.{World, put}
-use Rattle.cell_world.proofs.Totals.{total-put, total-put_two}
+use Rattle.cell_world.proofs.Totals.{total-put}
 
 -- all food after a change of one cell: the new cell's in place of the old one's
 pub food_of-put : (w : World) (p : Pos) (cell : Cell) → IsInside w.width w.height p → food_of (put w p cell) + food_in (w.cells p) ≡ food_of w + food_in cell
