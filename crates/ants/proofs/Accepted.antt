@@ -1,5 +1,5 @@
 -- What was accepted of the files of a game can be played.
-use Rattle.std.proofs.Common.{◌≡◌, List, ◌∷◌, [], sym, subst, Ok}
+use Rattle.std.proofs.Common.{List, sym, subst}
 use Rattle.ant_turn.specs.Minds.{Fits, contest_minds}
 use Rattle.ant_turn.proofs.Fitting.{Fits-opening}
 use Rattle.brain_read.specs.declared.instr.Instr.{Instr}

@@ -1,5 +1,5 @@
 -- How a command's end is the program's.
-use Rattle.std.proofs.Common.{◌≡◌, ℕ, List, Result, Ok, Err, Option, Some, None, refl, subst}
+use Rattle.std.proofs.Common.{ℕ, List, Result, Ok, Err, Some, refl, subst}
 use Rattle.ant_base.specs.Shelf.{ShelfState}
 use Rattle.ant_base.specs.Sink.{SinkState}
 use Rattle.command_words.specs.Command.{PlainCommand, IsCommand}

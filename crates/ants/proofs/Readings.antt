@@ -1,16 +1,16 @@
 -- Several files read one after another: where the reading of a later one stops, and what that says of the whole.
-use Rattle.std.proofs.Common.{◌≡◌, ◌≢◌, ℕ, ◌≤◌, Bool, true, false, List, [], ◌∷◌, refl, sym, ◌∙◌, ap, subst, arith, inl, inr, ◌⊎◌, Result, Ok, Err}
-use Rattle.ant_base.specs.Faults.{Rose, one_more}
+use Rattle.std.proofs.Common.{◌≡◌, ◌≢◌, ℕ, ◌≤◌, Bool, true, false, List, [], ◌∷◌, refl, sym, ◌∙◌, subst, arith, inl, inr, Result, Ok, Err}
+use Rattle.ant_base.specs.Faults.{Rose}
 use Rattle.ant_base.specs.Shelf.{ShelfState, IsContent}
 use Rattle.ant_base.specs.Sink.{SinkState}
 use Rattle.command_words.specs.Command.{PlainCommand}
 use Rattle.ants.specs.declared.stop.FileFault.{FileFault}
 use Rattle.ants.specs.declared.stop.FileFault.TheVariants.{TooLong, World, Brain}
-use Rattle.ants.specs.Files.{File, FileKind, Content, IsAccepted, IsFirst, IsNoText, IsRefused, Refuses, Told}
+use Rattle.ants.specs.Files.{File, FileKind, Content, IsAccepted, IsFirst, IsRefused, Refuses, Told}
 use Rattle.ants.specs.Files.FileKind.{WorldFile, BrainFile}
 use Rattle.ants.specs.Jobs.{files_of}
-use Rattle.ants.specs.Performing.{AreSure, IsAtFault, IsBadInput, IsUnread, IsUnsure, KeepsShelf, StopsFor}
-use Rattle.ants.specs.Steps.{FailsAt, IsReadAs, IsTextFault, LeavesShelf, ReadingStops, ReadsFile}
+use Rattle.ants.specs.Performing.{AreSure, IsAtFault, IsUnsure, KeepsShelf, StopsFor}
+use Rattle.ants.specs.Steps.{IsReadAs, IsTextFault, LeavesShelf, ReadingStops, ReadsFile}
 use Rattle.ants.specs.declared.stop.Stop.{Stop}
 use Rattle.ants.specs.Stopping.{Reason, reason_of}
 use Rattle.brain_read.specs.declared.fault.BrainFault.{BrainFault}

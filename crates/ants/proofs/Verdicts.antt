@@ -1,7 +1,7 @@
 -- What the end of a run says of its status: when the words are no command, when input is refused, and that nothing else is in the way.
 use Rattle.std.proofs.Common.{◌≡◌, ℕ, ◌<◌, ◌≤◌, List, [], ◌∷◌, length, refl, sym, ◌∙◌, subst, arith, inl, inr, ◌⊎◌, Option, Some, None}
 use Rattle.std.specs.Prelude.{IsSomeAnd}
-use Rattle.ant_base.specs.Shelf.{ShelfState, IsContent, longest}
+use Rattle.ant_base.specs.Shelf.{ShelfState, longest}
 use Rattle.ant_base.specs.Sink.{SinkState}
 use Rattle.brain_read.proofs.Whole as whole
 use Rattle.command_words.proofs.WordLaws as words_laws
@@ -10,14 +10,14 @@ use Rattle.ants.specs.declared.status.Status.{Status}
 use Rattle.ants.specs.declared.status.Status.TheVariants as status
 use Rattle.ants.specs.declared.stop.FileFault.{FileFault}
 use Rattle.ants.specs.declared.stop.FileFault.TheVariants.{TooLong, World, Brain}
-use Rattle.ants.specs.Files.{AreAccepted, Content, File, FileKind, IsAccepted, IsFirst, IsNoText, IsRefused, Reads, Refuses, Told}
+use Rattle.ants.specs.Files.{AreAccepted, Content, File, FileKind, IsAccepted, IsFirst, IsRefused, Reads, Refuses, Told}
 use Rattle.ants.specs.Files.Content.{WorldContent, BrainContent}
 use Rattle.ants.specs.Files.FileKind.{WorldFile, BrainFile}
 use Rattle.ants.specs.Jobs.{files_of}
 use Rattle.ants.specs.Performing.{IsAtFault}
 use Rattle.ants.specs.Running.{Ends, IsAtBadInput, IsComplete, IsFaultless, IsNoCommand, IsRefusing, IsRun, ending_status}
 use Rattle.ants.proofs.Worlds.{never_wrong}
-use Rattle.ants.specs.Stopping.{Reason, status_of}
+use Rattle.ants.specs.Stopping.{Reason}
 use Rattle.ants.specs.Stopping.Reason.{AtWord, AtFile, AtOutput, AtInput, AtMemory}
 
 -- bytes are never both read and refused

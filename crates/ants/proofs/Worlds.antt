@@ -1,5 +1,5 @@
 -- A world's text is its world by the grammar, or has its fault.
-use Rattle.std.proofs.Common.{◌≡◌, ◌≢◌, ℕ, List, refl}
+use Rattle.std.proofs.Common.{◌≢◌, ℕ, List, refl}
 use Rattle.cell_world.specs.Grid.{Grid}
 use Rattle.world_read.specs.Answers.{IsFaultOf}
 use Rattle.world_read.specs.declared.fault.WorldFault.{WorldFault}

@@ -1,11 +1,9 @@
 -- The files of a command, and what is accepted of them (this project's own).
-use Rattle.std.specs.Prelude.{◌≡◌, ℕ, List, [], ◌∷◌, Option, Result, Ok, Err, ◌⊎◌}
+use Rattle.std.specs.Prelude.{ℕ, List, [], ◌∷◌, Option, ◌⊎◌}
 use Rattle.ant_base.specs.Shelf.{IsContent, IsTooLong}
-use Rattle.brain_read.specs.declared.fault.BrainFault.{BrainFault}
 use Rattle.brain_read.specs.declared.instr.Instr.{Instr}
 use Rattle.brain_read.specs.BrainText.{BrainText, BrainVerdict}
 use Rattle.cell_world.specs.Grid.{Grid}
-use Rattle.world_read.specs.declared.fault.WorldFault.{WorldFault}
 use Rattle.world_read.specs.Faulty.{IsWorldFault}
 use Rattle.world_read.specs.Opened.{OpensAs}
 use Rattle.ants.specs.declared.stop.FileFault.{FileFault}

@@ -1,5 +1,5 @@
 -- What each command reads and writes (this project's own): one equation a command.
-use Rattle.std.specs.Prelude.{ℕ, List, [], ◌∷◌, ◌++◌}
+use Rattle.std.specs.Prelude.{ℕ, List, [], ◌∷◌}
 use Rattle.ant_base.specs.Layout.{◌+++◌}
 use Rattle.ant_turn.specs.Minds.{contest_minds}
 use Rattle.brain_read.specs.Canonical.{brain_text}

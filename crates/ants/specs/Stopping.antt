@@ -1,5 +1,5 @@
 -- Why a command stops, and the line that says so (this project's own).
-use Rattle.std.specs.Prelude.{ℕ, List, [], ◌++◌, codes, decimal}
+use Rattle.std.specs.Prelude.{ℕ, List, codes, decimal}
 use Rattle.ant_base.specs.Layout.{◌+++◌}
 use Rattle.brain_read.specs.declared.fault.BrainFault.{BrainFault}
 use Rattle.brain_read.specs.declared.fault.BrainFault.TheVariants as brain

@@ -1,5 +1,5 @@
 -- the bytes that were fetched are read
-use Rattle.std.proofs.Common.{ℕ, List, ◌≤◌, length, sym, subst}
+use Rattle.std.proofs.Common.{ℕ, List, sym, subst}
 use Rattle.ant_base.specs.Shelf.{IsContent}
 use Rattle.ants.specs.Files.Content.{WorldContent}
 use Rattle.ants.specs.Files.FileKind.{WorldFile}

@@ -1,6 +1,5 @@
 -- the one file was accepted as the world that was shown
 use Rattle.std.proofs.Common.{◌∷◌, []}
-use Rattle.ant_base.specs.Sink.{Pushed, PushedAll, PushedFront}
 use Rattle.ants.specs.Files.Content.{WorldContent}
 use Rattle.ants.proofs.show.show.Goals as goal
 
