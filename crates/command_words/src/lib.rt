@@ -25,6 +25,3 @@ pub use numbers::Numbers;
 pub use read::read_words;
 pub use slot::Slot;
 pub use table::{Choice, CommandKind};
-
-#[cfg(test)]
-mod tests;

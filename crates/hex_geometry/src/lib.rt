@@ -13,8 +13,6 @@ mod laws;
 mod memory;
 mod neighbourhood;
 mod position;
-#[cfg(test)]
-mod tests;
 
 pub use direction::{Dir, Side, turned};
 pub use laws::{neighbours_are_mutual, neighbours_are_the_tables, turns_go_round};

@@ -4,8 +4,9 @@ use crate::tests::{CLOSED, Given, Job, NO_JOB, check_rows};
 use std::test::Fail;
 
 // Words, and the line that names the first one with which no command begins.
-const REFUSED: [(&str, &str); 26] = [
+const REFUSED: [(&str, &str); 37] = [
     ("", "ants: word 1 refused\n"),
+    ("jump", "ants: word 1 refused\n"),
     ("Show w 1", "ants: word 1 refused\n"),
     ("shows w 1", "ants: word 1 refused\n"),
     ("show", "ants: word 2 refused\n"),
@@ -15,22 +16,38 @@ const REFUSED: [(&str, &str); 26] = [
     ("show w 4294967296", "ants: word 3 refused\n"),
     ("show w 00000000001", "ants: word 3 refused\n"),
     ("show w -1", "ants: word 3 refused\n"),
+    ("show w +1", "ants: word 3 refused\n"),
     ("show w 1 2", "ants: word 4 refused\n"),
     ("brain", "ants: word 2 refused\n"),
+    ("brain --", "ants: word 2 refused\n"),
     ("brain b b", "ants: word 3 refused\n"),
     ("run", "ants: word 2 refused\n"),
+    ("run w r --seed 1 --rounds 2", "ants: word 4 refused\n"),
     ("run w r b", "ants: word 5 refused\n"),
+    ("run w r b x", "ants: word 5 refused\n"),
+    ("run w r b --SEED 1", "ants: word 5 refused\n"),
+    ("run w r b --seed", "ants: word 6 refused\n"),
     ("run w r b --seed 1", "ants: word 7 refused\n"),
     ("run w r b --seed 1 --seed 2", "ants: word 7 refused\n"),
     ("run w r b --seed --rounds 1", "ants: word 6 refused\n"),
     ("run w r b --rounds 1000001", "ants: word 6 refused\n"),
     ("run w r b --dump 1,,2", "ants: word 6 refused\n"),
     ("run w r b --dump 1,", "ants: word 6 refused\n"),
+    ("run w r b --dump ,", "ants: word 6 refused\n"),
+    ("run w r b --dump All", "ants: word 6 refused\n"),
     ("run w r b --dump 0,1000001", "ants: word 6 refused\n"),
     ("run w r b --dump none,1", "ants: word 6 refused\n"),
     ("run w r b --seed 1 --rounds", "ants: word 8 refused\n"),
     ("run w r b --Dump all", "ants: word 5 refused\n"),
     ("run w r b --seed 1 --rounds 1 1", "ants: word 9 refused\n"),
+    (
+        "run w r b --seed 1 --rounds 2 --rounds 2",
+        "ants: word 9 refused\n",
+    ),
+    (
+        "run w r b --seed 1 --rounds 2 --dump",
+        "ants: word 10 refused\n",
+    ),
 ];
 
 #[test]
