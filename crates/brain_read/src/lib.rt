@@ -29,6 +29,3 @@ pub use laws::{canonical_text_is_read, one_brain_or_one_fault};
 pub use read::read_brain;
 pub use tokens::Tokens;
 pub use write::write_brain;
-
-#[cfg(test)]
-mod tests;

@@ -73,6 +73,3 @@ impl Dumps {
         }
     }
 }
-
-#[cfg(test)]
-mod tests;

@@ -8,6 +8,3 @@ mod arms;
 mod words;
 
 pub use words::{WordTable, Words, word_is_found};
-
-#[cfg(test)]
-mod tests;

@@ -55,3 +55,21 @@ fn each_of_seven_ants_takes_its_turn(rt: HostRuntime) {
     assert_eq!(rt; world.ant_place(2), None);
     assert_eq!(rt; world.score(), Score { red: 3, black: 0 });
 }
+
+// What may be lent to threads and handed to them.
+fn shared<T: Send + Sync>(value: &T) -> &T
+    ensures { result.now ≡ value.now }
+{
+    value
+}
+
+#[test]
+fn brains_may_go_to_threads(rt: HostRuntime) {
+    let brain = brain_of(rt.alloc(), Instr::Drop { next: 0 }).expect(&rt, "there is memory");
+    assert_eq!(rt; shared(&brain).len(), 1);
+    let brains = Brains {
+        red: &brain,
+        black: &brain,
+    };
+    assert_eq!(rt; shared(&brains).black.len(), 1);
+}

@@ -22,7 +22,7 @@ const SAMPLE: &str = "Sense Ahead 1 3 Food\n\
     Move 8 11\n";
 
 // Brains, and how each is printed.
-const PRINTED: [(&str, &str); 4] = [
+const PRINTED: [(&str, &str); 12] = [
     (SAMPLE, SAMPLE),
     (
         "sense ahead 001 1 FOOD ; look\r\n\n; none\n\tdRoP 0",
@@ -36,10 +36,23 @@ const PRINTED: [(&str, &str); 4] = [
         "SENSE leftahead 0 0 friendwithfood\nsense RightAhead 0 0 FOEMARKER",
         "Sense LeftAhead 0 0 FriendWithFood\nSense RightAhead 0 0 FoeMarker\n",
     ),
+    ("Drop 0;x", "Drop 0\n"),
+    ("drop 0000000000\n\n\n", "Drop 0\n"),
+    ("; \u{e4} and \0 are no matter here\nDrop\t0\r", "Drop 0\n"),
+    ("flip 1 0 0\r\n", "Flip 1 0 0\n"),
+    ("mark 5 0\nUNMARK 0 1", "Mark 5 0\nUnmark 0 1\n"),
+    ("pickup 0 1\nmove 1 0", "PickUp 0 1\nMove 1 0\n"),
+    ("turn left 0\nturn RIGHT 1", "Turn Left 0\nTurn Right 1\n"),
+    (
+        "sense here 0 0 friend\nsense ahead 0 0 foe\nsense leftahead 0 0 friendwithfood\nsense rightahead 0 0 foewithfood\n\
+        sense here 0 0 food\nsense here 0 0 rock\nsense here 0 0 marker 5\nsense here 0 0 foemarker\nsense here 0 0 home\nsense here 0 0 foehome",
+        "Sense Here 0 0 Friend\nSense Ahead 0 0 Foe\nSense LeftAhead 0 0 FriendWithFood\nSense RightAhead 0 0 FoeWithFood\n\
+        Sense Here 0 0 Food\nSense Here 0 0 Rock\nSense Here 0 0 Marker 5\nSense Here 0 0 FoeMarker\nSense Here 0 0 Home\nSense Here 0 0 FoeHome\n",
+    ),
 ];
 
 // Texts that are no brain, and the line that names the first fault of each.
-const REFUSED: [(&str, &str); 20] = [
+const REFUSED: [(&str, &str); 42] = [
     (
         "Drop 0\nDrop 5\nDrop 0\nDrop 0\nDrop 0\n",
         "ants: b: line 2: no such state 5\n",
@@ -66,6 +79,31 @@ const REFUSED: [(&str, &str); 20] = [
     ("Drop \u{e4}", "ants: b: line 1: bad byte\n"),
     ("Drop 0 0\u{e4}", "ants: b: line 1: bad byte\n"),
     ("Drop x \u{e4}", "ants: b: line 1: bad number\n"),
+    (
+        "\nDrop 0\n\nMove 7 9\nDrop 8",
+        "ants: b: line 4: no such state 7\n",
+    ),
+    ("Flip 9 1 2", "ants: b: line 1: no such state 1\n"),
+    ("Sense Here 0 1 Rock", "ants: b: line 1: no such state 1\n"),
+    ("Drop 1\nDrop x", "ants: b: line 2: bad number\n"),
+    ("Drop", "ants: b: line 1: missing token\n"),
+    ("Drop 0 0 \u{e4}", "ants: b: line 1: extra token\n"),
+    ("Drop\u{b}0", "ants: b: line 1: bad byte\n"),
+    ("Drop 0\u{7f}", "ants: b: line 1: bad byte\n"),
+    ("\0", "ants: b: line 1: bad byte\n"),
+    ("Drop 0\n\n \u{ff}", "ants: b: line 3: bad byte\n"),
+    ("Drop 00000000000", "ants: b: line 1: bad number\n"),
+    ("Drop -1", "ants: b: line 1: bad number\n"),
+    ("Drop 1.", "ants: b: line 1: bad number\n"),
+    ("Unmark 6 0", "ants: b: line 1: bad number\n"),
+    ("Sense Here 0 0 Rock 1", "ants: b: line 1: extra token\n"),
+    ("Sense There 0 0 Rock", "ants: b: line 1: unknown word\n"),
+    ("Sense Here 0 0 Rocky", "ants: b: line 1: unknown word\n"),
+    ("Turn Ahead 0", "ants: b: line 1: unknown word\n"),
+    ("Turn 0", "ants: b: line 1: unknown word\n"),
+    ("Flip x", "ants: b: line 1: bad number\n"),
+    ("Drop 0\nJump\nDrop", "ants: b: line 2: unknown word\n"),
+    ("Drop 5\n0", "ants: b: line 2: unknown word\n"),
 ];
 
 // The command, over any brain.
