@@ -15,6 +15,7 @@ mod ground_laws;
 mod kind;
 mod marks;
 mod opening_laws;
+mod part;
 mod score;
 mod world;
 
@@ -27,5 +28,6 @@ pub use hex_geometry::OutOfMemory;
 pub use kind::Kind;
 pub use marks::Marks;
 pub use opening_laws::{hills_are_manned, plans_open};
+pub use part::{Part, Parts};
 pub use score::Score;
 pub use world::World;
