@@ -4,6 +4,12 @@
 //! other turns have changed meanwhile: where nothing that it read is different, the turn is what was looked at. This is this project's own.
 #![tactic(auto)]
 
-mod look;
+mod guess;
+mod record;
+mod trail;
+mod working;
 
-pub use look::Look;
+pub use guess::{at_flip, guesses};
+pub use record::Look;
+pub use trail::Trail;
+pub use working::look;

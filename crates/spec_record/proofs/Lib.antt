@@ -1,0 +1,2 @@
+pub mod Flipping
+pub mod Laying

@@ -1,0 +1,3 @@
+// A
+use cell_world::World;
+pub fn look(base: &World) -> u32 { 3 }
