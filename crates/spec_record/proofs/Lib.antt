@@ -1,2 +1,10 @@
+pub mod Bounds
+pub mod Emptying
 pub mod Flipping
 pub mod Laying
+pub mod Looking
+pub mod LooksWorked
+pub mod Noting
+pub mod Ring
+pub mod Sighting
+pub mod Unguessed

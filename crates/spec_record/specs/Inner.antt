@@ -1,2 +1,4 @@
+pub mod Going
 pub mod Laid
-pub mod Seen
+pub mod Sightings
+pub mod Standing

@@ -4,8 +4,11 @@
 //! other turns have changed meanwhile: where nothing that it read is different, the turn is what was looked at. This is this project's own.
 #![tactic(auto)]
 
+mod going;
 mod guess;
 mod record;
+mod sightings;
+mod staying;
 mod trail;
 mod working;
 

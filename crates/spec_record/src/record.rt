@@ -6,6 +6,8 @@ use cell_world::{Cell, Parts};
 use hex_geometry::Pos;
 use std::marker::Model;
 
+mod filling;
+
 /// A look at the turn of one ant.
 #[derive(Drop)]
 pub struct Look {

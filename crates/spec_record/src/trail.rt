@@ -48,7 +48,7 @@ impl<'w> Trail<'w> {
 
     // The content of the cell at `p`, which is inside.
     #[inline]
-    fn cell(&self, p: Pos) -> Cell
+    pub(crate) fn cell(&self, p: Pos) -> Cell
         requires { IsInside (trail_world self.now).width (trail_world self.now).height p }
         ensures content { result ≡ (trail_world self.now).cells p }
         ensures valid { Valid (trail_world self.now) }
