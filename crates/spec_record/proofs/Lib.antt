@@ -6,5 +6,6 @@ pub mod Looking
 pub mod LooksWorked
 pub mod Noting
 pub mod Ring
+pub mod RoundsWorked
 pub mod Sighting
 pub mod Unguessed

@@ -34,7 +34,7 @@ use Rattle.spec_record.specs.Writes.{writes}
 --      . . - # .
 --     - . + - #
 --      + . - - #
-abbrev kinds : List Kind
+abbrev pub kinds : List Kind
 kinds =
     Rock ∷ Rock ∷ Rock ∷ Rock ∷ Rock ∷ Rock ∷ Rock
     ∷ Rock ∷ Clear ∷ Clear ∷ Clear ∷ Clear ∷ Clear ∷ Rock
@@ -43,11 +43,11 @@ kinds =
     ∷ Rock ∷ RedHill ∷ Clear ∷ BlackHill ∷ BlackHill ∷ Rock ∷ Rock
     ∷ Rock ∷ Rock ∷ Rock ∷ Rock ∷ Rock ∷ Rock ∷ Rock ∷ []
 
-abbrev field : World
+abbrev pub field : World
 field = world_of (opening 7 6 kinds)
 
 -- red ants flip, black ones move
-abbrev minds : Minds
+abbrev pub minds : Minds
 minds = contest_minds (Flip 2 0 0 ∷ []) (Move 0 0 ∷ [])
 
 abbrev at : ℕ → ℕ → Pos
