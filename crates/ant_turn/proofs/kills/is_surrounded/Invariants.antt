@@ -9,6 +9,5 @@ invariant-loop-q g l =
     record {
       world : g.G.Ground.world l.ground ≡ g.G.Ground.world l.initial.ground;
       room : g.G.Ground.room l.ground ≡ g.G.Ground.room l.initial.ground;
-      few : l.gaps ≤ 1;
-      count : ants_among cells l.foe (drop l.q-index (neighbours_of l.fn.p)) + l.q-index ≡ ants_among cells l.foe (neighbours_of l.fn.p) + l.gaps;
+      count : ants_among cells l.foe (drop l.q-index (neighbours_of l.fn.p)) + l.q-index + l.gaps + l.fn.sheet.surround ≡ ants_among cells l.foe (neighbours_of l.fn.p) + 6;
     }
