@@ -1,6 +1,8 @@
 // Surrounded ants, and what is left of them.
-ghost use Rattle.std.specs.Prelude.{◌≡◌, ◌+◌, ◌≤◌, ◌<◌, ◌++◌};
+ghost use Rattle.std.specs.Prelude.{◌≡◌, ◌+◌, ◌≤◌, ◌<◌, ◌++◌, nat_le};
+ghost use Rattle.hex_geometry.specs.Neighbourhood.{neighbours_of};
 ghost use Rattle.hex_geometry.specs.Position.{IsInside, IsInner};
+ghost use Rattle.cell_world.specs.Colour.{foe_of};
 ghost use Rattle.cell_world.specs.Limits.{most_weight};
 ghost use Rattle.cell_world.specs.Valid.{Valid};
 ghost use Rattle.cell_world.specs.World.{with_cells};
@@ -30,7 +32,7 @@ pub fn surrounded<G: Ground>(ground: &mut G, sheet: Sheet, p: Pos) -> bool
     let Some(ant) = cell.ant else {
         return false;
     };
-    is_surrounded(ground, sheet, p, &ant)
+    has_foes(ground, p, &ant, sheet.surround())
 }
 
 /// Checks `p` and then its six neighbours in the order of directions: an ant that is surrounded when its cell is checked is killed,
@@ -71,24 +73,25 @@ fn check<G: Ground>(ground: &mut G, sheet: Sheet, p: Pos, killed: &mut ArrayVec<
     let Some(ant) = cell.ant else {
         return;
     };
-    if is_surrounded(ground, sheet, p, &ant) {
+    if has_foes(ground, p, &ant, sheet.surround()) {
         ground.set(p, after_kill(sheet, &cell, &ant));
         killed.push(ant.id);
     }
 }
 
-// Whether the ant at `p` has foes on enough of the six neighbours.
+// Whether the ant at `p` has foes on at least so many of the six neighbours.
 #[inline(never)]
-fn is_surrounded<G: Ground>(ground: &mut G, sheet: Sheet, p: Pos, ant: &Ant) -> bool
+fn has_foes<G: Ground>(ground: &mut G, p: Pos, ant: &Ant, surround: u8) -> bool
     requires valid { Valid (G.world ground.old) }
     requires here { ((G.world ground.old).cells p).ant ≡ Some ant.now }
-    ensures surrounded { result ≡ kill.is_surrounded (sheet_of sheet) (G.world ground.old).cells p }
+    requires at_most_all { surround ≤ 6 }
+    ensures foes { result ≡ nat_le surround (kill.ants_among (G.world ground.old).cells (foe_of ant.now.colour) (neighbours_of p)) }
     ensures world { G.world ground.new ≡ G.world ground.old }
     ensures room { G.room ground.new ≡ G.room ground.old }
 {
     let foe = ant.colour.foe();
     let around = neighbours(p);
-    let mut gaps = 6 - sheet.surround();
+    let mut gaps = 6 - surround;
     for q in around {
         let cell = ground.cell_at(q);
         if !cell.has_ant_of(foe) {
