@@ -173,7 +173,7 @@ fn execute<G: Ground>(
 }
 
 /// Takes the turn of the ant of this id: nothing where it is dead; one turn less to rest where it rests; else the instruction at its
-/// state in its colour's brain (the task's kinetics).
+/// state in its colour's brain, by the rules with the numbers of the brains' sheet (the task's kinetics).
 ///
 /// The id is below the number of ids, each ant's state is below the length of its colour's brain, and stays so. The stream stands below
 /// 2^63 - 1 and goes on by one number exactly where a Flip was executed. The ground has room for 9 cells. Gives what was done besides.

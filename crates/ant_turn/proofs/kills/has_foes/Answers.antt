@@ -1,4 +1,4 @@
-use Rattle.std.proofs.Common.{◌≡◌, ℕ, ◌+◌, subst, true, false, nat_le, slice_index_or, drop, refl, arith}
+use Rattle.std.proofs.Common.{◌≡◌, ℕ, ◌+◌, subst, false, slice_index_or, drop, refl, arith}
 use Rattle.hex_geometry.specs.Neighbourhood.{neighbours_of}
 use Rattle.cell_world.specs.Cell.{is_ant_of}
 use Rattle.cell_world.proofs.Places.{ant-clear, clear_has_neighbours}

@@ -1,4 +1,4 @@
-use Rattle.std.proofs.Common.{◌≡◌, ◌+◌, ◌≤◌, drop}
+use Rattle.std.proofs.Common.{◌≡◌, ◌+◌, drop}
 use Rattle.hex_geometry.specs.Neighbourhood.{neighbours_of}
 use Rattle.ant_turn.specs.Kills.{ants_among}
 use Rattle.ant_turn.proofs.kills.has_foes.Given as goal
