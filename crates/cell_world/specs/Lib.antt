@@ -9,6 +9,8 @@ pub mod Marks
 pub mod MarksLaws
 pub mod Opening
 pub mod OpeningLaws
+pub mod PartLaws
+pub mod Parts
 pub mod Places
 pub mod Score
 pub mod Stored

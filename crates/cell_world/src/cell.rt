@@ -7,7 +7,7 @@ use crate::marks::Marks;
 
 /// A cell of the world, rocky or clear (the task's geography, chemistry and biology). In a world, a rocky cell has no food, marks,
 /// ant or hill, and an ant that stands on a cell stands on no other.
-#[derive(Clone, Copy, Debug, PartialEq, Eq)]
+#[derive(Clone, Copy, Debug, Default, PartialEq, Eq)]
 pub struct Cell {
     /// Whether it is rock, which no ant enters.
     pub rocky: bool,

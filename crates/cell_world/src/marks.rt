@@ -3,7 +3,7 @@ ghost use Rattle.std.specs.Prelude.{◌≡◌, ◌<◌};
 ghost use Rattle.cell_world.specs.Marks.{no_marks, has_mark, with_mark, without_mark, has_any_mark};
 
 /// A set of markers, which are numbered from 0 to 5: those of one colour that are set on one cell (the task's chemistry).
-#[derive(Clone, Copy, Debug, PartialEq, Eq)]
+#[derive(Clone, Copy, Debug, Default, PartialEq, Eq)]
 pub struct Marks {
     // Bit i is marker i; no bit above the sixth is ever set.
     set: u8,

@@ -1,0 +1,133 @@
+-- The parts of a cell, which looks read and write one by one (this project's own).
+use Rattle.std.specs.Prelude.{◌≡◌, ℕ, Bool, true, false, if◌then◌else◌, ◌||◌, Option, Some, None, option_map}
+use Rattle.hex_geometry.specs.declared.direction.Dir.{Dir}
+use Rattle.cell_world.specs.declared.ant.Ant.{Ant}
+use Rattle.cell_world.specs.declared.ant.Colour.{Colour}
+use Rattle.cell_world.specs.declared.cell.Cell.{Cell}
+use Rattle.cell_world.specs.declared.marks.Marks.{Marks}
+use Rattle.cell_world.specs.declared.part.Part.{Part}
+use Rattle.cell_world.specs.declared.part.Part.TheVariants.{Who, Mind, Load, Food, RedMarks, BlackMarks}
+use Rattle.cell_world.specs.declared.part.Parts.{Parts}
+
+-- which ant it is
+pub record Identity : Type 0 where
+  pub id : ℕ
+  pub colour : Colour
+
+-- what an ant is about: its state, its resting count and its direction
+pub record Posture : Type 0 where
+  pub state : ℕ
+  pub resting : ℕ
+  pub facing : Dir
+
+abbrev pub identity_of : Ant → Identity
+identity_of ant = record { id = ant.id; colour = ant.colour }
+
+abbrev pub posture_of : Ant → Posture
+posture_of ant = record { state = ant.state; resting = ant.resting; facing = ant.facing }
+
+-- what each part may be
+abbrev pub Content : Part → Type 0
+Content Who = Option Identity
+Content Mind = Option Posture
+Content Load = Option Bool
+Content Food = ℕ
+Content RedMarks = Marks
+Content BlackMarks = Marks
+
+-- the six parts of a cell: the id and colour of its ant, if there is one; that ant's state, resting count and direction; whether that ant
+-- carries food; the food that lies there; and the two sets of markers. Rock and hill are in none: no turn changes them
+abbrev pub part : (k : Part) → Cell → Content k
+part Who cell = option_map identity_of cell.ant
+part Mind cell = option_map posture_of cell.ant
+part Load cell = option_map (λ ant. ant.laden) cell.ant
+part Food cell = cell.food
+part RedMarks cell = cell.red
+part BlackMarks cell = cell.black
+
+-- no part
+abbrev pub no_parts : Parts
+no_parts = record { who = false; mind = false; load = false; food = false; red_marks = false; black_marks = false }
+
+-- whether a part is in a set
+abbrev pub has_part : Parts → Part → Bool
+has_part parts Who = parts.who
+has_part parts Mind = parts.mind
+has_part parts Load = parts.load
+has_part parts Food = parts.food
+has_part parts RedMarks = parts.red_marks
+has_part parts BlackMarks = parts.black_marks
+
+-- the same set, and this part
+abbrev pub with_part : Parts → Part → Parts
+with_part parts Who = record parts { who = true }
+with_part parts Mind = record parts { mind = true }
+with_part parts Load = record parts { load = true }
+with_part parts Food = record parts { food = true }
+with_part parts RedMarks = record parts { red_marks = true }
+with_part parts BlackMarks = record parts { black_marks = true }
+
+-- one part alone
+abbrev pub only : Part → Parts
+only k = with_part no_parts k
+
+-- the parts of either set
+abbrev pub union : Parts → Parts → Parts
+union a b = record {
+  who = a.who || b.who;
+  mind = a.mind || b.mind;
+  load = a.load || b.load;
+  food = a.food || b.food;
+  red_marks = a.red_marks || b.red_marks;
+  black_marks = a.black_marks || b.black_marks;
+}
+
+-- two cells are equal in a part
+abbrev pub Alike : Part → Cell → Cell → Type 0
+Alike k c d = part k c ≡ part k d
+
+-- two cells are equal in each part of a set
+abbrev pub Agree : Parts → Cell → Cell → Type 0
+Agree parts c d = (k : Part) → has_part parts k ≡ true → Alike k c d
+
+-- a part of a set in which two cells differ, or that there is none
+abbrev pub IsDifference : Parts → Cell → Cell → Option Part → Type 0
+IsDifference parts c d None = Agree parts c d
+IsDifference parts c d (Some k) = (has_part parts k ≡ true) × (¬ Alike k c d)
+
+-- this ant with the named ones of another's posture and load
+abbrev pub patched_by : Parts → Ant → Ant → Ant
+patched_by parts ant other = record ant {
+  state = if parts.mind then other.state else ant.state;
+  resting = if parts.mind then other.resting else ant.resting;
+  facing = if parts.mind then other.facing else ant.facing;
+  laden = if parts.load then other.laden else ant.laden;
+}
+
+-- the same of ants that may not be there
+abbrev pub patched_ant : Parts → Option Ant → Option Ant → Option Ant
+patched_ant parts None source = None
+patched_ant parts (Some ant) None = Some ant
+patched_ant parts (Some ant) (Some other) = Some (patched_by parts ant other)
+
+-- a cell with the named parts of the source and everything else its own; who stands there brings the whole ant
+unfoldable pub patched : Cell → Cell → Parts → Cell
+patched cell source parts = record cell {
+  food = if parts.food then source.food else cell.food;
+  red = if parts.red_marks then source.red else cell.red;
+  black = if parts.black_marks then source.black else cell.black;
+  ant = if parts.who then source.ant else patched_ant parts cell.ant source.ant;
+}
+
+-- both are ants, and of one id and colour
+abbrev pub IsSameAnt : Option Ant → Option Ant → Type 0
+IsSameAnt (Some ant) (Some other) = identity_of ant ≡ identity_of other
+IsSameAnt (Some ant) None = ⊥
+IsSameAnt None source = ⊥
+
+-- the parts of a cell can be patched by those of the source: who stands there goes with its posture and its load; and where one of
+-- these is named alone, both cells hold the same ant
+pub record CanPatch (cell source : Cell) (parts : Parts) : Type 0 where
+  pub mind : parts.who ≡ true → parts.mind ≡ true
+  pub load : parts.who ≡ true → parts.load ≡ true
+  pub same_ant : parts.who ≡ false → (parts.mind || parts.load) ≡ true → IsSameAnt cell.ant source.ant
