@@ -9,12 +9,16 @@
 #![tactic(auto)]
 
 mod direction;
+mod distance_laws;
+mod distances;
 mod laws;
 mod memory;
 mod neighbourhood;
 mod position;
 
 pub use direction::{Dir, Side, turned};
+pub use distance_laws::{distance_is_metric, steps_change_by_one};
+pub use distances::distance;
 pub use laws::{neighbours_are_mutual, neighbours_are_the_tables, turns_go_round};
 pub use memory::OutOfMemory;
 pub use neighbourhood::{Sight, adjacent, neighbours, sensed};

@@ -1,0 +1,13 @@
+// Laws of distances. Each is proved by a function that does nothing.
+ghost use Rattle.hex_geometry.specs.DistanceLaws.{DistanceIsMetric, StepsChangeByOne};
+
+/// A law: each two places have one distance, which is zero exactly from a place to itself, the same both ways, and no more than that over
+/// a third place (the task's geometry).
+pub fn distance_is_metric()
+    ensures { DistanceIsMetric }
+{}
+
+/// A law: a step changes the distance to any place by one at most (the task's geometry).
+pub fn steps_change_by_one()
+    ensures { StepsChangeByOne }
+{}
