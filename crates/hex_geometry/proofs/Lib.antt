@@ -1,3 +1,5 @@
+pub mod BallRows
+pub mod BallSizes
 pub mod Beside
 pub mod Metric
 pub mod Places

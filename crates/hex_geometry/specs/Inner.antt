@@ -1,1 +1,2 @@
+pub mod BallRows
 pub mod Slant

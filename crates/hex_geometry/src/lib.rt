@@ -8,6 +8,7 @@
 //! It stands on no other crate.
 #![tactic(auto)]
 
+mod balls;
 mod direction;
 mod distance_laws;
 mod distances;
@@ -16,8 +17,9 @@ mod memory;
 mod neighbourhood;
 mod position;
 
+pub use balls::ball;
 pub use direction::{Dir, Side, turned};
-pub use distance_laws::{distance_is_metric, steps_change_by_one};
+pub use distance_laws::{balls_are_counted, distance_is_metric, steps_change_by_one};
 pub use distances::distance;
 pub use laws::{neighbours_are_mutual, neighbours_are_the_tables, turns_go_round};
 pub use memory::OutOfMemory;
