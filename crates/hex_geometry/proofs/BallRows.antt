@@ -1,19 +1,18 @@
 -- The rows of a ball list it.
 use Rattle.hex_geometry.proofs.Metric.{distance_some}
 use Rattle.hex_geometry.proofs.Places.{pos_same}
-use Rattle.hex_geometry.proofs.Walks.{Within, distance_tight, distance_within, half, slant}
+use Rattle.hex_geometry.proofs.Walks.{Within, distance_tight, distance_within, half}
 use Rattle.hex_geometry.specs.Distance.{HasBall, IsBefore, IsInBall, ListsBall}
 use Rattle.hex_geometry.specs.Inner.BallRows.{column_count, first_column, line, rows}
 use Rattle.hex_geometry.specs.Position.{Point, point_of}
 use Rattle.hex_geometry.specs.declared.position.Pos.{Pos}
-use Rattle.std.proofs.Common.{◌≡◌, ℕ, zero, suc, ◌+◌, ◌-◌, ◌*◌, ◌/◌, ◌<◌, ◌≤◌, List, [], ◌∷◌, ◌++◌, length, get_or, refl, sym, ◌∙◌, ap, arith, subst, inl, inr, append_assoc, length-append}
+use Rattle.std.proofs.Common.{◌≡◌, ℕ, zero, suc, ◌+◌, ◌-◌, ◌*◌, ◌<◌, ◌≤◌, List, [], ◌∷◌, ◌++◌, refl, sym, ◌∙◌, ap, arith, subst, inl, inr, append_assoc}
 use Rattle.std.proofs.lemmas.Bool.{cases_lt}
 use Rattle.std.proofs.lemmas.Int.{ints}
 use Rattle.std.proofs.lemmas.List.{append-nil}
 use Rattle.std.proofs.lemmas.List.Elements.{Contains-append_cases, Contains-append_left, Contains-append_right, Contains-get_or, Contains-push}
 use Rattle.std.proofs.lemmas.List.Quantifiers.{all_pairs_push}
-use Rattle.std.specs.Prelude.{ℤ, pos, negsuc, ◌+ℤ◌, ◌-ℤ◌, ◌⊎◌, AllPairs, Contains}
-use lib.Signed.{◌≤ℤ◌}
+use Rattle.std.specs.Prelude.{ℤ, pos, negsuc, AllPairs, Contains}
 
 abbrev at : ℕ → ℕ → Pos
 at x y = record { x = x; y = y }
@@ -89,7 +88,7 @@ rows_every centre radius (suc n) p top within =
           let b = within.to in
           let same : p.y ≡ y = omega (arith, a, b) in
           Contains-append_right _ _ p (line_every (first_column centre radius y) y (column_count centre radius y) p
-            (subst (λ z. IsOnLine (first_column centre radius z) z (column_count centre radius z) p) same within.on))
+          (subst (λ z. IsOnLine (first_column centre radius z) z (column_count centre radius z) p) same within.on))
     ]
 
 -- rows, and after them a line below, are in row order
@@ -100,12 +99,12 @@ then_line xs x y (suc n) ordered above =
     let so_far : AllPairs IsBefore (xs ++ line x y n) = then_line xs x y n ordered above in
     let last : Pos = record { x = x + n; y = y } in
     let each : (p : Pos) → Contains (xs ++ line x y n) p → IsBefore p last = λ p found.
-        elim (Contains-append_cases xs (line x y n) p found) [
-          | inl high ↦ let h = above p high in record { row = omega arith; column = λ e. absurd (omega arith) }
-          | inr left ↦ let on = line_only x y n p left in record { row = (let h = on.row in omega (arith, h)); column = λ e. on.to }
-        ] in
+    elim (Contains-append_cases xs (line x y n) p found) [
+      | inl high ↦ let h = above p high in record { row = omega arith; column = λ e. absurd (omega arith) }
+      | inr left ↦ let on = line_only x y n p left in record { row = (let h = on.row in omega (arith, h)); column = λ e. on.to }
+    ] in
     subst (AllPairs IsBefore) (append_assoc (xs) (line x y n) (last ∷ []))
-      (all_pairs_push IsBefore (xs ++ line x y n) last so_far (λ k d h. each _ (Contains-get_or (xs ++ line x y n) k d h)))
+    (all_pairs_push IsBefore (xs ++ line x y n) last so_far (λ k d h. each _ (Contains-get_or (xs ++ line x y n) k d h)))
 
 rows_ordered : (centre : Pos) (radius n : ℕ) → radius ≤ centre.y → AllPairs IsBefore (rows centre radius n)
 unfolding rows
@@ -113,7 +112,7 @@ rows_ordered centre radius zero top = λ i j d before within. absurd (omega arit
 rows_ordered centre radius (suc n) top =
     let y = centre.y - radius + n in
     then_line (rows centre radius n) (first_column centre radius y) y (column_count centre radius y) (rows_ordered centre radius n top)
-      (λ p found. let above = (rows_only centre radius n p top found).to in omega (arith, above))
+    (λ p found. let above = (rows_only centre radius n p top found).to in omega (arith, above))
 
 -- what is within the radius by the three differences is in the ball, and nothing else is
 pub within_ball : (centre p : Point) (radius : ℕ) → Within radius centre p → IsInBall centre radius p
@@ -154,10 +153,10 @@ pub rows_list : (centre : Pos) (radius : ℕ) → HasBall centre radius → List
 rows_list centre radius has = record {
   within = λ p found. within_ball (point_of centre) (point_of p) radius (rows_within centre p radius has (rows_only centre radius (2 * radius + 1) p has.from_top found));
   every = λ q ball.
-    let w = ball_within (point_of centre) q radius ball in
-    let place = place_is centre radius q.x q.y has w in
-    let there : Within radius (point_of centre) (point_of place.0) = subst (Within radius (point_of centre)) (sym place.1) w in
-    (place.0, place.1, rows_every centre radius (2 * radius + 1) place.0 has.from_top (within_rows centre place.0 radius has there));
+      let w = ball_within (point_of centre) q radius ball in
+      let place = place_is centre radius q.x q.y has w in
+      let there : Within radius (point_of centre) (point_of place.0) = subst (Within radius (point_of centre)) (sym place.1) w in
+      (place.0, place.1, rows_every centre radius (2 * radius + 1) place.0 has.from_top (within_rows centre place.0 radius has there));
   in_order = rows_ordered centre radius (2 * radius + 1) has.from_top;
 }
 

@@ -1,14 +1,14 @@
 -- How many positions a ball has.
 use Rattle.hex_geometry.proofs.BallRows.{rows_list}
 use Rattle.hex_geometry.proofs.Places.{pos_same, same_pos_false, same_pos_true}
-use Rattle.hex_geometry.specs.Distance.{HasBall, IsBefore, ListsBall}
+use Rattle.hex_geometry.specs.Distance.{IsBefore, ListsBall}
 use Rattle.hex_geometry.specs.DistanceLaws.{BallsAreCounted}
 use Rattle.hex_geometry.specs.Inner.BallRows.{column_count, first_column, line, rows}
 use Rattle.hex_geometry.specs.Position.{Point, point_of, same_pos}
 use Rattle.hex_geometry.specs.declared.position.Pos.{Pos}
-use Rattle.std.proofs.Common.{◌≡◌, ◌≢◌, ℕ, zero, suc, ◌+◌, ◌-◌, ◌*◌, ◌<◌, ◌≤◌, List, [], ◌∷◌, ◌++◌, length, Bool, true, false, refl, sym, ◌∙◌, ap, arith, subst, length-append, add-suc, inl, inr}
+use Rattle.std.proofs.Common.{◌≡◌, ◌≢◌, ℕ, zero, suc, ◌+◌, ◌-◌, ◌*◌, ◌≤◌, List, [], ◌∷◌, length, refl, sym, ◌∙◌, ap, arith, subst, length-append, inl, inr}
 use Rattle.std.proofs.lemmas.Bool.{cases_Bool}
-use Rattle.std.specs.Prelude.{ℤ, pos, AllPairs, Contains}
+use Rattle.std.specs.Prelude.{pos, AllPairs, Contains}
 
 line_length : (x y n : ℕ) → length (line x y n) ≡ n
 unfolding line

@@ -1,12 +1,12 @@
 -- The laws of distances.
-use Rattle.hex_geometry.proofs.Walks.{IsStep, Within, distance_tight, distance_within, reach_distance, slant, step_is, within_none}
-use Rattle.hex_geometry.specs.Distance.{IsAdjacent, IsDistance, Walk}
+use Rattle.hex_geometry.proofs.Walks.{IsStep, Within, distance_tight, distance_within, reach_distance, slant, step_is, walk_within, within_none}
+use Rattle.hex_geometry.specs.Distance.{IsAdjacent, IsDistance, LeadsTo, Walk}
 use Rattle.hex_geometry.specs.Neighbourhood.{adjacent_point}
 use Rattle.hex_geometry.specs.Position.{Point}
 use Rattle.hex_geometry.specs.declared.direction.Dir.{Dir}
 use Rattle.hex_geometry.specs.declared.direction.Dir.TheVariants.{East, SouthEast, SouthWest, West, NorthWest, NorthEast}
-use Rattle.std.proofs.Common.{◌≡◌, ℕ, zero, suc, ◌+◌, ◌≤◌, max, [], refl, arith, subst}
-use Rattle.std.proofs.Math.Nat.{le-max_left, le-max_right, max-le}
+use Rattle.std.proofs.Common.{◌≡◌, ℕ, zero, suc, ◌+◌, ◌≤◌, max, List, [], ◌∷◌, length, refl, sym, arith, subst}
+use Rattle.std.proofs.Math.Nat.{max-le}
 use Rattle.std.proofs.lemmas.Int.{ints}
 use Rattle.std.specs.Prelude.{ℤ, pos, negsuc, ◌+ℤ◌, ◌-ℤ◌}
 use lib.Signed.{◌≤ℤ◌}
@@ -39,14 +39,16 @@ distance_some p q =
     let k = max (max i j) m in
     let hi : i ≤ k = omega arith in
     let hj : j ≤ k = omega arith in
-    let hm : m ≤ k = omega arith in
-    (k, reach_distance p q k
-        (record { below = omega (arith, ints); above = omega (arith, ints); right = omega (arith, ints); left = omega (arith, ints); under = omega (arith, ints); over = omega (arith, ints) })
-        (λ n w.
-            let li : i ≤ n = a.least n (omega (arith, ints)) (omega (arith, ints)) in
-            let lj : j ≤ n = b.least n (omega (arith, ints)) (omega (arith, ints)) in
-            let lm : m ≤ n = c.least n (omega (arith, ints)) (omega (arith, ints)) in
-            max-le (max-le li lj) lm))
+    let hm : m ≤ k = omega arith in (
+      k,
+      reach_distance p q k
+          (record { below = omega (arith, ints); above = omega (arith, ints); right = omega (arith, ints); left = omega (arith, ints); under = omega (arith, ints); over = omega (arith, ints) })
+          (λ n w.
+          let li : i ≤ n = a.least n (omega (arith, ints)) (omega (arith, ints)) in
+          let lj : j ≤ n = b.least n (omega (arith, ints)) (omega (arith, ints)) in
+          let lm : m ≤ n = c.least n (omega (arith, ints)) (omega (arith, ints)) in
+          max-le (max-le li lj) lm),
+    )
 
 -- and only one
 pub distance_one : (p q : Point) (j k : ℕ) → IsDistance p q j → IsDistance p q k → j ≡ k
@@ -94,3 +96,39 @@ distance_step p next q j k way first second =
     let h1 = distance_tight p q j (1 + k) first on in
     let h2 = distance_tight next q k (1 + j) second back in
     (omega arith, omega arith)
+
+-- a neighbour is another place
+moved : (p q : Point) (d : Dir) → IsStep p d q → p ≡ q → ⊥
+moved p q d s e = off d (subst (IsStep p d) (sym e) s) where
+  off : (d : Dir) → IsStep p d p → ⊥
+  off East s = omega (arith, ints)
+  off SouthEast s = omega (arith, ints)
+  off SouthWest s = omega (arith, ints)
+  off West s = omega (arith, ints)
+  off NorthWest s = omega (arith, ints)
+  off NorthEast s = omega (arith, ints)
+
+-- a walk of no step leads nowhere else
+walk_none : (p q : Point) (n : ℕ) → Walk n p q → n ≡ 0 → p ≡ q
+walk_none p q n walk none = within_none p q (subst (λ m. Within m p q) none (walk_within n p q walk))
+
+-- from a place to a neighbour it takes a step
+some_step : (p q : Point) → IsAdjacent p q → (n : ℕ) → Walk n p q → 1 ≤ n
+some_step p q way zero walk = absurd (moved p q way.0 (subst (IsStep p way.0) way.1 (step_is p way.0)) (walk_none p q zero walk refl))
+some_step p q way (suc n) walk = omega arith
+
+-- neighbours are at distance one
+pub adjacent_distance : (p q : Point) → IsAdjacent p q → IsDistance p q 1
+adjacent_distance p q way = record { reached = record { positions = q ∷ []; steps = refl; leads = (way, refl) }; least = some_step p q way }
+
+-- and what is at distance one is a neighbour
+first_step : (p q : Point) (positions : List Point) → length positions ≡ 1 → LeadsTo p positions q → IsAdjacent p q
+first_step p q [] one leads = absurd (omega arith)
+first_step p q (next ∷ []) one leads = subst (IsAdjacent p) leads.1 leads.0
+first_step p q (next ∷ (other ∷ rest)) one leads = absurd (omega arith)
+
+pub distance_adjacent : (p q : Point) → IsDistance p q 1 → IsAdjacent p q
+distance_adjacent p q far = first_step p q far.reached.positions far.reached.steps far.reached.leads
+
+pub adjacent_back : (p q : Point) → IsAdjacent p q → IsAdjacent q p
+adjacent_back p q way = distance_adjacent q p (distance_back p q 1 (adjacent_distance p q way))

@@ -1,13 +1,13 @@
 -- The distance of two positions by their columns along slanting lines, and the laws of distances.
-use Rattle.hex_geometry.proofs.Walks.{Within, half, reach_distance, slant}
+use Rattle.hex_geometry.proofs.Walks.{half, reach_distance, slant}
 use Rattle.hex_geometry.specs.Distance.{IsDistance}
 use Rattle.hex_geometry.specs.Inner.Slant.{slant_of}
 use Rattle.hex_geometry.specs.Position.{point_of}
 use Rattle.hex_geometry.specs.declared.position.Pos.{Pos}
-use Rattle.std.proofs.Common.{◌≡◌, ℕ, ◌+◌, ◌≤◌, max, refl, arith}
+use Rattle.std.proofs.Common.{◌≡◌, ℕ, ◌+◌, ◌≤◌, max, arith}
 use Rattle.std.proofs.lemmas.Int.{ints}
 use Rattle.std.specs.Int.{abs_diff}
-use Rattle.std.specs.Prelude.{ℤ, pos, ◌+ℤ◌, ◌-ℤ◌}
+use Rattle.std.specs.Prelude.{pos, ◌+ℤ◌}
 
 -- the slanting column, from its start
 slant_is : (p : Pos) → p.y ≤ 65535 → slant (point_of p) +ℤ pos 32768 ≡ pos (slant_of p)

@@ -1,13 +1,13 @@
 -- The least walk, by three differences of coordinates.
-use Rattle.hex_geometry.specs.Distance.{IsAdjacent, IsDistance, LeadsTo, Walk}
+use Rattle.hex_geometry.specs.Distance.{IsDistance, LeadsTo, Walk}
 use Rattle.hex_geometry.specs.Neighbourhood.{adjacent_point, beside_in_even, beside_in_odd, is_even}
 use Rattle.hex_geometry.specs.Position.{Point}
 use Rattle.hex_geometry.specs.declared.direction.Dir.{Dir}
 use Rattle.hex_geometry.specs.declared.direction.Dir.TheVariants.{East, SouthEast, SouthWest, West, NorthWest, NorthEast}
-use Rattle.std.proofs.Common.{◌≡◌, ◌≢◌, ℕ, zero, suc, ◌+◌, ◌%◌, ◌/◌, ◌≤◌, ◌<◌, List, [], ◌∷◌, length, true, false, refl, sym, ◌∙◌, ap, arith, subst, inl, inr}
+use Rattle.std.proofs.Common.{◌≡◌, ◌≢◌, ℕ, zero, suc, ◌%◌, ◌/◌, ◌≤◌, List, [], ◌∷◌, length, true, false, refl, sym, ◌∙◌, ap, arith, subst, inl, inr}
 use Rattle.std.proofs.lemmas.Bool.{cond_both, eqb-true, eqb-false}
 use Rattle.std.proofs.lemmas.Int.{ints}
-use Rattle.std.specs.Prelude.{ℤ, pos, negsuc, ◌+ℤ◌, ◌-ℤ◌, ◌==◌, ◌⊎◌}
+use Rattle.std.specs.Prelude.{ℤ, pos, negsuc, ◌+ℤ◌, ◌-ℤ◌, ◌⊎◌}
 use lib.Signed.{◌≤ℤ◌}
 
 -- half of a whole number, rounded down

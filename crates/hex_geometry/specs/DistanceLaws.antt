@@ -1,5 +1,5 @@
 -- How distances lie to each other (the task's geometry).
-use Rattle.std.specs.Prelude.{◌≡◌, ℕ, ◌+◌, ◌*◌, ◌≤◌, List, length}
+use Rattle.std.specs.Prelude.{◌≡◌, ℕ, ◌+◌, ◌*◌, ◌≤◌, ◌↔◌, List, length}
 use Rattle.hex_geometry.specs.Distance.{HasBall, IsAdjacent, IsDistance, ListsBall}
 use Rattle.hex_geometry.specs.Position.{Point}
 use Rattle.hex_geometry.specs.declared.position.Pos.{Pos}
@@ -17,9 +17,13 @@ pub record DistanceIsMetric : Type 0 where
   -- a way over a third place is no shorter
   pub triangle : (p q r : Point) (j k n : ℕ) → IsDistance p q j → IsDistance q r k → IsDistance p r n → n ≤ j + k
 
--- a step changes a distance by one at most
-abbrev pub StepsChangeByOne : Type 0
-StepsChangeByOne = (p next q : Point) (j k : ℕ) → IsAdjacent p next → IsDistance p q j → IsDistance next q k → (j ≤ k + 1) × (k ≤ j + 1)
+-- over all pairs of whole numbers
+pub record StepsChangeByOne : Type 0 where
+  -- a step changes a distance by one at most
+  pub change : (p next q : Point) (j k : ℕ) → IsAdjacent p next → IsDistance p q j → IsDistance next q k → (j ≤ k + 1) × (k ≤ j + 1)
+  -- neighbours are the places at distance one, so that neighbourhood is mutual
+  pub neighbours : (p q : Point) → IsAdjacent p q ↔ IsDistance p q 1
+  pub both_ways : (p q : Point) → IsAdjacent p q → IsAdjacent q p
 
 -- the ball of radius r has 3 r (r + 1) + 1 positions
 abbrev pub BallsAreCounted : Type 0

@@ -25,12 +25,7 @@ pub fn ball(alloc: Global, centre: Pos, radius: u16) -> Result<Vec<Pos>, OutOfMe
 }
 
 // Adds the ball's positions of one row.
-fn push_row(
-    found: &mut Vec<Pos>,
-    centre: Pos,
-    radius: u16,
-    y: u16,
-) -> Result<(), OutOfMemory>
+fn push_row(found: &mut Vec<Pos>, centre: Pos, radius: u16, y: u16) -> Result<(), OutOfMemory>
     requires ball { HasBall centre radius }
     requires row { IsBallRow centre radius y }
     ensures { OnOk result (found.new.items ≡ found.old.items ++ line (first_column centre radius y) y (column_count centre radius y)) }

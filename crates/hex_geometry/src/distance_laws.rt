@@ -7,7 +7,8 @@ pub fn distance_is_metric()
     ensures { DistanceIsMetric }
 {}
 
-/// A law: a step changes the distance to any place by one at most (the task's geometry).
+/// A law: a step changes the distance to any place by one at most, and the neighbours of a place are the places at distance one, so that
+/// neighbourhood is mutual (the task's geometry).
 pub fn steps_change_by_one()
     ensures { StepsChangeByOne }
 {}

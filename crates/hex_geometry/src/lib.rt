@@ -3,7 +3,9 @@
 //! The task's geometry: rows of six-sided cells, every odd row shifted half a cell to the right.
 //!
 //! To the crates above it promises that a neighbour is the one of the task's table, which is stated over all pairs of whole numbers, that a
-//! turn is a sum modulo six, and that a sensed position and the list of neighbours follow from these two. Nothing here takes memory.
+//! turn is a sum modulo six, and that a sensed position and the list of neighbours follow from these two; that a distance is the least number
+//! of steps of a walk over all pairs of whole numbers, and that a ball lists each position within its radius once, in row order. Nothing
+//! here but the list of a ball takes memory.
 //!
 //! It stands on no other crate.
 #![tactic(auto)]

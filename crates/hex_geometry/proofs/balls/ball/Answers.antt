@@ -5,7 +5,7 @@ use Rattle.hex_geometry.proofs.balls.ball.Goals as goal
 use Rattle.hex_geometry.specs.Distance.{ListsBall}
 use Rattle.hex_geometry.specs.Inner.BallRows.{rows}
 use Rattle.hex_geometry.specs.declared.position.Pos.{Pos}
-use Rattle.std.proofs.Common.{List, ◌++◌, ◌∙◌, length, vec_len, ◌≡◌, ◌+◌, ◌*◌, ap, arith, subst, sym, add-one}
+use Rattle.std.proofs.Common.{List, ◌∙◌, length, vec_len, ◌≡◌, ◌+◌, ◌*◌, ap, arith, subst, sym, add-one}
 
 pub loop-row-init : goal.loop-row-init
 unfolding rows

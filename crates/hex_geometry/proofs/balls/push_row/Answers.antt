@@ -2,7 +2,7 @@
 use Rattle.hex_geometry.proofs.BallRows.{line_more}
 use Rattle.hex_geometry.proofs.balls.push_row.Goals as goal
 use Rattle.hex_geometry.specs.Inner.BallRows.{line}
-use Rattle.std.proofs.Common.{append_assoc, add-one, ◌∙◌, ap, sym}
+use Rattle.std.proofs.Common.{add-one, ◌∙◌, sym}
 use Rattle.std.proofs.lemmas.List.{append-nil}
 
 pub loop-column-init : goal.loop-column-init
