@@ -14,6 +14,8 @@ pub mod MarksKept
 pub mod OwnCells
 pub mod Parts
 pub mod Quiet
+pub mod RenumberLemmas
+pub mod RenumberedTurns
 pub mod Standing
 pub mod TurnWorked
 pub mod Turns
