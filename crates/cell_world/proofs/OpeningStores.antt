@@ -1,5 +1,5 @@
 -- The tiles and the bodies of an opening world, and how they read.
-use Rattle.std.proofs.Common.{◌≡◌, ℕ, ◌+◌, ◌<◌, List, [], ◌∷◌, ◌++◌, length, map, Option, Some, refl, sym, ◌∙◌, ap, ap₂, subst, ◌≤◌, None, arith}
+use Rattle.std.proofs.Common.{◌≡◌, ℕ, ◌+◌, ◌<◌, List, [], ◌∷◌, ◌++◌, length, map, Option, Some, refl, sym, ◌∙◌, ap, ap₂, subst, ◌≤◌, arith}
 use Rattle.std.proofs.Math.Seq.{get_or-append_seam}
 use Rattle.std.proofs.lemmas.List.{append_assoc, length-append, length-map, map-append}
 use Rattle.hex_geometry.specs.declared.position.Pos.{Pos}
@@ -15,7 +15,7 @@ use Rattle.cell_world.specs.Grid.{Grid}
 use Rattle.cell_world.specs.Limits.{most_ants}
 use Rattle.cell_world.specs.Opening.{floor, hill_count, hill_places, is_hill, opening, opening_cell, opening_cells, opening_places}
 use Rattle.cell_world.specs.Places.{IsKnown}
-use Rattle.cell_world.specs.Stored.{ant_from, ant_named, cell_from, grid_from, hill_of, id_of, nobody, occupant_id, occupant_of, new_bodies, new_body, no_body, opening_bodies, opening_tiles, places_of}
+use Rattle.cell_world.specs.Stored.{ant_from, ant_named, cell_from, grid_from, hill_of, id_of, nobody, new_bodies, new_body, no_body, opening_bodies, opening_tiles, places_of}
 use Rattle.cell_world.specs.World.{pos_at}
 use Rattle.cell_world.proofs.Bodies.{occupant_id-of}
 use Rattle.cell_world.proofs.OpeningPlaces.{length-opening_places}
