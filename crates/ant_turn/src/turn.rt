@@ -13,8 +13,8 @@ use crate::brains::Brains;
 use crate::conditions::meets;
 use crate::kills::check_around;
 use crate::own_cell::{
-    arrived, branched, dropped, faced, in_state, is_blocked, left_by_ant, marked, picked_up, rested,
-    unmarked,
+    arrived, branched, dropped, faced, in_state, is_blocked, left_by_ant, marked, picked_up,
+    rested, unmarked,
 };
 use crate::sheet::Sheet;
 use ant_random::Stream;
@@ -109,14 +109,7 @@ fn step<G: Ground>(
 
 // A Move of the ant of `p`.
 #[inline]
-fn go<G: Ground>(
-    ground: &mut G,
-    sheet: Sheet,
-    p: Pos,
-    ant: Ant,
-    met: u16,
-    unmet: u16,
-) -> Deed
+fn go<G: Ground>(ground: &mut G, sheet: Sheet, p: Pos, ant: Ant, met: u16, unmet: u16) -> Deed
     requires stands { Stands (G.world ground.old) p ((G.world ground.old).cells p) ant }
     requires room { 9 ≤ G.room ground.old }
     ensures world { (seed place : ℕ) → G.world ground.new ≡ with_cells (G.world ground.old)
