@@ -1,7 +1,6 @@
 -- Cells and their parts, and patches.
-use Rattle.std.proofs.Common.{◌≡◌, inl, inr, ℕ, Bool, true, false, if◌then◌else◌, ◌||◌, Option, Some, None, option_map, refl, sym, ◌∙◌, ap, ap₂, subst}
+use Rattle.std.proofs.Common.{◌≡◌, inl, inr, ℕ, Bool, true, false, ◌||◌, Option, Some, None, option_map, refl, sym, ◌∙◌, ap}
 use Rattle.std.proofs.lemmas.Bool.{both_ways, cases_Bool, cond-true, cond-false, false≢true}
-use Rattle.hex_geometry.specs.declared.direction.Dir.{Dir}
 use Rattle.cell_world.specs.declared.ant.Ant.{Ant}
 use Rattle.cell_world.specs.declared.ant.Colour.{Colour}
 use Rattle.cell_world.specs.declared.cell.Cell.{Cell}
@@ -9,7 +8,7 @@ use Rattle.cell_world.specs.declared.marks.Marks.{Marks}
 use Rattle.cell_world.specs.declared.part.Part.{Part}
 use Rattle.cell_world.specs.declared.part.Part.TheVariants.{Who, Mind, Load, Food, RedMarks, BlackMarks}
 use Rattle.cell_world.specs.declared.part.Parts.{Parts}
-use Rattle.cell_world.specs.Parts.{Agree, Alike, CanPatch, Identity, IsSameAnt, Posture, has_part, identity_of, patched, patched_ant, patched_by, posture_of}
+use Rattle.cell_world.specs.Parts.{Agree, Alike, CanPatch, Identity, IsSameAnt, Posture, has_part, identity_of, patched, patched_ant, posture_of}
 use Rattle.cell_world.specs.PartLaws.{AreApart, HasParts}
 
 -- ants of one identity, posture and load are one

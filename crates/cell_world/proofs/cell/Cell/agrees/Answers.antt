@@ -1,6 +1,6 @@
 use Rattle.std.proofs.Common.{◌≡◌, true, refl}
 use Rattle.std.specs.Prelude.{◌↔◌}
-use Rattle.cell_world.specs.declared.part.Part.TheVariants.{Who, Mind, Load, Food, RedMarks, BlackMarks}
+use Rattle.cell_world.specs.declared.part.Part.TheVariants.{Who, Mind, Load, Food, RedMarks}
 use Rattle.cell_world.proofs.PartAnswers.{AgreeIn, both_hold, one_fails, six_hold}
 use Rattle.cell_world.proofs.cell.Cell.agrees.Goals.{then-agrees_in, else-agrees_in, then-agrees_in-2, else-agrees_in-2, then-agrees_in-3, else-agrees_in-3, then-agrees_in-4, else-agrees_in-4}
 use Rattle.cell_world.proofs.cell.Cell.agrees.Goals as goal

@@ -1,4 +1,3 @@
-use Rattle.std.proofs.Common.{◌≡◌}
 use Rattle.cell_world.specs.Parts.{patched}
 use Rattle.cell_world.proofs.cell.Cell.patched.Goals as goal
 
