@@ -5,5 +5,6 @@
 #![tactic(auto)]
 
 mod look;
+mod look_laws;
 
 pub use look::Look;
