@@ -1,1 +1,4 @@
+pub mod CheckSteps
 pub mod Claiming
+pub mod OwnSteps
+pub mod Steps
