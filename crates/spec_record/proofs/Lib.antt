@@ -2,3 +2,4 @@ pub mod CheckSteps
 pub mod Claiming
 pub mod OwnSteps
 pub mod Steps
+pub mod TurnSteps

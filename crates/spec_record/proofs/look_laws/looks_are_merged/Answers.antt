@@ -1,5 +1,5 @@
 use Rattle.spec_record.proofs.Claiming.{parts_at-merged}
-use Rattle.spec_record.proofs.CheckSteps.{check_steps}
+use Rattle.spec_record.proofs.TurnSteps.{turn_both}
 use Rattle.spec_record.proofs.look_laws.looks_are_merged.Goals as goal
 
 pub returns : goal.returns
