@@ -1,6 +1,8 @@
 -- What is claimed at a position, and what merging of claims keeps.
-use Rattle.std.proofs.Common.{◌≡◌, ◌≢◌, inl, inr, Bool, true, false, ◌||◌, if◌then◌else◌, List, [], ◌∷◌, ◌++◌, map, refl, sym, ◌∙◌, ap, subst}
-use Rattle.std.specs.List.{AllByRecursion}
+use Rattle.std.proofs.Common.{◌≡◌, ◌≢◌, inl, inr, Bool, true, false, ◌||◌, if◌then◌else◌, List, [], ◌∷◌, ◌++◌, map, refl, sym, ◌∙◌, ap, subst, arith}
+use Rattle.std.specs.List.{All, AllByRecursion, AllPairs}
+use Rattle.std.proofs.lemmas.List.Elements.{All-cons}
+use Rattle.std.proofs.lemmas.List.Kept.{AllPairs-cons}
 use Rattle.std.proofs.lemmas.Bool.{cases_Bool, cond-true, cond-false, or_cases, or_left, or_right}
 use Rattle.hex_geometry.specs.declared.position.Pos.{Pos}
 use Rattle.hex_geometry.specs.Position.{same_pos}
@@ -150,9 +152,10 @@ AgreeInAll-joined v w (old ∷ claims) new all =
     elim (cases_Bool (same_pos old.at new.at)) [
       | inl one ↦
           let at : old.at ≡ new.at = same_pos_true old.at new.at one in
-          let it : AgreeInAll v w (claim old.at (union old.parts new.parts) ∷ claims) = subst (AgreeInAll v w) (cond-true _ (claim old.at (union old.parts new.parts) ∷ claims) (old ∷ joined claims new) one) all in
-          ((Agree-first old.parts new.parts (v old.at) (w old.at) it.0, it.1),
-          subst (λ q. Agree new.parts (v q) (w q)) at (Agree-second old.parts new.parts (v old.at) (w old.at) it.0))
+          let it : AgreeInAll v w (claim old.at (union old.parts new.parts) ∷ claims) = subst (AgreeInAll v w) (cond-true _ (claim old.at (union old.parts new.parts) ∷ claims) (old ∷ joined claims new) one) all in (
+            (Agree-first old.parts new.parts (v old.at) (w old.at) it.0, it.1),
+            subst (λ q. Agree new.parts (v q) (w q)) at (Agree-second old.parts new.parts (v old.at) (w old.at) it.0),
+          )
       | inr apart ↦
           let it : AgreeInAll v w (old ∷ joined claims new) = subst (AgreeInAll v w) (cond-false _ (claim old.at (union old.parts new.parts) ∷ claims) (old ∷ joined claims new) apart) all in
           let rest : AgreeInAll v w claims × Agree new.parts (v new.at) (w new.at) = AgreeInAll-joined v w claims new it.1 in
@@ -210,3 +213,17 @@ EachOnce-merged claims = EachOnce-merged_onto claims [] tt
 pub parts_at-fresh : (claims : List Claim) (p : Pos) → AllByRecursion (λ q. q ≢ p) (positions claims) → parts_at claims p ≡ no_parts
 parts_at-fresh [] p fresh = refl
 parts_at-fresh (c ∷ claims) p fresh = ap (λ t. union t (parts_at claims p)) (parts_there-elsewhere c p fresh.0) ∙ parts_at-fresh claims p fresh.1
+
+-- what holds of each of a list holds of all of it
+all_of : {A : Type 0} (P : A → Type 0) (xs : List A) → AllByRecursion P xs → All P xs
+all_of {A} P [] each = λ i d within. absurd (omega (arith, within))
+all_of {A} P (x ∷ xs) each = All-cons P x xs each.0 (all_of P xs each.1)
+
+-- positions that are each there once are pairwise two
+EachOnce-AllPairs : (places : List Pos) → EachOnce places → AllPairs ◌≢◌ places
+EachOnce-AllPairs [] once = λ i j d before within. absurd (omega (arith, within))
+EachOnce-AllPairs (p ∷ places) once =
+    AllPairs-cons ◌≢◌ p places (λ k d inside same. all_of (λ q. q ≢ p) places once.0 k d inside (sym same)) (EachOnce-AllPairs places once.1)
+
+pub AllPairs-positions : (claims : List Claim) → AllPairs ◌≢◌ (positions (merged claims))
+AllPairs-positions claims = EachOnce-AllPairs (positions (merged claims)) (EachOnce-merged claims)

@@ -187,6 +187,7 @@ left_step c d = record { named = named; base_others = others c; now_others = oth
   named Food in_it = absurd (false≢true in_it)
   named RedMarks in_it = absurd (false≢true in_it)
   named BlackMarks in_it = absurd (false≢true in_it)
+
   others : (e : Cell) (k : Part) → has_part (union (only Mind) whole_ant) k ≡ false → Alike k (left_by_ant e) e
   others e Who other = absurd (true≢false other)
   others e Mind other = absurd (true≢false other)
@@ -205,6 +206,7 @@ arrived_step c d ant = record { named = named; base_others = others c; now_other
   named Food in_it = absurd (false≢true in_it)
   named RedMarks in_it = absurd (false≢true in_it)
   named BlackMarks in_it = absurd (false≢true in_it)
+
   others : (e : Cell) (k : Part) → has_part whole_ant k ≡ false → Alike k (with_ant e ant) e
   others e Who other = absurd (true≢false other)
   others e Mind other = absurd (true≢false other)
@@ -233,6 +235,7 @@ kill_step sheet c d load food = record { named = named; base_others = others c; 
   named Food in_it = ap₂ (λ m n. m + n) food (corpse_food-load sheet c.ant ∙ ap (left_with sheet) load ∙ sym (corpse_food-load sheet d.ant))
   named RedMarks in_it = absurd (false≢true in_it)
   named BlackMarks in_it = absurd (false≢true in_it)
+
   others : (e : Cell) (k : Part) → has_part ant_and_food k ≡ false → Alike k (after_kill sheet e) e
   others e Who other = absurd (true≢false other)
   others e Mind other = absurd (true≢false other)

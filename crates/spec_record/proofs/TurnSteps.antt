@@ -117,10 +117,11 @@ module _ (sheet : Sheet) (v w : Cells) (p : Pos) (ant : Ant) (q : Pos) (next : �
       let Same : Pos → Type 0 = λ r. Alike part.Who (v1 r) (w1 r) in
       let both : AllByRecursion Same (places_around q) × AllByRecursion Same (flat_map (neighbours_if_manned v1) (neighbours_of q)) =
       all_split Same (places_around q) (flat_map (neighbours_if_manned v1) (neighbours_of q)) all in
-      let beyond : AllByRecursion (λ n. AllByRecursion Same (neighbours_if_manned v1 n)) (neighbours_of q) = all_of_flat_map Same (neighbours_if_manned v1) (neighbours_of q) both.1 in
-      (record { here = both.0.0; around = λ _. both.0.1 },
-      all_both Same (λ n. AllByRecursion Same (neighbours_if_manned v1 n)) (Sees v1 w1) (neighbours_of q)
-      (λ n here near. record { here = here; around = λ has. subst (AllByRecursion Same) (cond-true _ _ _ has) near }) both.0.1 beyond)
+      let beyond : AllByRecursion (λ n. AllByRecursion Same (neighbours_if_manned v1 n)) (neighbours_of q) = all_of_flat_map Same (neighbours_if_manned v1) (neighbours_of q) both.1 in (
+        record { here = both.0.0; around = λ _. both.0.1 },
+        all_both Same (λ n. AllByRecursion Same (neighbours_if_manned v1 n)) (Sees v1 w1) (neighbours_of q)
+            (λ n here near. record { here = here; around = λ has. subst (AllByRecursion Same) (cond-true _ _ _ has) near }) both.0.1 beyond,
+      )
 
   -- the step and its checks
   pub go_step : AgreeInAll v w (map (λ r. claim r (only part.Who)) (seen_around (stepped sheet v p ant q next) q) ++ map (λ r. claim r load_and_food) (emptied sheet (stepped sheet v p ant q next) (places_around q))) →
@@ -285,7 +286,7 @@ module _ (minds : Minds) (seed : ℕ) (base : World) (guess : ℕ) (now : World)
   unfolding turn
   stands_both p a found is id agree guessed =
       let it : (laden : Bool) × ((now.cells p).ant ≡ Some (record a { laden = laden })) = same_but_load a (now.cells p).ant
-          (sym (ap (option_map identity_of) is) ∙ agree.0 part.Who refl) (sym (ap (option_map posture_of) is) ∙ agree.0 part.Mind refl) in
+      (sym (ap (option_map identity_of) is) ∙ agree.0 part.Who refl) (sym (ap (option_map posture_of) is) ∙ agree.0 part.Mind refl) in
       let inside : IsInside base.width base.height p = place_in-inside base t p found in
       let held : holds_id t (now.cells p) ≡ true = ap (is_ant t) it.1 ∙ eq-eqb a.id t id in
       let there : place_in now t ≡ Some p = place_in-only now t p (record { column = rw goes.width inside.column; row = rw goes.height inside.row }) held (λ q also. goes.once q p also held) in

@@ -1,6 +1,5 @@
-use Rattle.spec_record.proofs.Claiming.{parts_at-merged}
-use Rattle.spec_record.proofs.TurnSteps.{turn_both}
+use Rattle.spec_record.proofs.Claiming.{AllPairs-positions, parts_at-merged}
 use Rattle.spec_record.proofs.look_laws.looks_are_merged.Goals as goal
 
 pub returns : goal.returns
-returns c = λ claims. (?, parts_at-merged claims)
+returns c = λ claims. (AllPairs-positions claims, parts_at-merged claims)
