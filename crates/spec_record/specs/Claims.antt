@@ -1,0 +1,38 @@
+-- Positions, each with parts of its cell.
+use Rattle.std.specs.Prelude.{ℕ, Bool, true, false, if◌then◌else◌, ◌||◌, List, [], ◌∷◌, map}
+use Rattle.hex_geometry.specs.declared.position.Pos.{Pos}
+use Rattle.hex_geometry.specs.Position.{same_pos}
+use Rattle.cell_world.specs.declared.cell.Cell.{Cell}
+use Rattle.cell_world.specs.declared.part.Parts.{Parts}
+use Rattle.cell_world.specs.Parts.{union}
+use Rattle.cell_world.specs.World.{Cells}
+
+-- a position, and parts of its cell; there may be none
+pub record Claim : Type 0 where
+  pub at : Pos
+  pub parts : Parts
+
+abbrev pub claim : Pos → Parts → Claim
+claim p parts = record { at = p; parts = parts }
+
+-- one claim more: where the position is claimed already the parts go there, else it comes last
+abbrev pub joined : List Claim → Claim → List Claim
+joined [] new = new ∷ []
+joined (old ∷ claims) new = if same_pos old.at new.at then claim old.at (union old.parts new.parts) ∷ claims else old ∷ joined claims new
+
+-- these claims, and then more
+abbrev pub merged_onto : List Claim → List Claim → List Claim
+merged_onto claims [] = claims
+merged_onto claims (new ∷ more) = merged_onto (joined claims new) more
+
+-- each position once, in the order in which they are first claimed, with all parts that are claimed there
+unfoldable pub merged : List Claim → List Claim
+merged claims = merged_onto [] claims
+
+-- a position, parts, and a cell that was seen or left there
+abbrev pub Sighting : Type 0
+Sighting = Pos × Parts × Cell
+
+-- the claims, each with what the cells hold there
+abbrev pub with_cells_at : Cells → List Claim → List Sighting
+with_cells_at cells claims = map (λ c. (c.at, c.parts, cells c.at)) claims

@@ -1,0 +1,11 @@
+//! Looks: turns worked out ahead, on the world with which a window of turns begins.
+//!
+//! A look records what the turn of an ant reads and what it would write, by parts of cells, so that it can be settled later, on a world that
+//! other turns have changed meanwhile: where nothing that it read is different, the turn is what was looked at. This is this project's own.
+#![tactic(auto)]
+
+mod look;
+mod look_laws;
+
+pub use look::Look;
+pub use look_laws::{looks_are_merged, turns_are_local, turns_are_local_alone, turns_are_patches};
