@@ -1,23 +1,53 @@
-// Cells as an ant leaves them in its turn.
+// Ants and cells as a turn leaves them.
 ghost use Rattle.std.specs.Prelude.{◌≡◌, ◌<◌, ◌≤◌, ◌+◌, ◌-◌, ◌||◌, ◌==◌, if◌then◌else◌, Some, true, false};
 ghost use Rattle.hex_geometry.specs.Direction.{turned_by};
 ghost use Rattle.cell_world.specs.Cell.{one_if};
 ghost use Rattle.cell_world.specs.Limits.{most_weight};
-ghost use Rattle.ant_turn.specs.Sheet.{contest};
+ghost use Rattle.ant_turn.specs.Sheet.{sheet_of};
 ghost use Rattle.ant_turn.specs.Turn as turn;
 
+use crate::sheet::Sheet;
 use cell_world::{Ant, Cell, Colour};
 use hex_geometry::{Side, turned};
 
-// For how many turns an ant rests after a Move that went.
-const REST: u8 = 14;
-
 // The ant in this state.
 #[inline]
-fn in_state(ant: Ant, state: u16) -> Ant
+pub(crate) fn in_state(ant: Ant, state: u16) -> Ant
     ensures { result ≡ turn.in_state ant state }
 {
     Ant { state, ..ant }
+}
+
+// The ant when it has rested for a turn.
+#[inline]
+pub(crate) fn rested(ant: Ant) -> Ant
+    requires { 1 ≤ ant.resting }
+    ensures { result ≡ record ant { resting = ant.resting - 1 } }
+{
+    Ant {
+        resting: ant.resting - 1,
+        ..ant
+    }
+}
+
+// The ant after a Sense or a Flip: it goes on in one of two states.
+#[inline]
+pub(crate) fn branched(ant: Ant, first: bool, met: u16, unmet: u16) -> Ant
+    ensures { result ≡ turn.in_state ant (if first then met else unmet) }
+{
+    in_state(ant, if first { met } else { unmet })
+}
+
+// The ant after a Turn.
+#[inline]
+pub(crate) fn faced(ant: Ant, side: Side, next: u16) -> Ant
+    ensures { result ≡ record ant { facing = turned_by ant.facing side; state = next } }
+{
+    Ant {
+        state: next,
+        facing: turned(ant.facing, side),
+        ..ant
+    }
 }
 
 // The cell with this ant.
@@ -29,29 +59,6 @@ fn with_ant(cell: &Cell, ant: Ant) -> Cell
         ant: Some(ant),
         ..*cell
     }
-}
-
-// The own cell when the ant has rested for a turn.
-#[inline]
-pub(crate) fn rested(cell: &Cell, ant: Ant) -> Cell
-    requires { 1 ≤ ant.resting }
-    ensures { result ≡ turn.with_ant cell.now (record ant { resting = ant.resting - 1 }) }
-{
-    with_ant(
-        cell,
-        Ant {
-            resting: ant.resting - 1,
-            ..ant
-        },
-    )
-}
-
-// The own cell after a Sense, a Flip or a blocked Move: the ant goes on in one of two states.
-#[inline]
-pub(crate) fn branched(cell: &Cell, ant: Ant, first: bool, met: u16, unmet: u16) -> Cell
-    ensures { result ≡ turn.with_ant cell.now (turn.in_state ant (if first then met else unmet)) }
-{
-    with_ant(cell, in_state(ant, if first { met } else { unmet }))
 }
 
 // The own cell after a Mark.
@@ -135,21 +142,6 @@ pub(crate) fn dropped(cell: &Cell, ant: Ant, next: u16) -> Cell
     }
 }
 
-// The own cell after a Turn.
-#[inline]
-pub(crate) fn faced(cell: &Cell, ant: Ant, side: Side, next: u16) -> Cell
-    ensures { result ≡ turn.with_ant cell.now (record ant { facing = turned_by ant.facing side; state = next }) }
-{
-    with_ant(
-        cell,
-        Ant {
-            state: next,
-            facing: turned(ant.facing, side),
-            ..ant
-        },
-    )
-}
-
 // Whether no ant can move onto the cell: it is rocky or holds an ant.
 #[inline]
 pub(crate) fn is_blocked(cell: &Cell) -> bool
@@ -168,14 +160,14 @@ pub(crate) fn left_by_ant(cell: &Cell) -> Cell
 
 // The cell onto which an ant has stepped.
 #[inline]
-pub(crate) fn arrived(cell: &Cell, ant: Ant, next: u16) -> Cell
-    ensures { result ≡ turn.with_ant cell.now (turn.arrived contest ant next) }
+pub(crate) fn arrived(sheet: Sheet, cell: &Cell, ant: Ant, next: u16) -> Cell
+    ensures { result ≡ turn.with_ant cell.now (turn.arrived (sheet_of sheet) ant next) }
 {
     with_ant(
         cell,
         Ant {
             state: next,
-            resting: REST,
+            resting: sheet.rest(),
             ..ant
         },
     )

@@ -6,6 +6,7 @@
 
 mod going;
 mod guess;
+mod look_laws;
 mod record;
 mod sightings;
 mod staying;
@@ -13,6 +14,7 @@ mod trail;
 mod working;
 
 pub use guess::{at_flip, guesses};
+pub use look_laws::{looks_are_merged, turns_are_local, turns_are_local_alone, turns_are_patches};
 pub use record::Look;
 pub use trail::Trail;
 pub use working::look;
