@@ -16,6 +16,7 @@ pub mod Parts
 pub mod Quiet
 pub mod RenumberLemmas
 pub mod RenumberedTurns
+pub mod RulesWorked
 pub mod SheetWorked
 pub mod Standing
 pub mod TurnWorked
