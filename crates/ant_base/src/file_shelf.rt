@@ -1,11 +1,12 @@
 // A shelf of files.
-ghost use Rattle.std.specs.Prelude.{◌≡◌, ◌≢◌, ◌<◌, ◌≤◌, IfOk, IfSome, Err, length, if◌then◌else◌};
+ghost use Rattle.std.specs.Prelude.{◌≡◌, ◌≢◌, ◌<◌, ◌≤◌, [], IfOk, IfSome, Err, length, if◌then◌else◌};
 ghost use Rattle.std.specs.IoError.{error_kind};
 ghost use Rattle.ant_base.specs.Faults.{one_more};
 ghost use Rattle.ant_base.specs.Shelf.{Fetches, is_failed, longest};
-ghost use Rattle.ant_base.specs.Streams.{silent_shelf};
+ghost use Rattle.ant_base.specs.Streams.{shelf_of_files};
 
 use crate::shelf::LONGEST;
+use crate::trail::Trail;
 use crate::{FetchFault, Shelf};
 use std::alloc::Global;
 use std::fs::{self, Files};
@@ -20,38 +21,43 @@ use std::marker::Model;
 pub struct FileShelf<'r, R> {
     rt: &'r R,
     faults: u64,
+    trail: Trail,
 }
 
 impl<'r, R> Model for FileShelf<'r, R> {
-    ghost use Rattle.std.specs.Prelude.{ℕ};
+    ghost use Rattle.ant_base.specs.Streams.{FileShelfState};
 
-    ghost Value = { ℕ };
+    ghost Value = { FileShelfState };
 
-    ghost view = { λ s. s.faults };
+    ghost view = { λ s. record { faults = s.faults; log = s.trail.fetches } };
 }
 
 impl<'r, R: Files + Input> FileShelf<'r, R> {
     /// The files and the standard input of this runtime, without a fault (this project's own).
     pub fn new(rt: &'r R) -> Self
-        ensures { result ≡ 0 }
+        ensures { result ≡ record { faults = 0; log = [] } }
     {
-        FileShelf { rt, faults: 0 }
+        FileShelf {
+            rt,
+            faults: 0,
+            trail: Trail::new(),
+        }
     }
 
     /// The count of faults, from 0 (this project's own).
     pub fn faults(&self) -> u64
-        ensures { result ≡ self.now }
+        ensures { result ≡ self.now.faults }
     {
         self.faults
     }
 }
 
 impl<R: Files + Input> Shelf for FileShelf<'_, R> {
-    ghost state = { silent_shelf };
+    ghost state = { shelf_of_files };
 
     fn fetch(&mut self, alloc: Global, name: &str) -> Result<Vec<u8>, FetchFault>
-        ensures shelf { Fetches (silent_shelf self.old) (silent_shelf self.new) name.now result }
-        ensures count { self.new ≡ (if is_failed result then one_more self.old else self.old) }
+        ensures shelf { Fetches (shelf_of_files self.old) (shelf_of_files self.new) name.now result }
+        ensures count { self.new.faults ≡ (if is_failed result then one_more self.old.faults else self.old.faults) }
     {
         let content = if name == "-" {
             read_content(alloc, self.rt.reader())
@@ -61,6 +67,7 @@ impl<R: Files + Input> Shelf for FileShelf<'_, R> {
         if matches!(content, Err(FetchFault::Failed)) {
             self.faults = self.faults.saturating_add(1);
         }
+        self.trail.note_fetch(name, &content);
         content
     }
 }

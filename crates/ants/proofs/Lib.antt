@@ -1,5 +1,4 @@
 pub mod Accepted
-pub mod Endings
 pub mod Readings
+pub mod Texts
 pub mod Verdicts
-pub mod Worlds

@@ -6,7 +6,7 @@
 
 mod brain;
 mod fetching;
-mod game;
+mod program;
 mod run;
 mod show;
 mod status;
@@ -14,7 +14,7 @@ mod stop;
 #[cfg(test)]
 mod tests;
 
-use crate::run::run_ants;
+use crate::program::run_ants;
 use crate::status::Status;
 use crate::stop::Stop;
 use ant_base::{ErrSink, FileShelf, Layout, NoGate, OutSink, Sink};

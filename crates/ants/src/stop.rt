@@ -33,6 +33,16 @@ pub enum Stop<'w> {
     Memory,
 }
 
+impl From<Failed> for Stop<'_> {
+    ghost use Rattle.ants.specs.declared.stop.Stop.TheVariants.{Write};
+
+    ghost from_gives = { λ _ stop. stop ≡ Write };
+
+    fn from(_: Failed) -> Self {
+        Stop::Write
+    }
+}
+
 // What a world file's fault says.
 #[derive(Clone, Copy)]
 struct WorldWords(WorldFault);
@@ -108,10 +118,10 @@ impl Layout for FileWords {
 
 // What a stop says, without the program's name.
 #[derive(Clone, Copy)]
-struct Reason<'s>(Stop<'s>);
+struct StopWords<'s>(Stop<'s>);
 
-impl Layout for Reason<'_> {
-    ghost text = { λ reason. reason_text (reason_of reason.0) };
+impl Layout for StopWords<'_> {
+    ghost text = { λ words. reason_text (reason_of words.0) };
 
     fn push_to<K: Sink>(&self, sink: &mut K) -> Result<(), Failed> {
         match self.0 {
@@ -129,7 +139,7 @@ impl Layout for Stop<'_> {
 
     #[tactic(auto, unfolding(crate::specs::Stopping::fault_line))]
     fn push_to<K: Sink>(&self, sink: &mut K) -> Result<(), Failed> {
-        layout!("ants: ", Reason(*self), "\n").push_to(sink)
+        layout!("ants: ", StopWords(*self), "\n").push_to(sink)
     }
 }
 

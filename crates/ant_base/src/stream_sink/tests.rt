@@ -20,6 +20,7 @@ enum Stop {
     TakesNothing(usize),
     Fails(usize),
     FlushFails,
+    Interrupted,
 }
 
 impl Stop {
@@ -48,6 +49,17 @@ impl Write for Slow {
         }
         self.flushes = self.flushes.saturating_add(1);
         Ok(())
+    }
+}
+
+// What a writer of tests holds back isn't told.
+impl Stream for Slow {
+    ghost use Rattle.std.specs.Prelude.{[]};
+
+    ghost waiting = { λ _. [] };
+
+    fn send(&mut self) -> io::Result<()> {
+        self.flush()
     }
 }
 
