@@ -1,6 +1,6 @@
 -- Files read one after another: what the reading of some and then of others comes to.
 use Rattle.std.proofs.Common.{◌≡◌, ℕ, ◌≤◌, Bool, true, false, List, [], ◌∷◌, ◌++◌, refl, sym, ◌∙◌, ap, subst, arith, inl, inr, Result, Ok, Err, Option, None, Some}
-use Rattle.std.specs.Prelude.{Vec}
+use Rattle.std.specs.Prelude.{IsErrAnd, Vec}
 use Rattle.ant_base.proofs.Fetching.{fetches_none, fetches_one, fetches_then}
 use Rattle.ant_base.specs.Faults.{Rose}
 use Rattle.ant_base.specs.Fetched.{Fetched}
@@ -12,8 +12,9 @@ use Rattle.command_words.specs.Command.{PlainCommand, IsCommand}
 use Rattle.ants.specs.declared.stop.FileFault.{FileFault}
 use Rattle.ants.specs.declared.stop.FileFault.TheVariants.{TooLong, World, Brain}
 use Rattle.ants.specs.declared.stop.Stop.{Stop}
+use Rattle.ants.specs.declared.stop.Stop.TheVariants as stop
 use Rattle.ants.specs.Files.{File, FileKind, Content, AreAccepted, AreBegun, IsAccepted, IsRefused, Refuses, StopsAt}
-use Rattle.ants.specs.Inner.Reading.{CarriesOut, CarriesOutWords, ComesTo, Outcome, ReadingStops, ReadsFiles, ReadsText, TextStops, fetch_reason, outcome_of}
+use Rattle.ants.specs.Inner.Reading.{CarriesOut, CarriesOutWords, ComesTo, Outcome, ReadingStops, ReadsFiles, ReadsText, TextStops, ending_of, fetch_reason, outcome_of}
 use Rattle.ants.specs.Inner.Reading.Outcome.{Contents, Stopped}
 use Rattle.ants.specs.Jobs.{files_of, job_text}
 use Rattle.ants.specs.Judged.{IsRefusedAs}
@@ -88,7 +89,7 @@ reading_stops_later first second third a b fetches more contents (AtWord word) e
 reading_stops_later first second third a b fetches more contents (AtFile name) each accepted stops =
     record {
       stopped = stops_later (IsUnsure first name) a b fetches more contents accepted
-      (stops_weaker (IsUnsure second name) (IsUnsure first name) b more (λ file fetch is. record { named = is.named; failed = is.failed; unsure = unsure_before first second fetches name each is.unsure }) stops.stopped);
+          (stops_weaker (IsUnsure second name) (IsUnsure first name) b more (λ file fetch is. record { named = is.named; failed = is.failed; unsure = unsure_before first second fetches name each is.unsure }) stops.stopped);
       rose = rose_before first.faults second.faults third.faults each.later stops.rose;
     }
 reading_stops_later first second third a b fetches more contents AtOutput each accepted stops = stops
@@ -210,3 +211,42 @@ pub carries_words : (words : List (List ℕ)) (command : PlainCommand) (shelf ne
     → CarriesOut command shelf new_shelf out new_out ending → CarriesOutWords words shelf new_shelf out new_out ending
 carries_words words command shelf new_shelf out new_out ending is carried =
     record { fetches = carried.fetches; fetched = carried.fetched; ends = ends_as words command shelf new_shelf carried.fetches out new_out ending is carried.ends }
+
+-- the outcome of a call that answers with a stop
+outcome_stopped : {V : Type 0} (contents_of : V → List Content) (result : Result V Stop) (why : Stop) → IsErrAnd result (λ other. other ≡ why) → Stopped (reason_of why) ≡ outcome_of contents_of result
+outcome_stopped contents_of (Ok value) why same = absurd same
+outcome_stopped contents_of (Err other) why same = ap (λ s. Stopped (reason_of s)) (sym same)
+
+-- a call that answers with the stop of the files a, which come first
+pub stopped_first : {V : Type 0} (contents_of : V → List Content) (first second : ShelfState) (a b : List File) (result : Result V Stop) (why : Stop) → IsErrAnd result (λ other. other ≡ why)
+    → ReadsFiles first second a (Stopped (reason_of why)) → ReadsFiles first second (a ++ b) (outcome_of contents_of result)
+stopped_first contents_of first second a b result why same reads =
+    subst (ReadsFiles first second (a ++ b)) (outcome_stopped contents_of result why same) (reads_stopped first second a b (reason_of why) reads)
+
+-- a call that answers with the stop of the files b, before which those of a were read
+pub stopped_later : {V : Type 0} (contents_of : V → List Content) (first second third : ShelfState) (a b : List File) (contents : List Content) (result : Result V Stop) (why : Stop) → IsErrAnd result (λ other. other ≡ why)
+    → ReadsFiles first second a (Contents contents) → ReadsFiles second third b (Stopped (reason_of why)) → ReadsFiles first third (a ++ b) (outcome_of contents_of result)
+stopped_later contents_of first second third a b contents result why same one two =
+    subst (ReadsFiles first third (a ++ b)) (outcome_stopped contents_of result why same) (reads_then first second third a b contents (Stopped (reason_of why)) one two)
+
+ending_stopped : {U : Type 0} (result : Result U Stop) (why : Stop) → IsErrAnd result (λ other. other ≡ why) → Some (reason_of why) ≡ ending_of result
+ending_stopped (Ok done) why same = absurd same
+ending_stopped (Err other) why same = ap (λ s. Some (reason_of s)) (sym same)
+
+-- a command that answers with the stop of its files
+pub carries_stop : {U : Type 0} (command : PlainCommand) (shelf new_shelf : ShelfState) (out : SinkState) (result : Result U Stop) (why : Stop) → IsErrAnd result (λ other. other ≡ why)
+    → ReadsFiles shelf new_shelf (files_of command) (Stopped (reason_of why)) → CarriesOut command shelf new_shelf out out (ending_of result)
+carries_stop command shelf new_shelf out result why same reads =
+    subst (CarriesOut command shelf new_shelf out out) (ending_stopped result why same) (carries_stopped command shelf new_shelf out (reason_of why) reads)
+
+-- a command that answers with a failed output
+pub carries_failure : {U : Type 0} (command : PlainCommand) (shelf new_shelf : ShelfState) (out new_out : SinkState) (contents : List Content) (result : Result U Stop) → IsErrAnd result (λ other. other ≡ stop.Write)
+    → ReadsFiles shelf new_shelf (files_of command) (Contents contents) → PushedFront out new_out (job_text command contents) → CarriesOut command shelf new_shelf out new_out (ending_of result)
+carries_failure command shelf new_shelf out new_out contents result same reads pushed =
+    subst (CarriesOut command shelf new_shelf out new_out) (ending_stopped result stop.Write same) (carries_cut command shelf new_shelf out new_out contents reads pushed)
+
+-- words that answer with want of memory before a file was fetched
+pub carries_want : {U : Type 0} (words : List (List ℕ)) (command : PlainCommand) (shelf : ShelfState) (out : SinkState) (result : Result U Stop) → IsErrAnd result (λ other. other ≡ stop.Memory) → IsCommand words command
+    → CarriesOutWords words shelf shelf out out (ending_of result)
+carries_want words command shelf out result same is_command =
+    subst (CarriesOutWords words shelf shelf out out) (ending_stopped result stop.Memory same) (carries_words words command shelf shelf out out (Some AtMemory) is_command (carries_nothing command shelf out))

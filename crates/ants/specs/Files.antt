@@ -79,8 +79,8 @@ IsFetched file fetch = ((bytes : List ℕ) × (fetch ≡ record { name = file.na
 
 -- the first of the files were fetched, each once and in order: each but perhaps the last was accepted, and none failed or was too long
 abbrev pub AreBegun : List File → List Fetched → Type 0
-AreBegun files [] = Unit {0}
-AreBegun [] (fetch ∷ fetches) = ⊥
+AreBegun [] fetches = fetches ≡ []
+AreBegun (file ∷ files) [] = Unit {0}
 AreBegun (file ∷ files) (fetch ∷ fetches) =
     (IsFetched file fetch × (fetches ≡ [])) ⊎ ((content : Content) × IsAccepted file fetch content × AreBegun files fetches)
 

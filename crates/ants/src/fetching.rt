@@ -28,7 +28,6 @@ pub trait FileText: Sized {
 
 impl FileText for World {
     ghost use Rattle.ants.specs.Files.FileKind.{WorldFile};
-
     ghost use Rattle.ants.specs.Files.Content.{WorldContent};
 
     ghost kind = { WorldFile };
@@ -45,7 +44,6 @@ impl FileText for World {
 
 impl FileText for Brain {
     ghost use Rattle.ants.specs.Files.FileKind.{BrainFile};
-
     ghost use Rattle.ants.specs.Files.Content.{BrainContent};
 
     ghost kind = { BrainFile };

@@ -5,6 +5,7 @@ ghost use Rattle.ants.specs.Stopping.{file_fault_text, brain_fault_text, world_f
 use crate::status::Status;
 use ant_base::{Failed, Layout, Sink, layout};
 use brain_read::BrainFault;
+use match_run::OutOfMemory;
 use world_read::WorldFault;
 
 /// Why a file was refused (this project's own).
@@ -40,6 +41,16 @@ impl From<Failed> for Stop<'_> {
 
     fn from(_: Failed) -> Self {
         Stop::Write
+    }
+}
+
+impl From<OutOfMemory> for Stop<'_> {
+    ghost use Rattle.ants.specs.declared.stop.Stop.TheVariants.{Memory};
+
+    ghost from_gives = { λ _ stop. stop ≡ Memory };
+
+    fn from(_: OutOfMemory) -> Self {
+        Stop::Memory
     }
 }
 

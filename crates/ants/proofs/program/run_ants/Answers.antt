@@ -4,31 +4,31 @@ use Rattle.command_words.specs.Words.{texts}
 use Rattle.ants.specs.declared.status.Status.TheVariants.{Done}
 use Rattle.ants.specs.Running.{IsRun}
 use Rattle.ants.specs.Stopping.{reason_of}
-use Rattle.ants.proofs.Verdicts.{IsComplete-run, IsRefusing-run, no_command-run, words-run}
-use Rattle.ants.proofs.run.run_ants.Goals as goal
+use Rattle.ants.proofs.Verdicts.{complete_run, no_command_run, orderly_run, read_run, refusing_run, words_run}
+use Rattle.ants.proofs.program.run_ants.Goals as goal
 
 pub returns-in-Ok : goal.returns-in-Ok
 returns-in-Ok g c =
     let run : IsRun (texts c.args.words.now) (g.S.Shelf.state c.args.shelf.now) (g.S.Shelf.state c.carry_out.new.shelf) (g.K.Sink.state c.args.out.now) (g.K.Sink.state c.carry_out.new.out) (g.E.Sink.state c.args.err.now) (g.E.Sink.state c.args.err.now) Done =
-    record { ending = None; ends = c.in-Ok.ensures.ends; reports = refl; is_status = refl } in
+    record { fetches = c.in-Ok.ensures.fetches; fetched = c.in-Ok.ensures.fetched; ending = None; ends = c.in-Ok.ensures.ends; reports = refl; is_status = refl } in
     record {
       run = run;
-      words = (no_command-run _ _ _ _ _ _ _ _ run, words-run _ _ _ _ _ _ _ _ run);
-      complete = IsComplete-run _ _ _ _ _ _ _ _ run;
-      refusing = IsRefusing-run _ _ _ _ _ _ _ _ run;
-      quiet = c.in-Ok.ensures.quiet;
-      keeps = c.in-Ok.ensures.keeps;
+      words = (no_command_run _ _ _ _ _ _ _ _ run, words_run _ _ _ _ _ _ _ _ run);
+      orderly = orderly_run _ _ _ _ _ _ _ _ run;
+      complete = complete_run _ _ _ _ _ _ _ _ run;
+      refusing = refusing_run _ _ _ _ _ _ _ _ run;
+      read = read_run _ _ _ _ _ _ _ _ run;
     }
 
 pub returns-in-Err : goal.returns-in-Err
 returns-in-Err g c =
-    let run : IsRun (texts c.args.words.now) (g.S.Shelf.state c.args.shelf.now) (g.S.Shelf.state c.carry_out.new.shelf) (g.K.Sink.state c.args.out.now) (g.K.Sink.state c.carry_out.new.out) (g.E.Sink.state c.args.err.now) (g.E.Sink.state c.push_to.new.sink) c.status.result =
-    record { ending = Some (reason_of c.in-Err.stop); ends = c.in-Err.ensures.ends; reports = (c.push_to.result, c.push_to.ensures); is_status = c.status.ensures } in
+    let run : IsRun (texts c.args.words.now) (g.S.Shelf.state c.args.shelf.now) (g.S.Shelf.state c.carry_out.new.shelf) (g.K.Sink.state c.args.out.now) (g.K.Sink.state c.carry_out.new.out) (g.E.Sink.state c.args.err.now) (g.E.Sink.state c.report.new.err) c.report.result =
+    record { fetches = c.in-Err.ensures.fetches; fetched = c.in-Err.ensures.fetched; ending = Some (reason_of c.in-Err.stop); ends = c.in-Err.ensures.ends; reports = c.report.ensures.reports; is_status = c.report.ensures.status } in
     record {
       run = run;
-      words = (no_command-run _ _ _ _ _ _ _ _ run, words-run _ _ _ _ _ _ _ _ run);
-      complete = IsComplete-run _ _ _ _ _ _ _ _ run;
-      refusing = IsRefusing-run _ _ _ _ _ _ _ _ run;
-      quiet = c.in-Err.ensures.quiet;
-      keeps = c.in-Err.ensures.keeps;
+      words = (no_command_run _ _ _ _ _ _ _ _ run, words_run _ _ _ _ _ _ _ _ run);
+      orderly = orderly_run _ _ _ _ _ _ _ _ run;
+      complete = complete_run _ _ _ _ _ _ _ _ run;
+      refusing = refusing_run _ _ _ _ _ _ _ _ run;
+      read = read_run _ _ _ _ _ _ _ _ run;
     }
