@@ -1,32 +1,62 @@
 -- What writers took and readers gave.
-use Rattle.std.proofs.Common.{◌≡◌, ℕ, zero, suc, Result, Ok, Err, is_ok, if◌then◌else◌, ◌<◌, ◌≤◌, ◌^◌, ◌-◌, List, [], ◌++◌, length, take, drop, Option, Some, None, IfSome, option_map, refl, sym, ◌∙◌, ap, subst, append_assoc, append-nil, take-append-drop, arith}
-use Rattle.std.proofs.lemmas.List.{length-take, take_all}
-use Rattle.std.specs.Io.KnownBytes.{Appends, Keeps, WriteAppends}
+use Rattle.std.proofs.Common.{◌≡◌, ℕ, zero, suc, Result, Ok, Err, is_ok, if◌then◌else◌, ◌<◌, ◌≤◌, ◌^◌, ◌+◌, ◌-◌, List, [], ◌++◌, length, take, drop, Option, Some, None, IfSome, option_map, refl, sym, ◌∙◌, ap, subst, append_assoc, append-nil, take-append-drop, arith}
+use Rattle.std.proofs.lemmas.List.{length-append, length-take}
+use Rattle.std.specs.Io.KnownBytes.{Appends, Consumes, IsAtEnd, Keeps, WriteAppends}
+use Rattle.std.specs.Counts.{IsPrefixLen}
+use Rattle.std.specs.Prelude.{IfOk, OnErr}
 use Rattle.std.specs.IoError.{error_kind}
 use Rattle.std.specs.declared.io.Error.{Error}
 use Rattle.std.specs.declared.io.ErrorKind.{ErrorKind}
 use Rattle.std.specs.declared.io.ErrorKind.TheVariants.{Interrupted}
+use Rattle.ant_base.specs.declared.shelf.FetchFault.{FetchFault}
 use Rattle.ant_base.specs.declared.sink.Failed.{Failed}
 use Rattle.ant_base.specs.Faults.{one_more}
-use Rattle.ant_base.specs.Inner.Answered.{taken_at, taken_of}
+use Rattle.ant_base.specs.Inner.Answered.{TakesAtMost, given_at, given_of, taken_at, taken_of}
+use Rattle.ant_base.specs.Shelf.{longest}
 use Rattle.ant_base.specs.Sink.{Pushed}
 use Rattle.ant_base.specs.Streams.{StreamState, TookUpTo, Takes, sink_of_stream}
-use Rattle.std.specs.Io.Take.{take_inner, take_limit, take_remaining}
-use Rattle.std.specs.declared.io.traits.Take.{Take}
 
-short_is_whole : (known : Option (List ℕ)) (content : List ℕ) (n : ℕ) → IfSome (option_map (take n) known) (λ xs. content ≡ xs) → length content < n → IfSome known (λ bytes. content ≡ bytes)
-short_is_whole None content n read short = tt
-short_is_whole (Some bytes) content n read short =
-    let all : length bytes ≤ n = omega (arith, ap length read, length-take n bytes) in
-    read ∙ take_all n bytes all
+consumes_nothing : (known : Option (List ℕ)) → Consumes known known []
+consumes_nothing None = tt
+consumes_nothing (Some bytes) = refl
 
--- what was read below a limit is all that the reader had left
-pub read_whole : {R : Type 0} (remaining : R → Option (List ℕ)) (limited : Take R) (reader : R) (start content : List ℕ) → start ≡ [] → take_inner limited ≡ reader
-    → IfSome (take_remaining remaining limited) (λ xs. content ≡ start ++ xs) → length content < take_limit limited → IfSome (remaining reader) (λ bytes. content ≡ bytes)
-read_whole remaining limited reader start content empty inner read short =
-    let known = subst (λ s. IfSome (take_remaining remaining limited) (λ xs. content ≡ s ++ xs)) empty read in
-    let whole = short_is_whole (remaining (take_inner limited)) content (take_limit limited) known short in
-    subst (λ r. IfSome (remaining r) (λ bytes. content ≡ bytes)) inner whole
+consumes_then : (start now next : Option (List ℕ)) (a b : List ℕ) → Consumes start now a → Consumes now next b → Consumes start next (a ++ b)
+consumes_then None now next a b first second = tt
+consumes_then (Some bytes) None next a b first second = absurd first
+consumes_then (Some bytes) (Some left) None a b first second = absurd second
+consumes_then (Some bytes) (Some left) (Some rest) a b first second = first ∙ ap (λ xs. a ++ xs) second ∙ sym (append_assoc a b rest)
+
+-- nothing is taken from a reader yet
+pub read_none : (known : Option (List ℕ)) (content : List ℕ) → content ≡ [] → Consumes known known content
+read_none known content empty = subst (Consumes known known) (sym empty) (consumes_nothing known)
+
+-- some bytes more are taken, within the bound
+pub read_lost : {T E : Type 0} (result : Result T E) (start now next : Option (List ℕ)) (content chunk : List ℕ) (given room most : ℕ) → Consumes start now content → Consumes now next (take given chunk)
+    → given ≤ room → length content + room ≤ most → OnErr result (TakesAtMost most start next)
+read_lost (Ok value) start now next content chunk given room most first second fits few = tt
+read_lost (Err fault) start now next content chunk given room most first second fits few =
+    record { bytes = content ++ take given chunk; taken = consumes_then start now next content (take given chunk) first second; few = omega (arith, length-append content (take given chunk), length-take given chunk) }
+
+given_fits : (kind : ErrorKind) (n : ℕ) (room : ℕ) → given_at kind ≡ Ok (Some n) → n ≤ room
+given_fits Interrupted n room is = absurd (cc)
+given_fits _ n room is = absurd (cc)
+
+-- a read gives no more than it was asked for
+pub read_fits : (answer : Result ℕ Error) (read : Result (Option ℕ) FetchFault) (field : Option ℕ) (chunk : List ℕ) (given : ℕ) → IfOk answer (λ n. IsPrefixLen n chunk) → read ≡ given_of answer → read ≡ Ok field → field ≡ Some given → given ≤ length chunk
+read_fits (Ok n) read field chunk given bound is was some = let same : n ≡ given = cc in subst (λ m. m ≤ length chunk) same bound.0
+read_fits (Err error) read field chunk given bound is was some = given_fits (error_kind error) given (length chunk) (sym is ∙ was ∙ ap Ok some)
+
+-- a reader that gave more than the longest has more
+pub read_long : (known now : Option (List ℕ)) (content : List ℕ) → Consumes known now content → longest < length content → IfSome known (λ bytes. longest < length bytes)
+read_long None now content consumes long = tt
+read_long (Some bytes) None content consumes long = absurd consumes
+read_long (Some bytes) (Some rest) content consumes long = omega (arith, ap length consumes, length-append content rest)
+
+-- a reader that has nothing left gave all
+pub read_whole : (known now : Option (List ℕ)) (content : List ℕ) → Consumes known now content → IsAtEnd now → IfSome known (λ bytes. content ≡ bytes)
+read_whole None now content consumes end = tt
+read_whole (Some bytes) None content consumes end = absurd consumes
+read_whole (Some bytes) (Some rest) content consumes end = sym (consumes ∙ ap (λ xs. content ++ xs) end ∙ append-nil content)
 
 appends_nothing : (held : Option (List ℕ)) → Appends held held []
 appends_nothing None = tt

@@ -1,4 +1,5 @@
 pub mod Accepted
+pub mod Judgements
 pub mod Readings
 pub mod Texts
 pub mod Verdicts

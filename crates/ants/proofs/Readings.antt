@@ -132,7 +132,8 @@ pub reads_stopped : (first second : ShelfState) (a b : List File) (reason : Reas
 reads_stopped first second a b reason reads =
     record { fetches = reads.fetches; fetched = reads.fetched; comes = reading_stops_first first second a b reads.fetches reason reads.comes }
 
-refused_text : (file : File) (fetch : Fetched) (bytes : List ℕ) (fault : FileFault) → fetch ≡ record { name = file.name; answer = Ok bytes } → Refuses file.kind bytes fault → IsRefused file fetch fault
+-- a file whose bytes are refused is
+pub refused_text : (file : File) (fetch : Fetched) (bytes : List ℕ) (fault : FileFault) → fetch ≡ record { name = file.name; answer = Ok bytes } → Refuses file.kind bytes fault → IsRefused file fetch fault
 refused_text file fetch bytes TooLong got refuses = absurd (never_long file.kind bytes refuses)
 refused_text file fetch bytes (World fault) got refuses = record { bytes = bytes; got = got; refuses = refuses }
 refused_text file fetch bytes (Brain fault) got refuses = record { bytes = bytes; got = got; refuses = refuses }

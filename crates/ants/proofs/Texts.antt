@@ -72,6 +72,18 @@ one_refusal BrainFile bytes (Brain a) (World b) first second = absurd second
 one_refusal BrainFile bytes TooLong b first second = absurd first
 one_refusal BrainFile bytes (World a) b first second = absurd first
 
+some_world : (bytes : List ℕ) → ((grid : Grid) × OpensAs bytes grid) ⊎ ((fault : WorldFault) × IsWorldFault bytes fault)
+some_world bytes = go (world_of_text bytes) refl
+  where
+    go : (read : Result Grid WorldFault) → world_of_text bytes ≡ read → ((grid : Grid) × OpensAs bytes grid) ⊎ ((fault : WorldFault) × IsWorldFault bytes fault)
+    go (Ok grid) is = inl (grid, told.OpensAs-known bytes grid is)
+    go (Err fault) is = inr (fault, told.IsWorldFault-known bytes fault is)
+
+-- bytes are read or refused
+pub some_reading : (kind : FileKind) (bytes : List ℕ) → ((content : Content) × Reads kind bytes content) ⊎ ((fault : FileFault) × Refuses kind bytes fault)
+some_reading WorldFile bytes = elim (some_world bytes) [ inl opens ↦ inl (WorldContent opens.0, opens.1) | inr wrong ↦ inr (World wrong.0, wrong.1) ]
+some_reading BrainFile bytes = elim (whole.some_answer bytes) [ inl is ↦ inl (BrainContent is.0, is.1) | inr wrong ↦ inr (Brain wrong.0, wrong.1) ]
+
 -- bytes are never refused as too long: such a file gives no bytes
 pub never_long : (kind : FileKind) (bytes : List ℕ) → Refuses kind bytes TooLong → ⊥
 never_long WorldFile bytes refuses = refuses

@@ -39,7 +39,7 @@ told_long : (at : At) (name : List ℕ) (fetch : Fetched) → IsTold (Some at) f
 told_long at name fetch told got = subst (IsTold (Some at)) got told
 
 -- two fetches of a name got the same bytes
-one_bytes : (at : At) (name a b : List ℕ) (first second : Fetched) → IsTold (Some at) first → IsTold (Some at) second → first ≡ record { name = name; answer = Ok a } → second ≡ record { name = name; answer = Ok b } → a ≡ b
+pub one_bytes : (at : At) (name a b : List ℕ) (first second : Fetched) → IsTold (Some at) first → IsTold (Some at) second → first ≡ record { name = name; answer = Ok a } → second ≡ record { name = name; answer = Ok b } → a ≡ b
 one_bytes at name a b first second one two got gets =
     some_same a b (sym (told_bytes at name a first one got).told ∙ (told_bytes at name b second two gets).told)
 
@@ -51,19 +51,19 @@ never_long name bytes (Some other) same short long =
     omega arith
 
 -- bytes are got of no name that is too long
-never_bytes : (at : At) (name bytes : List ℕ) (first second : Fetched) → IsTold (Some at) first → IsTold (Some at) second → first ≡ record { name = name; answer = Ok bytes } → second ≡ record { name = name; answer = Err answer.TooLong } → ⊥
+pub never_bytes : (at : At) (name bytes : List ℕ) (first second : Fetched) → IsTold (Some at) first → IsTold (Some at) second → first ≡ record { name = name; answer = Ok bytes } → second ≡ record { name = name; answer = Err answer.TooLong } → ⊥
 never_bytes at name bytes first second one two got long =
     let content = told_bytes at name bytes first one got in
     never_long name bytes (at name) content.told content.short (told_long at name second two long)
 
 -- a file is accepted as one content
-one_content : (at : At) (file : File) (first second : Fetched) (a b : Content) → IsTold (Some at) first → IsTold (Some at) second → IsAccepted file first a → IsAccepted file second b → a ≡ b
+pub one_content : (at : At) (file : File) (first second : Fetched) (a b : Content) → IsTold (Some at) first → IsTold (Some at) second → IsAccepted file first a → IsAccepted file second b → a ≡ b
 one_content at file first second a b one two is also =
     let same = one_bytes at file.name also.bytes is.bytes second first two one also.got is.got in
     one_reading file.kind is.bytes a b is.reads (subst (λ (bytes : List ℕ). Reads file.kind bytes b) same also.reads)
 
 -- a file is never both accepted and refused
-one_verdict : (at : At) (file : File) (first second : Fetched) (content : Content) (fault : FileFault) → IsTold (Some at) first → IsTold (Some at) second → IsAccepted file first content → IsRefused file second fault → ⊥
+pub one_verdict : (at : At) (file : File) (first second : Fetched) (content : Content) (fault : FileFault) → IsTold (Some at) first → IsTold (Some at) second → IsAccepted file first content → IsRefused file second fault → ⊥
 one_verdict at file first second content TooLong one two is refused = never_bytes at file.name is.bytes first second one two is.got refused
 one_verdict at file first second content (World fault) one two is refused =
     let same = one_bytes at file.name refused.bytes is.bytes second first two one refused.got is.got in
@@ -73,7 +73,7 @@ one_verdict at file first second content (Brain fault) one two is refused =
     never_both file.kind is.bytes content (Brain fault) is.reads (subst (λ (bytes : List ℕ). Refuses file.kind bytes (Brain fault)) same refused.refuses)
 
 -- files that are all accepted have none that is refused
-accepted_never_refused : (at : At) (files : List File) (first second : List Fetched) (contents : List Content) (name : List ℕ) (fault : FileFault) → AllByRecursion (IsTold (Some at)) first → AllByRecursion (IsTold (Some at)) second
+pub accepted_never_refused : (at : At) (files : List File) (first second : List Fetched) (contents : List Content) (name : List ℕ) (fault : FileFault) → AllByRecursion (IsTold (Some at)) first → AllByRecursion (IsTold (Some at)) second
     → AreAccepted files first contents → StopsAt (IsRefusedAs name fault) files second → ⊥
 accepted_never_refused at [] first second contents name fault one two are stops = stops
 accepted_never_refused at (file ∷ files) [] second contents name fault one two are stops = are

@@ -6,6 +6,7 @@
 
 mod brain;
 mod fetching;
+mod laws;
 mod program;
 mod run;
 mod show;
