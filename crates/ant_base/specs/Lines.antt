@@ -1,10 +1,15 @@
 -- Lines of a text, and separators in a line (the contest's files).
 use Rattle.std.specs.Prelude.{ℕ, ◌-◌, Bool, not, ◌||◌, List, [], ◌∷◌, length, take, drop, ◌==◌, if◌then◌else◌}
+use Rattle.std.specs.Io.BufRead.{ends_with_byte}
 use Rattle.std.specs.List.{list_all, prefix_len, suffix_len, onto_first}
 
 -- whether a byte is LF
 abbrev pub is_lf : ℕ → Bool
 is_lf byte = byte == 10
+
+-- whether a text ends in LF
+abbrev pub ends_in_lf : List ℕ → Bool
+ends_in_lf text = ends_with_byte 10 text
 
 -- the lines of a text: its pieces between LF bytes, and no further line after a last LF
 abbrev pub lines_of : List ℕ → List (List ℕ)

@@ -1,8 +1,9 @@
 -- A shelf in memory (this project's own).
-use Rattle.std.specs.Prelude.{◌≡◌, ℕ, ◌<◌, ◌≤◌, Bool, true, false, ◌&&◌, ◌||◌, List, [], ◌∷◌, length, Option, Some, None, Result, Ok, Err, Vec, is_some, is_none, nat_lt, if◌then◌else◌, unwrap_or}
+use Rattle.std.specs.Prelude.{◌≡◌, ℕ, ◌<◌, ◌≤◌, Bool, true, false, ◌&&◌, ◌||◌, List, [], ◌∷◌, ◌++◌, length, Option, Some, None, Result, Ok, Err, Vec, is_some, is_none, nat_lt, if◌then◌else◌, unwrap_or}
 use Rattle.std.specs.Str.{bytes_eq}
 use Rattle.ant_base.specs.Faults.{one_more}
 use Rattle.ant_base.specs.Calls.{is_failing}
+use Rattle.ant_base.specs.Fetched.{Fetched, fetched}
 use Rattle.ant_base.specs.Shelf.{ShelfState, longest}
 use Rattle.ant_base.specs.declared.shelf.FetchFault.{FetchFault}
 use Rattle.ant_base.specs.declared.shelf.FetchFault.TheVariants.{Failed, TooLong, OutOfMemory}
@@ -12,12 +13,13 @@ abbrev pub content_of : List (List ℕ × List ℕ) → List ℕ → Option (Lis
 content_of [] name = None
 content_of (file ∷ files) name = if bytes_eq file.0 name then Some file.1 else content_of files name
 
--- the names with their bytes, the calls that fail, and how many calls and faults there were
+-- the names with their bytes, the calls that fail, how many calls and faults there were, and all fetches with their answers
 pub record MemShelfState : Type 0 where
   pub files : List (List ℕ × List ℕ)
   pub failing : List ℕ
   pub calls : ℕ
   pub faults : ℕ
+  pub log : List Fetched
 
 -- whether there are no call numbers
 abbrev pub none_fails : List ℕ → Bool
@@ -30,6 +32,7 @@ shelf_of s = record {
   files = Some (content_of s.files);
   sure = λ name. none_fails s.failing && is_some (content_of s.files name);
   faults = s.faults;
+  log = s.log;
 }
 
 -- whether the next fetch fails: its number is among the failing ones, or its name isn't there

@@ -1,26 +1,33 @@
 -- What a shelf has, and what a fetch answers (this project's own).
-use Rattle.std.specs.Prelude.{◌≡◌, ℕ, ◌<◌, ◌≤◌, Bool, true, false, ⊤, List, length, Option, Some, Result, Ok, Err, Vec, IfSome, IsSomeAnd}
+use Rattle.std.specs.Prelude.{◌≡◌, ℕ, ◌<◌, ◌≤◌, Bool, true, false, ⊤, List, [], ◌∷◌, ◌++◌, length, Option, Some, Result, Ok, Err, Vec, IfSome, IsSomeAnd}
+use Rattle.std.specs.List.{AllByRecursion}
 use Rattle.ant_base.specs.Faults.{Rose}
+use Rattle.ant_base.specs.Fetched.{Fetched, fetched}
 use Rattle.ant_base.specs.declared.shelf.FetchFault.{FetchFault}
 use Rattle.ant_base.specs.declared.shelf.FetchFault.TheVariants.{Failed, TooLong, OutOfMemory}
 
--- the content under each name, where the shelf tells it; of which names it is sure; and the count of faults
+-- what a shelf tells: the content under each name, or nothing
+abbrev pub Told : Type 0
+Told = Option (List ℕ → Option (List ℕ))
+
+-- the content under each name, where the shelf tells it; of which names it is sure; the count of faults; and the log: all fetches with their answers, the first first
 pub record ShelfState : Type 0 where
-  pub files : Option (List ℕ → Option (List ℕ))
+  pub files : Told
   pub sure : List ℕ → Bool
   pub faults : ℕ
+  pub log : List Fetched
 
 -- the length of the longest content that is answered, in bytes
 abbrev pub longest : ℕ
 longest = 4194304
 
 -- the content of a name, which is no longer than the longest; where contents are told, it is the one that is there
-pub record IsContent (files : Option (List ℕ → Option (List ℕ))) (name content : List ℕ) : Type 0 where
+pub record IsContent (files : Told) (name content : List ℕ) : Type 0 where
   pub told : IfSome files (λ at. at name ≡ Some content)
   pub short : length content ≤ longest
 
 -- where contents are told, the name is there and its content is longer than the longest
-abbrev pub IsTooLong : Option (List ℕ → Option (List ℕ)) → List ℕ → Type 0
+abbrev pub IsTooLong : Told → List ℕ → Type 0
 IsTooLong files name = IfSome files (λ at. IsSomeAnd (at name) (λ content. longest < length content))
 
 -- a failed fetch: the shelf wasn't sure of the name, and its count of faults rose
@@ -35,12 +42,39 @@ Answers old new name (Err Failed) = IsFailed old new name
 Answers old new name (Err TooLong) = IsTooLong old.files name
 Answers old new name (Err OutOfMemory) = ⊤
 
--- what a fetch did: contents stay, the shelf stays sure of what it was sure of, and the count of faults falls never and rises for no sure name
+-- what a fetch did: it is the last of the log, contents stay, the shelf stays sure of what it was sure of, and the count of faults falls
+-- never and rises for no sure name
 pub record Fetches {A : Type 0} (old new : ShelfState) (name : List ℕ) (result : Result (Vec ℕ A) FetchFault) : Type 0 where
   pub answer : Answers old new name result
+  pub log : new.log ≡ old.log ++ fetched name result ∷ []
   pub files : new.files ≡ old.files
   pub sure : (other : List ℕ) → old.sure other ≡ true → new.sure other ≡ true
   pub quiet : old.sure name ≡ true → new.faults ≡ old.faults
+  pub later : old.faults ≤ new.faults
+
+-- an answer that agrees with what is told: the bytes are the content, or it is too long; a fetch that failed or wanted memory says nothing
+abbrev pub AnswerIsTold : Told → List ℕ → Result (List ℕ) FetchFault → Type 0
+AnswerIsTold files name (Ok bytes) = IsContent files name bytes
+AnswerIsTold files name (Err Failed) = ⊤
+AnswerIsTold files name (Err TooLong) = IsTooLong files name
+AnswerIsTold files name (Err OutOfMemory) = ⊤
+
+-- a fetch whose answer agrees with what is told
+abbrev pub IsTold : Told → Fetched → Type 0
+IsTold files fetch = AnswerIsTold files fetch.name fetch.answer
+
+-- the shelf is sure of the name of each of these fetches
+abbrev pub AreSure : ShelfState → List Fetched → Type 0
+AreSure shelf fetches = AllByRecursion (λ fetch. shelf.sure fetch.name ≡ true) fetches
+
+-- what some fetches one after another did: they are the last of the log, they agree with what is told, contents stay, the shelf stays sure
+-- of what it was sure of, and the count of faults falls never and stays where the shelf was sure of all their names
+pub record FetchesEach (old new : ShelfState) (fetches : List Fetched) : Type 0 where
+  pub log : new.log ≡ old.log ++ fetches
+  pub told : AllByRecursion (IsTold old.files) fetches
+  pub files : new.files ≡ old.files
+  pub sure : (name : List ℕ) → old.sure name ≡ true → new.sure name ≡ true
+  pub quiet : AreSure old fetches → new.faults ≡ old.faults
   pub later : old.faults ≤ new.faults
 
 -- whether an answer is Failed

@@ -1,17 +1,43 @@
--- Sinks and shelves over the streams and files of the system, which tell no bytes (this project's own).
-use Rattle.std.specs.Prelude.{ℕ, List, Option, false, None}
-use Rattle.ant_base.specs.Sink.{SinkState}
+-- The state of the sinks and shelves over the streams and files of the system (this project's own).
+--
+-- The bytes that a stream took and the log of a shelf of files are ghost data: no memory holds them. They are what the system's own calls
+-- answered: each write adds the bytes that it answered to have taken, and each fetch adds its name with its answer.
+use Rattle.std.specs.Prelude.{◌≡◌, ℕ, List, ◌++◌, [], Option, Result, Ok, Err, false, None, Some}
+use Rattle.std.specs.Io.KnownBytes.{Appends}
+use Rattle.ant_base.specs.declared.sink.Failed.{Failed}
+use Rattle.ant_base.specs.Fetched.{Fetched}
 use Rattle.ant_base.specs.Shelf.{ShelfState}
+use Rattle.ant_base.specs.Sink.{SinkState}
 
--- the bytes that a writer took, where it tells them, and the count of faults of the sink over it
+-- the bytes that the stream took since the sink was made, those that still wait in its buffer, those that it tells by itself where it does,
+-- and the count of faults
 pub record StreamState : Type 0 where
+  pub taken : List ℕ
+  pub waiting : List ℕ
   pub written : Option (List ℕ)
   pub faults : ℕ
 
--- a sink that tells no bytes, with this count of faults
-abbrev pub silent_sink : ℕ → SinkState
-silent_sink faults = record { held = None; faults = faults }
+-- a sink over a stream holds the bytes that the stream took
+abbrev pub sink_of_stream : StreamState → SinkState
+sink_of_stream s = record { held = Some s.taken; faults = s.faults }
 
--- a shelf that tells no content and is sure of no name, with this count of faults
-abbrev pub silent_shelf : ℕ → ShelfState
-silent_shelf faults = record { files = None; sure = λ _. false; faults = faults }
+-- a front of the piece was taken, and this rest of it is left; what the stream tells by itself grew by that front
+pub record TookUpTo (taken new_taken : List ℕ) (written new_written : Option (List ℕ)) (piece rest : List ℕ) : Type 0 where
+  pub front : List ℕ
+  pub whole : piece ≡ front ++ rest
+  pub took : new_taken ≡ taken ++ front
+  pub told : Appends written new_written front
+
+-- what was taken of a piece: all of it at Ok, and a front of it at a fault
+abbrev pub Takes : List ℕ → List ℕ → Option (List ℕ) → Option (List ℕ) → List ℕ → Result (Unit {0}) Failed → Type 0
+Takes taken new_taken written new_written piece (Ok _) = TookUpTo taken new_taken written new_written piece []
+Takes taken new_taken written new_written piece (Err _) = (rest : List ℕ) × TookUpTo taken new_taken written new_written piece rest
+
+-- the count of faults of a shelf of files, and its log
+pub record FileShelfState : Type 0 where
+  pub faults : ℕ
+  pub log : List Fetched
+
+-- a shelf of files tells no content and is sure of no name
+abbrev pub shelf_of_files : FileShelfState → ShelfState
+shelf_of_files s = record { files = None; sure = λ _. false; faults = s.faults; log = s.log }

@@ -1,16 +1,22 @@
 // A shelf of files.
-ghost use Rattle.std.specs.Prelude.{◌≡◌, ◌≢◌, ◌<◌, ◌≤◌, IfOk, IfSome, Err, length, if◌then◌else◌};
+ghost use Rattle.std.specs.Prelude.{◌≡◌, ◌≢◌, ◌<◌, ◌≤◌, ◌+◌, [], ℕ, List, Option, IfOk, IfErr, OnOk, OnErr, Ok, Err, true, length, vec_len, if◌then◌else◌};
+ghost use Rattle.std.specs.Io.KnownBytes.{Consumes, IsAtEnd};
 ghost use Rattle.std.specs.IoError.{error_kind};
 ghost use Rattle.ant_base.specs.Faults.{one_more};
+ghost use Rattle.ant_base.specs.Inner.Answered.{IsReadOf, TakesAtMost, fault_at, given_of};
 ghost use Rattle.ant_base.specs.Shelf.{Fetches, is_failed, longest};
-ghost use Rattle.ant_base.specs.Streams.{silent_shelf};
+ghost use Rattle.ant_base.specs.Streams.{shelf_of_files};
 
 use crate::shelf::LONGEST;
+use crate::trail::Trail;
 use crate::{FetchFault, Shelf};
 use std::alloc::Global;
 use std::fs::{self, Files};
 use std::io::{self, ErrorKind, Input, Read};
 use std::marker::Model;
+
+// How many bytes one read asks for at most.
+const CHUNK: usize = 8192;
 
 /// Files by their names, and standard input under the name `-` (this project's own).
 ///
@@ -20,81 +26,129 @@ use std::marker::Model;
 pub struct FileShelf<'r, R> {
     rt: &'r R,
     faults: u64,
+    trail: Trail,
 }
 
 impl<'r, R> Model for FileShelf<'r, R> {
-    ghost use Rattle.std.specs.Prelude.{ℕ};
+    ghost use Rattle.ant_base.specs.Streams.{FileShelfState};
 
-    ghost Value = { ℕ };
+    ghost Value = { FileShelfState };
 
-    ghost view = { λ s. s.faults };
+    ghost view = { λ s. record { faults = s.faults; log = s.trail.fetches } };
 }
 
 impl<'r, R: Files + Input> FileShelf<'r, R> {
     /// The files and the standard input of this runtime, without a fault (this project's own).
     pub fn new(rt: &'r R) -> Self
-        ensures { result ≡ 0 }
+        ensures { result ≡ record { faults = 0; log = [] } }
     {
-        FileShelf { rt, faults: 0 }
+        FileShelf {
+            rt,
+            faults: 0,
+            trail: Trail::new(),
+        }
     }
 
     /// The count of faults, from 0 (this project's own).
     pub fn faults(&self) -> u64
-        ensures { result ≡ self.now }
+        ensures { result ≡ self.now.faults }
     {
         self.faults
     }
 }
 
 impl<R: Files + Input> Shelf for FileShelf<'_, R> {
-    ghost state = { silent_shelf };
+    ghost state = { shelf_of_files };
 
     fn fetch(&mut self, alloc: Global, name: &str) -> Result<Vec<u8>, FetchFault>
-        ensures shelf { Fetches (silent_shelf self.old) (silent_shelf self.new) name.now result }
-        ensures count { self.new ≡ (if is_failed result then one_more self.old else self.old) }
+        ensures shelf { Fetches (shelf_of_files self.old) (shelf_of_files self.new) name.now result }
+        ensures count { self.new.faults ≡ (if is_failed result then one_more self.old.faults else self.old.faults) }
     {
         let content = if name == "-" {
-            read_content(alloc, self.rt.reader())
+            read_content(alloc, &mut self.rt.reader())
         } else {
-            read_file(alloc, self.rt, name)
+            read_opened(alloc, fs::open(self.rt, name))
         };
         if matches!(content, Err(FetchFault::Failed)) {
             self.faults = self.faults.saturating_add(1);
         }
+        self.trail.note_fetch(name, &content);
         content
     }
 }
 
-// The content of a file.
-fn read_file<R: Files>(alloc: Global, rt: &R, name: &str) -> Result<Vec<u8>, FetchFault>
-    ensures { IfOk result (λ content. length content.items ≤ longest) }
+// The content of a file that was opened, or why it has none.
+fn read_opened<R: Read + Drop>(alloc: Global, opened: io::Result<R>) -> Result<Vec<u8>, FetchFault>
+    ensures short { IfOk result (λ content. length content.items ≤ longest) }
+    ensures refused { IfErr opened (λ error. result ≡ Err (fault_at (error_kind error))) }
+    ensures read { IfOk opened (λ file. IsReadOf (R.remaining file) result) }
 {
-    match fs::open(rt, name) {
-        Ok(file) => read_content(alloc, file),
+    match opened {
+        Ok(mut file) => read_content(alloc, &mut file),
         Err(error) => Err(fault_of(error)),
     }
 }
 
-// What a reader has left, if it isn't too long.
-fn read_content<R: Read + Drop>(alloc: Global, reader: R) -> Result<Vec<u8>, FetchFault>
+// What a reader has left, if it isn't too long. One byte more than the longest content is taken from it at most.
+fn read_content<R: Read>(alloc: Global, reader: &mut R) -> Result<Vec<u8>, FetchFault>
     ensures short { IfOk result (λ content. length content.items ≤ longest) }
-    // Where the reader tells what it has left.
-    ensures whole { IfOk result (λ content. IfSome (R.remaining reader) (λ bytes. content.items ≡ bytes)) }
-    ensures too_long { result ≡ Err FetchFault.TooLong → IfSome (R.remaining reader) (λ bytes. longest < length bytes) }
+    ensures read { IsReadOf (R.remaining reader.old) result }
+    ensures taken { TakesAtMost (longest + 1) (R.remaining reader.old) (R.remaining reader.new) }
 {
     let mut content = Vec::new(alloc);
-    match reader.take(LONGEST as u64 + 1).read_to_end(&mut content) {
-        Err(error) => Err(fault_of(error)),
-        Ok(_) if content.len() > LONGEST => Err(FetchFault::TooLong),
-        Ok(_) => Ok(content),
+    let mut chunk = [0; CHUNK];
+    // As many turns as std's own loops have: nothing says how often a read is interrupted.
+    for _turn in 0..u64::MAX {
+        if content.len() > LONGEST {
+            return Err(FetchFault::TooLong);
+        }
+        let most = CHUNK.min(LONGEST + 1 - content.len());
+        if read_more(reader, &mut content, &mut chunk[..most])? {
+            return Ok(content);
+        }
+    }
+    Err(FetchFault::Failed)
+}
+
+// Reads once, by way of the chunk to the end of the content, and answers whether the reader has nothing left.
+fn read_more<R: Read>(
+    reader: &mut R,
+    content: &mut Vec<u8>,
+    chunk: &mut [u8],
+) -> Result<bool, FetchFault>
+    requires some { 0 < length chunk.old }
+    requires room { vec_len content.old + length chunk.old ≤ longest + 1 }
+    ensures few { OnOk result (vec_len content.new ≤ longest + 1) }
+    ensures taken { (start : Option (List ℕ)) → Consumes start (R.remaining reader.old) content.old.items →
+        OnOk result (Consumes start (R.remaining reader.new) content.new.items) }
+    ensures lost { (start : Option (List ℕ)) → Consumes start (R.remaining reader.old) content.old.items →
+        OnErr result (TakesAtMost (longest + 1) start (R.remaining reader.new)) }
+    ensures end { result ≡ Ok true → IsAtEnd (R.remaining reader.new) × (vec_len content.new ≡ vec_len content.old) }
+    ensures no_length { result ≢ Err FetchFault.TooLong }
+{
+    let Some(given) = given_by(reader.read(chunk))? else {
+        return Ok(false);
+    };
+    content.extend_from_slice(&chunk[..given])?;
+    Ok(given == 0)
+}
+
+// How many bytes a read gave; none where it was interrupted, which is no fault.
+fn given_by(answer: io::Result<usize>) -> Result<Option<usize>, FetchFault>
+    ensures { result ≡ given_of answer }
+{
+    match answer {
+        Ok(given) => Ok(Some(given)),
+        Err(error) => match error.kind() {
+            ErrorKind::Interrupted => Ok(None),
+            _ => Err(fault_of(error)),
+        },
     }
 }
 
-// Want of memory is told from a failed read.
+// Want of memory is told from a failed open or read.
 fn fault_of(error: io::Error) -> FetchFault
-    ensures memory { error_kind error ≡ ErrorKind.OutOfMemory → result ≡ FetchFault.OutOfMemory }
-    ensures failed { error_kind error ≢ ErrorKind.OutOfMemory → result ≡ FetchFault.Failed }
-    ensures no_length { result ≢ FetchFault.TooLong }
+    ensures { result ≡ fault_at (error_kind error) }
 {
     match error.kind() {
         ErrorKind::OutOfMemory => FetchFault::OutOfMemory,

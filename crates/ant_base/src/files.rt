@@ -25,7 +25,7 @@ impl Model for Files {
 
     ghost Value = { List (List ℕ × List ℕ) };
 
-    ghost use Rattle.ant_base.specs.Entries.{named_bytes};
+    ghost use Rattle.ant_base.specs.Inner.Entries.{named_bytes};
 
     ghost view = { λ files. named_bytes files.entries.items };
 }

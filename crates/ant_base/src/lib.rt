@@ -20,9 +20,11 @@ mod number;
 mod parts;
 mod shelf;
 mod sink;
+mod stream;
 mod stream_sink;
 #[cfg(test)]
 mod tests;
+mod trail;
 
 pub use calls::Calls;
 pub use file_shelf::FileShelf;
@@ -37,4 +39,5 @@ pub use number::{push_number, read_number, read_number_within};
 pub use parts::{Each, Parts};
 pub use shelf::{FetchFault, Shelf};
 pub use sink::{Failed, Sink};
+pub use stream::Stream;
 pub use stream_sink::{ErrSink, OutSink, StreamSink};

@@ -1,10 +1,13 @@
 // A shelf in memory.
-ghost use Rattle.std.specs.Prelude.{◌≡◌, ◌≤◌, ◌&&◌, not, if◌then◌else◌};
+ghost use Rattle.std.specs.Prelude.{◌≡◌, ◌≤◌, ◌&&◌, ◌++◌, [], ◌∷◌, not, if◌then◌else◌};
 ghost use Rattle.ant_base.specs.Faults.{one_more};
+ghost use Rattle.ant_base.specs.Fetched.{fetched};
+ghost use Rattle.ant_base.specs.Inner.Noted.{noted};
 ghost use Rattle.ant_base.specs.Shelf.{Fetches, is_failed, is_too_long};
 ghost use Rattle.ant_base.specs.MemShelf.{shelf_of, fails, is_long, IsCopyOf};
 
 use crate::shelf::LONGEST;
+use crate::trail::Trail;
 use crate::{Calls, FetchFault, Files, Shelf};
 use std::alloc::Global;
 use std::marker::Model;
@@ -19,6 +22,7 @@ pub struct MemShelf {
     failing: Calls,
     calls: u64,
     faults: u64,
+    trail: Trail,
 }
 
 impl Model for MemShelf {
@@ -26,19 +30,20 @@ impl Model for MemShelf {
 
     ghost Value = { MemShelfState };
 
-    ghost view = { λ s. record { files = s.files; failing = s.failing; calls = s.calls; faults = s.faults } };
+    ghost view = { λ s. record { files = s.files; failing = s.failing; calls = s.calls; faults = s.faults; log = s.trail.fetches } };
 }
 
 impl MemShelf {
     /// A shelf that has these files, whose fetches of the given numbers fail; the first fetch has the number 1 (this project's own).
     pub fn new(files: Files, failing: Calls) -> Self
-        ensures { result ≡ record { files = files; failing = failing; calls = 0; faults = 0 } }
+        ensures { result ≡ record { files = files; failing = failing; calls = 0; faults = 0; log = [] } }
     {
         MemShelf {
             files,
             failing,
             calls: 0,
             faults: 0,
+            trail: Trail::new(),
         }
     }
 
@@ -51,14 +56,10 @@ impl MemShelf {
         self.faults = self.faults.saturating_add(1);
         FetchFault::Failed
     }
-}
 
-impl Shelf for MemShelf {
-    ghost state = { shelf_of };
-
-    fn fetch(&mut self, alloc: Global, name: &str) -> Result<Vec<u8>, FetchFault>
-        ensures shelf { Fetches (shelf_of self.old) (shelf_of self.new) name.now result }
-        // It fails exactly where its number is one of the failing ones, or the name isn't there.
+    // What the next fetch of this name answers.
+    fn answer(&mut self, alloc: Global, name: &str) -> Result<Vec<u8>, FetchFault>
+        ensures shelf { Fetches (shelf_of self.old) (shelf_of (noted self.new (fetched name.now result))) name.now result }
         ensures failed { is_failed result ≡ fails self.old name.now }
         ensures too_long { is_too_long result ≡ (not (fails self.old name.now) && is_long self.old name.now) }
         ensures after { self.new ≡ record self.old {
@@ -74,6 +75,26 @@ impl Shelf for MemShelf {
             return Err(self.fault());
         };
         copied(alloc, content)
+    }
+}
+
+impl Shelf for MemShelf {
+    ghost state = { shelf_of };
+
+    fn fetch(&mut self, alloc: Global, name: &str) -> Result<Vec<u8>, FetchFault>
+        ensures shelf { Fetches (shelf_of self.old) (shelf_of self.new) name.now result }
+        // It fails exactly where its number is one of the failing ones, or the name isn't there.
+        ensures failed { is_failed result ≡ fails self.old name.now }
+        ensures too_long { is_too_long result ≡ (not (fails self.old name.now) && is_long self.old name.now) }
+        ensures after { self.new ≡ record self.old {
+          calls = one_more self.old.calls;
+          faults = if fails self.old name.now then one_more self.old.faults else self.old.faults;
+          log = self.old.log ++ fetched name.now result ∷ [];
+        } }
+    {
+        let answer = self.answer(alloc, name);
+        self.trail.note_fetch(name, &answer);
+        answer
     }
 }
 

@@ -1,22 +1,27 @@
 // Sinks over the writers of std.
-ghost use Rattle.std.specs.Prelude.{◌≡◌, is_ok, if◌then◌else◌, OnOk};
-ghost use Rattle.std.specs.Io.KnownBytes.{Appends, Keeps};
+ghost use Rattle.std.specs.Prelude.{◌≡◌, ◌++◌, [], Some, is_ok, if◌then◌else◌, OnOk, true};
+ghost use Rattle.std.specs.Io.KnownBytes.{Keeps};
 ghost use Rattle.ant_base.specs.Faults.{one_more};
+ghost use Rattle.ant_base.specs.Lines.{ends_in_lf};
+ghost use Rattle.ant_base.specs.Inner.Answered.{taken_of};
 ghost use Rattle.ant_base.specs.Sink.{Pushed};
-ghost use Rattle.ant_base.specs.Streams.{silent_sink};
+ghost use Rattle.ant_base.specs.Streams.{Takes, sink_of_stream};
 
-use crate::{Failed, Sink};
-use std::io::{BufWriter, Stderr, Stdout, Write};
+use crate::trail::Trail;
+use crate::{Failed, Sink, Stream};
+use std::io::{self, BufWriter, ErrorKind, Stderr, Stdout};
 use std::marker::Model;
 
-/// A sink over a writer (this project's own). It tells no bytes.
+/// A sink over a stream (this project's own). It tells the bytes that the stream took.
 ///
-/// It writes by a loop, and flushes after each piece that ends in LF. A write that takes nothing of what is left is a fault, as is a
-/// flush that fails. The count of faults rises by one at each push that is `Failed` and at no other, and stays at the last value of a u64.
+/// It writes by a loop, in which a write that was interrupted is made again, and sends on what waits after each piece that ends in LF. A
+/// write that takes nothing of what is left is a fault, as is a failure to send on. The count of faults rises by one at each push that is
+/// `Failed` and at no other, and stays at the last value of a u64.
 #[derive(Drop)]
-pub struct StreamSink<W: Write> {
+pub struct StreamSink<W: Stream> {
     stream: W,
     faults: u64,
+    trail: Trail,
 }
 
 /// A sink on standard output, which gets what was pushed at each piece that ends in LF (this project's own).
@@ -25,20 +30,24 @@ pub type OutSink = StreamSink<BufWriter<Stdout>>;
 /// A sink on standard error (this project's own).
 pub type ErrSink = StreamSink<Stderr>;
 
-impl<W: Write> Model for StreamSink<W> {
+impl<W: Stream> Model for StreamSink<W> {
     ghost use Rattle.ant_base.specs.Streams.{StreamState};
 
     ghost Value = { StreamState };
 
-    ghost view = { λ s. record { written = W.contents s.stream; faults = s.faults } };
+    ghost view = { λ s. record { taken = s.trail.bytes; waiting = W.waiting s.stream; written = W.contents s.stream; faults = s.faults } };
 }
 
-impl<W: Write> StreamSink<W> {
-    /// A sink over this writer, without a fault (this project's own).
+impl<W: Stream> StreamSink<W> {
+    /// A sink over this stream, which took nothing yet, without a fault (this project's own).
     pub fn new(stream: W) -> Self
-        ensures { result ≡ record { written = W.contents stream; faults = 0 } }
+        ensures { result ≡ record { taken = []; waiting = W.waiting stream; written = W.contents stream; faults = 0 } }
     {
-        StreamSink { stream, faults: 0 }
+        StreamSink {
+            stream,
+            faults: 0,
+            trail: Trail::new(),
+        }
     }
 
     /// The count of faults, from 0 (this project's own).
@@ -49,16 +58,18 @@ impl<W: Write> StreamSink<W> {
     }
 }
 
-impl<W: Write> Sink for StreamSink<W> {
-    ghost state = { λ s. silent_sink s.faults };
+impl<W: Stream> Sink for StreamSink<W> {
+    ghost state = { sink_of_stream };
 
     fn push(&mut self, piece: &[u8]) -> Result<(), Failed>
-        ensures sink { Pushed (silent_sink self.old.faults) (silent_sink self.new.faults) piece.now result }
+        ensures sink { Pushed (sink_of_stream self.old) (sink_of_stream self.new) piece.now result }
         ensures count { self.new.faults ≡ (if is_ok result then self.old.faults else one_more self.old.faults) }
-        // Where the writer tells its bytes.
-        ensures written { OnOk result (Appends self.old.written self.new.written piece.now) }
+        // The stream took the bytes, also by what it tells of itself.
+        ensures taken { Takes self.old.taken self.new.taken self.old.written self.new.written piece.now result }
+        // Nothing waits behind the end of a line.
+        ensures sent { OnOk result (ends_in_lf piece.now ≡ true → self.new.waiting ≡ []) }
     {
-        let written = write_whole(&mut self.stream, piece);
+        let written = write_whole(&mut self.stream, &mut self.trail, piece);
         if written.is_err() {
             self.faults = self.faults.saturating_add(1);
         }
@@ -66,33 +77,50 @@ impl<W: Write> Sink for StreamSink<W> {
     }
 }
 
-// Writes the whole piece, and flushes after an LF at its end.
-fn write_whole<W: Write>(stream: &mut W, piece: &[u8]) -> Result<(), Failed>
-    // Where the writer tells its bytes.
-    ensures { OnOk result (Appends (W.contents stream.old) (W.contents stream.new) piece.now) }
+// Writes the whole piece, and sends it on where it ends in LF.
+fn write_whole<W: Stream>(stream: &mut W, trail: &mut Trail, piece: &[u8]) -> Result<(), Failed>
+    ensures taken { Takes trail.old.bytes trail.new.bytes (W.contents stream.old) (W.contents stream.new) piece.now result }
+    ensures sent { OnOk result (ends_in_lf piece.now ≡ true → W.waiting stream.new ≡ []) }
 {
     let mut rest = piece;
-    // Each turn but the last takes a byte or more.
-    for _turn in 0..=piece.len() {
+    // As many turns as std's own loops have: nothing says how often a write is interrupted.
+    for _turn in 0..u64::MAX {
         if rest.is_empty() {
-            return flush_line(stream, piece);
+            return send_line(stream, piece);
         }
-        match stream.write(rest) {
-            Ok(0) | Err(_) => return Err(Failed),
-            Ok(taken) => rest = &rest[taken..],
-        }
+        let taken = taken_by(stream.write(rest))?;
+        trail.note_bytes(&rest[..taken]);
+        rest = &rest[taken..];
     }
     Err(Failed)
 }
 
-// Flushes after an LF at the end of the piece.
-fn flush_line<W: Write>(stream: &mut W, piece: &[u8]) -> Result<(), Failed>
-    ensures { OnOk result (Keeps (W.contents stream.old) (W.contents stream.new)) }
+// How many bytes a write took. One that was interrupted took none, and is no fault; one that takes none by itself is one.
+fn taken_by(answer: io::Result<usize>) -> Result<usize, Failed>
+    ensures { result ≡ taken_of answer }
 {
-    if piece.last() == Some(&b'\n') {
-        stream.flush().map_err(|_| Failed)?;
+    match answer {
+        Ok(0) => Err(Failed),
+        Ok(taken) => Ok(taken),
+        Err(error) => match error.kind() {
+            ErrorKind::Interrupted => Ok(0),
+            _ => Err(Failed),
+        },
     }
-    Ok(())
+}
+
+// Sends on what waits where the piece ends in LF.
+fn send_line<W: Stream>(stream: &mut W, piece: &[u8]) -> Result<(), Failed>
+    ensures kept { Keeps (W.contents stream.old) (W.contents stream.new) }
+    ensures sent { OnOk result (ends_in_lf piece.now ≡ true → W.waiting stream.new ≡ []) }
+{
+    if piece.is_empty() || piece[piece.len() - 1] != b'\n' {
+        return Ok(());
+    }
+    match stream.send() {
+        Ok(()) => Ok(()),
+        Err(_) => Err(Failed),
+    }
 }
 
 #[cfg(test)]

@@ -247,6 +247,22 @@ fn a_shelf_of_files_reads_them(rt: HostRuntime) {
 }
 
 #[test]
+fn a_name_is_taken_as_it_stands(rt: HostRuntime) {
+    let alloc = rt.alloc();
+    let mut shelf = FileShelf::new(&rt);
+    for (name, text) in [("named", "one"), ("named ", "two\n"), (" named", "")] {
+        assert!(rt; is_written(&rt, name, text.as_bytes()));
+        assert!(rt; gives(&mut shelf, alloc, name, text));
+    }
+    assert!(rt; shelf.faults() == 0);
+    assert!(rt; is_removed(&rt, "named"));
+    assert!(rt; fails(&mut shelf, alloc, "named"));
+    assert!(rt; gives(&mut shelf, alloc, "named ", "two\n"));
+    assert!(rt; is_removed(&rt, "named "));
+    assert!(rt; is_removed(&rt, " named"));
+}
+
+#[test]
 fn a_dash_alone_is_standard_input(rt: HostRuntime) {
     let alloc = rt.alloc();
     let mut shelf = FileShelf::new(&rt);

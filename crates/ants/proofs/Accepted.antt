@@ -1,17 +1,25 @@
 -- What was accepted of the files of a game can be played.
-use Rattle.std.proofs.Common.{List, sym, subst}
+use Rattle.std.proofs.Common.{List, [], ◌∷◌, ℕ, sym, subst}
+use Rattle.ant_base.specs.Fetched.{Fetched}
 use Rattle.ant_turn.specs.Minds.{Fits, contest_minds}
 use Rattle.ant_turn.proofs.Fitting.{Fits-opening}
 use Rattle.brain_read.specs.declared.instr.Instr.{Instr}
 use Rattle.brain_read.proofs.Sound.{brain_of}
 use Rattle.cell_world.specs.Grid.{Grid, world_of}
-use Rattle.ants.specs.Files.{IsAccepted, Told}
+use Rattle.ants.specs.Files.{AreAccepted, IsAccepted}
 use Rattle.ants.specs.Files.Content.{WorldContent, BrainContent}
-use Rattle.ants.specs.Jobs.{brain_file, world_file}
-use Rattle.std.proofs.Common.{ℕ}
+use Rattle.ants.specs.Jobs.{brain_file, game_files, world_file}
 
--- a world and two brains that were accepted fit
-pub Fits-accepted : (told : Told) (name red_name black_name : List ℕ) (grid : Grid) (red black : List Instr) → IsAccepted told (world_file name) (WorldContent grid) → IsAccepted told (brain_file red_name) (BrainContent red) → IsAccepted told (brain_file black_name) (BrainContent black) → Fits (world_of grid) (contest_minds red black)
-Fits-accepted told name red_name black_name grid red black world first second =
+fits : (name red_name black_name : List ℕ) (grid : Grid) (red black : List Instr) (a b c : Fetched) → IsAccepted (world_file name) a (WorldContent grid) → IsAccepted (brain_file red_name) b (BrainContent red)
+    → IsAccepted (brain_file black_name) c (BrainContent black) → Fits (world_of grid) (contest_minds red black)
+fits name red_name black_name grid red black a b c world first second =
     subst (λ (g : Grid). Fits (world_of g) (contest_minds red black)) (sym world.reads.opened)
     (Fits-opening grid.width grid.height world.reads.kinds (contest_minds red black) (brain_of first.bytes red first.reads).some (brain_of second.bytes black second.reads).some)
+
+-- a world and two brains that were accepted fit
+pub fits_accepted : (name red_name black_name : List ℕ) (fetches : List Fetched) (grid : Grid) (red black : List Instr)
+    → AreAccepted (game_files name red_name black_name) fetches (WorldContent grid ∷ BrainContent red ∷ BrainContent black ∷ []) → Fits (world_of grid) (contest_minds red black)
+fits_accepted name red_name black_name [] grid red black are = absurd are
+fits_accepted name red_name black_name (a ∷ []) grid red black are = absurd are.1
+fits_accepted name red_name black_name (a ∷ b ∷ []) grid red black are = absurd are.1.1
+fits_accepted name red_name black_name (a ∷ b ∷ c ∷ fetches) grid red black are = fits name red_name black_name grid red black a b c are.0 are.1.0 are.1.1.0

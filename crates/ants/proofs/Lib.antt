@@ -1,5 +1,5 @@
 pub mod Accepted
-pub mod Endings
+pub mod Judgements
 pub mod Readings
+pub mod Texts
 pub mod Verdicts
-pub mod Worlds

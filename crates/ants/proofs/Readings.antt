@@ -1,136 +1,253 @@
--- Several files read one after another: where the reading of a later one stops, and what that says of the whole.
-use Rattle.std.proofs.Common.{◌≡◌, ◌≢◌, ℕ, ◌≤◌, Bool, true, false, List, [], ◌∷◌, refl, sym, ◌∙◌, subst, arith, inl, inr, Result, Ok, Err}
+-- Files read one after another: what the reading of some and then of others comes to.
+use Rattle.std.proofs.Common.{◌≡◌, ℕ, ◌≤◌, Bool, true, false, List, [], ◌∷◌, ◌++◌, refl, sym, ◌∙◌, ap, subst, arith, inl, inr, Result, Ok, Err, Option, None, Some}
+use Rattle.std.specs.Prelude.{IsErrAnd, Vec}
+use Rattle.ant_base.proofs.Fetching.{fetches_none, fetches_one, fetches_then}
 use Rattle.ant_base.specs.Faults.{Rose}
-use Rattle.ant_base.specs.Shelf.{ShelfState, IsContent}
-use Rattle.ant_base.specs.Sink.{SinkState}
-use Rattle.command_words.specs.Command.{PlainCommand}
+use Rattle.ant_base.specs.Fetched.{Fetched}
+use Rattle.ant_base.specs.Shelf.{Fetches, FetchesEach, ShelfState}
+use Rattle.ant_base.specs.Sink.{SinkState, PushedAll, PushedFront}
+use Rattle.ant_base.specs.declared.shelf.FetchFault.{FetchFault}
+use Rattle.ant_base.specs.declared.shelf.FetchFault.TheVariants as answer
+use Rattle.command_words.specs.Command.{PlainCommand, IsCommand}
 use Rattle.ants.specs.declared.stop.FileFault.{FileFault}
 use Rattle.ants.specs.declared.stop.FileFault.TheVariants.{TooLong, World, Brain}
-use Rattle.ants.specs.Files.{File, FileKind, Content, IsAccepted, IsFirst, IsRefused, Refuses, Told}
-use Rattle.ants.specs.Files.FileKind.{WorldFile, BrainFile}
-use Rattle.ants.specs.Jobs.{files_of}
-use Rattle.ants.specs.Performing.{AreSure, IsAtFault, IsUnsure, KeepsShelf, StopsFor}
-use Rattle.ants.specs.Steps.{IsReadAs, IsTextFault, LeavesShelf, ReadingStops, ReadsFile}
 use Rattle.ants.specs.declared.stop.Stop.{Stop}
+use Rattle.ants.specs.declared.stop.Stop.TheVariants as stop
+use Rattle.ants.specs.Files.{File, FileKind, Content, AreAccepted, AreBegun, IsAccepted, IsRefused, Refuses, StopsAt}
+use Rattle.ants.specs.Inner.Reading.{CarriesOut, CarriesOutWords, ComesTo, Outcome, ReadingStops, ReadsFiles, ReadsText, TextStops, ending_of, fetch_reason, outcome_of}
+use Rattle.ants.specs.Inner.Reading.Outcome.{Contents, Stopped}
+use Rattle.ants.specs.Jobs.{files_of, job_text}
+use Rattle.ants.specs.Judged.{IsRefusedAs}
+use Rattle.ants.specs.Performing.{EndsBy, IsUnsure, StopsFor}
+use Rattle.ants.specs.Running.{Ends}
 use Rattle.ants.specs.Stopping.{Reason, reason_of}
-use Rattle.brain_read.specs.declared.fault.BrainFault.{BrainFault}
-use Rattle.brain_read.specs.declared.fault.BrainFault.TheVariants.{BadByte, UnknownWord, MissingToken, BadNumber, ExtraToken, TooMany, Empty, NoSuchState, OutOfMemory}
-use Rattle.brain_read.specs.BrainText.{BrainVerdict, IsFaultOf}
 use Rattle.ants.specs.Stopping.Reason.{AtWord, AtFile, AtOutput, AtInput, AtMemory}
+use Rattle.ants.proofs.Texts.{never_long}
 
--- what is kept twice is kept
-keeps_then : (first second third : ShelfState) → KeepsShelf first second → KeepsShelf second third → KeepsShelf first third
-keeps_then first second third one two =
-    record {
-      files = two.files ∙ one.files;
-      sure = λ name is. two.sure name (one.sure name is);
-      later = omega arith;
-    }
+-- the files a were accepted, and then the files b
+accepted_then : (a b : List File) (fetches more : List Fetched) (contents others : List Content) → AreAccepted a fetches contents → AreAccepted b more others → AreAccepted (a ++ b) (fetches ++ more) (contents ++ others)
+accepted_then [] b fetches more contents others one two = rw (one.0, one.1) two
+accepted_then (file ∷ a) b [] more contents others one two = absurd one
+accepted_then (file ∷ a) b (fetch ∷ fetches) more [] others one two = absurd one
+accepted_then (file ∷ a) b (fetch ∷ fetches) more (content ∷ contents) others one two = (one.0, accepted_then a b fetches more contents others one.1 two)
 
--- a shelf that is sure of some files still is when they are read
-still_sure : (first second : ShelfState) (files : List File) → KeepsShelf first second → AreSure first files → AreSure second files
-still_sure first second [] keeps sure = tt
-still_sure first second (file ∷ files) keeps sure = (keeps.sure file.name sure.0, still_sure first second files keeps sure.1)
+-- the files a were accepted, and then the reading stopped at one of b
+stops_later : (P : File → Fetched → Type 0) (a b : List File) (fetches more : List Fetched) (contents : List Content) → AreAccepted a fetches contents → StopsAt P b more → StopsAt P (a ++ b) (fetches ++ more)
+stops_later P [] b fetches more contents one two = rw one.0 two
+stops_later P (file ∷ a) b [] more contents one two = absurd one
+stops_later P (file ∷ a) b (fetch ∷ fetches) more [] one two = absurd one
+stops_later P (file ∷ a) b (fetch ∷ fetches) more (content ∷ contents) one two = inr (content, one.0, stops_later P a b fetches more contents one.1 two)
 
--- what the reading of a file and then of others leaves
-pub leaves_then : (first second third : ShelfState) (file : File) (files : List File) → LeavesShelf (file ∷ []) first second → LeavesShelf files second third → LeavesShelf (file ∷ files) first third
-leaves_then first second third file files one two =
-    record {
-      keeps = keeps_then first second third one.keeps two.keeps;
-      quiet = λ sure. two.quiet (still_sure first second files one.keeps sure.1) ∙ one.quiet (sure.0, tt);
-    }
+-- the reading stopped at one of the files a, and those of b were not fetched
+stops_first : (P : File → Fetched → Type 0) (a b : List File) (fetches : List Fetched) → StopsAt P a fetches → StopsAt P (a ++ b) fetches
+stops_first P [] b fetches stops = absurd stops
+stops_first P (file ∷ a) b [] stops = absurd stops
+stops_first P (file ∷ a) b (fetch ∷ fetches) stops =
+    elim stops [ inl here ↦ inl here | inr later ↦ inr (later.0, later.1, stops_first P a b fetches later.2) ]
 
--- what the reading of the first of some files leaves
-pub leaves_first : (first second : ShelfState) (file : File) (files : List File) → LeavesShelf (file ∷ []) first second → LeavesShelf (file ∷ files) first second
-leaves_first first second file files one = record { keeps = one.keeps; quiet = λ sure. one.quiet (sure.0, tt) }
+-- the reading stopped at one that is such by a weaker fact too
+stops_weaker : (P Q : File → Fetched → Type 0) (files : List File) (fetches : List Fetched) → ((file : File) (fetch : Fetched) → P file fetch → Q file fetch) → StopsAt P files fetches → StopsAt Q files fetches
+stops_weaker P Q [] fetches weaker stops = stops
+stops_weaker P Q (file ∷ files) [] weaker stops = stops
+stops_weaker P Q (file ∷ files) (fetch ∷ fetches) weaker stops =
+    elim stops [ inl here ↦ inl (weaker file fetch here.0, here.1) | inr later ↦ inr (later.0, later.1, stops_weaker P Q files fetches weaker later.2) ]
 
--- where one of some files is such, it is such by a weaker fact too, and where shelves tell the same
-pub IsFirst-weaker : (told other : Told) (P Q : File → Type 0) (files : List File) → told ≡ other → ((file : File) → P file → Q file) → IsFirst told P files → IsFirst other Q files
-IsFirst-weaker told other P Q [] same weaker first = first
-IsFirst-weaker told other P Q (file ∷ files) same weaker first =
-    elim first [
-      | inl here ↦ inl (weaker file here)
-      | inr later ↦ inr (later.0, subst (λ (t : Told). IsAccepted t file later.0) same later.1, IsFirst-weaker told other P Q files same weaker later.2)
-    ]
+-- nothing is fetched yet
+begun_none : (files : List File) → AreBegun files []
+begun_none [] = refl
+begun_none (file ∷ files) = tt
+
+-- the files a were accepted, and those of b begun
+begun_later : (a b : List File) (fetches more : List Fetched) (contents : List Content) → AreAccepted a fetches contents → AreBegun b more → AreBegun (a ++ b) (fetches ++ more)
+begun_later [] b fetches more contents one two = rw one.0 two
+begun_later (file ∷ a) b [] more contents one two = absurd one
+begun_later (file ∷ a) b (fetch ∷ fetches) more [] one two = absurd one
+begun_later (file ∷ a) b (fetch ∷ fetches) more (content ∷ contents) one two = inr (content, one.0, begun_later a b fetches more contents one.1 two)
+
+-- the files a were begun, and those of b were not fetched
+begun_first : (a b : List File) (fetches : List Fetched) → AreBegun a fetches → AreBegun (a ++ b) fetches
+begun_first [] b fetches begun = rw begun (begun_none b)
+begun_first (file ∷ a) b [] begun = tt
+begun_first (file ∷ a) b (fetch ∷ fetches) begun =
+    elim begun [ inl here ↦ inl here | inr later ↦ inr (later.0, later.1, begun_first a b fetches later.2) ]
 
 -- a shelf that isn't sure of a name now wasn't before
-pub unsure_before : (first second : ShelfState) (name : List ℕ) → KeepsShelf first second → second.sure name ≡ false → first.sure name ≡ false
-unsure_before first second name keeps unsure = go (first.sure name) refl
+unsure_before : (first second : ShelfState) (fetches : List Fetched) (name : List ℕ) → FetchesEach first second fetches → second.sure name ≡ false → first.sure name ≡ false
+unsure_before first second fetches name each unsure = go (first.sure name) refl
   where
     go : (b : Bool) → first.sure name ≡ b → first.sure name ≡ false
-    go true is = let still : second.sure name ≡ true = keeps.sure name is in cc
+    go true is = let still : second.sure name ≡ true = each.sure name is in cc
     go false is = is
 
 -- a count that rose since later rose since before
-pub rose_before : (first second third : ℕ) → first ≤ second → Rose second third → Rose first third
+rose_before : (first second third : ℕ) → first ≤ second → Rose second third → Rose first third
 rose_before first second third later rose = omega arith
 
--- a file refused where the same is told
-pub IsRefused-told : (told other : Told) (file : File) (fault : FileFault) → told ≡ other → IsRefused told file fault → IsRefused other file fault
-IsRefused-told told other file fault same refused = subst (λ (t : Told). IsRefused t file fault) same refused
-
--- the reading of the files after an accepted one stopped
-pub stops_later : (first second third : ShelfState) (file : File) (content : Content) (files : List File) (reason : Reason) → IsAccepted first.files file content → LeavesShelf (file ∷ []) first second → ReadingStops second third files reason → ReadingStops first third (file ∷ files) reason
-stops_later first second third file content files (AtWord word) accepted leaves stops = stops
-stops_later first second third file content files (AtFile name) accepted leaves stops =
+reading_stops_later : (first second third : ShelfState) (a b : List File) (fetches more : List Fetched) (contents : List Content) (reason : Reason) → FetchesEach first second fetches → AreAccepted a fetches contents
+    → ReadingStops second third b more reason → ReadingStops first third (a ++ b) (fetches ++ more) reason
+reading_stops_later first second third a b fetches more contents (AtWord word) each accepted stops = stops
+reading_stops_later first second third a b fetches more contents (AtFile name) each accepted stops =
     record {
-      first = inr (content, accepted, IsFirst-weaker second.files first.files (IsUnsure second name) (IsUnsure first name) files leaves.keeps.files (λ f unsure. record { named = unsure.named; unsure = unsure_before first second name leaves.keeps unsure.unsure }) stops.first);
-      rose = rose_before first.faults second.faults third.faults leaves.keeps.later stops.rose;
+      stopped = stops_later (IsUnsure first name) a b fetches more contents accepted
+          (stops_weaker (IsUnsure second name) (IsUnsure first name) b more (λ file fetch is. record { named = is.named; failed = is.failed; unsure = unsure_before first second fetches name each is.unsure }) stops.stopped);
+      rose = rose_before first.faults second.faults third.faults each.later stops.rose;
     }
-stops_later first second third file content files AtOutput accepted leaves stops = stops
-stops_later first second third file content files (AtInput name fault) accepted leaves stops =
-    inr (content, accepted, IsFirst-weaker second.files first.files (IsAtFault second.files name fault) (IsAtFault first.files name fault) files leaves.keeps.files (λ f at. record { named = at.named; refused = IsRefused-told second.files first.files f fault leaves.keeps.files at.refused }) stops)
-stops_later first second third file content files AtMemory accepted leaves stops = stops
+reading_stops_later first second third a b fetches more contents AtOutput each accepted stops = stops
+reading_stops_later first second third a b fetches more contents (AtInput name fault) each accepted stops = stops_later (IsRefusedAs name fault) a b fetches more contents accepted stops
+reading_stops_later first second third a b fetches more contents AtMemory each accepted stops = begun_later a b fetches more contents accepted stops
 
--- the reading of the first of some files stopped
-pub stops_first : (first second : ShelfState) (file : File) (files : List File) (reason : Reason) → ReadingStops first second (file ∷ []) reason → ReadingStops first second (file ∷ files) reason
-stops_first first second file files (AtWord word) stops = stops
-stops_first first second file files (AtFile name) stops =
-    record { first = elim stops.first [ inl here ↦ inl here | inr later ↦ absurd later.2 ]; rose = stops.rose }
-stops_first first second file files AtOutput stops = stops
-stops_first first second file files (AtInput name fault) stops = elim stops [ inl here ↦ inl here | inr later ↦ absurd later.2 ]
-stops_first first second file files AtMemory stops = stops
+reading_stops_first : (first second : ShelfState) (a b : List File) (fetches : List Fetched) (reason : Reason) → ReadingStops first second a fetches reason → ReadingStops first second (a ++ b) fetches reason
+reading_stops_first first second a b fetches (AtWord word) stops = stops
+reading_stops_first first second a b fetches (AtFile name) stops = record { stopped = stops_first (IsUnsure first name) a b fetches stops.stopped; rose = stops.rose }
+reading_stops_first first second a b fetches AtOutput stops = stops
+reading_stops_first first second a b fetches (AtInput name fault) stops = stops_first (IsRefusedAs name fault) a b fetches stops
+reading_stops_first first second a b fetches AtMemory stops = begun_first a b fetches stops
 
--- a command whose reading stopped has stopped, with nothing written
-pub stops_for : (command : PlainCommand) (shelf new_shelf : ShelfState) (out : SinkState) (reason : Reason) → ReadingStops shelf new_shelf (files_of command) reason → StopsFor command shelf new_shelf out out reason
-stops_for command shelf new_shelf out (AtWord word) stops = stops
-stops_for command shelf new_shelf out (AtFile name) stops = record { first = stops.first; rose = stops.rose; unwritten = refl }
-stops_for command shelf new_shelf out AtOutput stops = absurd stops
-stops_for command shelf new_shelf out (AtInput name fault) stops = record { first = stops; unwritten = refl }
-stops_for command shelf new_shelf out AtMemory stops = refl
+-- what comes of some contents, and then of an outcome
+abbrev pub after : List Content → Outcome → Outcome
+after contents (Contents others) = Contents (contents ++ others)
+after contents (Stopped reason) = Stopped reason
 
--- a fault of a text is a refusal of its file
-pub IsRefused-text : (told : Told) (file : File) (bytes : List ℕ) (fault : FileFault) → IsContent told file.name bytes → Refuses file.kind bytes fault → IsRefused told file fault
-IsRefused-text told file bytes TooLong content refuses = absurd (never file.kind refuses)
-  where
-    never : (kind : FileKind) → Refuses kind bytes TooLong → ⊥
-    never WorldFile none = none
-    never BrainFile none = none
-IsRefused-text told file bytes (World fault) content refuses = record { bytes = bytes; is_content = content; refuses = refuses }
-IsRefused-text told file bytes (Brain fault) content refuses = record { bytes = bytes; is_content = content; refuses = refuses }
+comes_then : (first second third : ShelfState) (a b : List File) (fetches more : List Fetched) (contents : List Content) (outcome : Outcome) → FetchesEach first second fetches → AreAccepted a fetches contents
+    → ComesTo second third b more outcome → ComesTo first third (a ++ b) (fetches ++ more) (after contents outcome)
+comes_then first second third a b fetches more contents (Contents others) each accepted comes = accepted_then a b fetches more contents others accepted comes
+comes_then first second third a b fetches more contents (Stopped reason) each accepted comes = reading_stops_later first second third a b fetches more contents reason each accepted comes
 
--- bytes whose reading stopped are a file whose reading stopped
-pub stops_text : (shelf new_shelf : ShelfState) (file : File) (bytes : List ℕ) (reason : Reason) → IsContent shelf.files file.name bytes → IsTextFault file.kind bytes file.name reason → ReadingStops shelf new_shelf (file ∷ []) reason
-stops_text shelf new_shelf file bytes (AtWord word) content stops = stops
-stops_text shelf new_shelf file bytes (AtFile name) content stops = absurd stops
-stops_text shelf new_shelf file bytes AtOutput content stops = stops
-stops_text shelf new_shelf file bytes (AtInput name fault) content stops =
-    inl (record { named = sym stops.0; refused = IsRefused-text shelf.files file bytes fault content stops.1 })
-stops_text shelf new_shelf file bytes AtMemory content stops = stops
+-- no file was read
+pub reads_none : (shelf : ShelfState) → ReadsFiles shelf shelf [] (Contents [])
+reads_none shelf = record { fetches = []; fetched = fetches_none shelf; comes = (refl, refl) }
 
--- bytes that were read, or whose reading stopped, are a file that was
-pub ReadsFile-bytes : {A : Type 0} → (as_content : A → Content) (shelf new_shelf : ShelfState) (file : File) (bytes : List ℕ) (result : Result A Stop) → IsContent shelf.files file.name bytes → IsReadAs as_content file.kind bytes file.name result → ReadsFile as_content shelf new_shelf file result
-ReadsFile-bytes as_content shelf new_shelf file bytes (Ok value) content read = record { bytes = bytes; is_content = content; reads = read }
-ReadsFile-bytes as_content shelf new_shelf file bytes (Err stop) content read = stops_text shelf new_shelf file bytes (reason_of stop) content read
+-- the files a were read, and then those of b
+pub reads_then : (first second third : ShelfState) (a b : List File) (contents : List Content) (outcome : Outcome) → ReadsFiles first second a (Contents contents) → ReadsFiles second third b outcome
+    → ReadsFiles first third (a ++ b) (after contents outcome)
+reads_then first second third a b contents outcome one two =
+    record {
+      fetches = one.fetches ++ two.fetches;
+      fetched = fetches_then first second third one.fetches two.fetches one.fetched two.fetched;
+      comes = comes_then first second third a b one.fetches two.fetches contents outcome one.fetched one.comes two.comes;
+    }
 
--- a brain's fault that isn't want of memory is its text's
-pub BrainVerdict-fault : (bytes : List ℕ) (fault : BrainFault) → fault ≢ OutOfMemory → IsFaultOf bytes fault → BrainVerdict bytes fault
-BrainVerdict-fault bytes (BadByte line) other is = is
-BrainVerdict-fault bytes (UnknownWord line) other is = is
-BrainVerdict-fault bytes (MissingToken line) other is = is
-BrainVerdict-fault bytes (BadNumber line) other is = is
-BrainVerdict-fault bytes (ExtraToken line) other is = is
-BrainVerdict-fault bytes (TooMany line) other is = is
-BrainVerdict-fault bytes Empty other is = is
-BrainVerdict-fault bytes (NoSuchState line state) other is = is
-BrainVerdict-fault bytes OutOfMemory other is = absurd (other refl)
+-- the reading of the files a stopped, and so that of more files did
+pub reads_stopped : (first second : ShelfState) (a b : List File) (reason : Reason) → ReadsFiles first second a (Stopped reason) → ReadsFiles first second (a ++ b) (Stopped reason)
+reads_stopped first second a b reason reads =
+    record { fetches = reads.fetches; fetched = reads.fetched; comes = reading_stops_first first second a b reads.fetches reason reads.comes }
+
+-- a file whose bytes are refused is
+pub refused_text : (file : File) (fetch : Fetched) (bytes : List ℕ) (fault : FileFault) → fetch ≡ record { name = file.name; answer = Ok bytes } → Refuses file.kind bytes fault → IsRefused file fetch fault
+refused_text file fetch bytes TooLong got refuses = absurd (never_long file.kind bytes refuses)
+refused_text file fetch bytes (World fault) got refuses = record { bytes = bytes; got = got; refuses = refuses }
+refused_text file fetch bytes (Brain fault) got refuses = record { bytes = bytes; got = got; refuses = refuses }
+
+text_stops : (shelf new_shelf : ShelfState) (file : File) (fetch : Fetched) (bytes : List ℕ) (reason : Reason) → fetch ≡ record { name = file.name; answer = Ok bytes } → TextStops file.kind bytes file.name reason
+    → ReadingStops shelf new_shelf (file ∷ []) (fetch ∷ []) reason
+text_stops shelf new_shelf file fetch bytes (AtWord word) got stops = stops
+text_stops shelf new_shelf file fetch bytes (AtFile name) got stops = absurd stops
+text_stops shelf new_shelf file fetch bytes AtOutput got stops = stops
+text_stops shelf new_shelf file fetch bytes (AtInput name fault) got stops = inl (record { named = sym stops.0; refused = refused_text file fetch bytes fault got stops.1 }, refl)
+text_stops shelf new_shelf file fetch bytes AtMemory got stops = inl (inl (bytes, got), refl)
+
+text_comes : {A : Type 0} (content_of : A → Content) (shelf new_shelf : ShelfState) (file : File) (fetch : Fetched) (bytes : List ℕ) (result : Result A Stop) → fetch ≡ record { name = file.name; answer = Ok bytes }
+    → ReadsText content_of file.kind bytes file.name result → ComesTo shelf new_shelf (file ∷ []) (fetch ∷ []) (outcome_of (λ value. content_of value ∷ []) result)
+text_comes content_of shelf new_shelf file fetch bytes (Ok value) got reads = (record { bytes = bytes; got = got; reads = reads }, (refl, refl))
+text_comes content_of shelf new_shelf file fetch bytes (Err stop) got reads = text_stops shelf new_shelf file fetch bytes (reason_of stop) got reads
+
+-- a file was fetched, and its bytes were read
+pub reads_text : {A V : Type 0} (content_of : V → Content) (shelf new_shelf : ShelfState) (file : File) (bytes : Vec ℕ A) (result : Result V Stop) → Fetches {A = A} shelf new_shelf file.name (Ok bytes)
+    → ReadsText content_of file.kind bytes.items file.name result → ReadsFiles shelf new_shelf (file ∷ []) (outcome_of (λ value. content_of value ∷ []) result)
+reads_text content_of shelf new_shelf file bytes result fetches reads =
+    let fetch : Fetched = record { name = file.name; answer = Ok bytes.items } in
+    record { fetches = fetch ∷ []; fetched = fetches_one shelf new_shelf file.name (Ok bytes) fetches; comes = text_comes content_of shelf new_shelf file fetch bytes.items result refl reads }
+
+fetch_stops : {A : Type 0} (shelf new_shelf : ShelfState) (file : File) (fault : FetchFault) → Fetches {A = A} shelf new_shelf file.name (Err fault)
+    → ReadingStops shelf new_shelf (file ∷ []) (record { name = file.name; answer = Err fault } ∷ []) (fetch_reason file.name fault)
+fetch_stops shelf new_shelf file answer.Failed fetches = record { stopped = inl (record { named = refl; failed = refl; unsure = fetches.answer.unsure }, refl); rose = fetches.answer.rose }
+fetch_stops shelf new_shelf file answer.TooLong fetches = inl (record { named = refl; refused = refl }, refl)
+fetch_stops shelf new_shelf file answer.OutOfMemory fetches = inl (inr refl, refl)
+
+-- a file was not fetched
+pub reads_no_text : {A : Type 0} (shelf new_shelf : ShelfState) (file : File) (fault : FetchFault) → Fetches {A = A} shelf new_shelf file.name (Err fault)
+    → ReadsFiles shelf new_shelf (file ∷ []) (Stopped (fetch_reason file.name fault))
+reads_no_text shelf new_shelf file fault fetches =
+    record { fetches = record { name = file.name; answer = Err fault } ∷ []; fetched = fetches_one shelf new_shelf file.name (Err fault) fetches; comes = fetch_stops shelf new_shelf file fault fetches }
+
+stops_for : (command : PlainCommand) (shelf new_shelf : ShelfState) (fetches : List Fetched) (out : SinkState) (reason : Reason) → ReadingStops shelf new_shelf (files_of command) fetches reason → StopsFor command shelf new_shelf fetches out out reason
+stops_for command shelf new_shelf fetches out (AtWord word) stops = stops
+stops_for command shelf new_shelf fetches out (AtFile name) stops = record { stopped = stops.stopped; rose = stops.rose; unwritten = refl }
+stops_for command shelf new_shelf fetches out AtOutput stops = absurd stops
+stops_for command shelf new_shelf fetches out (AtInput name fault) stops = record { stopped = stops; unwritten = refl }
+stops_for command shelf new_shelf fetches out AtMemory stops = record { begun = stops; unwritten = refl }
+
+-- a command stopped at its files, with nothing written
+pub carries_stopped : (command : PlainCommand) (shelf new_shelf : ShelfState) (out : SinkState) (reason : Reason) → ReadsFiles shelf new_shelf (files_of command) (Stopped reason) → CarriesOut command shelf new_shelf out out (Some reason)
+carries_stopped command shelf new_shelf out reason reads =
+    record { fetches = reads.fetches; fetched = reads.fetched; ends = stops_for command shelf new_shelf reads.fetches out reason reads.comes }
+
+-- a command's files were read, and its whole text was written
+pub carries_done : (command : PlainCommand) (shelf new_shelf : ShelfState) (out new_out : SinkState) (contents : List Content) → ReadsFiles shelf new_shelf (files_of command) (Contents contents)
+    → PushedAll out new_out (job_text command contents) → CarriesOut command shelf new_shelf out new_out None
+carries_done command shelf new_shelf out new_out contents reads pushed =
+    record { fetches = reads.fetches; fetched = reads.fetched; ends = record { contents = contents; accepted = reads.comes; written = pushed } }
+
+-- a command's files were read, and a front of its text was written
+pub carries_cut : (command : PlainCommand) (shelf new_shelf : ShelfState) (out new_out : SinkState) (contents : List Content) → ReadsFiles shelf new_shelf (files_of command) (Contents contents)
+    → PushedFront out new_out (job_text command contents) → CarriesOut command shelf new_shelf out new_out (Some AtOutput)
+carries_cut command shelf new_shelf out new_out contents reads pushed =
+    record { fetches = reads.fetches; fetched = reads.fetched; ends = record { contents = contents; accepted = reads.comes; cut = pushed } }
+
+-- memory was wanting before a file was fetched
+pub carries_nothing : (command : PlainCommand) (shelf : ShelfState) (out : SinkState) → CarriesOut command shelf shelf out out (Some AtMemory)
+carries_nothing command shelf out = record { fetches = []; fetched = fetches_none shelf; ends = record { begun = begun_none (files_of command); unwritten = refl } }
+
+ends_as : (words : List (List ℕ)) (command : PlainCommand) (shelf new_shelf : ShelfState) (fetches : List Fetched) (out new_out : SinkState) (ending : Option Reason) → IsCommand words command
+    → EndsBy command shelf new_shelf fetches out new_out ending → Ends words shelf new_shelf fetches out new_out ending
+ends_as words command shelf new_shelf fetches out new_out None is ends = record { command = command; is_command = is; ends = ends }
+ends_as words command shelf new_shelf fetches out new_out (Some (AtWord word)) is ends = absurd ends
+ends_as words command shelf new_shelf fetches out new_out (Some (AtFile name)) is ends = record { command = command; is_command = is; ends = ends }
+ends_as words command shelf new_shelf fetches out new_out (Some AtOutput) is ends = record { command = command; is_command = is; ends = ends }
+ends_as words command shelf new_shelf fetches out new_out (Some (AtInput name fault)) is ends = record { command = command; is_command = is; ends = ends }
+ends_as words command shelf new_shelf fetches out new_out (Some AtMemory) is ends = record { command = command; is_command = is; ends = ends }
+
+-- words that are a command were carried out as it was
+pub carries_words : (words : List (List ℕ)) (command : PlainCommand) (shelf new_shelf : ShelfState) (out new_out : SinkState) (ending : Option Reason) → IsCommand words command
+    → CarriesOut command shelf new_shelf out new_out ending → CarriesOutWords words shelf new_shelf out new_out ending
+carries_words words command shelf new_shelf out new_out ending is carried =
+    record { fetches = carried.fetches; fetched = carried.fetched; ends = ends_as words command shelf new_shelf carried.fetches out new_out ending is carried.ends }
+
+-- the outcome of a call that answers with a stop
+outcome_stopped : {V : Type 0} (contents_of : V → List Content) (result : Result V Stop) (why : Stop) → IsErrAnd result (λ other. other ≡ why) → Stopped (reason_of why) ≡ outcome_of contents_of result
+outcome_stopped contents_of (Ok value) why same = absurd same
+outcome_stopped contents_of (Err other) why same = ap (λ s. Stopped (reason_of s)) (sym same)
+
+-- a call that answers with the stop of the files a, which come first
+pub stopped_first : {V : Type 0} (contents_of : V → List Content) (first second : ShelfState) (a b : List File) (result : Result V Stop) (why : Stop) → IsErrAnd result (λ other. other ≡ why)
+    → ReadsFiles first second a (Stopped (reason_of why)) → ReadsFiles first second (a ++ b) (outcome_of contents_of result)
+stopped_first contents_of first second a b result why same reads =
+    subst (ReadsFiles first second (a ++ b)) (outcome_stopped contents_of result why same) (reads_stopped first second a b (reason_of why) reads)
+
+-- a call that answers with the stop of the files b, before which those of a were read
+pub stopped_later : {V : Type 0} (contents_of : V → List Content) (first second third : ShelfState) (a b : List File) (contents : List Content) (result : Result V Stop) (why : Stop) → IsErrAnd result (λ other. other ≡ why)
+    → ReadsFiles first second a (Contents contents) → ReadsFiles second third b (Stopped (reason_of why)) → ReadsFiles first third (a ++ b) (outcome_of contents_of result)
+stopped_later contents_of first second third a b contents result why same one two =
+    subst (ReadsFiles first third (a ++ b)) (outcome_stopped contents_of result why same) (reads_then first second third a b contents (Stopped (reason_of why)) one two)
+
+ending_stopped : {U : Type 0} (result : Result U Stop) (why : Stop) → IsErrAnd result (λ other. other ≡ why) → Some (reason_of why) ≡ ending_of result
+ending_stopped (Ok done) why same = absurd same
+ending_stopped (Err other) why same = ap (λ s. Some (reason_of s)) (sym same)
+
+-- a command that answers with the stop of its files
+pub carries_stop : {U : Type 0} (command : PlainCommand) (shelf new_shelf : ShelfState) (out : SinkState) (result : Result U Stop) (why : Stop) → IsErrAnd result (λ other. other ≡ why)
+    → ReadsFiles shelf new_shelf (files_of command) (Stopped (reason_of why)) → CarriesOut command shelf new_shelf out out (ending_of result)
+carries_stop command shelf new_shelf out result why same reads =
+    subst (CarriesOut command shelf new_shelf out out) (ending_stopped result why same) (carries_stopped command shelf new_shelf out (reason_of why) reads)
+
+-- a command that answers with a failed output
+pub carries_failure : {U : Type 0} (command : PlainCommand) (shelf new_shelf : ShelfState) (out new_out : SinkState) (contents : List Content) (result : Result U Stop) → IsErrAnd result (λ other. other ≡ stop.Write)
+    → ReadsFiles shelf new_shelf (files_of command) (Contents contents) → PushedFront out new_out (job_text command contents) → CarriesOut command shelf new_shelf out new_out (ending_of result)
+carries_failure command shelf new_shelf out new_out contents result same reads pushed =
+    subst (CarriesOut command shelf new_shelf out new_out) (ending_stopped result stop.Write same) (carries_cut command shelf new_shelf out new_out contents reads pushed)
+
+-- words that answer with want of memory before a file was fetched
+pub carries_want : {U : Type 0} (words : List (List ℕ)) (command : PlainCommand) (shelf : ShelfState) (out : SinkState) (result : Result U Stop) → IsErrAnd result (λ other. other ≡ stop.Memory) → IsCommand words command
+    → CarriesOutWords words shelf shelf out out (ending_of result)
+carries_want words command shelf out result same is_command =
+    subst (CarriesOutWords words shelf shelf out out) (ending_stopped result stop.Memory same) (carries_words words command shelf shelf out out (Some AtMemory) is_command (carries_nothing command shelf out))

@@ -1,135 +1,291 @@
 -- What the end of a run says of its status: when the words are no command, when input is refused, and that nothing else is in the way.
-use Rattle.std.proofs.Common.{◌≡◌, ℕ, ◌<◌, ◌≤◌, List, [], ◌∷◌, length, refl, sym, ◌∙◌, subst, arith, inl, inr, ◌⊎◌, Option, Some, None}
+use Rattle.std.proofs.Common.{◌≡◌, ◌≢◌, ◌⊎◌, inl, inr, ℕ, ◌<◌, ◌≤◌, true, false, List, [], ◌∷◌, ◌++◌, length, map, Ok, Err, Option, Some, None, refl, sym, ◌∙◌, ap, subst, arith}
+use Rattle.std.specs.List.{AllByRecursion}
 use Rattle.std.specs.Prelude.{IsSomeAnd}
-use Rattle.ant_base.specs.Shelf.{ShelfState, longest}
+use Rattle.std.proofs.lemmas.Bool.{false≢true}
+use Rattle.ant_base.specs.Fetched.{Fetched}
+use Rattle.ant_base.specs.Faults.{Rose}
+use Rattle.ant_base.specs.Shelf.{AreSure, IsContent, IsTold, IsTooLong, ShelfState, Told, longest}
 use Rattle.ant_base.specs.Sink.{SinkState}
-use Rattle.brain_read.proofs.Whole as whole
+use Rattle.ant_base.specs.declared.shelf.FetchFault.TheVariants as answer
 use Rattle.command_words.proofs.WordLaws as words_laws
 use Rattle.command_words.specs.Command.{PlainCommand, IsCommand}
 use Rattle.ants.specs.declared.status.Status.{Status}
 use Rattle.ants.specs.declared.status.Status.TheVariants as status
 use Rattle.ants.specs.declared.stop.FileFault.{FileFault}
 use Rattle.ants.specs.declared.stop.FileFault.TheVariants.{TooLong, World, Brain}
-use Rattle.ants.specs.Files.{AreAccepted, Content, File, FileKind, IsAccepted, IsFirst, IsRefused, Reads, Refuses, Told}
-use Rattle.ants.specs.Files.Content.{WorldContent, BrainContent}
-use Rattle.ants.specs.Files.FileKind.{WorldFile, BrainFile}
+use Rattle.ants.specs.Files.{AreAccepted, AreBegun, AreInOrder, Content, File, IsAccepted, IsFetched, IsRefused, Reads, Refuses, StopsAt}
 use Rattle.ants.specs.Jobs.{files_of}
-use Rattle.ants.specs.Performing.{IsAtFault}
-use Rattle.ants.specs.Running.{Ends, IsAtBadInput, IsComplete, IsFaultless, IsNoCommand, IsRefusing, IsRun, ending_status}
-use Rattle.ants.proofs.Worlds.{never_wrong}
+use Rattle.ants.specs.Judged.{IsJudged, IsRefusedAs, Judged, Verdict}
+use Rattle.ants.specs.Judged.Verdict.{AllAccepted, FirstRefused}
+use Rattle.ants.specs.Performing.{EndsBy, IsUnsure, StopsFor}
+use Rattle.ants.specs.Running.{Ends, IsComplete, IsJudgedCommand, IsNoCommand, IsOrderly, IsRead, IsRefusing, IsRun, ending_status}
 use Rattle.ants.specs.Stopping.{Reason}
 use Rattle.ants.specs.Stopping.Reason.{AtWord, AtFile, AtOutput, AtInput, AtMemory}
+use Rattle.ants.proofs.Texts.{never_both, one_reading, one_refusal}
 
--- bytes are never both read and refused
-never_both : (kind : FileKind) (bytes : List ℕ) (content : Content) (fault : FileFault) → Reads kind bytes content → Refuses kind bytes fault → ⊥
-never_both WorldFile bytes content TooLong reads refuses = refuses
-never_both WorldFile bytes content (Brain fault) reads refuses = refuses
-never_both WorldFile bytes (WorldContent grid) (World fault) reads refuses = never_wrong bytes grid fault reads refuses
-never_both WorldFile bytes (BrainContent list) (World fault) reads refuses = reads
-never_both BrainFile bytes content TooLong reads refuses = refuses
-never_both BrainFile bytes content (World fault) reads refuses = refuses
-never_both BrainFile bytes (WorldContent grid) (Brain fault) reads refuses = reads
-never_both BrainFile bytes (BrainContent list) (Brain fault) reads refuses = whole.never_both bytes list fault reads refuses
+-- the contents of each name
+abbrev At : Type 0
+At = List ℕ → Option (List ℕ)
 
--- one value is told
 some_same : (a b : List ℕ) → Some a ≡ Some b → a ≡ b
 some_same a b same = cc
 
--- a file whose content is told is never both too long and accepted
-never_too_long : (at : List ℕ → Option (List ℕ)) (name bytes : List ℕ) (found : Option (List ℕ)) → found ≡ Some bytes → length bytes ≤ longest → IsSomeAnd found (λ content. longest < length content) → ⊥
-never_too_long at name bytes None same short long = cc
-never_too_long at name bytes (Some other) same short long =
+-- bytes that were got are told
+told_bytes : (at : At) (name bytes : List ℕ) (fetch : Fetched) → IsTold (Some at) fetch → fetch ≡ record { name = name; answer = Ok bytes } → IsContent (Some at) name bytes
+told_bytes at name bytes fetch told got = subst (IsTold (Some at)) got told
+
+told_long : (at : At) (name : List ℕ) (fetch : Fetched) → IsTold (Some at) fetch → fetch ≡ record { name = name; answer = Err answer.TooLong } → IsTooLong (Some at) name
+told_long at name fetch told got = subst (IsTold (Some at)) got told
+
+-- two fetches of a name got the same bytes
+pub one_bytes : (at : At) (name a b : List ℕ) (first second : Fetched) → IsTold (Some at) first → IsTold (Some at) second → first ≡ record { name = name; answer = Ok a } → second ≡ record { name = name; answer = Ok b } → a ≡ b
+one_bytes at name a b first second one two got gets =
+    some_same a b (sym (told_bytes at name a first one got).told ∙ (told_bytes at name b second two gets).told)
+
+never_long : (name bytes : List ℕ) (found : Option (List ℕ)) → found ≡ Some bytes → length bytes ≤ longest → IsSomeAnd found (λ content. longest < length content) → ⊥
+never_long name bytes None same short long = cc
+never_long name bytes (Some other) same short long =
     let one : other ≡ bytes = cc in
     let more : longest < length bytes = subst (λ (b : List ℕ). longest < length b) one long in
     omega arith
 
--- a file whose content is told is never both accepted and refused
-one_verdict : (at : List ℕ → Option (List ℕ)) (file : File) (content : Content) (fault : FileFault) → IsAccepted (Some at) file content → IsRefused (Some at) file fault → ⊥
-one_verdict at file content TooLong accepted refused = never_too_long at file.name accepted.bytes (at file.name) accepted.is_content.told accepted.is_content.short refused
-one_verdict at file content (World fault) accepted refused =
-    let told = accepted.is_content.told in
-    let other = refused.is_content.told in
-    let one : refused.bytes ≡ accepted.bytes = some_same refused.bytes accepted.bytes (sym other ∙ told) in
-    never_both file.kind accepted.bytes content (World fault) accepted.reads (subst (λ (b : List ℕ). Refuses file.kind b (World fault)) one refused.refuses)
-one_verdict at file content (Brain fault) accepted refused =
-    let told = accepted.is_content.told in
-    let other = refused.is_content.told in
-    let one : refused.bytes ≡ accepted.bytes = some_same refused.bytes accepted.bytes (sym other ∙ told) in
-    never_both file.kind accepted.bytes content (Brain fault) accepted.reads (subst (λ (b : List ℕ). Refuses file.kind b (Brain fault)) one refused.refuses)
+-- bytes are got of no name that is too long
+pub never_bytes : (at : At) (name bytes : List ℕ) (first second : Fetched) → IsTold (Some at) first → IsTold (Some at) second → first ≡ record { name = name; answer = Ok bytes } → second ≡ record { name = name; answer = Err answer.TooLong } → ⊥
+never_bytes at name bytes first second one two got long =
+    let content = told_bytes at name bytes first one got in
+    never_long name bytes (at name) content.told content.short (told_long at name second two long)
 
--- files that were all accepted have none that is refused
-accepted_never_refused : (at : List ℕ → Option (List ℕ)) (files : List File) (contents : List Content) (name : List ℕ) (fault : FileFault) → AreAccepted (Some at) files contents → IsFirst (Some at) (IsAtFault (Some at) name fault) files → ⊥
-accepted_never_refused at [] contents name fault accepted first = first
-accepted_never_refused at (file ∷ files) [] name fault accepted first = accepted
-accepted_never_refused at (file ∷ files) (content ∷ contents) name fault accepted first =
-    elim first [
-      | inl here ↦ one_verdict at file content fault accepted.0 here.refused
-      | inr later ↦ accepted_never_refused at files contents name fault accepted.1 later.2
+-- a file is accepted as one content
+pub one_content : (at : At) (file : File) (first second : Fetched) (a b : Content) → IsTold (Some at) first → IsTold (Some at) second → IsAccepted file first a → IsAccepted file second b → a ≡ b
+one_content at file first second a b one two is also =
+    let same = one_bytes at file.name also.bytes is.bytes second first two one also.got is.got in
+    one_reading file.kind is.bytes a b is.reads (subst (λ (bytes : List ℕ). Reads file.kind bytes b) same also.reads)
+
+-- a file is never both accepted and refused
+pub one_verdict : (at : At) (file : File) (first second : Fetched) (content : Content) (fault : FileFault) → IsTold (Some at) first → IsTold (Some at) second → IsAccepted file first content → IsRefused file second fault → ⊥
+one_verdict at file first second content TooLong one two is refused = never_bytes at file.name is.bytes first second one two is.got refused
+one_verdict at file first second content (World fault) one two is refused =
+    let same = one_bytes at file.name refused.bytes is.bytes second first two one refused.got is.got in
+    never_both file.kind is.bytes content (World fault) is.reads (subst (λ (bytes : List ℕ). Refuses file.kind bytes (World fault)) same refused.refuses)
+one_verdict at file first second content (Brain fault) one two is refused =
+    let same = one_bytes at file.name refused.bytes is.bytes second first two one refused.got is.got in
+    never_both file.kind is.bytes content (Brain fault) is.reads (subst (λ (bytes : List ℕ). Refuses file.kind bytes (Brain fault)) same refused.refuses)
+
+-- files that are all accepted have none that is refused
+pub accepted_never_refused : (at : At) (files : List File) (first second : List Fetched) (contents : List Content) (name : List ℕ) (fault : FileFault) → AllByRecursion (IsTold (Some at)) first → AllByRecursion (IsTold (Some at)) second
+    → AreAccepted files first contents → StopsAt (IsRefusedAs name fault) files second → ⊥
+accepted_never_refused at [] first second contents name fault one two are stops = stops
+accepted_never_refused at (file ∷ files) [] second contents name fault one two are stops = are
+accepted_never_refused at (file ∷ files) (x ∷ first) second [] name fault one two are stops = are
+accepted_never_refused at (file ∷ files) (x ∷ first) [] (content ∷ contents) name fault one two are stops = stops
+accepted_never_refused at (file ∷ files) (x ∷ first) (y ∷ second) (content ∷ contents) name fault one two are stops =
+    elim stops [
+      | inl here ↦ one_verdict at file x y content fault one.0 two.0 are.0 here.0.refused
+      | inr later ↦ accepted_never_refused at files first second contents name fault one.1 two.1 are.1 later.2
     ]
 
--- a faultless run is done, or wants memory
-complete_by : (words : List (List ℕ)) (shelf new_shelf : ShelfState) (out new_out : SinkState) (ending : Option Reason) → Ends words shelf new_shelf out new_out ending → IsFaultless words shelf new_shelf out new_out → (ending_status ending ≡ status.Done) ⊎ (ending_status ending ≡ status.Memory)
-complete_by words shelf new_shelf out new_out None ends f = inl refl
-complete_by words shelf new_shelf out new_out (Some (AtWord word)) ends f = absurd (words_laws.never_both words f.command word f.is_command ends.refused)
-complete_by words shelf new_shelf out new_out (Some (AtFile name)) ends f = absurd (f.shelf_held ends.stopped.rose)
-complete_by words shelf new_shelf out new_out (Some AtOutput) ends f = absurd (f.out_held ends.stopped.cut.rose)
-complete_by words shelf new_shelf out new_out (Some (AtInput name fault)) ends f =
-    let one : ends.command ≡ f.command = words_laws.one_command words ends.command f.command ends.is_command f.is_command in
-    let first : IsFirst (Some f.at) (IsAtFault (Some f.at) name fault) (files_of f.command) =
-    subst (λ (c : PlainCommand). IsFirst (Some f.at) (IsAtFault (Some f.at) name fault) (files_of c)) one
-    (subst (λ (t : Told). IsFirst t (IsAtFault t name fault) (files_of ends.command)) f.told ends.stopped.first) in
-    let accepted : AreAccepted (Some f.at) (files_of f.command) f.contents = subst (λ (t : Told). AreAccepted t (files_of f.command) f.contents) f.told f.accepted in
-    absurd (accepted_never_refused f.at (files_of f.command) f.contents name fault accepted first)
-complete_by words shelf new_shelf out new_out (Some AtMemory) ends f = inr refl
+-- the fetch of an accepted file asked for its name
+accepted_name : (file : File) (fetch : Fetched) (content : Content) → IsAccepted file fetch content → fetch.name ≡ file.name
+accepted_name file fetch content is = ap (λ (f : Fetched). f.name) is.got
 
-pub IsComplete-run : (words : List (List ℕ)) (shelf new_shelf : ShelfState) (out new_out err new_err : SinkState) (ended : Status) → IsRun words shelf new_shelf out new_out err new_err ended → IsComplete words shelf new_shelf out new_out ended
-IsComplete-run words shelf new_shelf out new_out err new_err ended run = λ faultless.
-    subst (λ (s : Status). (s ≡ status.Done) ⊎ (s ≡ status.Memory)) (sym run.is_status) (complete_by words shelf new_shelf out new_out run.ending run.ends faultless)
+-- so did that of a refused one
+refused_name : (file : File) (fetch : Fetched) (fault : FileFault) → IsRefused file fetch fault → fetch.name ≡ file.name
+refused_name file fetch TooLong is = ap (λ (f : Fetched). f.name) is
+refused_name file fetch (World fault) is = ap (λ (f : Fetched). f.name) is.got
+refused_name file fetch (Brain fault) is = ap (λ (f : Fetched). f.name) is.got
 
--- a command whose files were all accepted is at no refused input
-never_accepted : (words : List (List ℕ)) (shelf new_shelf : ShelfState) (command : PlainCommand) (contents : List Content) → IsCommand words command → AreAccepted shelf.files (files_of command) contents → IsAtBadInput words shelf new_shelf → ⊥
-never_accepted words shelf new_shelf command contents is accepted bad =
-    let one : command ≡ bad.command = words_laws.one_command words command bad.command is bad.is_command in
-    let first : IsFirst (Some bad.at) (IsAtFault (Some bad.at) bad.name bad.fault) (files_of bad.command) =
-    subst (λ (t : Told). IsFirst t (IsAtFault t bad.name bad.fault) (files_of bad.command)) bad.told bad.first in
-    let all : AreAccepted (Some bad.at) (files_of bad.command) contents =
-    subst (λ (c : PlainCommand). AreAccepted (Some bad.at) (files_of c) contents) one (subst (λ (t : Told). AreAccepted t (files_of command) contents) bad.told accepted) in
-    accepted_never_refused bad.at (files_of bad.command) contents bad.name bad.fault all first
+-- the shelf was sure of a file of which it wasn't
+never_sure : (shelf : ShelfState) (name : List ℕ) (file : File) (fetch other : Fetched) → IsUnsure shelf name file fetch → other.name ≡ file.name → shelf.sure other.name ≡ true → ⊥
+never_sure shelf name file fetch other unsure named sure =
+    false≢true (sym unsure.unsure ∙ ap shelf.sure (sym unsure.named ∙ sym named) ∙ sure)
 
--- a run at refused input ends so, or wants memory
-refusing_by : (words : List (List ℕ)) (shelf new_shelf : ShelfState) (out new_out : SinkState) (ending : Option Reason) → Ends words shelf new_shelf out new_out ending → IsAtBadInput words shelf new_shelf → (ending_status ending ≡ status.Input) ⊎ (ending_status ending ≡ status.Memory)
-refusing_by words shelf new_shelf out new_out None ends bad = absurd (never_accepted words shelf new_shelf ends.command ends.done.contents ends.is_command ends.done.accepted bad)
-refusing_by words shelf new_shelf out new_out (Some (AtWord word)) ends bad = absurd (words_laws.never_both words bad.command word bad.is_command ends.refused)
-refusing_by words shelf new_shelf out new_out (Some (AtFile name)) ends bad = absurd (bad.shelf_held ends.stopped.rose)
-refusing_by words shelf new_shelf out new_out (Some AtOutput) ends bad = absurd (never_accepted words shelf new_shelf ends.command ends.stopped.contents ends.is_command ends.stopped.accepted bad)
-refusing_by words shelf new_shelf out new_out (Some (AtInput name fault)) ends bad = inl refl
-refusing_by words shelf new_shelf out new_out (Some AtMemory) ends bad = inr refl
+-- where the shelf was sure of all files up to the verdict, no reading stopped at one of which it wasn't
+sure_accepted : (shelf : ShelfState) (name : List ℕ) (files : List File) (first second : List Fetched) (contents : List Content) → AreSure shelf second → StopsAt (IsUnsure shelf name) files first → AreAccepted files second contents → ⊥
+sure_accepted shelf name [] first second contents sure stops are = stops
+sure_accepted shelf name (file ∷ files) [] second contents sure stops are = stops
+sure_accepted shelf name (file ∷ files) (x ∷ first) [] contents sure stops are = are
+sure_accepted shelf name (file ∷ files) (x ∷ first) (y ∷ second) [] sure stops are = are
+sure_accepted shelf name (file ∷ files) (x ∷ first) (y ∷ second) (content ∷ contents) sure stops are =
+    elim stops [
+      | inl here ↦ never_sure shelf name file x y here.0 (accepted_name file y content are.0) sure.0
+      | inr later ↦ sure_accepted shelf name files first second contents sure.1 later.2 are.1
+    ]
 
-pub IsRefusing-run : (words : List (List ℕ)) (shelf new_shelf : ShelfState) (out new_out err new_err : SinkState) (ended : Status) → IsRun words shelf new_shelf out new_out err new_err ended → IsRefusing words shelf new_shelf ended
-IsRefusing-run words shelf new_shelf out new_out err new_err ended run = λ bad.
-    subst (λ (s : Status). (s ≡ status.Input) ⊎ (s ≡ status.Memory)) (sym run.is_status) (refusing_by words shelf new_shelf out new_out run.ending run.ends bad)
+sure_refused : (at : At) (shelf : ShelfState) (name other : List ℕ) (fault : FileFault) (files : List File) (first second : List Fetched) → AllByRecursion (IsTold (Some at)) first → AllByRecursion (IsTold (Some at)) second
+    → AreSure shelf second → StopsAt (IsUnsure shelf name) files first → StopsAt (IsRefusedAs other fault) files second → ⊥
+sure_refused at shelf name other fault [] first second one two sure stops refused = stops
+sure_refused at shelf name other fault (file ∷ files) [] second one two sure stops refused = stops
+sure_refused at shelf name other fault (file ∷ files) (x ∷ first) [] one two sure stops refused = refused
+sure_refused at shelf name other fault (file ∷ files) (x ∷ first) (y ∷ second) one two sure stops refused =
+    elim refused [
+      | inl here ↦ elim stops [
+        | inl unsure ↦ never_sure shelf name file x y unsure.0 (refused_name file y fault here.0.refused) sure.0
+        | inr later ↦ one_verdict at file x y later.0 fault one.0 two.0 later.1 here.0.refused
+      ]
+      | inr beyond ↦ elim stops [
+        | inl unsure ↦ never_sure shelf name file x y unsure.0 (accepted_name file y beyond.0 beyond.1) sure.0
+        | inr later ↦ sure_refused at shelf name other fault files first second one.1 two.1 sure.1 later.2 beyond.2
+      ]
+    ]
+
+sure_judged : (at : At) (shelf : ShelfState) (name : List ℕ) (files : List File) (first second : List Fetched) (verdict : Verdict) → AllByRecursion (IsTold (Some at)) first → AllByRecursion (IsTold (Some at)) second
+    → AreSure shelf second → StopsAt (IsUnsure shelf name) files first → Judged files second verdict → ⊥
+sure_judged at shelf name files first second (AllAccepted contents) one two sure stops judged = sure_accepted shelf name files first second contents sure stops judged
+sure_judged at shelf name files first second (FirstRefused other fault) one two sure stops judged = sure_refused at shelf name other fault files first second one two sure stops judged
+
+-- the names that were fetched, one by one
+in_order_then : (file : File) (files : List File) (fetch : Fetched) (fetches : List Fetched) → fetch.name ≡ file.name → AreInOrder files fetches → AreInOrder (file ∷ files) (fetch ∷ fetches)
+in_order_then file files fetch fetches named order =
+    record { left = order.left; in_order = ap (λ names. file.name ∷ names) order.in_order ∙ ap (λ name. name ∷ (map (λ (f : Fetched). f.name) fetches ++ order.left)) (sym named) }
+
+in_order_none : (files : List File) → AreInOrder files []
+in_order_none files = record { left = map (λ (file : File). file.name) files; in_order = refl }
+
+in_order_here : (file : File) (files : List File) (fetch : Fetched) (fetches : List Fetched) → fetch.name ≡ file.name → fetches ≡ [] → AreInOrder (file ∷ files) (fetch ∷ fetches)
+in_order_here file files fetch fetches named none = in_order_then file files fetch fetches named (subst (AreInOrder files) (sym none) (in_order_none files))
+
+in_order_accepted : (files : List File) (fetches : List Fetched) (contents : List Content) → AreAccepted files fetches contents → AreInOrder files fetches
+in_order_accepted [] fetches contents are = subst (AreInOrder []) (sym are.0) (in_order_none [])
+in_order_accepted (file ∷ files) [] contents are = absurd are
+in_order_accepted (file ∷ files) (fetch ∷ fetches) [] are = absurd are
+in_order_accepted (file ∷ files) (fetch ∷ fetches) (content ∷ contents) are =
+    in_order_then file files fetch fetches (accepted_name file fetch content are.0) (in_order_accepted files fetches contents are.1)
+
+in_order_stopped : (P : File → Fetched → Type 0) (files : List File) (fetches : List Fetched) → ((file : File) (fetch : Fetched) → P file fetch → fetch.name ≡ file.name) → StopsAt P files fetches → AreInOrder files fetches
+in_order_stopped P [] fetches named stops = absurd stops
+in_order_stopped P (file ∷ files) [] named stops = absurd stops
+in_order_stopped P (file ∷ files) (fetch ∷ fetches) named stops =
+    elim stops [
+      | inl here ↦ in_order_here file files fetch fetches (named file fetch here.0) here.1
+      | inr later ↦ in_order_then file files fetch fetches (accepted_name file fetch later.0 later.1) (in_order_stopped P files fetches named later.2)
+    ]
+
+fetched_name : (file : File) (fetch : Fetched) → IsFetched file fetch → fetch.name ≡ file.name
+fetched_name file fetch is = elim is [ inl came ↦ ap (λ (f : Fetched). f.name) came.1 | inr want ↦ ap (λ (f : Fetched). f.name) want ]
+
+in_order_begun : (files : List File) (fetches : List Fetched) → AreBegun files fetches → AreInOrder files fetches
+in_order_begun [] fetches begun = subst (AreInOrder []) (sym begun) (in_order_none [])
+in_order_begun (file ∷ files) [] begun = in_order_none (file ∷ files)
+in_order_begun (file ∷ files) (fetch ∷ fetches) begun =
+    elim begun [
+      | inl here ↦ in_order_here file files fetch fetches (fetched_name file fetch here.0) here.1
+      | inr later ↦ in_order_then file files fetch fetches (accepted_name file fetch later.0 later.1) (in_order_begun files fetches later.2)
+    ]
+
+in_order_by : (command : PlainCommand) (shelf new_shelf : ShelfState) (fetches : List Fetched) (out new_out : SinkState) (ending : Option Reason) → EndsBy command shelf new_shelf fetches out new_out ending → AreInOrder (files_of command) fetches
+in_order_by command shelf new_shelf fetches out new_out None ends = in_order_accepted (files_of command) fetches ends.contents ends.accepted
+in_order_by command shelf new_shelf fetches out new_out (Some (AtWord word)) ends = absurd ends
+in_order_by command shelf new_shelf fetches out new_out (Some (AtFile name)) ends = in_order_stopped (IsUnsure shelf name) (files_of command) fetches (λ file fetch is. ap (λ (f : Fetched). f.name) is.failed) ends.stopped
+in_order_by command shelf new_shelf fetches out new_out (Some AtOutput) ends = in_order_accepted (files_of command) fetches ends.contents ends.accepted
+in_order_by command shelf new_shelf fetches out new_out (Some (AtInput name fault)) ends =
+    in_order_stopped (IsRefusedAs name fault) (files_of command) fetches (λ file fetch is. refused_name file fetch fault is.refused) ends.stopped
+in_order_by command shelf new_shelf fetches out new_out (Some AtMemory) ends = in_order_begun (files_of command) fetches ends.begun
+
+-- lists with the same front are the same in their rests
+same_rest : {X : Type 0} (front a b : List X) → front ++ a ≡ front ++ b → a ≡ b
+same_rest [] a b same = same
+same_rest (x ∷ front) a b same = same_rest front a b (cc)
+
+-- how the words' command ended
+as_command : (words : List (List ℕ)) (command : PlainCommand) (shelf new_shelf : ShelfState) (fetches : List Fetched) (out new_out : SinkState) (ending : Option Reason) → IsCommand words command
+    → Ends words shelf new_shelf fetches out new_out ending → EndsBy command shelf new_shelf fetches out new_out ending
+as_command words command shelf new_shelf fetches out new_out None is ends =
+    subst (λ (c : PlainCommand). EndsBy c shelf new_shelf fetches out new_out None) (words_laws.one_command words ends.command command ends.is_command is) ends.ends
+as_command words command shelf new_shelf fetches out new_out (Some (AtWord word)) is ends = absurd (words_laws.never_both words command word is ends.refused)
+as_command words command shelf new_shelf fetches out new_out (Some (AtFile name)) is ends =
+    subst (λ (c : PlainCommand). EndsBy c shelf new_shelf fetches out new_out (Some (AtFile name))) (words_laws.one_command words ends.command command ends.is_command is) ends.ends
+as_command words command shelf new_shelf fetches out new_out (Some AtOutput) is ends =
+    subst (λ (c : PlainCommand). EndsBy c shelf new_shelf fetches out new_out (Some AtOutput)) (words_laws.one_command words ends.command command ends.is_command is) ends.ends
+as_command words command shelf new_shelf fetches out new_out (Some (AtInput name fault)) is ends =
+    subst (λ (c : PlainCommand). EndsBy c shelf new_shelf fetches out new_out (Some (AtInput name fault))) (words_laws.one_command words ends.command command ends.is_command is) ends.ends
+as_command words command shelf new_shelf fetches out new_out (Some AtMemory) is ends =
+    subst (λ (c : PlainCommand). EndsBy c shelf new_shelf fetches out new_out (Some AtMemory)) (words_laws.one_command words ends.command command ends.is_command is) ends.ends
+
+-- the fetches of a run are in order
+pub orderly_run : (words : List (List ℕ)) (shelf new_shelf : ShelfState) (out new_out err new_err : SinkState) (ended : Status) → IsRun words shelf new_shelf out new_out err new_err ended → IsOrderly words shelf new_shelf
+orderly_run words shelf new_shelf out new_out err new_err ended run = λ command is fetches logged.
+    let same = same_rest shelf.log run.fetches fetches (sym run.fetched.log ∙ logged) in
+    subst (AreInOrder (files_of command)) same
+    (in_order_by command shelf new_shelf run.fetches out new_out run.ending (as_command words command shelf new_shelf run.fetches out new_out run.ending is run.ends))
+
+-- a run whose files are all accepted is done, or wants memory
+complete_by : (at : At) (command : PlainCommand) (shelf new_shelf : ShelfState) (fetches told : List Fetched) (out new_out : SinkState) (contents : List Content) (ending : Option Reason) → AllByRecursion (IsTold (Some at)) fetches
+    → AllByRecursion (IsTold (Some at)) told → AreAccepted (files_of command) told contents → EndsBy command shelf new_shelf fetches out new_out ending → ¬ Rose shelf.faults new_shelf.faults → ¬ Rose out.faults new_out.faults
+    → (ending_status ending ≡ status.Done) ⊎ (ending_status ending ≡ status.Memory)
+complete_by at command shelf new_shelf fetches told out new_out contents None one two are ends shelf_held out_held = inl refl
+complete_by at command shelf new_shelf fetches told out new_out contents (Some (AtWord word)) one two are ends shelf_held out_held = absurd ends
+complete_by at command shelf new_shelf fetches told out new_out contents (Some (AtFile name)) one two are ends shelf_held out_held = absurd (shelf_held ends.rose)
+complete_by at command shelf new_shelf fetches told out new_out contents (Some AtOutput) one two are ends shelf_held out_held = absurd (out_held ends.cut.rose)
+complete_by at command shelf new_shelf fetches told out new_out contents (Some (AtInput name fault)) one two are ends shelf_held out_held =
+    absurd (accepted_never_refused at (files_of command) told fetches contents name fault two one are ends.stopped)
+complete_by at command shelf new_shelf fetches told out new_out contents (Some AtMemory) one two are ends shelf_held out_held = inr refl
+
+-- the fetches of a run agree with what is told
+told_of_run : (words : List (List ℕ)) (shelf new_shelf : ShelfState) (out new_out err new_err : SinkState) (ended : Status) (at : At) → (run : IsRun words shelf new_shelf out new_out err new_err ended) → shelf.files ≡ Some at → AllByRecursion (IsTold (Some at)) run.fetches
+told_of_run words shelf new_shelf out new_out err new_err ended at run told = subst (λ (files : Told). AllByRecursion (IsTold files) run.fetches) told run.fetched.told
+
+pub complete_run : (words : List (List ℕ)) (shelf new_shelf : ShelfState) (out new_out err new_err : SinkState) (ended : Status) → IsRun words shelf new_shelf out new_out err new_err ended → IsComplete words shelf new_shelf out new_out ended
+complete_run words shelf new_shelf out new_out err new_err ended run = λ contents is shelf_held out_held.
+    subst (λ (s : Status). (s ≡ status.Done) ⊎ (s ≡ status.Memory)) (sym run.is_status)
+    (complete_by is.at is.command shelf new_shelf run.fetches is.judged.fetches out new_out contents run.ending (told_of_run words shelf new_shelf out new_out err new_err ended is.at run is.told) is.judged.told is.judged.judged
+    (as_command words is.command shelf new_shelf run.fetches out new_out run.ending is.is_command run.ends) shelf_held out_held)
+
+-- a run of which a file is refused ends so, or wants memory
+refusing_by : (at : At) (command : PlainCommand) (shelf new_shelf : ShelfState) (fetches told : List Fetched) (out new_out : SinkState) (name : List ℕ) (fault : FileFault) (ending : Option Reason) → AllByRecursion (IsTold (Some at)) fetches
+    → AllByRecursion (IsTold (Some at)) told → StopsAt (IsRefusedAs name fault) (files_of command) told → EndsBy command shelf new_shelf fetches out new_out ending → ¬ Rose shelf.faults new_shelf.faults
+    → (ending_status ending ≡ status.Input) ⊎ (ending_status ending ≡ status.Memory)
+refusing_by at command shelf new_shelf fetches told out new_out name fault None one two stops ends shelf_held =
+    absurd (accepted_never_refused at (files_of command) fetches told ends.contents name fault one two ends.accepted stops)
+refusing_by at command shelf new_shelf fetches told out new_out name fault (Some (AtWord word)) one two stops ends shelf_held = absurd ends
+refusing_by at command shelf new_shelf fetches told out new_out name fault (Some (AtFile other)) one two stops ends shelf_held = absurd (shelf_held ends.rose)
+refusing_by at command shelf new_shelf fetches told out new_out name fault (Some AtOutput) one two stops ends shelf_held =
+    absurd (accepted_never_refused at (files_of command) fetches told ends.contents name fault one two ends.accepted stops)
+refusing_by at command shelf new_shelf fetches told out new_out name fault (Some (AtInput other another)) one two stops ends shelf_held = inl refl
+refusing_by at command shelf new_shelf fetches told out new_out name fault (Some AtMemory) one two stops ends shelf_held = inr refl
+
+pub refusing_run : (words : List (List ℕ)) (shelf new_shelf : ShelfState) (out new_out err new_err : SinkState) (ended : Status) → IsRun words shelf new_shelf out new_out err new_err ended → IsRefusing words shelf new_shelf ended
+refusing_run words shelf new_shelf out new_out err new_err ended run = λ name fault is shelf_held.
+    subst (λ (s : Status). (s ≡ status.Input) ⊎ (s ≡ status.Memory)) (sym run.is_status)
+    (refusing_by is.at is.command shelf new_shelf run.fetches is.judged.fetches out new_out name fault run.ending (told_of_run words shelf new_shelf out new_out err new_err ended is.at run is.told) is.judged.told is.judged.judged
+    (as_command words is.command shelf new_shelf run.fetches out new_out run.ending is.is_command run.ends) shelf_held)
+
+-- no run ends at a file that was not read where the shelf is sure of the files up to the verdict
+read_by : (at : At) (command : PlainCommand) (shelf new_shelf : ShelfState) (fetches told : List Fetched) (out new_out : SinkState) (verdict : Verdict) (ending : Option Reason) → AllByRecursion (IsTold (Some at)) fetches
+    → AllByRecursion (IsTold (Some at)) told → Judged (files_of command) told verdict → AreSure shelf told → EndsBy command shelf new_shelf fetches out new_out ending → ending_status ending ≢ status.Read
+read_by at command shelf new_shelf fetches told out new_out verdict None one two judged sure ends = λ same. cc
+read_by at command shelf new_shelf fetches told out new_out verdict (Some (AtWord word)) one two judged sure ends = λ same. cc
+read_by at command shelf new_shelf fetches told out new_out verdict (Some (AtFile name)) one two judged sure ends = λ same. sure_judged at shelf name (files_of command) fetches told verdict one two sure ends.stopped judged
+read_by at command shelf new_shelf fetches told out new_out verdict (Some AtOutput) one two judged sure ends = λ same. cc
+read_by at command shelf new_shelf fetches told out new_out verdict (Some (AtInput name fault)) one two judged sure ends = λ same. cc
+read_by at command shelf new_shelf fetches told out new_out verdict (Some AtMemory) one two judged sure ends = λ same. cc
+
+pub read_run : (words : List (List ℕ)) (shelf new_shelf : ShelfState) (out new_out err new_err : SinkState) (ended : Status) → IsRun words shelf new_shelf out new_out err new_err ended → IsRead words shelf ended
+read_run words shelf new_shelf out new_out err new_err ended run = λ verdict is sure same.
+    read_by is.at is.command shelf new_shelf run.fetches is.judged.fetches out new_out verdict run.ending (told_of_run words shelf new_shelf out new_out err new_err ended is.at run is.told) is.judged.told is.judged.judged sure
+    (as_command words is.command shelf new_shelf run.fetches out new_out run.ending is.is_command run.ends) (sym run.is_status ∙ same)
 
 -- the status says Words exactly where the words are no command
-no_command_by : (words : List (List ℕ)) (shelf new_shelf : ShelfState) (out new_out : SinkState) (ending : Option Reason) → Ends words shelf new_shelf out new_out ending → ending_status ending ≡ status.Words → IsNoCommand words
-no_command_by words shelf new_shelf out new_out None ends same = cc
-no_command_by words shelf new_shelf out new_out (Some (AtWord word)) ends same = λ command is. words_laws.never_both words command word is ends.refused
-no_command_by words shelf new_shelf out new_out (Some (AtFile name)) ends same = cc
-no_command_by words shelf new_shelf out new_out (Some AtOutput) ends same = cc
-no_command_by words shelf new_shelf out new_out (Some (AtInput name fault)) ends same = cc
-no_command_by words shelf new_shelf out new_out (Some AtMemory) ends same = cc
+no_command_by : (words : List (List ℕ)) (shelf new_shelf : ShelfState) (fetches : List Fetched) (out new_out : SinkState) (ending : Option Reason) → Ends words shelf new_shelf fetches out new_out ending → ending_status ending ≡ status.Words → IsNoCommand words
+no_command_by words shelf new_shelf fetches out new_out None ends same = cc
+no_command_by words shelf new_shelf fetches out new_out (Some (AtWord word)) ends same = λ command is. words_laws.never_both words command word is ends.refused
+no_command_by words shelf new_shelf fetches out new_out (Some (AtFile name)) ends same = cc
+no_command_by words shelf new_shelf fetches out new_out (Some AtOutput) ends same = cc
+no_command_by words shelf new_shelf fetches out new_out (Some (AtInput name fault)) ends same = cc
+no_command_by words shelf new_shelf fetches out new_out (Some AtMemory) ends same = cc
 
-words_by : (words : List (List ℕ)) (shelf new_shelf : ShelfState) (out new_out : SinkState) (ending : Option Reason) → Ends words shelf new_shelf out new_out ending → IsNoCommand words → ending_status ending ≡ status.Words
-words_by words shelf new_shelf out new_out None ends none = absurd (none ends.command ends.is_command)
-words_by words shelf new_shelf out new_out (Some (AtWord word)) ends none = refl
-words_by words shelf new_shelf out new_out (Some (AtFile name)) ends none = absurd (none ends.command ends.is_command)
-words_by words shelf new_shelf out new_out (Some AtOutput) ends none = absurd (none ends.command ends.is_command)
-words_by words shelf new_shelf out new_out (Some (AtInput name fault)) ends none = absurd (none ends.command ends.is_command)
-words_by words shelf new_shelf out new_out (Some AtMemory) ends none = absurd (none ends.command ends.is_command)
+words_by : (words : List (List ℕ)) (shelf new_shelf : ShelfState) (fetches : List Fetched) (out new_out : SinkState) (ending : Option Reason) → Ends words shelf new_shelf fetches out new_out ending → IsNoCommand words → ending_status ending ≡ status.Words
+words_by words shelf new_shelf fetches out new_out None ends none = absurd (none ends.command ends.is_command)
+words_by words shelf new_shelf fetches out new_out (Some (AtWord word)) ends none = refl
+words_by words shelf new_shelf fetches out new_out (Some (AtFile name)) ends none = absurd (none ends.command ends.is_command)
+words_by words shelf new_shelf fetches out new_out (Some AtOutput) ends none = absurd (none ends.command ends.is_command)
+words_by words shelf new_shelf fetches out new_out (Some (AtInput name fault)) ends none = absurd (none ends.command ends.is_command)
+words_by words shelf new_shelf fetches out new_out (Some AtMemory) ends none = absurd (none ends.command ends.is_command)
 
-pub no_command-run : (words : List (List ℕ)) (shelf new_shelf : ShelfState) (out new_out err new_err : SinkState) (ended : Status) → IsRun words shelf new_shelf out new_out err new_err ended → ended ≡ status.Words → IsNoCommand words
-no_command-run words shelf new_shelf out new_out err new_err ended run same =
-    no_command_by words shelf new_shelf out new_out run.ending run.ends (sym run.is_status ∙ same)
+pub no_command_run : (words : List (List ℕ)) (shelf new_shelf : ShelfState) (out new_out err new_err : SinkState) (ended : Status) → IsRun words shelf new_shelf out new_out err new_err ended → ended ≡ status.Words → IsNoCommand words
+no_command_run words shelf new_shelf out new_out err new_err ended run same =
+    no_command_by words shelf new_shelf run.fetches out new_out run.ending run.ends (sym run.is_status ∙ same)
 
-pub words-run : (words : List (List ℕ)) (shelf new_shelf : ShelfState) (out new_out err new_err : SinkState) (ended : Status) → IsRun words shelf new_shelf out new_out err new_err ended → IsNoCommand words → ended ≡ status.Words
-words-run words shelf new_shelf out new_out err new_err ended run none =
-    run.is_status ∙ words_by words shelf new_shelf out new_out run.ending run.ends none
+pub words_run : (words : List (List ℕ)) (shelf new_shelf : ShelfState) (out new_out err new_err : SinkState) (ended : Status) → IsRun words shelf new_shelf out new_out err new_err ended → IsNoCommand words → ended ≡ status.Words
+words_run words shelf new_shelf out new_out err new_err ended run none =
+    run.is_status ∙ words_by words shelf new_shelf run.fetches out new_out run.ending run.ends none

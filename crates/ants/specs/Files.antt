@@ -1,6 +1,7 @@
 -- The files of a command, and what is accepted of them (this project's own).
-use Rattle.std.specs.Prelude.{ℕ, List, [], ◌∷◌, Option, ◌⊎◌}
-use Rattle.ant_base.specs.Shelf.{IsContent, IsTooLong}
+use Rattle.std.specs.Prelude.{◌≡◌, ℕ, List, [], ◌∷◌, ◌++◌, map, Ok, Err, ◌⊎◌}
+use Rattle.ant_base.specs.Fetched.{Fetched}
+use Rattle.ant_base.specs.declared.shelf.FetchFault.TheVariants as answer
 use Rattle.brain_read.specs.declared.instr.Instr.{Instr}
 use Rattle.brain_read.specs.BrainText.{BrainText, BrainVerdict}
 use Rattle.cell_world.specs.Grid.{Grid}
@@ -40,36 +41,50 @@ Refuses BrainFile bytes TooLong = ⊥
 Refuses BrainFile bytes (World fault) = ⊥
 Refuses BrainFile bytes (Brain fault) = BrainVerdict bytes fault
 
--- what a shelf tells: the content under each name, or nothing
-abbrev pub Told : Type 0
-Told = Option (List ℕ → Option (List ℕ))
-
--- the file was accepted as this content; where the shelf tells contents, its bytes are the ones told
-pub record IsAccepted (told : Told) (file : File) (content : Content) : Type 0 where
+-- the file was fetched, and its bytes are read as this content
+pub record IsAccepted (file : File) (fetch : Fetched) (content : Content) : Type 0 where
   pub bytes : List ℕ
-  pub is_content : IsContent told file.name bytes
+  pub got : fetch ≡ record { name = file.name; answer = Ok bytes }
   pub reads : Reads file.kind bytes content
 
--- the file's bytes are not in its grammar, with this fault
-pub record IsNoText (told : Told) (file : File) (fault : FileFault) : Type 0 where
+-- the file was fetched, and its bytes are not in its grammar, with this fault
+pub record IsNoText (file : File) (fetch : Fetched) (fault : FileFault) : Type 0 where
   pub bytes : List ℕ
-  pub is_content : IsContent told file.name bytes
+  pub got : fetch ≡ record { name = file.name; answer = Ok bytes }
   pub refuses : Refuses file.kind bytes fault
 
--- the file was refused with this fault
-abbrev pub IsRefused : Told → File → FileFault → Type 0
-IsRefused told file TooLong = IsTooLong told file.name
-IsRefused told file (World fault) = IsNoText told file (World fault)
-IsRefused told file (Brain fault) = IsNoText told file (Brain fault)
+-- the file was fetched, and is refused with this fault
+abbrev pub IsRefused : File → Fetched → FileFault → Type 0
+IsRefused file fetch TooLong = fetch ≡ record { name = file.name; answer = Err answer.TooLong }
+IsRefused file fetch (World fault) = IsNoText file fetch (World fault)
+IsRefused file fetch (Brain fault) = IsNoText file fetch (Brain fault)
 
--- the files were accepted as these contents, in order
-abbrev pub AreAccepted : Told → List File → List Content → Type 0
-AreAccepted told [] [] = Unit {0}
-AreAccepted told [] (content ∷ contents) = ⊥
-AreAccepted told (file ∷ files) [] = ⊥
-AreAccepted told (file ∷ files) (content ∷ contents) = IsAccepted told file content × AreAccepted told files contents
+-- the files were fetched, each once and in order, and accepted as these contents
+abbrev pub AreAccepted : List File → List Fetched → List Content → Type 0
+AreAccepted [] fetches contents = (fetches ≡ []) × (contents ≡ [])
+AreAccepted (file ∷ files) [] contents = ⊥
+AreAccepted (file ∷ files) (fetch ∷ fetches) [] = ⊥
+AreAccepted (file ∷ files) (fetch ∷ fetches) (content ∷ contents) = IsAccepted file fetch content × AreAccepted files fetches contents
 
--- one of these files is such, and each one before it was accepted
-abbrev pub IsFirst : Told → (File → Type 0) → List File → Type 0
-IsFirst told IsSuch [] = ⊥
-IsFirst told IsSuch (file ∷ files) = IsSuch file ⊎ ((content : Content) × IsAccepted told file content × IsFirst told IsSuch files)
+-- the files were fetched, each once and in order, up to one at which this came about; each before it was accepted, and none after it was fetched
+abbrev pub StopsAt : (File → Fetched → Type 0) → List File → List Fetched → Type 0
+StopsAt IsSuch [] fetches = ⊥
+StopsAt IsSuch (file ∷ files) [] = ⊥
+StopsAt IsSuch (file ∷ files) (fetch ∷ fetches) =
+    (IsSuch file fetch × (fetches ≡ [])) ⊎ ((content : Content) × IsAccepted file fetch content × StopsAt IsSuch files fetches)
+
+-- the file was fetched: its bytes came, or memory could not be had for them
+abbrev pub IsFetched : File → Fetched → Type 0
+IsFetched file fetch = ((bytes : List ℕ) × (fetch ≡ record { name = file.name; answer = Ok bytes })) ⊎ (fetch ≡ record { name = file.name; answer = Err answer.OutOfMemory })
+
+-- the first of the files were fetched, each once and in order: each but perhaps the last was accepted, and none failed or was too long
+abbrev pub AreBegun : List File → List Fetched → Type 0
+AreBegun [] fetches = fetches ≡ []
+AreBegun (file ∷ files) [] = Unit {0}
+AreBegun (file ∷ files) (fetch ∷ fetches) =
+    (IsFetched file fetch × (fetches ≡ [])) ⊎ ((content : Content) × IsAccepted file fetch content × AreBegun files fetches)
+
+-- the names that were fetched are those of the first of these files, in order and each once
+pub record AreInOrder (files : List File) (fetches : List Fetched) : Type 0 where
+  pub left : List (List ℕ)
+  pub in_order : map (λ (file : File). file.name) files ≡ map (λ (fetch : Fetched). fetch.name) fetches ++ left

@@ -23,11 +23,15 @@ world_file name = record { name = name; kind = WorldFile }
 abbrev pub brain_file : List ℕ → File
 brain_file name = record { name = name; kind = BrainFile }
 
+-- the files of a game
+abbrev pub game_files : List ℕ → List ℕ → List ℕ → List File
+game_files world red black = world_file world ∷ brain_file red ∷ brain_file black ∷ []
+
 -- the files of a command, in the order in which they are fetched
 abbrev pub files_of : PlainCommand → List File
 files_of (ShowCommand world seed) = world_file world ∷ []
 files_of (BrainCommand file) = brain_file file ∷ []
-files_of (RunCommand world red black seed rounds dumps) = world_file world ∷ brain_file red ∷ brain_file black ∷ []
+files_of (RunCommand world red black seed rounds dumps) = game_files world red black
 
 -- the output of `show`: the line of the seed, and the dump after round 0
 unfoldable pub show_output : ℕ → Content → List ℕ

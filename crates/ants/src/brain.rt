@@ -1,12 +1,11 @@
 // The command `brain`.
 ghost use Rattle.command_words.specs.Command.PlainCommand.{BrainCommand};
-ghost use Rattle.ants.specs.Jobs.{files_of};
-ghost use Rattle.ants.specs.Steps.{EndsAs, LeavesShelf};
+ghost use Rattle.ants.specs.Inner.Reading.{CarriesOut, ending_of};
 
-use crate::fetching::brain_of_file;
+use crate::fetching::read_file;
 use crate::stop::Stop;
-use ant_base::{Failed, Shelf, Sink};
-use brain_read::write_brain;
+use ant_base::{Shelf, Sink};
+use brain_read::{Brain, write_brain};
 use std::alloc::Global;
 
 /// Writes the canonical text of a brain.
@@ -16,12 +15,9 @@ pub fn brain<'w, S: Shelf, K: Sink>(
     shelf: &mut S,
     out: &mut K,
 ) -> Result<(), Stop<'w>>
-    ensures ends { EndsAs (BrainCommand name.now) (S.state shelf.old) (S.state shelf.new) (K.state out.old) (K.state out.new) result }
-    ensures leaves { LeavesShelf (files_of (BrainCommand name.now)) (S.state shelf.old) (S.state shelf.new) }
+    ensures { CarriesOut (BrainCommand name.now) (S.state shelf.old) (S.state shelf.new) (K.state out.old) (K.state out.new) (ending_of result) }
 {
-    let brain = brain_of_file(alloc, shelf, name)?;
-    match write_brain(&brain, out) {
-        Ok(()) => Ok(()),
-        Err(Failed) => Err(Stop::Write),
-    }
+    let brain: Brain = read_file(alloc, shelf, name)?;
+    write_brain(&brain, out)?;
+    Ok(())
 }

@@ -1,11 +1,9 @@
 // The files of a command, fetched and read one after another.
-ghost use Rattle.std.specs.Prelude.{◌≤◌, [], ◌∷◌, length};
+ghost use Rattle.std.specs.Prelude.{◌≡◌, ◌≤◌, [], ◌∷◌, length};
 ghost use Rattle.ant_base.specs.Shelf.{longest};
-ghost use Rattle.ants.specs.Files.{FileKind};
-ghost use Rattle.ants.specs.Files.FileKind.{BrainFile, WorldFile};
-ghost use Rattle.ants.specs.Files.Content.{BrainContent, WorldContent};
-ghost use Rattle.ants.specs.Jobs.{brain_file, world_file};
-ghost use Rattle.ants.specs.Steps.{Fetched, IsReadAs, LeavesShelf, ReadsFile};
+ghost use Rattle.ants.specs.Files.{Content, FileKind};
+ghost use Rattle.ants.specs.Inner.Reading.{ReadsFiles, ReadsText, brain_reason, fetch_reason, outcome_of, world_reason};
+ghost use Rattle.ants.specs.Stopping.{reason_of};
 
 use crate::stop::{FileFault, Stop};
 use ant_base::{FetchFault, Shelf};
@@ -14,73 +12,93 @@ use cell_world::World;
 use std::alloc::Global;
 use world_read::{WorldFault, read_world};
 
-// The bytes of a file, whatever it is to be read as.
-fn bytes_of<'w, S: Shelf>(alloc: Global, shelf: &mut S, name: &'w str) -> Result<Vec<u8>, Stop<'w>>
-    ensures fetched { (kind : FileKind) → Fetched (S.state shelf.old) (S.state shelf.new) (record { name = name.now; kind = kind }) result }
-    ensures leaves { (kind : FileKind) → LeavesShelf (record { name = name.now; kind = kind } ∷ []) (S.state shelf.old) (S.state shelf.new) }
+/// What the bytes of a file can be read as.
+pub trait FileText: Sized {
+    /// The kind of such a file.
+    ghost kind: { FileKind };
+
+    /// What was read of it.
+    ghost content: { Self → Content };
+
+    /// Reads the bytes of the file of this name.
+    fn read<'w>(alloc: Global, name: &'w str, bytes: &[u8]) -> Result<Self, Stop<'w>>
+        requires { length bytes.now ≤ longest }
+        ensures { ReadsText content kind bytes.now name.now result };
+}
+
+impl FileText for World {
+    ghost use Rattle.ants.specs.Files.FileKind.{WorldFile};
+    ghost use Rattle.ants.specs.Files.Content.{WorldContent};
+
+    ghost kind = { WorldFile };
+
+    ghost content = { WorldContent };
+
+    fn read<'w>(alloc: Global, name: &'w str, bytes: &[u8]) -> Result<World, Stop<'w>> {
+        match read_world(alloc, bytes) {
+            Ok(world) => Ok(world),
+            Err(fault) => Err(world_stop(name, fault)),
+        }
+    }
+}
+
+impl FileText for Brain {
+    ghost use Rattle.ants.specs.Files.FileKind.{BrainFile};
+    ghost use Rattle.ants.specs.Files.Content.{BrainContent};
+
+    ghost kind = { BrainFile };
+
+    ghost content = { BrainContent };
+
+    fn read<'w>(alloc: Global, name: &'w str, bytes: &[u8]) -> Result<Brain, Stop<'w>> {
+        match read_brain(alloc, bytes) {
+            Ok(brain) => Ok(brain),
+            Err(fault) => Err(brain_stop(name, fault)),
+        }
+    }
+}
+
+/// Fetches a file, and reads what came.
+pub fn read_file<'w, T: FileText, S: Shelf>(
+    alloc: Global,
+    shelf: &mut S,
+    name: &'w str,
+) -> Result<T, Stop<'w>>
+    ensures { ReadsFiles (S.state shelf.old) (S.state shelf.new) (record { name = name.now; kind = T.kind } ∷ []) (outcome_of (λ value. T.content value ∷ []) result) }
 {
     match shelf.fetch(alloc, name) {
-        Ok(bytes) => Ok(bytes),
-        Err(FetchFault::Failed) => Err(Stop::Read(name)),
-        Err(FetchFault::TooLong) => Err(Stop::Input(name, FileFault::TooLong)),
-        Err(FetchFault::OutOfMemory) => Err(Stop::Memory),
+        Ok(bytes) => T::read(alloc, name, &bytes),
+        Err(fault) => Err(fetch_stop(name, fault)),
     }
 }
 
-// The world that the bytes of a file are.
-fn world_in<'w>(alloc: Global, name: &'w str, bytes: &[u8]) -> Result<World, Stop<'w>>
-    requires { length bytes.now ≤ longest }
-    ensures { IsReadAs WorldContent WorldFile bytes.now name.now result }
+// Why a command stops at a fetch.
+fn fetch_stop<'w>(name: &'w str, fault: FetchFault) -> Stop<'w>
+    ensures { reason_of result ≡ fetch_reason name.now fault }
 {
-    match read_world(alloc, bytes) {
-        Ok(world) => Ok(world),
-        Err(fault) => match fault {
-            WorldFault::OutOfMemory => Err(Stop::Memory),
-            other => Err(Stop::Input(name, FileFault::World(other))),
-        },
+    match fault {
+        FetchFault::Failed => Stop::Read(name),
+        FetchFault::TooLong => Stop::Input(name, FileFault::TooLong),
+        FetchFault::OutOfMemory => Stop::Memory,
     }
 }
 
-// The brain that the bytes of a file are.
-fn brain_in<'w>(alloc: Global, name: &'w str, bytes: &[u8]) -> Result<Brain, Stop<'w>>
-    requires { length bytes.now ≤ longest }
-    ensures { IsReadAs BrainContent BrainFile bytes.now name.now result }
+// Why a command stops at the text of a world.
+fn world_stop<'w>(name: &'w str, fault: WorldFault) -> Stop<'w>
+    ensures { reason_of result ≡ world_reason name.now fault }
 {
-    match read_brain(alloc, bytes) {
-        Ok(brain) => Ok(brain),
-        Err(fault) => match fault {
-            BrainFault::OutOfMemory => Err(Stop::Memory),
-            other => Err(Stop::Input(name, FileFault::Brain(other))),
-        },
+    match fault {
+        WorldFault::OutOfMemory => Stop::Memory,
+        other => Stop::Input(name, FileFault::World(other)),
     }
 }
 
-// The world of a file.
-pub fn world_of_file<'w, S: Shelf>(
-    alloc: Global,
-    shelf: &mut S,
-    name: &'w str,
-) -> Result<World, Stop<'w>>
-    ensures reads { ReadsFile WorldContent (S.state shelf.old) (S.state shelf.new) (world_file name.now) result }
-    ensures leaves { LeavesShelf (world_file name.now ∷ []) (S.state shelf.old) (S.state shelf.new) }
+// Why a command stops at the text of a brain.
+fn brain_stop<'w>(name: &'w str, fault: BrainFault) -> Stop<'w>
+    ensures { reason_of result ≡ brain_reason name.now fault }
 {
-    match bytes_of(alloc, shelf, name) {
-        Ok(bytes) => world_in(alloc, name, &bytes),
-        Err(stop) => Err(stop),
-    }
-}
-
-// The brain of a file.
-pub fn brain_of_file<'w, S: Shelf>(
-    alloc: Global,
-    shelf: &mut S,
-    name: &'w str,
-) -> Result<Brain, Stop<'w>>
-    ensures reads { ReadsFile BrainContent (S.state shelf.old) (S.state shelf.new) (brain_file name.now) result }
-    ensures leaves { LeavesShelf (brain_file name.now ∷ []) (S.state shelf.old) (S.state shelf.new) }
-{
-    match bytes_of(alloc, shelf, name) {
-        Ok(bytes) => brain_in(alloc, name, &bytes),
-        Err(stop) => Err(stop),
+    match fault {
+        BrainFault::OutOfMemory => Stop::Memory,
+        other => Stop::Input(name, FileFault::Brain(other)),
     }
 }

@@ -6,7 +6,8 @@
 
 mod brain;
 mod fetching;
-mod game;
+mod laws;
+mod program;
 mod run;
 mod show;
 mod status;
@@ -14,20 +15,12 @@ mod stop;
 #[cfg(test)]
 mod tests;
 
-use crate::run::run_ants;
-use crate::status::Status;
-use crate::stop::Stop;
-use ant_base::{ErrSink, FileShelf, Layout, NoGate, OutSink, Sink};
+use crate::program::{exit_without_memory, run_to_exit};
+use ant_base::{ErrSink, FileShelf, NoGate, OutSink};
 use std::alloc::AllocError;
 use std::env;
 use std::io::{BufWriter, ErrorKind};
 use std::process::ExitCode;
-
-// Says that memory can't be had, before any command is known.
-fn out_of_memory<K: Sink>(err: &mut K) -> ExitCode {
-    let _ = Stop::Memory.push_to(err);
-    ExitCode::from(Status::Memory.number())
-}
 
 fn main(rt: HostRuntime) -> ExitCode {
     let alloc = rt.alloc();
@@ -35,16 +28,15 @@ fn main(rt: HostRuntime) -> ExitCode {
     let args = match env::args(&rt) {
         Ok(args) => args,
         Err(error) => match error.kind() {
-            ErrorKind::OutOfMemory => return out_of_memory(&mut err),
+            ErrorKind::OutOfMemory => return exit_without_memory(&mut err),
             _ => return ExitCode::FAILURE,
         },
     };
     let words: Result<Vec<String>, AllocError> = args.skip(1).collect(alloc);
     let (Ok(words), Ok(output)) = (words, BufWriter::new(alloc, rt.stdout())) else {
-        return out_of_memory(&mut err);
+        return exit_without_memory(&mut err);
     };
     let mut shelf = FileShelf::new(&rt);
     let mut out = OutSink::new(output);
-    let status = run_ants(&rt, alloc, &words, &mut shelf, &mut out, &mut err, &NoGate);
-    ExitCode::from(status.number())
+    run_to_exit(&rt, alloc, &words, &mut shelf, &mut out, &mut err, &NoGate)
 }

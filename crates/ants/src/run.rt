@@ -1,106 +1,107 @@
-// The whole program, over any shelf and any sinks.
-ghost use Rattle.std.specs.Prelude.{◌≡◌, ◌↔◌};
-ghost use Rattle.command_words.specs.Words.{plain_dumps, texts};
-ghost use Rattle.ants.specs.Performing.{KeepsShelf};
-ghost use Rattle.ants.specs.Running.{Ends, IsComplete, IsNoCommand, IsQuiet, IsRefusing, IsRun};
-ghost use Rattle.ants.specs.Steps.{IsPlanned, ending_of};
+// The command `run`.
+ghost use Rattle.std.specs.Prelude.{◌≡◌, ◌≤◌, IfOk};
+ghost use Rattle.ant_base.specs.Sink.{Pushed};
+ghost use Rattle.ant_turn.specs.Minds.{Fits, contest_minds};
+ghost use Rattle.cell_world.specs.Grid.{world_of};
+ghost use Rattle.command_words.specs.Command.PlainCommand.{RunCommand};
+ghost use Rattle.command_words.specs.Slots.{DumpChoice};
+ghost use Rattle.command_words.specs.Words.{plain_dumps};
+ghost use Rattle.match_run.specs.Run.{run_text};
+ghost use Rattle.ants.specs.Inner.Planning.{setting_contents};
+ghost use Rattle.ants.specs.Inner.Reading.{CarriesOut, ReadsFiles, ending_of, outcome_of};
+ghost use Rattle.ants.specs.Jobs.{chosen_rounds, game_files};
 
-use crate::brain::brain;
-use crate::game::{Names, dumps_of, run};
-use crate::show::show;
-use crate::status::Status;
+use crate::fetching::read_file;
 use crate::stop::Stop;
-use ant_base::{Gate, Layout, Shelf, Sink};
-use command_words::{Command, DumpWord, read_words};
-use match_run::{OutOfMemory, Plan};
+use ant_base::{Failed, Shelf, Sink};
+use ant_turn::Brains;
+use brain_read::Brain;
+use cell_world::World;
+use command_words::{DumpWord, Numbers};
+use match_run::{Dumps, OutOfMemory, Plan, Rounds, play_alone};
 use std::alloc::Global;
-use std::thread::Threads;
 
-// A game's window of looks has as many turns as a whole round at most.
-const WHOLE_ROUND: u32 = 16_384;
+// The names of the files of a game.
+#[derive(Clone, Copy)]
+pub struct Names<'w> {
+    pub world: &'w str,
+    pub red: &'w str,
+    pub black: &'w str,
+}
 
-// What a game is asked to do.
-fn plan_of<'w>(alloc: Global, seed: u32, rounds: u32, word: DumpWord<'_>) -> Result<Plan, Stop<'w>>
-    ensures { IsPlanned seed rounds (plain_dumps word.entry) result }
+// What the files of a game were read as.
+#[derive(Drop)]
+struct Setting {
+    world: World,
+    red: Brain,
+    black: Brain,
+}
+
+// The rounds of a list.
+fn rounds_of(alloc: Global, numbers: Numbers<'_>) -> Result<Rounds, OutOfMemory>
+    ensures { IfOk result (λ rounds. rounds ≡ numbers.entry) }
 {
-    match dumps_of(alloc, word) {
-        Ok(dumps) => Ok(Plan {
-            seed,
-            rounds,
-            dumps,
-            window: WHOLE_ROUND,
-            stats: false,
-        }),
-        Err(OutOfMemory) => Err(Stop::Memory),
+    let mut rounds = Rounds::new(alloc);
+    for number in numbers {
+        rounds.add(number)?;
+    }
+    Ok(rounds)
+}
+
+/// The choice of dumps that the words make.
+pub fn dumps_of(alloc: Global, word: DumpWord<'_>) -> Result<Dumps, OutOfMemory>
+    ensures { IfOk result (λ dumps. dumps ≡ chosen_rounds (plain_dumps word.entry)) }
+{
+    match word {
+        DumpWord::Nothing => Ok(Dumps::Nothing),
+        DumpWord::All => Ok(Dumps::All),
+        DumpWord::Chosen(numbers) => Ok(Dumps::Chosen(rounds_of(alloc, numbers)?)),
     }
 }
 
-// Carries out the command that the words are.
-fn carry_out<'w, S: Shelf, K: Sink>(
+// The files of a game, in the order in which its words name them.
+fn setting_of<'w, S: Shelf>(
     alloc: Global,
-    words: &'w [String],
+    names: Names<'w>,
+    shelf: &mut S,
+) -> Result<Setting, Stop<'w>>
+    ensures { ReadsFiles (S.state shelf.old) (S.state shelf.new) (game_files names.entry.world.now names.entry.red.now names.entry.black.now) (outcome_of setting_contents result) }
+{
+    let world = read_file(alloc, shelf, names.world)?;
+    let red = read_file(alloc, shelf, names.red)?;
+    let black = read_file(alloc, shelf, names.black)?;
+    Ok(Setting { world, red, black })
+}
+
+// Plays a game, and pushes its text.
+fn play<K: Sink>(setting: Setting, plan: &Plan, out: &mut K) -> Result<(), Failed>
+    requires fit { Fits (world_of setting.world) (contest_minds setting.red setting.black) }
+    requires few_rounds { plan.now.rounds ≤ 1000000 }
+    ensures { Pushed (K.state out.old) (K.state out.new) (run_text (contest_minds setting.red setting.black) plan.now.seed plan.now.rounds plan.now.dumps (world_of setting.world)) result }
+{
+    let Setting { world, red, black } = setting;
+    let brains = Brains {
+        red: &red,
+        black: &black,
+    };
+    match play_alone(world, brains, plan, out) {
+        Ok(_) => Ok(()),
+        Err(Failed) => Err(Failed),
+    }
+}
+
+/// Plays a game of at most 1,000,000 rounds, and writes its text.
+pub fn run<'w, S: Shelf, K: Sink>(
+    alloc: Global,
+    names: Names<'w>,
+    plan: &Plan,
     shelf: &mut S,
     out: &mut K,
 ) -> Result<(), Stop<'w>>
-    ensures ends { Ends (texts words.now) (S.state shelf.old) (S.state shelf.new) (K.state out.old) (K.state out.new) (ending_of result) }
-    ensures quiet { IsQuiet (texts words.now) (S.state shelf.old) (S.state shelf.new) }
-    ensures keeps { KeepsShelf (S.state shelf.old) (S.state shelf.new) }
+    requires { plan.now.rounds ≤ 1000000 }
+    ensures { (dumps : DumpChoice) → plan.now.dumps ≡ chosen_rounds dumps → CarriesOut (RunCommand names.entry.world.now names.entry.red.now names.entry.black.now plan.now.seed plan.now.rounds dumps) (S.state shelf.old) (S.state shelf.new) (K.state out.old) (K.state out.new) (ending_of result) }
 {
-    match read_words(words) {
-        Err(refused) => Err(Stop::Words(refused.word)),
-        Ok(Command::Show { world, seed }) => show(alloc, world, seed, shelf, out),
-        Ok(Command::Brain { file }) => brain(alloc, file, shelf, out),
-        Ok(
-            Command::Run {
-                world,
-                red,
-                black,
-                seed,
-                rounds,
-                dumps,
-            },
-        ) => {
-            let plan = plan_of(alloc, seed, rounds, dumps)?;
-            run(alloc, Names { world, red, black }, &plan, shelf, out)
-        }
-    }
-}
-
-/// Does all that the program does, over a shelf of files, an output and a place for faults (this project's own).
-///
-/// `words` doesn't hold the program's name. The words are read first; then each file is fetched and read before the next one, in the order
-/// of its word; then the text is written. The answer is
-/// - `Done`: the output got the command's whole text and nothing else; the errors got nothing.
-/// - `Words`: exactly where the words are no command; nothing was fetched, and the output got nothing.
-/// - `Read`: a file of which the shelf wasn't sure was not read, and each before it was accepted; the output got nothing.
-/// - `Write`: the output failed, and got a front of the text.
-/// - `Input`: a file is too long or not in its grammar, and each before it was accepted; the output got nothing.
-/// - `Memory`: memory could not be had; the output got nothing.
-///
-/// At each but `Done` the errors got one line, which names the word (from 1) or the file and the place in it; or a front of that line,
-/// where they failed. The shelf keeps its contents and all of which it is sure, and its count of faults rises only where it isn't sure of
-/// each file of the command. The runtime and the gate serve looks made at the same time; no command uses them.
-pub fn run_ants<R: Threads + Sync, S: Shelf, K: Sink, E: Sink, G: Gate>(
-    _rt: &R,
-    alloc: Global,
-    words: &[String],
-    shelf: &mut S,
-    out: &mut K,
-    err: &mut E,
-    _gate: &G,
-) -> Status
-    ensures run { IsRun (texts words.now) (S.state shelf.old) (S.state shelf.new) (K.state out.old) (K.state out.new) (E.state err.old) (E.state err.new) result }
-    ensures words { (result ≡ Status.Words) ↔ IsNoCommand (texts words.now) }
-    ensures complete { IsComplete (texts words.now) (S.state shelf.old) (S.state shelf.new) (K.state out.old) (K.state out.new) result }
-    ensures refusing { IsRefusing (texts words.now) (S.state shelf.old) (S.state shelf.new) result }
-    ensures quiet { IsQuiet (texts words.now) (S.state shelf.old) (S.state shelf.new) }
-    ensures keeps { KeepsShelf (S.state shelf.old) (S.state shelf.new) }
-{
-    match carry_out(alloc, words, shelf, out) {
-        Ok(()) => Status::Done,
-        Err(stop) => {
-            let _ = stop.push_to(err);
-            stop.status()
-        }
-    }
+    let setting = setting_of(alloc, names, shelf)?;
+    play(setting, plan, out)?;
+    Ok(())
 }

@@ -2,10 +2,10 @@
 ghost use Rattle.ant_base.specs.Sink.{Pushed};
 ghost use Rattle.command_words.specs.Command.PlainCommand.{ShowCommand};
 ghost use Rattle.ants.specs.Files.Content.{WorldContent};
-ghost use Rattle.ants.specs.Jobs.{files_of, show_output};
-ghost use Rattle.ants.specs.Steps.{EndsAs, LeavesShelf};
+ghost use Rattle.ants.specs.Inner.Reading.{CarriesOut, ending_of};
+ghost use Rattle.ants.specs.Jobs.{show_output};
 
-use crate::fetching::world_of_file;
+use crate::fetching::read_file;
 use crate::stop::Stop;
 use ant_base::{Failed, Shelf, Sink};
 use cell_world::World;
@@ -29,12 +29,9 @@ pub fn show<'w, S: Shelf, K: Sink>(
     shelf: &mut S,
     out: &mut K,
 ) -> Result<(), Stop<'w>>
-    ensures ends { EndsAs (ShowCommand name.now seed) (S.state shelf.old) (S.state shelf.new) (K.state out.old) (K.state out.new) result }
-    ensures leaves { LeavesShelf (files_of (ShowCommand name.now seed)) (S.state shelf.old) (S.state shelf.new) }
+    ensures { CarriesOut (ShowCommand name.now seed) (S.state shelf.old) (S.state shelf.new) (K.state out.old) (K.state out.new) (ending_of result) }
 {
-    let world = world_of_file(alloc, shelf, name)?;
-    match push_show(&world, seed, out) {
-        Ok(()) => Ok(()),
-        Err(Failed) => Err(Stop::Write),
-    }
+    let world: World = read_file(alloc, shelf, name)?;
+    push_show(&world, seed, out)?;
+    Ok(())
 }

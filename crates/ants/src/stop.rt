@@ -5,6 +5,7 @@ ghost use Rattle.ants.specs.Stopping.{file_fault_text, brain_fault_text, world_f
 use crate::status::Status;
 use ant_base::{Failed, Layout, Sink, layout};
 use brain_read::BrainFault;
+use match_run::OutOfMemory;
 use world_read::WorldFault;
 
 /// Why a file was refused (this project's own).
@@ -31,6 +32,26 @@ pub enum Stop<'w> {
     Input(&'w str, FileFault),
     /// Memory could not be had.
     Memory,
+}
+
+impl From<Failed> for Stop<'_> {
+    ghost use Rattle.ants.specs.declared.stop.Stop.TheVariants.{Write};
+
+    ghost from_gives = { λ _ stop. stop ≡ Write };
+
+    fn from(_: Failed) -> Self {
+        Stop::Write
+    }
+}
+
+impl From<OutOfMemory> for Stop<'_> {
+    ghost use Rattle.ants.specs.declared.stop.Stop.TheVariants.{Memory};
+
+    ghost from_gives = { λ _ stop. stop ≡ Memory };
+
+    fn from(_: OutOfMemory) -> Self {
+        Stop::Memory
+    }
 }
 
 // What a world file's fault says.
@@ -108,10 +129,10 @@ impl Layout for FileWords {
 
 // What a stop says, without the program's name.
 #[derive(Clone, Copy)]
-struct Reason<'s>(Stop<'s>);
+struct StopWords<'s>(Stop<'s>);
 
-impl Layout for Reason<'_> {
-    ghost text = { λ reason. reason_text (reason_of reason.0) };
+impl Layout for StopWords<'_> {
+    ghost text = { λ words. reason_text (reason_of words.0) };
 
     fn push_to<K: Sink>(&self, sink: &mut K) -> Result<(), Failed> {
         match self.0 {
@@ -129,7 +150,7 @@ impl Layout for Stop<'_> {
 
     #[tactic(auto, unfolding(crate::specs::Stopping::fault_line))]
     fn push_to<K: Sink>(&self, sink: &mut K) -> Result<(), Failed> {
-        layout!("ants: ", Reason(*self), "\n").push_to(sink)
+        layout!("ants: ", StopWords(*self), "\n").push_to(sink)
     }
 }
 

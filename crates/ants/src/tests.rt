@@ -5,7 +5,7 @@ mod runs;
 mod shown;
 mod words;
 
-use crate::run::run_ants;
+use crate::program::run_ants;
 use crate::status::Status;
 use ant_base::{Calls, Files, MemShelf, MemSink, NoGate};
 use std::alloc::Global;

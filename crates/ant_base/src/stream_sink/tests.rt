@@ -2,7 +2,7 @@
 use super::*;
 use std::alloc::Global;
 use std::io;
-use std::io::ErrorKind;
+use std::io::{ErrorKind, Write};
 
 // A writer that takes at most so many bytes at a time, and then stops taking.
 #[derive(Drop)]
@@ -11,6 +11,7 @@ struct Slow {
     most: usize,
     stop: Stop,
     flushes: u64,
+    writes: u64,
 }
 
 // How a writer stops.
@@ -20,6 +21,7 @@ enum Stop {
     TakesNothing(usize),
     Fails(usize),
     FlushFails,
+    Interrupted,
 }
 
 impl Stop {
@@ -29,13 +31,17 @@ impl Stop {
             Stop::TakesNothing(room) => Ok(room.saturating_sub(taken)),
             Stop::Fails(room) if taken < room => Ok(room - taken),
             Stop::Fails(_) => Err(io::Error::from(ErrorKind::Other)),
-            Stop::Never | Stop::FlushFails => Ok(usize::MAX),
+            Stop::Never | Stop::FlushFails | Stop::Interrupted => Ok(usize::MAX),
         }
     }
 }
 
 impl Write for Slow {
     fn write(&mut self, buf: &[u8]) -> io::Result<usize> {
+        self.writes = self.writes.saturating_add(1);
+        if matches!(self.stop, Stop::Interrupted) && self.writes % 3 != 0 {
+            return Err(io::Error::from(ErrorKind::Interrupted));
+        }
         let left = self.stop.left(self.got.len())?;
         let taken = buf.len().min(self.most).min(left);
         self.got.extend_from_slice(&buf[..taken])?;
@@ -51,6 +57,17 @@ impl Write for Slow {
     }
 }
 
+// What a writer of tests holds back isn't told.
+impl Stream for Slow {
+    ghost use Rattle.std.specs.Prelude.{[]};
+
+    ghost waiting = { λ _. [] };
+
+    fn send(&mut self) -> io::Result<()> {
+        self.flush()
+    }
+}
+
 // A sink over such a writer.
 fn slow_sink(alloc: Global, most: usize, stop: Stop) -> StreamSink<Slow> {
     StreamSink::new(Slow {
@@ -58,6 +75,7 @@ fn slow_sink(alloc: Global, most: usize, stop: Stop) -> StreamSink<Slow> {
         most,
         stop,
         flushes: 0,
+        writes: 0,
     })
 }
 
@@ -79,6 +97,13 @@ fn gets_whole_pieces(mut sink: StreamSink<Slow>) -> bool {
 fn a_slow_writer_gets_the_whole_piece(rt: HostRuntime) {
     for most in [1, 2, 3, 100] {
         assert!(rt; gets_whole_pieces(slow_sink(rt.alloc(), most, Stop::Never)));
+    }
+}
+
+#[test]
+fn an_interrupted_write_is_made_again(rt: HostRuntime) {
+    for most in [1, 2, 100] {
+        assert!(rt; gets_whole_pieces(slow_sink(rt.alloc(), most, Stop::Interrupted)));
     }
 }
 

@@ -1,15 +1,19 @@
 -- the one file was accepted as the brain that was written
 use Rattle.std.proofs.Common.{◌∷◌, []}
+use Rattle.command_words.specs.Command.PlainCommand.{BrainCommand}
 use Rattle.ants.specs.Files.Content.{BrainContent}
 use Rattle.ants.specs.Jobs.{brain_output}
+use Rattle.ants.proofs.Readings.{carries_done, carries_failure}
 use Rattle.ants.proofs.brain.brain.Goals as goal
 
-pub returns-in-Ok-clause-ends : goal.returns-in-Ok-clause-ends
+pub returns-in_err-write_brain : goal.returns-in_err-write_brain
 unfolding brain_output
-returns-in-Ok-clause-ends g c =
-    record { contents = BrainContent c.in_ok-brain.brain ∷ []; accepted = (c.in_ok-brain.ensures.reads, tt); written = c.in-Ok.ensures.pushed }
+returns-in_err-write_brain g c =
+    carries_failure (BrainCommand c.args.name.now) (g.S.Shelf.state c.args.shelf.now) (g.S.Shelf.state c.read_file.new.shelf) (g.K.Sink.state c.args.out.now) (g.K.Sink.state c.write_brain.new.sink) (BrainContent c.in_ok-brain.brain ∷ [])
+    c.from_residual-in_err-write_brain.result c.from_residual-in_err-write_brain.ensures.1 c.in_ok-brain.ensures c.in_err-write_brain.ensures.pushed
 
-pub returns-clause-ends : goal.returns-clause-ends
+pub returns : goal.returns
 unfolding brain_output
-returns-clause-ends g c =
-    record { contents = BrainContent c.in_ok-brain.brain ∷ []; accepted = (c.in_ok-brain.ensures.reads, tt); cut = c.in-Err.ensures.pushed }
+returns g c =
+    carries_done (BrainCommand c.args.name.now) (g.S.Shelf.state c.args.shelf.now) (g.S.Shelf.state c.read_file.new.shelf) (g.K.Sink.state c.args.out.now) (g.K.Sink.state c.write_brain.new.sink) (BrainContent c.in_ok-brain.brain ∷ [])
+    c.in_ok-brain.ensures c.in_ok-write_brain.ensures.pushed

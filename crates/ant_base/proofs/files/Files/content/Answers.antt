@@ -1,6 +1,6 @@
 use Rattle.std.proofs.Common.{Some, sym, ap, ◌∙◌, arith}
 use Rattle.std.proofs.lemmas.List.{at_drop_all}
-use Rattle.ant_base.specs.Entries.{named_bytes}
+use Rattle.ant_base.specs.Inner.Entries.{named_bytes}
 use Rattle.ant_base.specs.MemShelf.{content_of}
 use Rattle.ant_base.proofs.Fetching.{content_found, content_further}
 use Rattle.ant_base.proofs.files.Files.content.Goals as goal

@@ -1,5 +1,5 @@
 use Rattle.std.proofs.Common.{◌≡◌, drop}
-use Rattle.ant_base.specs.Entries.{named_bytes}
+use Rattle.ant_base.specs.Inner.Entries.{named_bytes}
 use Rattle.ant_base.specs.MemShelf.{content_of}
 use Rattle.ant_base.proofs.files.Files.content.Given as goal
 

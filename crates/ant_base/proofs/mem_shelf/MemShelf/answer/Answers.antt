@@ -1,0 +1,12 @@
+-- a fetch that fails is of a name of which the shelf isn't sure
+use Rattle.std.proofs.Common.{rules, arith}
+use Rattle.ant_base.proofs.Fetching.{unsure_by_call, unsure_by_name, fetch_failed}
+use Rattle.ant_base.proofs.mem_shelf.MemShelf.answer.Goals as goal
+
+pub returns-then-has-clause-shelf : goal.returns-then-has-clause-shelf
+returns-then-has-clause-shelf c = rw c.fault.ensures.fault (fetch_failed c.args.self.now c.fault.new.self c.args.name.now
+    (unsure_by_call c.args.self.now c.saturating_add-self-inside.result c.args.name.now (search rules)) (search rules) (search rules) (search rules) (grind arith) (grind arith))
+
+pub returns-in_default-clause-shelf : goal.returns-in_default-clause-shelf
+returns-in_default-clause-shelf c = rw c.fault-in_default.ensures.fault (fetch_failed c.args.self.now c.fault-in_default.new.self c.args.name.now
+    (unsure_by_name c.args.self.now c.args.name.now (search rules)) (search rules) (search rules) (search rules) (grind arith) (grind arith))

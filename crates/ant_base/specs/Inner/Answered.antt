@@ -1,0 +1,50 @@
+-- What the system's answers are to a sink and a shelf.
+use Rattle.std.specs.Prelude.{◌≡◌, ℕ, zero, suc, ◌<◌, ◌≤◌, ⊤, List, length, Option, Some, None, IfSome, Result, Ok, Err, Vec}
+use Rattle.std.specs.Io.KnownBytes.{Consumes}
+use Rattle.std.specs.IoError.{error_kind}
+use Rattle.std.specs.declared.io.Error.{Error}
+use Rattle.std.specs.declared.io.ErrorKind.{ErrorKind}
+use Rattle.std.specs.declared.io.ErrorKind.TheVariants.{Interrupted, OutOfMemory}
+use Rattle.ant_base.specs.Shelf.{longest}
+use Rattle.ant_base.specs.declared.sink.Failed.{Failed}
+use Rattle.ant_base.specs.declared.shelf.FetchFault.{FetchFault}
+use Rattle.ant_base.specs.declared.shelf.FetchFault.TheVariants as fault
+
+-- how many bytes a failed write took: none where it was interrupted, which is no fault
+abbrev pub taken_at : ErrorKind → Result ℕ Failed
+taken_at Interrupted = Ok 0
+taken_at _ = Err (record {})
+
+-- how many bytes a write took, none of them a fault where it answers that it took none
+abbrev pub taken_of : Result ℕ Error → Result ℕ Failed
+taken_of (Ok zero) = Err (record {})
+taken_of (Ok (suc n)) = Ok (suc n)
+taken_of (Err error) = taken_at (error_kind error)
+
+-- why a failed open or read gives no content
+abbrev pub fault_at : ErrorKind → FetchFault
+fault_at OutOfMemory = fault.OutOfMemory
+fault_at _ = fault.Failed
+
+-- how many bytes a failed read gave: none where it was interrupted, which is no fault
+abbrev pub given_at : ErrorKind → Result (Option ℕ) FetchFault
+given_at Interrupted = Ok None
+given_at kind = Err (fault_at kind)
+
+-- how many bytes a read gave
+abbrev pub given_of : Result ℕ Error → Result (Option ℕ) FetchFault
+given_of (Ok given) = Ok (Some given)
+given_of (Err error) = given_at (error_kind error)
+
+-- the content of a reader: all that it had left, or that was longer than the longest
+abbrev pub IsReadOf : {A : Type 0} → Option (List ℕ) → Result (Vec ℕ A) FetchFault → Type 0
+IsReadOf remaining (Ok content) = IfSome remaining (λ bytes. content.items ≡ bytes)
+IsReadOf remaining (Err fault.Failed) = ⊤
+IsReadOf remaining (Err fault.TooLong) = IfSome remaining (λ bytes. longest < length bytes)
+IsReadOf remaining (Err fault.OutOfMemory) = ⊤
+
+-- at most so many bytes were taken from a reader
+pub record TakesAtMost (most : ℕ) (remaining new_remaining : Option (List ℕ)) : Type 0 where
+  pub bytes : List ℕ
+  pub taken : Consumes remaining new_remaining bytes
+  pub few : length bytes ≤ most

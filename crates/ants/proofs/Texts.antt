@@ -1,0 +1,140 @@
+-- The bytes of a file of each kind: they are read in one way or refused in one way, and never both.
+use Rattle.std.proofs.Common.{◌≡◌, ◌≢◌, ◌⊎◌, inl, inr, ℕ, List, Result, Ok, Err, refl, sym, ◌∙◌, ap}
+use Rattle.brain_read.proofs.Whole as whole
+use Rattle.brain_read.specs.BrainText as brain_text
+use Rattle.brain_read.specs.declared.fault.BrainFault.{BrainFault}
+use Rattle.brain_read.specs.declared.fault.BrainFault.TheVariants as brain
+use Rattle.cell_world.specs.Grid.{Grid}
+use Rattle.world_read.proofs.Told as told
+use Rattle.world_read.specs.Answers as world_answers
+use Rattle.world_read.specs.Faulty.{IsWorldFault}
+use Rattle.world_read.specs.Opened.{OpensAs}
+use Rattle.world_read.specs.Reading.{world_of_text}
+use Rattle.world_read.specs.declared.fault.WorldFault.{WorldFault}
+use Rattle.world_read.specs.declared.fault.WorldFault.TheVariants as world
+use Rattle.ants.specs.declared.stop.FileFault.{FileFault}
+use Rattle.ants.specs.declared.stop.FileFault.TheVariants.{TooLong, World, Brain}
+use Rattle.ants.specs.Files.{Content, FileKind, Reads, Refuses}
+use Rattle.ants.specs.Files.Content.{WorldContent, BrainContent}
+use Rattle.ants.specs.Files.FileKind.{WorldFile, BrainFile}
+use Rattle.ants.specs.Inner.Reading.{TextStops, brain_reason, world_reason}
+use Rattle.ants.specs.Stopping.Reason.{AtInput}
+
+-- bytes are never both a world's text and wrong
+never_wrong : (bytes : List ℕ) (grid : Grid) (fault : WorldFault) → OpensAs bytes grid → IsWorldFault bytes fault → ⊥
+never_wrong bytes grid fault opens wrong =
+    let read = told.world_of_text-opens bytes grid opens in
+    let not_read = told.world_of_text-wrong bytes fault wrong in
+    cc
+
+-- bytes are never both read and refused
+pub never_both : (kind : FileKind) (bytes : List ℕ) (content : Content) (fault : FileFault) → Reads kind bytes content → Refuses kind bytes fault → ⊥
+never_both WorldFile bytes content TooLong reads refuses = refuses
+never_both WorldFile bytes content (Brain fault) reads refuses = refuses
+never_both WorldFile bytes (WorldContent grid) (World fault) reads refuses = never_wrong bytes grid fault reads refuses
+never_both WorldFile bytes (BrainContent list) (World fault) reads refuses = reads
+never_both BrainFile bytes content TooLong reads refuses = refuses
+never_both BrainFile bytes content (World fault) reads refuses = refuses
+never_both BrainFile bytes (WorldContent grid) (Brain fault) reads refuses = reads
+never_both BrainFile bytes (BrainContent list) (Brain fault) reads refuses = whole.never_both bytes list fault reads refuses
+
+one_world : (bytes : List ℕ) (a b : Grid) → OpensAs bytes a → OpensAs bytes b → a ≡ b
+one_world bytes a b first second =
+    let one = told.world_of_text-opens bytes a first in
+    let two = told.world_of_text-opens bytes b second in
+    cc
+
+one_world_fault : (bytes : List ℕ) (a b : WorldFault) → IsWorldFault bytes a → IsWorldFault bytes b → a ≡ b
+one_world_fault bytes a b first second =
+    let one = told.world_of_text-wrong bytes a first in
+    let two = told.world_of_text-wrong bytes b second in
+    cc
+
+-- bytes are read in one way
+pub one_reading : (kind : FileKind) (bytes : List ℕ) (a b : Content) → Reads kind bytes a → Reads kind bytes b → a ≡ b
+one_reading WorldFile bytes (WorldContent a) (WorldContent b) first second = ap WorldContent (one_world bytes a b first second)
+one_reading WorldFile bytes (WorldContent a) (BrainContent b) first second = absurd second
+one_reading WorldFile bytes (BrainContent a) b first second = absurd first
+one_reading BrainFile bytes (BrainContent a) (BrainContent b) first second = ap BrainContent (whole.one_brain bytes a b first second)
+one_reading BrainFile bytes (BrainContent a) (WorldContent b) first second = absurd second
+one_reading BrainFile bytes (WorldContent a) b first second = absurd first
+
+-- bytes are refused in one way
+pub one_refusal : (kind : FileKind) (bytes : List ℕ) (a b : FileFault) → Refuses kind bytes a → Refuses kind bytes b → a ≡ b
+one_refusal WorldFile bytes (World a) (World b) first second = ap World (one_world_fault bytes a b first second)
+one_refusal WorldFile bytes (World a) TooLong first second = absurd second
+one_refusal WorldFile bytes (World a) (Brain b) first second = absurd second
+one_refusal WorldFile bytes TooLong b first second = absurd first
+one_refusal WorldFile bytes (Brain a) b first second = absurd first
+one_refusal BrainFile bytes (Brain a) (Brain b) first second = ap Brain (whole.one_fault bytes a b first second)
+one_refusal BrainFile bytes (Brain a) TooLong first second = absurd second
+one_refusal BrainFile bytes (Brain a) (World b) first second = absurd second
+one_refusal BrainFile bytes TooLong b first second = absurd first
+one_refusal BrainFile bytes (World a) b first second = absurd first
+
+some_world : (bytes : List ℕ) → ((grid : Grid) × OpensAs bytes grid) ⊎ ((fault : WorldFault) × IsWorldFault bytes fault)
+some_world bytes = go (world_of_text bytes) refl
+  where
+    go : (read : Result Grid WorldFault) → world_of_text bytes ≡ read → ((grid : Grid) × OpensAs bytes grid) ⊎ ((fault : WorldFault) × IsWorldFault bytes fault)
+    go (Ok grid) is = inl (grid, told.OpensAs-known bytes grid is)
+    go (Err fault) is = inr (fault, told.IsWorldFault-known bytes fault is)
+
+-- bytes are read or refused
+pub some_reading : (kind : FileKind) (bytes : List ℕ) → ((content : Content) × Reads kind bytes content) ⊎ ((fault : FileFault) × Refuses kind bytes fault)
+some_reading WorldFile bytes = elim (some_world bytes) [ inl opens ↦ inl (WorldContent opens.0, opens.1) | inr wrong ↦ inr (World wrong.0, wrong.1) ]
+some_reading BrainFile bytes = elim (whole.some_answer bytes) [ inl is ↦ inl (BrainContent is.0, is.1) | inr wrong ↦ inr (Brain wrong.0, wrong.1) ]
+
+-- bytes are never refused as too long: such a file gives no bytes
+pub never_long : (kind : FileKind) (bytes : List ℕ) → Refuses kind bytes TooLong → ⊥
+never_long WorldFile bytes refuses = refuses
+never_long BrainFile bytes refuses = refuses
+
+-- the fault of a world's text stops the reading of its file
+pub world_stops : (name bytes : List ℕ) (fault : WorldFault) → world_answers.IsFaultOf bytes fault → TextStops WorldFile bytes name (world_reason name fault)
+world_stops name bytes world.BadWidth is = (refl, is)
+world_stops name bytes world.BadHeight is = (refl, is)
+world_stops name bytes (world.MissingRow row) is = (refl, is)
+world_stops name bytes (world.BadCell row column) is = (refl, is)
+world_stops name bytes (world.ShortRow row) is = (refl, is)
+world_stops name bytes (world.LongRow row) is = (refl, is)
+world_stops name bytes world.ExtraRow is = (refl, is)
+world_stops name bytes (world.OpenRim x y) is = (refl, is)
+world_stops name bytes (world.TooManyAnts count) is = (refl, is)
+world_stops name bytes world.OutOfMemory is = tt
+
+-- the fault of a brain's text stops the reading of its file
+pub brain_stops : (name bytes : List ℕ) (fault : BrainFault) → brain_text.IsFaultOf bytes fault → TextStops BrainFile bytes name (brain_reason name fault)
+brain_stops name bytes (brain.BadByte line) is = (refl, is)
+brain_stops name bytes (brain.UnknownWord line) is = (refl, is)
+brain_stops name bytes (brain.MissingToken line) is = (refl, is)
+brain_stops name bytes (brain.BadNumber line) is = (refl, is)
+brain_stops name bytes (brain.ExtraToken line) is = (refl, is)
+brain_stops name bytes (brain.TooMany line) is = (refl, is)
+brain_stops name bytes brain.Empty is = (refl, is)
+brain_stops name bytes (brain.NoSuchState line state) is = (refl, is)
+brain_stops name bytes brain.OutOfMemory is = tt
+
+-- a fault of a world's text that isn't want of memory names its file
+pub world_reason_other : (name : List ℕ) (fault : WorldFault) → fault ≢ world.OutOfMemory → AtInput name (World fault) ≡ world_reason name fault
+world_reason_other name world.BadWidth other = refl
+world_reason_other name world.BadHeight other = refl
+world_reason_other name (world.MissingRow row) other = refl
+world_reason_other name (world.BadCell row column) other = refl
+world_reason_other name (world.ShortRow row) other = refl
+world_reason_other name (world.LongRow row) other = refl
+world_reason_other name world.ExtraRow other = refl
+world_reason_other name (world.OpenRim x y) other = refl
+world_reason_other name (world.TooManyAnts count) other = refl
+world_reason_other name world.OutOfMemory other = absurd (other refl)
+
+-- so does one of a brain's text
+pub brain_reason_other : (name : List ℕ) (fault : BrainFault) → fault ≢ brain.OutOfMemory → AtInput name (Brain fault) ≡ brain_reason name fault
+brain_reason_other name (brain.BadByte line) other = refl
+brain_reason_other name (brain.UnknownWord line) other = refl
+brain_reason_other name (brain.MissingToken line) other = refl
+brain_reason_other name (brain.BadNumber line) other = refl
+brain_reason_other name (brain.ExtraToken line) other = refl
+brain_reason_other name (brain.TooMany line) other = refl
+brain_reason_other name brain.Empty other = refl
+brain_reason_other name (brain.NoSuchState line state) other = refl
+brain_reason_other name brain.OutOfMemory other = absurd (other refl)

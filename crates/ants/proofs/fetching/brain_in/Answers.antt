@@ -1,7 +1,0 @@
--- the fault is the text's
-use Rattle.std.proofs.Common.{refl}
-use Rattle.ants.proofs.Readings.{BrainVerdict-fault}
-use Rattle.ants.proofs.fetching.brain_in.Goals as goal
-
-pub returns-in_default : goal.returns-in_default
-returns-in_default c = (refl, BrainVerdict-fault c.args.bytes.now c.in-Err.fault c.in_default.not-OutOfMemory c.in-Err.ensures.fault)

@@ -1,0 +1,101 @@
+-- What the private functions that fetch, read and carry out ensure.
+use Rattle.std.specs.Prelude.{◌≡◌, ℕ, List, [], ◌∷◌, Option, Some, None, Result, Ok, Err}
+use Rattle.ant_base.specs.Faults.{Rose}
+use Rattle.ant_base.specs.Fetched.{Fetched}
+use Rattle.ant_base.specs.Shelf.{FetchesEach, ShelfState}
+use Rattle.ant_base.specs.Sink.{SinkState}
+use Rattle.ant_base.specs.declared.shelf.FetchFault.{FetchFault}
+use Rattle.ant_base.specs.declared.shelf.FetchFault.TheVariants as answer
+use Rattle.brain_read.specs.declared.fault.BrainFault.{BrainFault}
+use Rattle.brain_read.specs.declared.fault.BrainFault.TheVariants as brain
+use Rattle.command_words.specs.Command.{PlainCommand}
+use Rattle.world_read.specs.declared.fault.WorldFault.{WorldFault}
+use Rattle.world_read.specs.declared.fault.WorldFault.TheVariants as world
+use Rattle.ants.specs.declared.stop.FileFault.TheVariants.{TooLong, World, Brain}
+use Rattle.ants.specs.declared.stop.Stop.{Stop}
+use Rattle.ants.specs.Files.{File, FileKind, Content, AreAccepted, AreBegun, Reads, Refuses, StopsAt}
+use Rattle.ants.specs.Judged.{IsRefusedAs}
+use Rattle.ants.specs.Performing.{EndsBy, IsUnsure}
+use Rattle.ants.specs.Running.{Ends}
+use Rattle.ants.specs.Stopping.{Reason, reason_of}
+use Rattle.ants.specs.Stopping.Reason.{AtWord, AtFile, AtOutput, AtInput, AtMemory}
+
+-- what the reading of some files came to: their contents, or why it stopped
+pub data Outcome : Type 0 where
+  Contents : List Content → Outcome
+  Stopped : Reason → Outcome
+
+-- the outcome of a call that gives a value read of some files
+abbrev pub outcome_of : {A : Type 0} → (A → List Content) → Result A Stop → Outcome
+outcome_of contents_of (Ok value) = Contents (contents_of value)
+outcome_of contents_of (Err stop) = Stopped (reason_of stop)
+
+-- a file of these was not read, and the shelf's count of faults rose
+pub record FailsAt (shelf new_shelf : ShelfState) (files : List File) (fetches : List Fetched) (name : List ℕ) : Type 0 where
+  pub stopped : StopsAt (IsUnsure shelf name) files fetches
+  pub rose : Rose shelf.faults new_shelf.faults
+
+-- why the reading of files stopped
+abbrev pub ReadingStops : ShelfState → ShelfState → List File → List Fetched → Reason → Type 0
+ReadingStops shelf new_shelf files fetches (AtWord word) = ⊥
+ReadingStops shelf new_shelf files fetches (AtFile name) = FailsAt shelf new_shelf files fetches name
+ReadingStops shelf new_shelf files fetches AtOutput = ⊥
+ReadingStops shelf new_shelf files fetches (AtInput name fault) = StopsAt (IsRefusedAs name fault) files fetches
+ReadingStops shelf new_shelf files fetches AtMemory = AreBegun files fetches
+
+-- the reading of files came to this
+abbrev pub ComesTo : ShelfState → ShelfState → List File → List Fetched → Outcome → Type 0
+ComesTo shelf new_shelf files fetches (Contents contents) = AreAccepted files fetches contents
+ComesTo shelf new_shelf files fetches (Stopped reason) = ReadingStops shelf new_shelf files fetches reason
+
+-- these files were fetched and read, and it came to this
+pub record ReadsFiles (shelf new_shelf : ShelfState) (files : List File) (outcome : Outcome) : Type 0 where
+  pub fetches : List Fetched
+  pub fetched : FetchesEach shelf new_shelf fetches
+  pub comes : ComesTo shelf new_shelf files fetches outcome
+
+-- why a command stops at a fetch
+abbrev pub fetch_reason : List ℕ → FetchFault → Reason
+fetch_reason name answer.Failed = AtFile name
+fetch_reason name answer.TooLong = AtInput name TooLong
+fetch_reason name answer.OutOfMemory = AtMemory
+
+-- why a command stops at the text of a world
+abbrev pub world_reason : List ℕ → WorldFault → Reason
+world_reason name world.OutOfMemory = AtMemory
+world_reason name fault = AtInput name (World fault)
+
+-- why a command stops at the text of a brain
+abbrev pub brain_reason : List ℕ → BrainFault → Reason
+brain_reason name brain.OutOfMemory = AtMemory
+brain_reason name fault = AtInput name (Brain fault)
+
+-- why the reading of the bytes of a file of this kind and name stopped
+abbrev pub TextStops : FileKind → List ℕ → List ℕ → Reason → Type 0
+TextStops kind bytes name (AtWord word) = ⊥
+TextStops kind bytes name (AtFile other) = ⊥
+TextStops kind bytes name AtOutput = ⊥
+TextStops kind bytes name (AtInput other fault) = (other ≡ name) × Refuses kind bytes fault
+TextStops kind bytes name AtMemory = Unit {0}
+
+-- what the reading of the bytes of a file gave: its content, or why it stopped
+abbrev pub ReadsText : {A : Type 0} → (A → Content) → FileKind → List ℕ → List ℕ → Result A Stop → Type 0
+ReadsText content_of kind bytes name (Ok value) = Reads kind bytes (content_of value)
+ReadsText content_of kind bytes name (Err stop) = TextStops kind bytes name (reason_of stop)
+
+-- how a result ends the program
+abbrev pub ending_of : {U : Type 0} → Result U Stop → Option Reason
+ending_of (Ok done) = None
+ending_of (Err stop) = Some (reason_of stop)
+
+-- a command was carried out, and ended so
+pub record CarriesOut (command : PlainCommand) (shelf new_shelf : ShelfState) (out new_out : SinkState) (ending : Option Reason) : Type 0 where
+  pub fetches : List Fetched
+  pub fetched : FetchesEach shelf new_shelf fetches
+  pub ends : EndsBy command shelf new_shelf fetches out new_out ending
+
+-- words were carried out, and ended so
+pub record CarriesOutWords (words : List (List ℕ)) (shelf new_shelf : ShelfState) (out new_out : SinkState) (ending : Option Reason) : Type 0 where
+  pub fetches : List Fetched
+  pub fetched : FetchesEach shelf new_shelf fetches
+  pub ends : Ends words shelf new_shelf fetches out new_out ending

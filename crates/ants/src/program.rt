@@ -1,0 +1,145 @@
+// The whole program, over any shelf and any sinks.
+ghost use Rattle.std.specs.Prelude.{◌≡◌, ◌↔◌, Some};
+ghost use Rattle.command_words.specs.Words.{plain_dumps, texts};
+ghost use Rattle.ants.specs.Inner.Planning.{IsPlanned};
+ghost use Rattle.ants.specs.Inner.Reading.{CarriesOutWords, ending_of};
+ghost use Rattle.ants.specs.Running.{IsComplete, IsNoCommand, IsOrderly, IsRead, IsRefusing, IsRun, IsRunTo, Reports};
+ghost use Rattle.ants.specs.Status.{number_of};
+ghost use Rattle.ants.specs.Stopping.{reason_of, status_of};
+ghost use Rattle.ants.specs.Stopping.Reason.{AtMemory};
+ghost use Rattle.std.specs.Process.{exit_status};
+
+use crate::brain::brain;
+use crate::run::{Names, dumps_of, run};
+use crate::show::show;
+use crate::status::Status;
+use crate::stop::Stop;
+use ant_base::{Gate, Layout, Shelf, Sink};
+use command_words::{Command, DumpWord, read_words};
+use match_run::Plan;
+use std::alloc::Global;
+use std::process::ExitCode;
+use std::thread::Threads;
+
+// A game's window of looks has as many turns as a whole round at most.
+const WHOLE_ROUND: u32 = 16_384;
+
+// What a game is asked to do.
+fn plan_of<'w>(alloc: Global, seed: u32, rounds: u32, word: DumpWord<'_>) -> Result<Plan, Stop<'w>>
+    ensures { IsPlanned seed rounds (plain_dumps word.entry) result }
+{
+    let dumps = dumps_of(alloc, word)?;
+    Ok(Plan {
+        seed,
+        rounds,
+        dumps,
+        window: WHOLE_ROUND,
+        stats: false,
+    })
+}
+
+// Carries out the command that the words are.
+fn carry_out<'w, S: Shelf, K: Sink>(
+    alloc: Global,
+    words: &'w [String],
+    shelf: &mut S,
+    out: &mut K,
+) -> Result<(), Stop<'w>>
+    ensures { CarriesOutWords (texts words.now) (S.state shelf.old) (S.state shelf.new) (K.state out.old) (K.state out.new) (ending_of result) }
+{
+    match read_words(words) {
+        Err(refused) => Err(Stop::Words(refused.word)),
+        Ok(Command::Show { world, seed }) => show(alloc, world, seed, shelf, out),
+        Ok(Command::Brain { file }) => brain(alloc, file, shelf, out),
+        Ok(
+            Command::Run {
+                world,
+                red,
+                black,
+                seed,
+                rounds,
+                dumps,
+            },
+        ) => {
+            let plan = plan_of(alloc, seed, rounds, dumps)?;
+            run(alloc, Names { world, red, black }, &plan, shelf, out)
+        }
+    }
+}
+
+/// Does all that the program does, over a shelf of files, an output and a place for faults (this project's own).
+///
+/// `words` doesn't hold the program's name. The words are read first; then each file is fetched and read before the next one, in the order
+/// of its word, and each once; then the text is written. The answer is
+/// - `Done`: all files of the command were fetched and accepted, and the output got the text of what they were read as and nothing else;
+///   the errors got nothing.
+/// - `Words`: exactly where the words are no command; nothing was fetched, and the output got nothing.
+/// - `Read`: the last fetch failed, of a file of which the shelf wasn't sure, and each file before it was accepted; the output got nothing.
+/// - `Write`: all files were fetched and accepted, the output failed, and got a front of the text.
+/// - `Input`: the last file that was fetched is too long or not in its grammar, and each before it was accepted; the output got nothing.
+/// - `Memory`: memory could not be had; no fetch failed, no file was refused, and the output got nothing.
+///
+/// At each but `Done` the errors got one line, which names the word (from 1) or the file and the place in it; or a front of that line,
+/// where they failed. The shelf keeps its contents and all of which it is sure, its log grows by the fetches, and its count of faults rises
+/// only where it isn't sure of each name that was fetched. The runtime and the gate serve looks made at the same time; no command uses them.
+pub fn run_ants<R: Threads + Sync, S: Shelf, K: Sink, E: Sink, G: Gate>(
+    _rt: &R,
+    alloc: Global,
+    words: &[String],
+    shelf: &mut S,
+    out: &mut K,
+    err: &mut E,
+    _gate: &G,
+) -> Status
+    ensures run { IsRun (texts words.now) (S.state shelf.old) (S.state shelf.new) (K.state out.old) (K.state out.new) (E.state err.old) (E.state err.new) result }
+    ensures words { (result ≡ Status.Words) ↔ IsNoCommand (texts words.now) }
+    ensures orderly { IsOrderly (texts words.now) (S.state shelf.old) (S.state shelf.new) }
+    ensures complete { IsComplete (texts words.now) (S.state shelf.old) (S.state shelf.new) (K.state out.old) (K.state out.new) result }
+    ensures refusing { IsRefusing (texts words.now) (S.state shelf.old) (S.state shelf.new) result }
+    ensures read { IsRead (texts words.now) (S.state shelf.old) result }
+{
+    match carry_out(alloc, words, shelf, out) {
+        Ok(()) => Status::Done,
+        Err(stop) => report(&stop, err),
+    }
+}
+
+// Says why a command stopped.
+fn report<E: Sink>(stop: &Stop<'_>, err: &mut E) -> Status
+    ensures reports { Reports (E.state err.old) (E.state err.new) (Some (reason_of stop.now)) }
+    ensures status { result ≡ status_of (reason_of stop.now) }
+{
+    let _ = stop.push_to(err);
+    stop.status()
+}
+
+/// Does what `run_ants` does, and gives the number of its status as an exit code: all that `main` does once it has its words and its
+/// memory (this project's own).
+pub fn run_to_exit<R: Threads + Sync, S: Shelf, K: Sink, E: Sink, G: Gate>(
+    rt: &R,
+    alloc: Global,
+    words: &[String],
+    shelf: &mut S,
+    out: &mut K,
+    err: &mut E,
+    gate: &G,
+) -> ExitCode
+    ensures { IsRunTo (texts words.now) (S.state shelf.old) (S.state shelf.new) (K.state out.old) (K.state out.new) (E.state err.old) (E.state err.new) (exit_status result) }
+{
+    exit_of(run_ants(rt, alloc, words, shelf, out, err, gate))
+}
+
+/// Says that memory can't be had, and gives that status as an exit code: what `main` does before it has a command (this project's own).
+pub fn exit_without_memory<E: Sink>(err: &mut E) -> ExitCode
+    ensures reports { Reports (E.state err.old) (E.state err.new) (Some AtMemory) }
+    ensures status { exit_status result ≡ number_of Status.Memory }
+{
+    exit_of(report(&Stop::Memory, err))
+}
+
+// The exit code of a status.
+fn exit_of(status: Status) -> ExitCode
+    ensures { exit_status result ≡ number_of status }
+{
+    ExitCode::from(status.number())
+}
