@@ -2,7 +2,7 @@
 use Rattle.std.proofs.Common.{◌≡◌, ℕ, ◌+◌, suc, Bool, true, false, not, cond, List, [], ◌∷◌, take, drop, ◌==◌, refl, arith}
 use Rattle.std.specs.List.{prefix_len, onto_first}
 use Rattle.command_words.specs.Slots.{pieces_of}
-use Rattle.command_words.specs.Pieces.{pieces_left, after_byte}
+use Rattle.command_words.specs.Inner.Pieces.{pieces_left, after_byte}
 
 -- how many bytes stand before the first comma
 abbrev pub piece_length : List ℕ → ℕ

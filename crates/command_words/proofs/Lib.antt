@@ -1,12 +1,12 @@
 pub mod Cut
-pub mod Looking
-pub mod Steps
 pub mod Members
 pub mod Tables
+pub mod Looking
 pub mod Amongst
+pub mod Steps
+pub mod Runs
 pub mod Shapes
 pub mod Completions
 pub mod Sayings
 pub mod Reading
 pub mod WordLaws
-pub mod WorkedLines
