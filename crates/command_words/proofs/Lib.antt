@@ -10,3 +10,4 @@ pub mod Completions
 pub mod Sayings
 pub mod Reading
 pub mod WordLaws
+pub mod WorkedLines
