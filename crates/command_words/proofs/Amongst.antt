@@ -1,6 +1,6 @@
 -- Which words stand among others, and which don't.
 use Rattle.std.proofs.Common.{◌≡◌, ℕ, Bool, true, false, ◌||◌, List, [], ◌∷◌, ◌++◌, bytes_eq, refl, sym, ap, ◌∙◌, inl, inr, subst}
-use Rattle.std.specs.List.{flat_map, AllByRecursion, Contains}
+use Rattle.std.specs.List.{flat_map, AllByRecursion}
 use Rattle.std.proofs.lemmas.Bool.{or_parts, or_from, or_cases, false≢true, false_from_ne_true}
 use Rattle.std.proofs.lemmas.Slice.Eq.{bytes_eq-Decides}
 use Rattle.command_words.specs.declared.slot.Slot.{Slot}
@@ -18,7 +18,8 @@ use Rattle.command_words.proofs.Members.{Contains-none, Contains-first, Contains
 use Rattle.command_words.proofs.Tables.{option-unfit, same_option, bytes_eq-same}
 
 -- a word that isn't among more isn't among fewer, nor is it the one more
-pub is_among-fewer : (word other : List ℕ) (words : List (List ℕ)) → is_among word (words ++ other ∷ []) ≡ false → (is_among word words ≡ false) × (bytes_eq other word ≡ false)
+pub is_among-fewer : (word other : List ℕ) (words : List (List ℕ)) → is_among word (words ++ other ∷ []) ≡ false
+    → (is_among word words ≡ false) × (bytes_eq other word ≡ false)
 is_among-fewer word other words e =
     let parts = or_parts (is_among word words) (is_among word (other ∷ [])) (sym (is_among-append word words (other ∷ [])) ∙ e) in
     (parts.0, (or_parts (bytes_eq other word) false (sym (is_among-one word other) ∙ parts.1)).0)
@@ -53,7 +54,8 @@ parts-unlike [] [] choice fit = tt
 parts-unlike [] (part ∷ parts) choice fit = elim fit [ ]
 parts-unlike (place ∷ places) [] choice fit = elim fit [ ]
 parts-unlike (place ∷ places) (part ∷ parts) choice fit =
-    AllByRecursion-append (λ word. bytes_eq word (option_of choice) ≡ false) part (joined parts) (place-unlike place part choice fit.0) (parts-unlike places parts choice fit.1)
+    AllByRecursion-append (λ word. bytes_eq word (option_of choice) ≡ false) part (joined parts) (place-unlike place part choice fit.0)
+    (parts-unlike places parts choice fit.1)
 
 pub is_among-fit : (places : List Place) (parts : List (List (List ℕ))) (choice : Choice) → FitAll places parts → is_among (option_of choice) (joined parts) ≡ false
 is_among-fit places parts choice fit = is_among-unlike (option_of choice) (joined parts) (parts-unlike places parts choice fit)
@@ -72,14 +74,16 @@ is_among-given (g ∷ given) choice has =
           (is_among-append (option_of choice) (joined g.values) (flat_map given_words given)) (is_among-given given choice later)
     ]
   where
-    later_is : (a b : Bool) → is_among (option_of choice) (joined g.values ++ flat_map given_words given) ≡ (b || is_among (option_of choice) (flat_map given_words given))
+    later_is : (a b : Bool) → is_among (option_of choice) (joined g.values ++ flat_map given_words given)
+        ≡ (b || is_among (option_of choice) (flat_map given_words given))
         → is_among (option_of choice) (flat_map given_words given) ≡ true → (a || is_among (option_of choice) (joined g.values ++ flat_map given_words given)) ≡ true
     later_is true b e is = refl
     later_is false true e is = e
     later_is false false e is = e ∙ is
 
 -- an option's word among the words is that of an option that is given
-pub given-among : (kind : CommandKind) (given : List Given) (choice : Choice) → AllByRecursion (IsOptionOf kind) given → is_among (option_of choice) (flat_map given_words given) ≡ true → IsGiven choice given
+pub given-among : (kind : CommandKind) (given : List Given) (choice : Choice) → AllByRecursion (IsOptionOf kind) given
+    → is_among (option_of choice) (flat_map given_words given) ≡ true → IsGiven choice given
 given-among kind [] choice options e = absurd (false≢true (sym (is_among-none (option_of choice)) ∙ e))
 given-among kind (g ∷ given) choice options e =
     elim (or_cases (bytes_eq (option_of g.choice) (option_of choice)) (is_among (option_of choice) (joined g.values ++ flat_map given_words given))

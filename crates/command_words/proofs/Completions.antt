@@ -9,7 +9,7 @@ use Rattle.command_words.specs.declared.slot.Place.{Place}
 use Rattle.command_words.specs.declared.table.CommandKind.{CommandKind}
 use Rattle.command_words.specs.declared.table.Choice.{Choice}
 use Rattle.command_words.specs.Table.{kinds, word_of, places_of, choices_of, option_of, values_of}
-use Rattle.command_words.specs.Command.{Given, given_words, joined, FitAll, IsOptionOf, NoneTwice, IsGiven, IsCommandOf}
+use Rattle.command_words.specs.Command.{Given, given_words, joined, FitAll, IsOptionOf, NoneTwice, IsCommandOf}
 use Rattle.command_words.specs.Inner.Walk.{walk}
 use Rattle.command_words.proofs.Members.{Contains-none, Contains-first, Contains-later, Contains-cases, AllByRecursion-push}
 use Rattle.command_words.proofs.Tables.{option-not_first, same_option, bytes_eq-same}
@@ -34,7 +34,8 @@ chosen-or_other (g ∷ given) choice = go (bytes_eq (option_of g.choice) (option
 
 NoneTwice-push : (given : List Given) (g : Given) → NoneTwice given → AllByRecursion (λ other. other.choice ≢ g.choice) given → NoneTwice (given ++ g ∷ [])
 NoneTwice-push [] g once differ = (tt, tt)
-NoneTwice-push (first ∷ given) g once differ = (AllByRecursion-push (λ other. other.choice ≢ first.choice) given g once.0 (λ e. differ.0 (sym e)), NoneTwice-push given g once.1 differ.1)
+NoneTwice-push (first ∷ given) g once differ =
+    (AllByRecursion-push (λ other. other.choice ≢ first.choice) given g once.0 (λ e. differ.0 (sym e)), NoneTwice-push given g once.1 differ.1)
 
 -- the options given and some more, among which each option of a list is
 record Completed (kind : CommandKind) (given : List Given) (list : List Choice) : Type 0 where
@@ -48,7 +49,8 @@ sample_given : Choice → Given
 sample_given choice = record { choice = choice; values = map sample_part (values_of choice) }
 
 -- each option of a list can be given
-complete : (kind : CommandKind) (given : List Given) (list : List Choice) → ((choice : Choice) → Contains list choice → Contains (choices_of kind) choice) → AllByRecursion (IsOptionOf kind) given → NoneTwice given → Completed kind given list
+complete : (kind : CommandKind) (given : List Given) (list : List Choice) → ((choice : Choice) → Contains list choice → Contains (choices_of kind) choice)
+    → AllByRecursion (IsOptionOf kind) given → NoneTwice given → Completed kind given list
 unfolding sample_given
 complete kind given [] known options once = record {
   more = [];
@@ -65,12 +67,14 @@ complete kind given (first ∷ list) known options once =
           let all = map-append (λ g. g.choice) (given ++ rest.more) (sample_given first ∷ []) in
           record {
             more = rest.more ++ sample_given first ∷ [];
-            options = subst (AllByRecursion (IsOptionOf kind)) longer (AllByRecursion-push (IsOptionOf kind) (given ++ rest.more) (sample_given first) rest.options option);
+            options = subst (AllByRecursion (IsOptionOf kind)) longer
+                (AllByRecursion-push (IsOptionOf kind) (given ++ rest.more) (sample_given first) rest.options option);
             once = subst NoneTwice longer (NoneTwice-push (given ++ rest.more) (sample_given first) rest.once others);
-            each = λ choice has. subst (λ gs. Contains (chosen gs) choice) longer (subst (λ cs. Contains cs choice) (sym all) (elim (Contains-cases first choice list has) [
-              | inl here ↦ subst (Contains (chosen (given ++ rest.more) ++ first ∷ [])) here (Contains-push (chosen (given ++ rest.more)) first)
-              | inr later ↦ Contains-append_left (chosen (given ++ rest.more)) (first ∷ []) choice (rest.each choice later)
-            ]));
+            each = λ choice has. subst (λ gs. Contains (chosen gs) choice) longer
+                (subst (λ cs. Contains cs choice) (sym all) (elim (Contains-cases first choice list has) [
+                  | inl here ↦ subst (Contains (chosen (given ++ rest.more) ++ first ∷ [])) here (Contains-push (chosen (given ++ rest.more)) first)
+                  | inr later ↦ Contains-append_left (chosen (given ++ rest.more)) (first ∷ []) choice (rest.each choice later)
+                ]));
           }
 
       go : Completed kind given list → Completed kind given (first ∷ list)
@@ -79,7 +83,11 @@ complete kind given (first ∷ list) known options once =
           more = rest.more;
           options = rest.options;
           once = rest.once;
-          each = λ choice has. elim (Contains-cases first choice list has) [ inl same ↦ subst (Contains (chosen (given ++ rest.more))) same here | inr later ↦ rest.each choice later ];
+          each = λ choice has. elim (Contains-cases first choice list has) [
+            | inl same ↦ subst
+                (Contains (chosen (given ++ rest.more))) same here
+            | inr later ↦ rest.each choice later
+          ];
         }
         | inr others ↦ with_more rest others
       ]
@@ -92,7 +100,8 @@ pub record Extends (kind : CommandKind) (words : List (List ℕ)) : Type 0 where
   pub form : IsCommandOf kind front given (words ++ more)
 
 -- words that the walk accepts are the beginning of a command
-pub walk-extends : (kind : CommandKind) → Contains kinds kind → (words : List (List ℕ)) (later : List Place) → walk kind words (places_of kind) [] (word_of kind ∷ []) ≡ Ok later → Extends kind (word_of kind ∷ words)
+pub walk-extends : (kind : CommandKind) → Contains kinds kind → (words : List (List ℕ)) (later : List Place)
+    → walk kind words (places_of kind) [] (word_of kind ∷ []) ≡ Ok later → Extends kind (word_of kind ∷ words)
 walk-extends kind known words later e =
     let ext = walk-accepts kind words (places_of kind) [] (word_of kind ∷ []) later (places-end kind) (open-none (places_of kind)) e in
     let rest = ext.rest in
@@ -116,7 +125,8 @@ walk-extends kind known words later e =
     }
 
 -- after a command's first words no option has stood
-all-new : (kind : CommandKind) (places : List Place) (front : List (List (List ℕ))) (given : List Given) → FitAll places front → AllByRecursion (IsNew (word_of kind ∷ joined front)) given
+all-new : (kind : CommandKind) (places : List Place) (front : List (List (List ℕ))) (given : List Given) → FitAll places front
+    → AllByRecursion (IsNew (word_of kind ∷ joined front)) given
 all-new kind places front [] fit = tt
 all-new kind places front (g ∷ given) fit = (
   is_among-neither (option_of g.choice) (word_of kind ∷ []) (joined front)
@@ -129,5 +139,6 @@ all-new kind places front (g ∷ given) fit = (
 pub command-walks : (kind : CommandKind) (front : List (List (List ℕ))) (given : List Given) (words : List (List ℕ)) → IsCommandOf kind front given words
     → walk kind (joined front ++ flat_map given_words given) (places_of kind) [] (word_of kind ∷ []) ≡ Ok []
 command-walks kind front given words form =
-    walk-places kind (places_of kind) [] front (flat_map given_words given) (word_of kind ∷ []) (places-end kind) (rest-from_all (places_of kind) front form.places) (given-no_name given)
+    walk-places kind (places_of kind) [] front (flat_map given_words given) (word_of kind ∷ []) (places-end kind) (rest-from_all (places_of kind) front form.places)
+    (given-no_name given)
     ∙ walk-options kind given (word_of kind ∷ joined front) form.options form.once (all-new kind (places_of kind) front given form.places)

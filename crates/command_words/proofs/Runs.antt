@@ -1,12 +1,12 @@
 -- Names that stand at a place, and how they end.
-use Rattle.std.proofs.Common.{◌≡◌, ◌≢◌, ℕ, ◌+◌, ◌<◌, ◌≤◌, Bool, true, false, not, ◌&&◌, cond, nat_le, nat_lt, codes, List, [], ◌∷◌, ◌++◌, length, Option, Some, None, Result, Ok, bytes_eq, refl, sym, ap, ◌∙◌, subst, arith}
+use Rattle.std.proofs.Common.{◌≡◌, ◌≢◌, ℕ, ◌+◌, ◌<◌, ◌≤◌, Bool, true, false, not, ◌&&◌, cond, nat_lt, codes, List, [], ◌∷◌, ◌++◌, length, Some, None}
+use Rattle.std.proofs.Common.{Result, Ok, bytes_eq, refl, sym, ap, ◌∙◌, subst, arith}
 use Rattle.std.specs.List.{flat_map, AllByRecursion}
 use Rattle.std.proofs.lemmas.Bool.{false≢true, false_from_ne_true, and_from, and_parts, or_parts, not-true, leb-true, leb-false, le-leb, lt-ltb, ltb-true}
 use Rattle.std.proofs.lemmas.List.{append-nil, append_assoc, length-append, length_push}
 use Rattle.std.proofs.lemmas.Slice.Eq.{bytes_eq-Decides}
 use Rattle.command_words.specs.declared.table.NameList.{NameList}
 use Rattle.command_words.specs.declared.table.NameList.TheVariants.{Worlds, Brains}
-use Rattle.command_words.specs.declared.slot.Slot.{Slot}
 use Rattle.command_words.specs.declared.slot.Slot.TheVariants.{FileName, Number, Dumps, Keyword}
 use Rattle.command_words.specs.declared.slot.Place.{Place}
 use Rattle.command_words.specs.declared.slot.Place.TheVariants.{Word, Names}
@@ -15,12 +15,12 @@ use Rattle.command_words.specs.declared.table.CommandKind.TheVariants.{Show, Bra
 use Rattle.command_words.specs.declared.table.Choice.{Choice}
 use Rattle.command_words.specs.declared.table.Choice.TheVariants.{Seed, Rounds, Dump, Workers, Window, Surround, Corpse, Rest, Stats, Width, Height, Rocks, Blobs}
 use Rattle.command_words.specs.Slots.{is_file_name, AllDiffer, AreNames, FitsPlace}
-use Rattle.command_words.specs.Table.{places_of, values_of, option_of, keyword_of, fewest_names, most_names, must_differ}
+use Rattle.command_words.specs.Table.{places_of, values_of, keyword_of, fewest_names, most_names, must_differ}
 use Rattle.command_words.specs.Command.{Given, given_words, joined, FitAll}
-use Rattle.command_words.specs.Inner.Walk.{is_among, has_enough, is_repeated, may_follow, closed, reached, due_after, names_after, go_on, walk}
+use Rattle.command_words.specs.Inner.Walk.{is_among, has_enough, is_repeated, may_follow, closed, due_after, names_after, go_on, walk}
 use Rattle.command_words.proofs.Looking.{is_among-none, is_among-cons, is_among-next, NoName}
 use Rattle.command_words.proofs.Members.{AllByRecursion-push}
-use Rattle.command_words.proofs.Tables.{option-unfit, keyword-no_name, sample, sample-fits}
+use Rattle.command_words.proofs.Tables.{option-unfit, keyword-no_name}
 
 -- some words may be the first names of a list
 pub record MayBe (list : NameList) (names : List (List ℕ)) : Type 0 where
@@ -123,14 +123,16 @@ further kind words names before word here =
     go_on (due_after kind here names before word) (length before + 1) (λ later. walk kind words later (names_after here names word) (before ++ word ∷ []))
 
 -- where no names may stand it doesn't matter which ones do
-pub walk-same : (kind : CommandKind) (due : List Place) (words names before : List (List ℕ)) → Stops due → walk kind words due names before ≡ walk kind words due [] before
+pub walk-same : (kind : CommandKind) (due : List Place) (words names before : List (List ℕ)) → Stops due
+    → walk kind words due names before ≡ walk kind words due [] before
 walk-same kind [] [] names before stops = refl
 walk-same kind [] (word ∷ words) names before stops = refl
 walk-same kind (Word slot ∷ due) [] names before stops = refl
 walk-same kind (Word slot ∷ due) (word ∷ words) names before stops = refl
 walk-same kind (Names list ∷ due) words names before stops = elim stops [ ]
 
-further-stops : (kind : CommandKind) (due : List Place) (words names before : List (List ℕ)) (word : List ℕ) → Stops due → further kind words names before word due ≡ walk kind (word ∷ words) due [] before
+further-stops : (kind : CommandKind) (due : List Place) (words names before : List (List ℕ)) (word : List ℕ) → Stops due
+    → further kind words names before word due ≡ walk kind (word ∷ words) due [] before
 further-stops kind [] words names before word stops = refl
 further-stops kind (Word slot ∷ due) words names before word stops = refl
 further-stops kind (Names list ∷ due) words names before word stops = elim stops [ ]
@@ -146,7 +148,8 @@ run-ends kind list due (word ∷ words) names before enough stops no_name =
     ∙ further-stops kind due words names before word stops
 
 -- a name that may follow
-pub run-more : (kind : CommandKind) (list : NameList) (due : List Place) (words names before : List (List ℕ)) (word : List ℕ) → is_file_name word ≡ true → may_follow list names word ≡ true
+pub run-more : (kind : CommandKind) (list : NameList) (due : List Place) (words names before : List (List ℕ)) (word : List ℕ) → is_file_name word ≡ true
+    → may_follow list names word ≡ true
     → walk kind (word ∷ words) (Names list ∷ due) names before ≡ walk kind words (Names list ∷ due) (names ++ word ∷ []) (before ++ word ∷ [])
 run-more kind list due words names before word is_name may =
     ap (λ b. further kind words names before word (cond b (Names list ∷ due) (closed (Names list ∷ due) names))) is_name
@@ -162,14 +165,17 @@ differ-between : (names : List (List ℕ)) (name : List ℕ) (more : List (List 
 differ-between [] name more differ = is_among-none name
 differ-between (first ∷ names) name more differ =
     is_among-next name first names
-        (false_from_ne_true (bytes_eq first name) (λ e. all-between (λ other. other ≢ first) names name more differ.0 (sym ((bytes_eq-Decides first name).0 e))))
+    (false_from_ne_true (bytes_eq first name) (λ e. all-between (λ other. other ≢ first) names name more differ.0 (sym ((bytes_eq-Decides first name).0 e))))
     ∙ differ-between names name more differ.1
 
 -- each of a list's names may follow those before it
-pub names-follow : (list : NameList) (names : List (List ℕ)) (name : List ℕ) (more : List (List ℕ)) → AreNames list (names ++ name ∷ more) → (is_file_name name ≡ true) × (may_follow list names name ≡ true)
-names-follow list names name more are =
-    (is_name, and_from (is_file_name name && nat_lt (length names) most_names) (not (is_repeated list names name))
-    (and_from (is_file_name name) (nat_lt (length names) most_names) is_name room) (ap (λ b. not b) (fresh (must_differ list) refl)))
+pub names-follow : (list : NameList) (names : List (List ℕ)) (name : List ℕ) (more : List (List ℕ)) → AreNames list (names ++ name ∷ more)
+    → (is_file_name name ≡ true) × (may_follow list names name ≡ true)
+names-follow list names name more are = (
+  is_name,
+  and_from (is_file_name name && nat_lt (length names) most_names) (not (is_repeated list names name))
+      (and_from (is_file_name name) (nat_lt (length names) most_names) is_name room) (ap (λ b. not b) (fresh (must_differ list) refl)),
+)
   where
     is_name : is_file_name name ≡ true
     is_name = all-between (λ other. is_file_name other ≡ true) names name more are.each
@@ -202,7 +208,8 @@ pub keyword-ends : (list : NameList) (word : List ℕ) → bytes_eq word (keywor
 keyword-ends list word same = ap is_file_name ((bytes_eq-Decides word (keyword_of list)).0 same) ∙ keyword-no_name list
 
 -- the words of places that stop names begin with no name
-pub stops-no_name : (due : List Place) (parts : List (List (List ℕ))) (words : List (List ℕ)) → Stops due → FitAll due parts → NoName words → NoName (joined parts ++ words)
+pub stops-no_name : (due : List Place) (parts : List (List (List ℕ))) (words : List (List ℕ)) → Stops due → FitAll due parts → NoName words
+    → NoName (joined parts ++ words)
 stops-no_name [] [] words stops fit no_name = no_name
 stops-no_name [] (part ∷ parts) words stops fit no_name = elim fit [ ]
 stops-no_name (place ∷ due) [] words stops fit no_name = elim fit [ ]
@@ -254,7 +261,8 @@ w_is_name = refl
 pub lacks_none : (list : NameList) (names : List (List ℕ)) → MayBe list names → has_enough list names ≡ true → Lacking list names
 lacks_none list names may enough = record {
   part = [];
-  are = subst (AreNames list) (sym (append-nil names)) (record { enough = (let e = leb-true (fewest_names list) (length names) enough in e); few = may.few; each = may.each; different = may.different });
+  are = subst (AreNames list) (sym (append-nil names))
+      (record { enough = (let e = leb-true (fewest_names list) (length names) enough in e); few = may.few; each = may.each; different = may.different });
   none = λ e. refl;
 }
 
@@ -286,7 +294,8 @@ lacks_some Brains (name ∷ []) may short = record {
   };
   none = λ e. absurd (false≢true (sym short ∙ e));
 }
-lacks_some Brains (name ∷ other ∷ names) may short = (let few : length (name ∷ other ∷ names) < 2 = leb-false 2 (length (name ∷ other ∷ names)) short in absurd (omega arith))
+lacks_some Brains (name ∷ other ∷ names) may short =
+    (let few : length (name ∷ other ∷ names) < 2 = leb-false 2 (length (name ∷ other ∷ names)) short in absurd (omega arith))
 
 -- the first names of a list are the front of its names
 pub lacking : (list : NameList) (names : List (List ℕ)) → MayBe list names → Lacking list names
@@ -313,6 +322,7 @@ open-more list names name may follows =
     differ-push : (names : List (List ℕ)) (name : List ℕ) → AllDiffer names → is_among name names ≡ false → AllDiffer (names ++ name ∷ [])
     differ-push [] name differ new = (tt, tt)
     differ-push (first ∷ names) name differ new =
-        let apart = or_parts (bytes_eq first name) (is_among name names) (sym (is_among-cons name first names) ∙ new) in
-        (AllByRecursion-push (λ other. other ≢ first) names name differ.0 (λ e. false≢true (sym apart.0 ∙ (bytes_eq-Decides first name).1 (sym e))),
-        differ-push names name differ.1 apart.1)
+        let apart = or_parts (bytes_eq first name) (is_among name names) (sym (is_among-cons name first names) ∙ new) in (
+          AllByRecursion-push (λ other. other ≢ first) names name differ.0 (λ e. false≢true (sym apart.0 ∙ (bytes_eq-Decides first name).1 (sym e))),
+          differ-push names name differ.1 apart.1,
+        )

@@ -1,5 +1,6 @@
 -- Going over words succeeds exactly on the beginnings of a command.
-use Rattle.std.proofs.Common.{◌≡◌, ◌≢◌, ℕ, ◌+◌, ◌<◌, suc, Bool, true, false, cond, List, [], ◌∷◌, ◌++◌, length, take, map, Option, Some, None, Result, Ok, Err, bytes_eq, refl, sym, ap, ◌∙◌, subst, arith}
+use Rattle.std.proofs.Common.{◌≡◌, ◌≢◌, ℕ, ◌+◌, ◌<◌, suc, Bool, true, false, cond, List, [], ◌∷◌, ◌++◌, length, take, map, Option, Some, None, Result, Ok, Err}
+use Rattle.std.proofs.Common.{bytes_eq, refl, sym, ap, ◌∙◌, subst, arith}
 use Rattle.std.specs.List.{Contains, flat_map, AllByRecursion}
 use Rattle.std.proofs.lemmas.Bool.{false≢true, or_from}
 use Rattle.std.proofs.lemmas.List.{append-nil, append_assoc, length_push}
@@ -17,10 +18,12 @@ use Rattle.command_words.proofs.Members.{AllByRecursion-weaker}
 use Rattle.command_words.proofs.Tables.{sample, sample-fits, choice_of-found, choice_of-known, choice_of-option, same_option-differs, bytes_eq-same}
 use Rattle.command_words.proofs.Looking.{is_among-one, NoName}
 use Rattle.command_words.proofs.Amongst.{is_among-fewer, is_among-neither, is_among-fit}
-use Rattle.command_words.proofs.Runs.{MayBe, IsOpen, open-none, FitRest, rest-from_all, all-from_rest, Stops, RunsEnd, values-end, rest-stops, further, walk-same, run-ends, walk-run, names-enough, stops-no_name, given-no_name, lacking, lacks_none, open-more}
+use Rattle.command_words.proofs.Runs.{MayBe, IsOpen, open-none, FitRest, rest-from_all, all-from_rest, Stops, RunsEnd, values-end, rest-stops, further, walk-same}
+use Rattle.command_words.proofs.Runs.{run-ends, walk-run, names-enough, stops-no_name, given-no_name, lacking, lacks_none, open-more}
 
 -- a word may stand where the walk goes on
-pub stands : (o : Option (List Place)) (n : ℕ) (next : List Place → Result (List Place) ℕ) (later : List Place) → go_on o n next ≡ Ok later → (due : List Place) × (o ≡ Some due) × (next due ≡ Ok later)
+pub stands : (o : Option (List Place)) (n : ℕ) (next : List Place → Result (List Place) ℕ) (later : List Place) → go_on o n next ≡ Ok later
+    → (due : List Place) × (o ≡ Some due) × (next due ≡ Ok later)
 stands None n next later e = (let no : ⊥ = cc in absurd no)
 stands (Some due) n next later e = (due, refl, e)
 
@@ -73,11 +76,13 @@ IsNew-before before word given new =
     AllByRecursion-weaker (IsNew (before ++ word ∷ [])) (IsNew before) given (λ g fresh. (is_among-fewer (option_of g.choice) word before fresh).0) new
 
 -- what is new after an option's word isn't that option
-IsNew-other : (before : List (List ℕ)) (choice : Choice) (given : List Given) → AllByRecursion (IsNew (before ++ option_of choice ∷ [])) given → AllByRecursion (λ other. other.choice ≢ choice) given
+IsNew-other : (before : List (List ℕ)) (choice : Choice) (given : List Given) → AllByRecursion (IsNew (before ++ option_of choice ∷ [])) given
+    → AllByRecursion (λ other. other.choice ≢ choice) given
 IsNew-other before choice given new = AllByRecursion-weaker (IsNew (before ++ option_of choice ∷ [])) (λ other. other.choice ≢ choice) given differ new where
   differ : (g : Given) → IsNew (before ++ option_of choice ∷ []) g → g.choice ≢ choice
   differ g fresh same =
-      false≢true (sym ((is_among-fewer (option_of g.choice) (option_of choice) before fresh).1) ∙ ap (λ o. bytes_eq (option_of choice) (option_of o)) same ∙ bytes_eq-same (option_of choice))
+      false≢true (sym ((is_among-fewer (option_of g.choice) (option_of choice) before fresh).1) ∙ ap (λ o. bytes_eq (option_of choice) (option_of o)) same
+      ∙ bytes_eq-same (option_of choice))
 
 -- the words end where places are due
 ends : (kind : CommandKind) (due : List Place) (names before : List (List ℕ)) → IsOpen due names → Extension kind due names before [] (closed due names)
@@ -150,7 +155,8 @@ rest-name kind list places names before word words rest = go rest.front rest.who
   }
 
 -- an option, and then the rest
-rest-option : (kind : CommandKind) (choice : Choice) (names before words : List (List ℕ)) → Contains (choices_of kind) choice → is_among (option_of choice) before ≡ false
+rest-option : (kind : CommandKind) (choice : Choice) (names before words : List (List ℕ)) → Contains (choices_of kind) choice
+    → is_among (option_of choice) before ≡ false
     → IsRest kind (values_of choice) [] (before ++ option_of choice ∷ []) words → IsRest kind [] names before (option_of choice ∷ words)
 rest-option kind choice names before words known fresh rest = record {
   front = [];
@@ -199,7 +205,8 @@ accepts-option kind words rest_of names before word later e =
           (subst (λ w. IsRest kind (values_of option.0) [] (before ++ w ∷ []) (words ++ ext.more)) here ext.rest));
     }
 
-accepts-word : (kind : CommandKind) (words : List (List ℕ)) → Accepts kind words → (slot : Slot) (places : List Place) (names before : List (List ℕ)) (word : List ℕ) (later : List Place) → RunsEnd places
+accepts-word : (kind : CommandKind) (words : List (List ℕ)) → Accepts kind words
+    → (slot : Slot) (places : List Place) (names before : List (List ℕ)) (word : List ℕ) (later : List Place) → RunsEnd places
     → further kind words names before word (Word slot ∷ places) ≡ Ok later → Extension kind (Word slot ∷ places) names before (word ∷ words) later
 accepts-word kind words rest_of slot places names before word later end e =
     let go = stands (due_after kind (Word slot ∷ places) names before word) (length before + 1) (λ due. walk kind words due [] (before ++ word ∷ [])) later e in
@@ -212,8 +219,10 @@ accepts-word kind words rest_of slot places names before word later end e =
       rest = rest-word kind slot places names before word (words ++ ext.more) fit.0 ext.rest;
     }
 
-accepts-name : (kind : CommandKind) (words : List (List ℕ)) → Accepts kind words → (list : NameList) (places : List Place) (names before : List (List ℕ)) (word : List ℕ) (later : List Place)
-    → RunsEnd (Names list ∷ places) → MayBe list names → further kind words names before word (Names list ∷ places) ≡ Ok later → Extension kind (Names list ∷ places) names before (word ∷ words) later
+accepts-name : (kind : CommandKind) (words : List (List ℕ)) → Accepts kind words
+    → (list : NameList) (places : List Place) (names before : List (List ℕ)) (word : List ℕ) (later : List Place)
+    → RunsEnd (Names list ∷ places) → MayBe list names → further kind words names before word (Names list ∷ places) ≡ Ok later
+    → Extension kind (Names list ∷ places) names before (word ∷ words) later
 accepts-name kind words rest_of list places names before word later end is_open e =
     let next : List Place → Result (List Place) ℕ = λ due. walk kind words due (names ++ word ∷ []) (before ++ word ∷ []) in
     let go = stands (due_after kind (Names list ∷ places) names before word) (length before + 1) next later e in
@@ -226,10 +235,13 @@ accepts-name kind words rest_of list places names before word later end is_open 
       rest = rest-name kind list places names before word (words ++ ext.more) ext.rest;
     }
 
-accepts-ended : (kind : CommandKind) (words : List (List ℕ)) → Accepts kind words → (list : NameList) (places : List Place) (names before : List (List ℕ)) (word : List ℕ) (later : List Place)
-    → RunsEnd (Names list ∷ places) → AreNames list names → further kind words names before word places ≡ Ok later → Extension kind (Names list ∷ places) names before (word ∷ words) later
+accepts-ended : (kind : CommandKind) (words : List (List ℕ)) → Accepts kind words
+    → (list : NameList) (places : List Place) (names before : List (List ℕ)) (word : List ℕ) (later : List Place)
+    → RunsEnd (Names list ∷ places) → AreNames list names → further kind words names before word places ≡ Ok later
+    → Extension kind (Names list ∷ places) names before (word ∷ words) later
 accepts-ended kind words rest_of list places names before word later end are e = ended (go places end.0 end.1 e) where
-  go : (places : List Place) → Stops places → RunsEnd places → further kind words names before word places ≡ Ok later → Extension kind places names before (word ∷ words) later
+  go : (places : List Place) → Stops places → RunsEnd places → further kind words names before word places ≡ Ok later
+      → Extension kind places names before (word ∷ words) later
   go [] stops end e = accepts-option kind words rest_of names before word later e
   go (Word slot ∷ places) stops end e = accepts-word kind words rest_of slot places names before word later end e
   go (Names other ∷ places) stops end e = elim stops [ ]
@@ -241,12 +253,15 @@ accepts-ended kind words rest_of list places names before word later end are e =
     rest = rest-ended kind list places names before (word ∷ (words ++ ext.more)) end.0 are ext.rest;
   }
 
-accepts-names : (kind : CommandKind) (words : List (List ℕ)) → Accepts kind words → (list : NameList) (places : List Place) (names before : List (List ℕ)) (word : List ℕ) (later : List Place)
+accepts-names : (kind : CommandKind) (words : List (List ℕ)) → Accepts kind words
+    → (list : NameList) (places : List Place) (names before : List (List ℕ)) (word : List ℕ) (later : List Place)
     → RunsEnd (Names list ∷ places) → MayBe list names → (is_name enough : Bool) → has_enough list names ≡ enough
     → further kind words names before word (cond is_name (Names list ∷ places) (cond enough places (Names list ∷ places))) ≡ Ok later
     → Extension kind (Names list ∷ places) names before (word ∷ words) later
-accepts-names kind words rest_of list places names before word later end is_open true enough is e = accepts-name kind words rest_of list places names before word later end is_open e
-accepts-names kind words rest_of list places names before word later end is_open false false is e = accepts-name kind words rest_of list places names before word later end is_open e
+accepts-names kind words rest_of list places names before word later end is_open true enough is e =
+    accepts-name kind words rest_of list places names before word later end is_open e
+accepts-names kind words rest_of list places names before word later end is_open false false is e =
+    accepts-name kind words rest_of list places names before word later end is_open e
 accepts-names kind words rest_of list places names before word later end is_open false true is e =
     accepts-ended kind words rest_of list places names before word later end
     (let none = lacks_none list names is_open is in subst (AreNames list) (ap (λ ns. names ++ ns) (none.none is) ∙ append-nil names) none.are) e
@@ -262,7 +277,8 @@ walk-accepts kind (word ∷ words) (Names list ∷ places) names before later en
     accepts-names kind words (walk-accepts kind words) list places names before word later end is_open (is_file_name word) (has_enough list names) refl e
 
 -- the walk goes over words that fit the places that are due
-pub walk-places : (kind : CommandKind) (due : List Place) (names : List (List ℕ)) (parts : List (List (List ℕ))) (words before : List (List ℕ)) → RunsEnd due → FitRest due names parts → NoName words
+pub walk-places : (kind : CommandKind) (due : List Place) (names : List (List ℕ)) (parts : List (List (List ℕ))) (words before : List (List ℕ)) → RunsEnd due
+    → FitRest due names parts → NoName words
     → walk kind (joined parts ++ words) due names before ≡ walk kind words [] [] (before ++ joined parts)
 walk-places kind [] names [] words before end fit no_name = walk-same kind [] words names before tt ∙ ap (walk kind words [] []) (sym (append-nil before))
 walk-places kind [] names (part ∷ parts) words before end fit no_name = elim fit [ ]
@@ -276,13 +292,15 @@ walk-places kind (Word slot ∷ due) names ((word ∷ other ∷ more) ∷ parts)
 walk-places kind (Names list ∷ due) names (part ∷ parts) words before end fit no_name =
     ap (λ ws. walk kind ws (Names list ∷ due) names before) (append_assoc part (joined parts) words)
     ∙ walk-run kind list due (joined parts ++ words) part names before fit.0
-    ∙ run-ends kind list due (joined parts ++ words) (names ++ part) (before ++ part) (names-enough list (names ++ part) fit.0) end.0 (stops-no_name due parts words end.0 fit.1 no_name)
+    ∙ run-ends kind list due (joined parts ++ words) (names ++ part) (before ++ part) (names-enough list (names ++ part) fit.0) end.0
+    (stops-no_name due parts words end.0 fit.1 no_name)
     ∙ walk-places kind due [] parts words (before ++ part) end.1 (rest-from_all due parts fit.1) no_name
     ∙ ap (walk kind words [] []) (append_assoc before part (joined parts))
 
 -- after an option and its values the others are still new
 still-new : (before : List (List ℕ)) (choice : Choice) (values : List (List (List ℕ))) (places : List Place) (given : List Given) → FitAll places values
-    → AllByRecursion (λ other. other.choice ≢ choice) given → AllByRecursion (IsNew before) given → AllByRecursion (IsNew ((before ++ option_of choice ∷ []) ++ joined values)) given
+    → AllByRecursion (λ other. other.choice ≢ choice) given → AllByRecursion (IsNew before) given
+    → AllByRecursion (IsNew ((before ++ option_of choice ∷ []) ++ joined values)) given
 still-new before choice values places [] fit differ new = tt
 still-new before choice values places (g ∷ given) fit differ new = (
   is_among-neither (option_of g.choice) (before ++ option_of choice ∷ []) (joined values)
@@ -294,7 +312,8 @@ still-new before choice values places (g ∷ given) fit differ new = (
 )
 
 -- the walk goes over options that are new
-pub walk-options : (kind : CommandKind) (given : List Given) (before : List (List ℕ)) → AllByRecursion (IsOptionOf kind) given → NoneTwice given → AllByRecursion (IsNew before) given
+pub walk-options : (kind : CommandKind) (given : List Given) (before : List (List ℕ)) → AllByRecursion (IsOptionOf kind) given → NoneTwice given
+    → AllByRecursion (IsNew before) given
     → walk kind (flat_map given_words given) [] [] before ≡ Ok []
 walk-options kind [] before options once new = refl
 walk-options kind (g ∷ given) before options once new =
@@ -303,17 +322,19 @@ walk-options kind (g ∷ given) before options once new =
     ap (λ o. go_on (due_after_option o (is_among (option_of g.choice) before)) (length before + 1) next) (choice_of-option kind g.choice options.0.known)
     ∙ ap (λ b. go_on (due_after_option (Some g.choice) b) (length before + 1) next) new.0
     ∙ walk-places kind (values_of g.choice) [] g.values (flat_map given_words given) (before ++ option_of g.choice ∷ []) (values-end g.choice)
-        (rest-from_all (values_of g.choice) g.values options.0.fit) (given-no_name given)
+    (rest-from_all (values_of g.choice) g.values options.0.fit) (given-no_name given)
     ∙ walk-options kind given ((before ++ option_of g.choice ∷ []) ++ joined g.values) options.1 once.1
-        (still-new before g.choice g.values (values_of g.choice) given options.0.fit once.0 new.1)
+    (still-new before g.choice g.values (values_of g.choice) given options.0.fit once.0 new.1)
 
 -- the walk accepts the front of words that it accepts
-pub walk-front : (kind : CommandKind) (front back : List (List ℕ)) (due : List Place) (names before : List (List ℕ)) (later : List Place) → walk kind (front ++ back) due names before ≡ Ok later
+pub walk-front : (kind : CommandKind) (front back : List (List ℕ)) (due : List Place) (names before : List (List ℕ)) (later : List Place)
+    → walk kind (front ++ back) due names before ≡ Ok later
     → (mid : List Place) × (walk kind front due names before ≡ Ok mid)
 walk-front kind [] back due names before later e = (closed due names, refl)
 walk-front kind (word ∷ front) back due names before later e =
     let here = reached due names word in
-    let go = stands (due_after kind here names before word) (length before + 1) (λ places. walk kind (front ++ back) places (names_after here names word) (before ++ word ∷ [])) later e in
+    let go = stands (due_after kind here names before word) (length before + 1)
+    (λ places. walk kind (front ++ back) places (names_after here names word) (before ++ word ∷ [])) later e in
     let rest = walk-front kind front back go.0 (names_after here names word) (before ++ word ∷ []) later go.2 in
     (rest.0, ap (λ o. go_on o (length before + 1) (λ places. walk kind front places (names_after here names word) (before ++ word ∷ []))) go.1 ∙ rest.1)
 
@@ -326,14 +347,18 @@ pub record StopsAt (kind : CommandKind) (words : List (List ℕ)) (due : List Pl
   pub accepted : walk kind (take taken words) due names before ≡ Ok later
   pub refused : walk kind (take (suc taken) words) due names before ≡ Err number
 
-pub walk-stops : (kind : CommandKind) (words : List (List ℕ)) (due : List Place) (names before : List (List ℕ)) (number : ℕ) → walk kind words due names before ≡ Err number → StopsAt kind words due names before number
+pub walk-stops : (kind : CommandKind) (words : List (List ℕ)) (due : List Place) (names before : List (List ℕ)) (number : ℕ)
+    → walk kind words due names before ≡ Err number → StopsAt kind words due names before number
 walk-stops kind [] due names before number e = (let no : ⊥ = cc in absurd no)
 walk-stops kind (word ∷ words) due names before number e =
-    go (due_after kind (reached due names word) names before word) refl (λ places. walk-stops kind words places (names_after (reached due names word) names word) (before ++ word ∷ []) number) e
+    go (due_after kind (reached due names word) names before word) refl
+    (λ places. walk-stops kind words places (names_after (reached due names word) names word) (before ++ word ∷ []) number) e
   where
     go : (o : Option (List Place)) → due_after kind (reached due names word) names before word ≡ o
-        → ((places : List Place) → walk kind words places (names_after (reached due names word) names word) (before ++ word ∷ []) ≡ Err number → StopsAt kind words places (names_after (reached due names word) names word) (before ++ word ∷ []) number)
-        → go_on o (length before + 1) (λ places. walk kind words places (names_after (reached due names word) names word) (before ++ word ∷ [])) ≡ Err number → StopsAt kind (word ∷ words) due names before number
+        → ((places : List Place) → walk kind words places (names_after (reached due names word) names word) (before ++ word ∷ []) ≡ Err number
+        → StopsAt kind words places (names_after (reached due names word) names word) (before ++ word ∷ []) number)
+        → go_on o (length before + 1) (λ places. walk kind words places (names_after (reached due names word) names word) (before ++ word ∷ [])) ≡ Err number
+        → StopsAt kind (word ∷ words) due names before number
     go None is rest e =
         let at : length before + 1 ≡ number = cc in
         record {
@@ -342,7 +367,8 @@ walk-stops kind (word ∷ words) due names before number e =
           within = omega arith;
           later = closed due names;
           accepted = refl;
-          refused = ap (λ o. go_on o (length before + 1) (λ places. walk kind [] places (names_after (reached due names word) names word) (before ++ word ∷ []))) is ∙ ap Err at;
+          refused = ap (λ o. go_on o (length before + 1) (λ places. walk kind [] places (names_after (reached due names word) names word) (before ++ word ∷ []))) is
+              ∙ ap Err at;
         }
     go (Some places) is rest e =
         let stop = rest places e in
@@ -352,6 +378,8 @@ walk-stops kind (word ∷ words) due names before number e =
           here = stop.here ∙ (let more : length (before ++ word ∷ []) + stop.taken + 1 ≡ length before + suc stop.taken + 1 = omega arith in more);
           within = (let less = stop.within in omega arith);
           later = stop.later;
-          accepted = ap (λ o. go_on o (length before + 1) (λ places. walk kind (take stop.taken words) places (names_after (reached due names word) names word) (before ++ word ∷ []))) is ∙ stop.accepted;
-          refused = ap (λ o. go_on o (length before + 1) (λ places. walk kind (take (suc stop.taken) words) places (names_after (reached due names word) names word) (before ++ word ∷ []))) is ∙ stop.refused;
+          accepted = ap (λ o. go_on o (length before + 1)
+              (λ places. walk kind (take stop.taken words) places (names_after (reached due names word) names word) (before ++ word ∷ []))) is ∙ stop.accepted;
+          refused = ap (λ o. go_on o (length before + 1)
+              (λ places. walk kind (take (suc stop.taken) words) places (names_after (reached due names word) names word) (before ++ word ∷ []))) is ∙ stop.refused;
         }

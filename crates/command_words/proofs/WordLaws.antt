@@ -1,12 +1,14 @@
 -- What holds of all words.
-use Rattle.std.proofs.Common.{◌≡◌, ◌≢◌, ℕ, ◌+◌, ◌<◌, ◌≤◌, Bool, true, false, cond, ◌&&◌, nat_le, codes, List, [], ◌∷◌, length, Option, Some, None, option_map, Result, Ok, Err, bytes_eq, refl, sym, ap, ◌∙◌, subst, ◌⊎◌, inl, inr, arith}
+use Rattle.std.proofs.Common.{◌≡◌, ◌≢◌, ℕ, ◌+◌, ◌<◌, ◌≤◌, Bool, true, false, cond, ◌&&◌, nat_le, codes, List, [], ◌∷◌, length, Option, Some, None, option_map, Result}
+use Rattle.std.proofs.Common.{Ok, Err, bytes_eq, refl, sym, ap, ◌∙◌, subst, ◌⊎◌, inl, inr, arith}
 use Rattle.std.specs.List.{Contains, AllByRecursion}
 use Rattle.std.proofs.lemmas.Bool.{cases_order, and_parts, leb-true, false≢true}
 use Rattle.std.proofs.lemmas.List.{append-nil}
 use Rattle.ant_base.specs.Number.{number_of, within}
 use Rattle.command_words.specs.declared.command.GenShape.{GenShape}
 use Rattle.command_words.specs.declared.limits.NumberKind.{NumberKind}
-use Rattle.command_words.specs.declared.limits.NumberKind.TheVariants.{SeedNumber, RoundCount, WorkerCount, WindowSize, FoeCount, CorpseFood, RestRounds, SideLength, ElementCount}
+use Rattle.command_words.specs.declared.limits.NumberKind.TheVariants.{SeedNumber, RoundCount, WorkerCount, WindowSize, FoeCount, CorpseFood, RestRounds, SideLength}
+use Rattle.command_words.specs.declared.limits.NumberKind.TheVariants.{ElementCount}
 use Rattle.command_words.specs.declared.table.Choice.{Choice}
 use Rattle.command_words.specs.declared.table.Choice.TheVariants.{Seed, Rounds, Dump, Workers, Window, Surround, Corpse, Rest, Stats, Width, Height, Rocks, Blobs}
 use Rattle.command_words.specs.Limits.{least_of, most_of, number_in}
@@ -14,11 +16,13 @@ use Rattle.command_words.specs.Table.{places_of, option_of}
 use Rattle.command_words.specs.Table.{default_workers, default_window, default_surround, default_corpse, default_rest, default_side, default_rocks, default_blobs}
 use Rattle.command_words.specs.Slots.{with_number, numbers_of, pieces_of, dumps_of, DumpChoice}
 use Rattle.command_words.specs.Slots.DumpChoice.{NoDump, EveryDump, ChosenDumps}
-use Rattle.command_words.specs.Command.{Given, NoneTwice, FitAll, RunSetup, PlainCommand, kind_in, first_word, joined, value_given, has_given, number_needed, number_or, dumps_or_none}
+use Rattle.command_words.specs.Command.{Given, NoneTwice, FitAll, RunSetup, PlainCommand, kind_in, first_word, joined, value_given, has_given, number_needed, number_or}
+use Rattle.command_words.specs.Command.{dumps_or_none}
 use Rattle.command_words.specs.Command.{SaysSetup, SaysShape, SaysCup, SaysView, Says, IsCommand, IsBeginning, IsRefusedAt}
 use Rattle.command_words.specs.Command.PlainCommand.{ShowCommand, BrainCommand, MinimiseCommand, RunCommand, GenCommand, CupCommand, ViewCommand, WorkloadCommand}
 use Rattle.command_words.specs.Inner.Walk.{read_of}
-use Rattle.command_words.specs.Laws.{OneCommand, OneRefusedWord, NeverBoth, OneOfBoth, FrontBegins, AnyOrder, IsWithin, AreWithin, SetupWithin, ShapeWithin, CommandWithin, WithinLimits}
+use Rattle.command_words.specs.Laws.{OneCommand, OneRefusedWord, NeverBoth, OneOfBoth, FrontBegins, AnyOrder, IsWithin, AreWithin, SetupWithin, ShapeWithin}
+use Rattle.command_words.specs.Laws.{CommandWithin, WithinLimits}
 use Rattle.command_words.proofs.Members.{Contains-none, Contains-first, Contains-later, Contains-cases}
 use Rattle.command_words.proofs.Tables.{same_option, same_option-differs, bytes_eq-same}
 use Rattle.command_words.proofs.Reading.{read-command, read-accepts, read-refuses, IsBeginning-front, IsBeginning-take}
@@ -74,10 +78,12 @@ value_given-here : (given : List Given) (g : Given) → NoneTwice given → Cont
 value_given-here [] g once has = absurd (Contains-none g has)
 value_given-here (first ∷ given) g once has = elim (Contains-cases first g given has) [
   | inl here ↦
-      ap (λ b. cond b (first_word (joined first.values)) (value_given g.choice given)) (ap (λ other. bytes_eq (option_of other.choice) (option_of g.choice)) here ∙ bytes_eq-same (option_of g.choice))
+      ap (λ b. cond b (first_word (joined first.values)) (value_given g.choice given))
+      (ap (λ other. bytes_eq (option_of other.choice) (option_of g.choice)) here ∙ bytes_eq-same (option_of g.choice))
       ∙ ap (λ other. first_word (joined other.values)) here
   | inr later ↦
-      ap (λ b. cond b (first_word (joined first.values)) (value_given g.choice given)) (same_option-differs first.choice g.choice (λ same. another given g later first.choice once.0 (sym same)))
+      ap (λ b. cond b (first_word (joined first.values)) (value_given g.choice given))
+      (same_option-differs first.choice g.choice (λ same. another given g later first.choice once.0 (sym same)))
       ∙ value_given-here given g once.1 later
 ]
 
@@ -85,7 +91,8 @@ value_given-here (first ∷ given) g once has = elim (Contains-cases first g giv
 has_given-here : (given : List Given) (g : Given) → Contains given g → has_given g.choice given ≡ true
 has_given-here [] g has = absurd (Contains-none g has)
 has_given-here (first ∷ given) g has = elim (Contains-cases first g given has) [
-  | inl here ↦ ap (λ b. cond b true (has_given g.choice given)) (ap (λ other. bytes_eq (option_of other.choice) (option_of g.choice)) here ∙ bytes_eq-same (option_of g.choice))
+  | inl here ↦ ap (λ b. cond b true (has_given g.choice given))
+      (ap (λ other. bytes_eq (option_of other.choice) (option_of g.choice)) here ∙ bytes_eq-same (option_of g.choice))
   | inr later ↦ whichever (bytes_eq (option_of first.choice) (option_of g.choice)) (has_given-here given g later)
 ]
   where
@@ -107,7 +114,8 @@ given_or_not (first ∷ given) choice = go (bytes_eq (option_of first.choice) (o
   later_absent differs absent = record {
     none = λ g has. elim (Contains-cases first g given has) [
       | inl here ↦
-          (λ same. false≢true (sym differs ∙ ap (λ c. bytes_eq (option_of c) (option_of choice)) (ap (λ other. other.choice) here ∙ same) ∙ bytes_eq-same (option_of choice)))
+          (λ same. false≢true (sym differs ∙ ap (λ c. bytes_eq (option_of c) (option_of choice)) (ap (λ other. other.choice) here ∙ same)
+          ∙ bytes_eq-same (option_of choice)))
       | inr later ↦ absent.none g later
     ];
     value = ap (λ b. cond b (first_word (joined first.values)) (value_given choice given)) differs ∙ absent.value;
@@ -126,15 +134,25 @@ record SaySame (given others : List Given) : Type 0 where
   has : (choice : Choice) → has_given choice others ≡ has_given choice given
 
 -- the same options say the same
-same-says : (given others : List Given) → NoneTwice given → NoneTwice others → ((g : Given) → Contains given g → Contains others g) → ((g : Given) → Contains others g → Contains given g) → SaySame given others
+same-says : (given others : List Given) → NoneTwice given → NoneTwice others → ((g : Given) → Contains given g → Contains others g)
+    → ((g : Given) → Contains others g → Contains given g) → SaySame given others
 same-says given others once once_others to from = record {
   value = λ choice. elim (given_or_not given choice) [
-    | inl here ↦ subst (λ c. value_given c others ≡ value_given c given) here.2 (value_given-here others here.0 once_others (to here.0 here.1) ∙ sym (value_given-here given here.0 once here.1))
-    | inr absent ↦ elim (given_or_not others choice) [ inl there ↦ absurd (absent.none there.0 (from there.0 there.1) there.2) | inr absent_there ↦ absent_there.value ∙ sym absent.value ]
+    | inl here ↦ subst (λ c. value_given c others ≡ value_given c given) here.2
+        (value_given-here others here.0 once_others (to here.0 here.1) ∙ sym (value_given-here given here.0 once here.1))
+    | inr absent ↦ elim (given_or_not others choice) [
+      | inl there ↦ absurd (absent.none there.0 (from there.0 there.1) there.2)
+      | inr absent_there ↦ absent_there.value
+          ∙ sym absent.value
+    ]
   ];
   has = λ choice. elim (given_or_not given choice) [
     | inl here ↦ subst (λ c. has_given c others ≡ has_given c given) here.2 (has_given-here others here.0 (to here.0 here.1) ∙ sym (has_given-here given here.0 here.1))
-    | inr absent ↦ elim (given_or_not others choice) [ inl there ↦ absurd (absent.none there.0 (from there.0 there.1) there.2) | inr absent_there ↦ absent_there.has ∙ sym absent.has ]
+    | inr absent ↦ elim (given_or_not others choice) [
+      | inl there ↦ absurd (absent.none there.0 (from there.0 there.1) there.2)
+      | inr absent_there ↦ absent_there.has
+          ∙ sym absent.has
+    ]
   ];
 }
 
@@ -173,7 +191,8 @@ same-view seed rounds given others same says = record {
 }
 
 -- a command is what its options say
-same-command : (command : PlainCommand) (front : List (List (List ℕ))) (given others : List Given) → SaySame given others → Says command front given → Says command front others
+same-command : (command : PlainCommand) (front : List (List (List ℕ))) (given others : List Given) → SaySame given others → Says command front given
+    → Says command front others
 same-command (ShowCommand world seed) front given others same says = says
 same-command (BrainCommand file) front given others same says = says
 same-command (MinimiseCommand file) front given others same says = says
@@ -221,7 +240,8 @@ free-within default kind (Some word) n fine e = said-within kind word n e
 numbers-within : (pieces : List (List ℕ)) (rounds : List ℕ) → numbers_of pieces ≡ Some rounds → AllByRecursion (IsWithin RoundCount) rounds
 numbers-within [] rounds e = (let none : [] ≡ rounds = cc in subst (AllByRecursion (IsWithin RoundCount)) none tt)
 numbers-within (piece ∷ pieces) rounds e = go (number_in RoundCount piece) refl (numbers_of pieces) (λ others. numbers-within pieces others) e where
-  go : (o : Option ℕ) → number_in RoundCount piece ≡ o → (more : Option (List ℕ)) → ((others : List ℕ) → more ≡ Some others → AllByRecursion (IsWithin RoundCount) others)
+  go : (o : Option ℕ) → number_in RoundCount piece ≡ o → (more : Option (List ℕ))
+      → ((others : List ℕ) → more ≡ Some others → AllByRecursion (IsWithin RoundCount) others)
       → with_number o more ≡ Some rounds → AllByRecursion (IsWithin RoundCount) rounds
   go None is more rest e = (let no : ⊥ = cc in absurd no)
   go (Some n) is None rest e = (let no : ⊥ = cc in absurd no)
@@ -230,7 +250,8 @@ numbers-within (piece ∷ pieces) rounds e = go (number_in RoundCount piece) ref
       subst (AllByRecursion (IsWithin RoundCount)) all (said-within RoundCount piece n is, rest others refl)
 
 -- a list is said where the word is neither `none` nor `all`
-list-said : (none all : Bool) (o : Option (List ℕ)) (rounds : List ℕ) → cond none (Some NoDump) (cond all (Some EveryDump) (option_map ChosenDumps o)) ≡ Some (ChosenDumps rounds) → o ≡ Some rounds
+list-said : (none all : Bool) (o : Option (List ℕ)) (rounds : List ℕ)
+    → cond none (Some NoDump) (cond all (Some EveryDump) (option_map ChosenDumps o)) ≡ Some (ChosenDumps rounds) → o ≡ Some rounds
 list-said true all o rounds e = (let no : ⊥ = cc in absurd no)
 list-said false true o rounds e = (let no : ⊥ = cc in absurd no)
 list-said false false None rounds e = (let no : ⊥ = cc in absurd no)
@@ -266,7 +287,8 @@ shape-within shape given says = record {
   blobs = free-within default_blobs ElementCount (value_given Blobs given) shape.blobs (omega arith, omega arith) says.blobs;
 }
 
-command-within : (command : PlainCommand) (front : List (List (List ℕ))) (given : List Given) → FitAll (places_of (kind_in command)) front → Says command front given → CommandWithin command
+command-within : (command : PlainCommand) (front : List (List (List ℕ))) (given : List Given) → FitAll (places_of (kind_in command)) front → Says command front given
+    → CommandWithin command
 command-within (ShowCommand world seed) front given fit says = said-within SeedNumber says.0 seed says.2
 command-within (BrainCommand file) front given fit says = tt
 command-within (MinimiseCommand file) front given fit says = tt

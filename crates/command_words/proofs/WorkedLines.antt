@@ -5,7 +5,7 @@ use Rattle.ant_base.specs.Number.{number_of}
 use Rattle.command_words.specs.declared.command.GenShape.{GenShape}
 use Rattle.command_words.specs.Slots.{is_file_name, is_dumps, dumps_of, DumpChoice}
 use Rattle.command_words.specs.Slots.DumpChoice.{NoDump, EveryDump, ChosenDumps}
-use Rattle.command_words.specs.Command.{RunSetup, PlainCommand, IsCommand, IsRefusedAt}
+use Rattle.command_words.specs.Command.{RunSetup, IsCommand, IsRefusedAt}
 use Rattle.command_words.specs.Command.PlainCommand.{ShowCommand, BrainCommand, MinimiseCommand, RunCommand, GenCommand, CupCommand, ViewCommand, WorkloadCommand}
 use Rattle.command_words.specs.Inner.Walk.{kind_of, choice_of, is_among, rest_after}
 use Rattle.command_words.proofs.Reading.{read-accepts, read-refuses}
@@ -47,24 +47,32 @@ unfolding kind_of choice_of is_among rest_after is_file_name is_dumps dumps_of n
 minimise_command = read-accepts (words_of (codes "minimise b")) (MinimiseCommand (codes "b")) refl
 
 -- without its free options a game has no dump, one worker, a whole round a window, the contest's rules and no stats
-pub run_defaults : IsCommand (words_of (codes "run w r b --seed 1 --rounds 1000000")) (RunCommand (codes "w") (codes "r") (codes "b") (game 1 1000000 NoDump 1 16384 5 3 14 false))
+pub run_defaults : IsCommand (words_of (codes "run w r b --seed 1 --rounds 1000000"))
+    (RunCommand (codes "w") (codes "r") (codes "b") (game 1 1000000 NoDump 1 16384 5 3 14 false))
 unfolding kind_of choice_of is_among rest_after is_file_name is_dumps dumps_of number_of
-run_defaults = read-accepts (words_of (codes "run w r b --seed 1 --rounds 1000000")) (RunCommand (codes "w") (codes "r") (codes "b") (game 1 1000000 NoDump 1 16384 5 3 14 false)) refl
+run_defaults = read-accepts (words_of (codes "run w r b --seed 1 --rounds 1000000"))
+    (RunCommand (codes "w") (codes "r") (codes "b") (game 1 1000000 NoDump 1 16384 5 3 14 false)) refl
 
 -- each option of `run`, at its greatest number
-pub run_all_greatest : IsCommand (words_of (codes "run w r b --stats --rest 255 --corpse 9 --surround 6 --window 16384 --workers 16 --dump all --rounds 0 --seed 0")) (RunCommand (codes "w") (codes "r") (codes "b") (game 0 0 EveryDump 16 16384 6 9 255 true))
+pub run_all_greatest : IsCommand (words_of (codes "run w r b --stats --rest 255 --corpse 9 --surround 6 --window 16384 --workers 16 --dump all --rounds 0 --seed 0"))
+    (RunCommand (codes "w") (codes "r") (codes "b") (game 0 0 EveryDump 16 16384 6 9 255 true))
 unfolding kind_of choice_of is_among rest_after is_file_name is_dumps dumps_of number_of
-run_all_greatest = read-accepts (words_of (codes "run w r b --stats --rest 255 --corpse 9 --surround 6 --window 16384 --workers 16 --dump all --rounds 0 --seed 0")) (RunCommand (codes "w") (codes "r") (codes "b") (game 0 0 EveryDump 16 16384 6 9 255 true)) refl
+run_all_greatest = read-accepts (words_of (codes "run w r b --stats --rest 255 --corpse 9 --surround 6 --window 16384 --workers 16 --dump all --rounds 0 --seed 0"))
+    (RunCommand (codes "w") (codes "r") (codes "b") (game 0 0 EveryDump 16 16384 6 9 255 true)) refl
 
 -- each number of `run` at its least
-pub run_all_least : IsCommand (words_of (codes "run w r b --seed 2 --rounds 3 --dump none --workers 1 --window 1 --surround 4 --corpse 0 --rest 0")) (RunCommand (codes "w") (codes "r") (codes "b") (game 2 3 NoDump 1 1 4 0 0 false))
+pub run_all_least : IsCommand (words_of (codes "run w r b --seed 2 --rounds 3 --dump none --workers 1 --window 1 --surround 4 --corpse 0 --rest 0"))
+    (RunCommand (codes "w") (codes "r") (codes "b") (game 2 3 NoDump 1 1 4 0 0 false))
 unfolding kind_of choice_of is_among rest_after is_file_name is_dumps dumps_of number_of
-run_all_least = read-accepts (words_of (codes "run w r b --seed 2 --rounds 3 --dump none --workers 1 --window 1 --surround 4 --corpse 0 --rest 0")) (RunCommand (codes "w") (codes "r") (codes "b") (game 2 3 NoDump 1 1 4 0 0 false)) refl
+run_all_least = read-accepts (words_of (codes "run w r b --seed 2 --rounds 3 --dump none --workers 1 --window 1 --surround 4 --corpse 0 --rest 0"))
+    (RunCommand (codes "w") (codes "r") (codes "b") (game 2 3 NoDump 1 1 4 0 0 false)) refl
 
 -- options in another order, a list in its own order with a repeat, and a leading zero
-pub run_other_order : IsCommand (words_of (codes "run w r b --dump 7,0,7 --rounds 02 --seed 5")) (RunCommand (codes "w") (codes "r") (codes "b") (game 5 2 (ChosenDumps (7 ∷ 0 ∷ 7 ∷ [])) 1 16384 5 3 14 false))
+pub run_other_order : IsCommand (words_of (codes "run w r b --dump 7,0,7 --rounds 02 --seed 5"))
+    (RunCommand (codes "w") (codes "r") (codes "b") (game 5 2 (ChosenDumps (7 ∷ 0 ∷ 7 ∷ [])) 1 16384 5 3 14 false))
 unfolding kind_of choice_of is_among rest_after is_file_name is_dumps dumps_of number_of
-run_other_order = read-accepts (words_of (codes "run w r b --dump 7,0,7 --rounds 02 --seed 5")) (RunCommand (codes "w") (codes "r") (codes "b") (game 5 2 (ChosenDumps (7 ∷ 0 ∷ 7 ∷ [])) 1 16384 5 3 14 false)) refl
+run_other_order = read-accepts (words_of (codes "run w r b --dump 7,0,7 --rounds 02 --seed 5"))
+    (RunCommand (codes "w") (codes "r") (codes "b") (game 5 2 (ChosenDumps (7 ∷ 0 ∷ 7 ∷ [])) 1 16384 5 3 14 false)) refl
 
 -- without options a world has the contest's shape
 pub gen_defaults : IsCommand (words_of (codes "gen 7")) (GenCommand 7 (shape_of 150 150 14 11))
@@ -84,17 +92,28 @@ gen_least = read-accepts (words_of (codes "gen 7 --width 3 --height 4 --rocks 0 
 -- one world and two brains, and one worker
 pub cup_command : IsCommand (words_of (codes "cup --worlds w --brains a b --seed 1 --rounds 2")) (CupCommand ((codes "w") ∷ []) ((codes "a") ∷ (codes "b") ∷ []) 1 2 1)
 unfolding kind_of choice_of is_among rest_after is_file_name is_dumps dumps_of number_of
-cup_command = read-accepts (words_of (codes "cup --worlds w --brains a b --seed 1 --rounds 2")) (CupCommand ((codes "w") ∷ []) ((codes "a") ∷ (codes "b") ∷ []) 1 2 1) refl
+cup_command = read-accepts (words_of (codes "cup --worlds w --brains a b --seed 1 --rounds 2"))
+    (CupCommand ((codes "w") ∷ []) ((codes "a") ∷ (codes "b") ∷ []) 1 2 1) refl
 
 -- the same world twice, a name among both lists, names that are `-` or begin with one, and options in another order
-pub cup_same_world : IsCommand (words_of (codes "cup --worlds w w a --brains a - -b --workers 16 --rounds 0 --seed 3")) (CupCommand ((codes "w") ∷ (codes "w") ∷ (codes "a") ∷ []) ((codes "a") ∷ (codes "-") ∷ (codes "-b") ∷ []) 3 0 16)
+pub cup_same_world : IsCommand (words_of (codes "cup --worlds w w a --brains a - -b --workers 16 --rounds 0 --seed 3"))
+    (CupCommand ((codes "w") ∷ (codes "w") ∷ (codes "a") ∷ []) ((codes "a") ∷ (codes "-") ∷ (codes "-b") ∷ []) 3 0 16)
 unfolding kind_of choice_of is_among rest_after is_file_name is_dumps dumps_of number_of
-cup_same_world = read-accepts (words_of (codes "cup --worlds w w a --brains a - -b --workers 16 --rounds 0 --seed 3")) (CupCommand ((codes "w") ∷ (codes "w") ∷ (codes "a") ∷ []) ((codes "a") ∷ (codes "-") ∷ (codes "-b") ∷ []) 3 0 16) refl
+cup_same_world = read-accepts (words_of (codes "cup --worlds w w a --brains a - -b --workers 16 --rounds 0 --seed 3"))
+    (CupCommand ((codes "w") ∷ (codes "w") ∷ (codes "a") ∷ []) ((codes "a") ∷ (codes "-") ∷ (codes "-b") ∷ []) 3 0 16) refl
 
 -- 16 worlds and 16 brains
-pub cup_sixteen : IsCommand (words_of (codes "cup --worlds a b c d e f g h i j k l m n o p --brains a b c d e f g h i j k l m n o p --seed 1 --rounds 1")) (CupCommand ((codes "a") ∷ (codes "b") ∷ (codes "c") ∷ (codes "d") ∷ (codes "e") ∷ (codes "f") ∷ (codes "g") ∷ (codes "h") ∷ (codes "i") ∷ (codes "j") ∷ (codes "k") ∷ (codes "l") ∷ (codes "m") ∷ (codes "n") ∷ (codes "o") ∷ (codes "p") ∷ []) ((codes "a") ∷ (codes "b") ∷ (codes "c") ∷ (codes "d") ∷ (codes "e") ∷ (codes "f") ∷ (codes "g") ∷ (codes "h") ∷ (codes "i") ∷ (codes "j") ∷ (codes "k") ∷ (codes "l") ∷ (codes "m") ∷ (codes "n") ∷ (codes "o") ∷ (codes "p") ∷ []) 1 1 1)
+pub cup_sixteen : IsCommand (words_of (codes "cup --worlds a b c d e f g h i j k l m n o p --brains a b c d e f g h i j k l m n o p --seed 1 --rounds 1"))
+    (CupCommand ((codes "a") ∷ (codes "b") ∷ (codes "c") ∷ (codes "d") ∷ (codes "e") ∷ (codes "f") ∷ (codes "g") ∷ (codes "h") ∷ (codes "i") ∷ (codes "j") ∷
+    (codes "k") ∷ (codes "l") ∷ (codes "m") ∷ (codes "n") ∷ (codes "o") ∷ (codes "p") ∷ [])
+    ((codes "a") ∷ (codes "b") ∷ (codes "c") ∷ (codes "d") ∷ (codes "e") ∷ (codes "f") ∷ (codes "g") ∷ (codes "h") ∷ (codes "i") ∷ (codes "j") ∷ (codes "k") ∷
+    (codes "l") ∷ (codes "m") ∷ (codes "n") ∷ (codes "o") ∷ (codes "p") ∷ []) 1 1 1)
 unfolding kind_of choice_of is_among rest_after is_file_name is_dumps dumps_of number_of
-cup_sixteen = read-accepts (words_of (codes "cup --worlds a b c d e f g h i j k l m n o p --brains a b c d e f g h i j k l m n o p --seed 1 --rounds 1")) (CupCommand ((codes "a") ∷ (codes "b") ∷ (codes "c") ∷ (codes "d") ∷ (codes "e") ∷ (codes "f") ∷ (codes "g") ∷ (codes "h") ∷ (codes "i") ∷ (codes "j") ∷ (codes "k") ∷ (codes "l") ∷ (codes "m") ∷ (codes "n") ∷ (codes "o") ∷ (codes "p") ∷ []) ((codes "a") ∷ (codes "b") ∷ (codes "c") ∷ (codes "d") ∷ (codes "e") ∷ (codes "f") ∷ (codes "g") ∷ (codes "h") ∷ (codes "i") ∷ (codes "j") ∷ (codes "k") ∷ (codes "l") ∷ (codes "m") ∷ (codes "n") ∷ (codes "o") ∷ (codes "p") ∷ []) 1 1 1) refl
+cup_sixteen = read-accepts (words_of (codes "cup --worlds a b c d e f g h i j k l m n o p --brains a b c d e f g h i j k l m n o p --seed 1 --rounds 1"))
+    (CupCommand ((codes "a") ∷ (codes "b") ∷ (codes "c") ∷ (codes "d") ∷ (codes "e") ∷ (codes "f") ∷ (codes "g") ∷ (codes "h") ∷ (codes "i") ∷ (codes "j") ∷
+    (codes "k") ∷ (codes "l") ∷ (codes "m") ∷ (codes "n") ∷ (codes "o") ∷ (codes "p") ∷ [])
+    ((codes "a") ∷ (codes "b") ∷ (codes "c") ∷ (codes "d") ∷ (codes "e") ∷ (codes "f") ∷ (codes "g") ∷ (codes "h") ∷ (codes "i") ∷ (codes "j") ∷ (codes "k") ∷
+    (codes "l") ∷ (codes "m") ∷ (codes "n") ∷ (codes "o") ∷ (codes "p") ∷ []) 1 1 1) refl
 
 -- `view`
 pub view_command : IsCommand (words_of (codes "view w r b k --rounds 5 --seed 12345")) (ViewCommand (codes "w") (codes "r") (codes "b") (codes "k") 12345 5)
