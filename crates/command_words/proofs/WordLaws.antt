@@ -23,9 +23,9 @@ use Rattle.command_words.specs.Command.PlainCommand.{ShowCommand, BrainCommand, 
 use Rattle.command_words.specs.Inner.Walk.{read_of}
 use Rattle.command_words.specs.Laws.{OneCommand, OneRefusedWord, NeverBoth, OneOfBoth, FrontBegins, AnyOrder, IsWithin, AreWithin, SetupWithin, ShapeWithin}
 use Rattle.command_words.specs.Laws.{CommandWithin, WithinLimits}
-use Rattle.command_words.proofs.Members.{Contains-none, Contains-first, Contains-later, Contains-cases}
-use Rattle.command_words.proofs.Tables.{same_option, same_option-differs, bytes_eq-same}
-use Rattle.command_words.proofs.Reading.{read-command, read-accepts, read-refuses, IsBeginning-front, IsBeginning-take}
+use Rattle.command_words.proofs.ListLemmas.{Contains-none, Contains-first, Contains-later, Contains-cases}
+use Rattle.command_words.proofs.TableLemmas.{same_option, same_option-differs, bytes_eq-same}
+use Rattle.command_words.proofs.ReadLemmas.{read-command, read-accepts, read-refuses, IsBeginning-front, IsBeginning-take}
 
 pub one_command : OneCommand
 one_command words a b is_a is_b = (let both : Ok a ≡ Ok b = sym (read-command words a is_a) ∙ read-command words b is_b in cc)

@@ -8,7 +8,7 @@ use Rattle.command_words.specs.Slots.DumpChoice.{NoDump, EveryDump, ChosenDumps}
 use Rattle.command_words.specs.Command.{RunSetup, IsCommand, IsRefusedAt}
 use Rattle.command_words.specs.Command.PlainCommand.{ShowCommand, BrainCommand, MinimiseCommand, RunCommand, GenCommand, CupCommand, ViewCommand, WorkloadCommand}
 use Rattle.command_words.specs.Inner.Walk.{kind_of, choice_of, is_among, rest_after}
-use Rattle.command_words.proofs.Reading.{read-accepts, read-refuses}
+use Rattle.command_words.proofs.ReadLemmas.{read-accepts, read-refuses}
 
 -- the words of a line with one space between each two
 abbrev words_of : List ℕ → List (List ℕ)

@@ -65,7 +65,7 @@ pub enum NameList {
     Brains,
 }
 
-/// The most names of a list.
+// The most names of a list.
 pub(crate) const MOST_NAMES: usize = 16;
 
 // What holds where a number's option isn't given.

@@ -1,6 +1,6 @@
 use Rattle.std.proofs.Common.{◌≡◌, true, false, string_bytes, sym, ◌∙◌, arith}
 use Rattle.command_words.specs.Slots.{is_file_name}
-use Rattle.command_words.proofs.Steps.{names_front-here, names_front-more, names_front-past}
+use Rattle.command_words.proofs.WalkSteps.{names_front-here, names_front-more, names_front-past}
 use Rattle.command_words.proofs.values.names_front.Goals as goal
 
 pub returns-then-not-is_file_name : goal.returns-then-not-is_file_name

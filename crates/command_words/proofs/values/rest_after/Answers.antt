@@ -1,7 +1,7 @@
 use Rattle.std.proofs.Common.{◌≡◌, ◌+◌, true, false, string_bytes, bytes_eq, sym, ap, ◌∙◌, arith}
 use Rattle.std.proofs.lemmas.List.{take_rest}
 use Rattle.command_words.specs.Words.{texts}
-use Rattle.command_words.proofs.Steps.{rest_after-here, rest_after-more, rest_after-past}
+use Rattle.command_words.proofs.WalkSteps.{rest_after-here, rest_after-more, rest_after-past}
 use Rattle.command_words.proofs.values.rest_after.Goals as goal
 
 pub returns-then-eq : goal.returns-then-eq

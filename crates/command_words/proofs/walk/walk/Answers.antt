@@ -1,7 +1,7 @@
 use Rattle.std.proofs.Common.{◌+◌, take, drop, cond, option_copied, sym, ap, ◌∙◌, arith}
 use Rattle.command_words.specs.Inner.Walk.{go_on, takes_names, walk}
 use Rattle.command_words.specs.Words.{texts}
-use Rattle.command_words.proofs.Steps.{walk-step, low-next}
+use Rattle.command_words.proofs.WalkSteps.{walk-step, low-next}
 use Rattle.command_words.proofs.walk.walk.Goals as goal
 
 pub returns-in_default : goal.returns-in_default

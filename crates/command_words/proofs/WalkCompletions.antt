@@ -11,12 +11,12 @@ use Rattle.command_words.specs.declared.table.Choice.{Choice}
 use Rattle.command_words.specs.Table.{kinds, word_of, places_of, choices_of, option_of, values_of}
 use Rattle.command_words.specs.Command.{Given, given_words, joined, FitAll, IsOptionOf, NoneTwice, IsCommandOf}
 use Rattle.command_words.specs.Inner.Walk.{walk}
-use Rattle.command_words.proofs.Members.{Contains-none, Contains-first, Contains-later, Contains-cases, AllByRecursion-push}
-use Rattle.command_words.proofs.Tables.{option-not_first, same_option, bytes_eq-same}
-use Rattle.command_words.proofs.Looking.{is_among-one}
-use Rattle.command_words.proofs.Amongst.{is_among-neither, is_among-fit}
-use Rattle.command_words.proofs.Shapes.{IsNew, sample_part, samples-fit, walk-accepts, walk-places, walk-options}
-use Rattle.command_words.proofs.Runs.{open-none, rest-from_all, all-from_rest, places-end, given-no_name}
+use Rattle.command_words.proofs.ListLemmas.{Contains-none, Contains-first, Contains-later, Contains-cases, AllByRecursion-push}
+use Rattle.command_words.proofs.TableLemmas.{option-not_first, same_option, bytes_eq-same}
+use Rattle.command_words.proofs.WalkLooking.{is_among-one}
+use Rattle.command_words.proofs.WalkAmong.{is_among-neither, is_among-fit}
+use Rattle.command_words.proofs.WalkShapes.{IsNew, sample_part, samples-fit, walk-accepts, walk-places, walk-options}
+use Rattle.command_words.proofs.WalkNames.{open-none, rest-from_all, all-from_rest, places-end, given-no_name}
 
 -- the options that are given
 abbrev chosen : List Given → List Choice

@@ -12,11 +12,11 @@ use Rattle.command_words.specs.Table.{kinds, word_of, places_of}
 use Rattle.command_words.specs.Command.{Given, given_words, joined, IsCommandOf, PlainCommand, kind_in, IsCommand, IsBeginning, IsRefusedAt}
 use Rattle.command_words.specs.Inner.Walk.{kind_of, walk, has_needed, is_finished, command_in, finish, read_kind, read_of, plain_result}
 use Rattle.command_words.specs.Words.{plain}
-use Rattle.command_words.proofs.Tables.{kind_of-word, kind_of-found, kind_of-known}
-use Rattle.command_words.proofs.Runs.{open-none, all-from_rest, places-end}
-use Rattle.command_words.proofs.Shapes.{walk-accepts, walk-front, walk-stops}
-use Rattle.command_words.proofs.Completions.{Extends, walk-extends, command-walks}
-use Rattle.command_words.proofs.Sayings.{command_in-says, command-says, has_needed-command, needed-given}
+use Rattle.command_words.proofs.TableLemmas.{kind_of-word, kind_of-found, kind_of-known}
+use Rattle.command_words.proofs.WalkNames.{open-none, all-from_rest, places-end}
+use Rattle.command_words.proofs.WalkShapes.{walk-accepts, walk-front, walk-stops}
+use Rattle.command_words.proofs.WalkCompletions.{Extends, walk-extends, command-walks}
+use Rattle.command_words.proofs.CommandLemmas.{command_in-says, command-says, has_needed-command, needed-given}
 
 -- words that are a command are read as it
 pub read-command : (words : List (List ℕ)) (command : PlainCommand) → IsCommand words command → read_of words ≡ Ok command

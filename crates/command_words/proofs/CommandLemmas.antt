@@ -30,12 +30,12 @@ use Rattle.command_words.specs.Command.{number_needed, number_or, dumps_or_none,
 use Rattle.command_words.specs.Command.PlainCommand.{ShowCommand, BrainCommand, MinimiseCommand, RunCommand, GenCommand, CupCommand, ViewCommand, WorkloadCommand}
 use Rattle.command_words.specs.Inner.Walk.{is_among, has_needed, rest_after, word_after, names_front, names_of, show_with, setup_with}
 use Rattle.command_words.specs.Inner.Walk.{setup_in, run_with, shape_with, shape_in, gen_with, cup_with, view_with, workload_with, command_in}
-use Rattle.command_words.proofs.Members.{Contains-none, Contains-cases, list_all-at, list_all-each}
-use Rattle.command_words.proofs.Tables.{option-not_first, same_option, bytes_eq-same, keyword-no_name}
-use Rattle.command_words.proofs.Looking.{is_among-append, is_among-none, is_among-one, is_among-cons, rest_after-none, rest_after-cons, rest_after-first}
-use Rattle.command_words.proofs.Looking.{rest_after-next, rest_after-unlike, names_front-run}
-use Rattle.command_words.proofs.Amongst.{is_among-neither, is_among-fit, is_among-given, given-among, names-unlike, parts-unlike}
-use Rattle.command_words.proofs.Runs.{given-no_name}
+use Rattle.command_words.proofs.ListLemmas.{Contains-none, Contains-cases, list_all-at, list_all-each}
+use Rattle.command_words.proofs.TableLemmas.{option-not_first, same_option, bytes_eq-same, keyword-no_name}
+use Rattle.command_words.proofs.WalkLooking.{is_among-append, is_among-none, is_among-one, is_among-cons, rest_after-none, rest_after-cons, rest_after-first}
+use Rattle.command_words.proofs.WalkLooking.{rest_after-next, rest_after-unlike, names_front-run}
+use Rattle.command_words.proofs.WalkAmong.{is_among-neither, is_among-fit, is_among-given, given-among, names-unlike, parts-unlike}
+use Rattle.command_words.proofs.WalkNames.{given-no_name}
 
 -- the first word of words for a place of one word, and then others
 pub record FirstWord (slot : Slot) (places : List Place) (front : List (List (List ℕ))) : Type 0 where

@@ -14,12 +14,12 @@ use Rattle.command_words.specs.Slots.{is_file_name, fits, AreNames}
 use Rattle.command_words.specs.Table.{choices_of, option_of, values_of}
 use Rattle.command_words.specs.Command.{Given, given_words, joined, FitAll, IsOptionOf, NoneTwice}
 use Rattle.command_words.specs.Inner.Walk.{choice_of, is_among, has_enough, may_follow, closed, reached, due_after_option, due_after, names_after, go_on, walk}
-use Rattle.command_words.proofs.Members.{AllByRecursion-weaker}
-use Rattle.command_words.proofs.Tables.{sample, sample-fits, choice_of-found, choice_of-known, choice_of-option, same_option-differs, bytes_eq-same}
-use Rattle.command_words.proofs.Looking.{is_among-one, NoName}
-use Rattle.command_words.proofs.Amongst.{is_among-fewer, is_among-neither, is_among-fit}
-use Rattle.command_words.proofs.Runs.{MayBe, IsOpen, open-none, FitRest, rest-from_all, all-from_rest, Stops, RunsEnd, values-end, rest-stops, further, walk-same}
-use Rattle.command_words.proofs.Runs.{run-ends, walk-run, names-enough, stops-no_name, given-no_name, lacking, lacks_none, open-more}
+use Rattle.command_words.proofs.ListLemmas.{AllByRecursion-weaker}
+use Rattle.command_words.proofs.TableLemmas.{sample, sample-fits, choice_of-found, choice_of-known, choice_of-option, same_option-differs, bytes_eq-same}
+use Rattle.command_words.proofs.WalkLooking.{is_among-one, NoName}
+use Rattle.command_words.proofs.WalkAmong.{is_among-fewer, is_among-neither, is_among-fit}
+use Rattle.command_words.proofs.WalkNames.{MayBe, IsOpen, open-none, FitRest, rest-from_all, all-from_rest, Stops, RunsEnd, values-end, rest-stops, further, walk-same}
+use Rattle.command_words.proofs.WalkNames.{run-ends, walk-run, names-enough, stops-no_name, given-no_name, lacking, lacks_none, open-more}
 
 -- a word may stand where the walk goes on
 pub stands : (o : Option (List Place)) (n : ℕ) (next : List Place → Result (List Place) ℕ) (later : List Place) → go_on o n next ≡ Ok later

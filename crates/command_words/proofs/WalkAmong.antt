@@ -13,9 +13,9 @@ use Rattle.command_words.specs.Slots.{is_file_name, fits, FitsPlace}
 use Rattle.command_words.specs.Table.{option_of, values_of}
 use Rattle.command_words.specs.Command.{Given, given_words, joined, FitAll, IsOptionOf, IsGiven}
 use Rattle.command_words.specs.Inner.Walk.{is_among}
-use Rattle.command_words.proofs.Looking.{is_among-append, is_among-none, is_among-one, is_among-cons, Unlike, is_among-unlike}
-use Rattle.command_words.proofs.Members.{Contains-none, Contains-first, Contains-later, Contains-cases, AllByRecursion-append, AllByRecursion-weaker}
-use Rattle.command_words.proofs.Tables.{option-unfit, same_option, bytes_eq-same}
+use Rattle.command_words.proofs.WalkLooking.{is_among-append, is_among-none, is_among-one, is_among-cons, Unlike, is_among-unlike}
+use Rattle.command_words.proofs.ListLemmas.{Contains-none, Contains-first, Contains-later, Contains-cases, AllByRecursion-append, AllByRecursion-weaker}
+use Rattle.command_words.proofs.TableLemmas.{option-unfit, same_option, bytes_eq-same}
 
 -- a word that isn't among more isn't among fewer, nor is it the one more
 pub is_among-fewer : (word other : List ℕ) (words : List (List ℕ)) → is_among word (words ++ other ∷ []) ≡ false
