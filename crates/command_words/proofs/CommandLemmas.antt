@@ -363,6 +363,10 @@ pub record Said (kind : CommandKind) (front : List (List (List ℕ))) (given : L
   pub of_kind : kind_in command ≡ kind
   pub says : Says command front given
 
+-- a command says of its kind what it says
+said_so : (command : PlainCommand) (front : List (List (List ℕ))) (given : List Given) → Says command front given → Said (kind_in command) front given
+said_so command front given says = record { command = command; of_kind = refl; says = says }
+
 -- words that are a command say one
 pub command-says : (kind : CommandKind) (front : List (List (List ℕ))) (given : List Given) (words : List (List ℕ)) → IsCommandOf kind front given words
     → Said kind front given
@@ -370,17 +374,13 @@ command-says Show front given words form =
     let a = first-place FileName (Word (Number SeedNumber) ∷ []) front form.places in
     let b = first-place (Number SeedNumber) [] a.rest a.others in
     let seed = there (number_in SeedNumber b.word) b.fit in
-    record {
-      command = ShowCommand a.word seed.0;
-      of_kind = refl;
-      says = (b.word, a.whole ∙ ap (λ r. one a.word ∷ r) (b.whole ∙ ap (λ r. one b.word ∷ r) (no-place b.rest b.others)), seed.1);
-    }
+    said_so (ShowCommand a.word seed.0) front given (b.word, a.whole ∙ ap (λ r. one a.word ∷ r) (b.whole ∙ ap (λ r. one b.word ∷ r) (no-place b.rest b.others)), seed.1)
 command-says Brain front given words form =
     let a = first-place FileName [] front form.places in
-    record { command = BrainCommand a.word; of_kind = refl; says = a.whole ∙ ap (λ r. one a.word ∷ r) (no-place a.rest a.others) }
+    said_so (BrainCommand a.word) front given (a.whole ∙ ap (λ r. one a.word ∷ r) (no-place a.rest a.others))
 command-says Minimise front given words form =
     let a = first-place FileName [] front form.places in
-    record { command = MinimiseCommand a.word; of_kind = refl; says = a.whole ∙ ap (λ r. one a.word ∷ r) (no-place a.rest a.others) }
+    said_so (MinimiseCommand a.word) front given (a.whole ∙ ap (λ r. one a.word ∷ r) (no-place a.rest a.others))
 command-says Run front given words form =
     let a = first-place FileName (Word FileName ∷ Word FileName ∷ []) front form.places in
     let b = first-place FileName (Word FileName ∷ []) a.rest a.others in
@@ -393,34 +393,30 @@ command-says Run front given words form =
     let surround = free-said Run given Surround default_surround FoeCount refl form.options in
     let corpse = free-said Run given Corpse default_corpse CorpseFood refl form.options in
     let rest = free-said Run given Rest default_rest RestRounds refl form.options in
-    record {
-      command = RunCommand a.word b.word c.word (record {
-        seed = seed.0;
-        rounds = rounds.0;
-        dumps = dumps.0;
-        workers = workers.0;
-        window = window.0;
-        surround = surround.0;
-        corpse = corpse.0;
-        rest = rest.0;
-        stats = has_given Stats given;
-      });
-      of_kind = refl;
-      says = (
-        a.whole ∙ ap (λ r. one a.word ∷ r) (b.whole ∙ ap (λ r. one b.word ∷ r) (c.whole ∙ ap (λ r. one c.word ∷ r) (no-place c.rest c.others))),
-        record {
-          seed = seed.1;
-          rounds = rounds.1;
-          dumps = dumps.1;
-          workers = workers.1;
-          window = window.1;
-          surround = surround.1;
-          corpse = corpse.1;
-          rest = rest.1;
-          stats = refl;
-        },
-      );
-    }
+    said_so (RunCommand a.word b.word c.word (record {
+      seed = seed.0;
+      rounds = rounds.0;
+      dumps = dumps.0;
+      workers = workers.0;
+      window = window.0;
+      surround = surround.0;
+      corpse = corpse.0;
+      rest = rest.0;
+      stats = has_given Stats given;
+    })) front given (
+      a.whole ∙ ap (λ r. one a.word ∷ r) (b.whole ∙ ap (λ r. one b.word ∷ r) (c.whole ∙ ap (λ r. one c.word ∷ r) (no-place c.rest c.others))),
+      record {
+        seed = seed.1;
+        rounds = rounds.1;
+        dumps = dumps.1;
+        workers = workers.1;
+        window = window.1;
+        surround = surround.1;
+        corpse = corpse.1;
+        rest = rest.1;
+        stats = refl;
+      },
+    )
 command-says Gen front given words form =
     let a = first-place (Number SeedNumber) [] front form.places in
     let seed = there (number_in SeedNumber a.word) a.fit in
@@ -428,16 +424,12 @@ command-says Gen front given words form =
     let height = free-said Gen given Height default_side SideLength refl form.options in
     let rocks = free-said Gen given Rocks default_rocks ElementCount refl form.options in
     let blobs = free-said Gen given Blobs default_blobs ElementCount refl form.options in
-    record {
-      command = GenCommand seed.0 (record { width = width.0; height = height.0; rocks = rocks.0; blobs = blobs.0 });
-      of_kind = refl;
-      says = (
-        a.word,
-        a.whole ∙ ap (λ r. one a.word ∷ r) (no-place a.rest a.others),
-        seed.1,
-        record { width = width.1; height = height.1; rocks = rocks.1; blobs = blobs.1 },
-      );
-    }
+    said_so (GenCommand seed.0 (record { width = width.0; height = height.0; rocks = rocks.0; blobs = blobs.0 })) front given (
+      a.word,
+      a.whole ∙ ap (λ r. one a.word ∷ r) (no-place a.rest a.others),
+      seed.1,
+      record { width = width.1; height = height.1; rocks = rocks.1; blobs = blobs.1 },
+    )
 command-says Cup front given words form =
     let a = first-place (Keyword Worlds) (Names Worlds ∷ Word (Keyword Brains) ∷ Names Brains ∷ []) front form.places in
     let b = first-names Worlds (Word (Keyword Brains) ∷ Names Brains ∷ []) a.rest a.others in
@@ -448,18 +440,14 @@ command-says Cup front given words form =
     let seed = needed-said Cup given Seed SeedNumber refl form.options (form.needed Seed (0, lit< tt, refl) refl) in
     let rounds = needed-said Cup given Rounds RoundCount refl form.options (form.needed Rounds (1, lit< tt, refl) refl) in
     let workers = free-said Cup given Workers default_workers WorkerCount refl form.options in
-    record {
-      command = CupCommand b.names d.names seed.0 rounds.0 workers.0;
-      of_kind = refl;
-      says = (
-        a.whole
-            ∙ ap (λ w. one w ∷ a.rest) before_worlds
-            ∙ ap (λ r. one (keyword_of Worlds) ∷ r) (b.whole ∙ ap (λ r. b.names ∷ r) (c.whole
-            ∙ ap (λ w. one w ∷ c.rest) before_brains
-            ∙ ap (λ r. one (keyword_of Brains) ∷ r) (d.whole ∙ ap (λ r. d.names ∷ r) (no-place d.rest d.others)))),
-        record { seed_said = seed.1; rounds_said = rounds.1; workers_said = workers.1 },
-      );
-    }
+    said_so (CupCommand b.names d.names seed.0 rounds.0 workers.0) front given (
+      a.whole
+          ∙ ap (λ w. one w ∷ a.rest) before_worlds
+          ∙ ap (λ r. one (keyword_of Worlds) ∷ r) (b.whole ∙ ap (λ r. b.names ∷ r) (c.whole
+          ∙ ap (λ w. one w ∷ c.rest) before_brains
+          ∙ ap (λ r. one (keyword_of Brains) ∷ r) (d.whole ∙ ap (λ r. d.names ∷ r) (no-place d.rest d.others)))),
+      record { seed_said = seed.1; rounds_said = rounds.1; workers_said = workers.1 },
+    )
 command-says View front given words form =
     let a = first-place FileName (Word FileName ∷ Word FileName ∷ Word FileName ∷ []) front form.places in
     let b = first-place FileName (Word FileName ∷ Word FileName ∷ []) a.rest a.others in
@@ -467,15 +455,11 @@ command-says View front given words form =
     let d = first-place FileName [] c.rest c.others in
     let seed = needed-said View given Seed SeedNumber refl form.options (form.needed Seed (0, lit< tt, refl) refl) in
     let rounds = needed-said View given Rounds RoundCount refl form.options (form.needed Rounds (1, lit< tt, refl) refl) in
-    record {
-      command = ViewCommand a.word b.word c.word d.word seed.0 rounds.0;
-      of_kind = refl;
-      says = (
-        a.whole ∙ ap (λ r. one a.word ∷ r)
-            (b.whole ∙ ap (λ r. one b.word ∷ r) (c.whole ∙ ap (λ r. one c.word ∷ r) (d.whole ∙ ap (λ r. one d.word ∷ r) (no-place d.rest d.others)))),
-        record { seed_said = seed.1; rounds_said = rounds.1 },
-      );
-    }
+    said_so (ViewCommand a.word b.word c.word d.word seed.0 rounds.0) front given (
+      a.whole ∙ ap (λ r. one a.word ∷ r)
+          (b.whole ∙ ap (λ r. one b.word ∷ r) (c.whole ∙ ap (λ r. one c.word ∷ r) (d.whole ∙ ap (λ r. one d.word ∷ r) (no-place d.rest d.others)))),
+      record { seed_said = seed.1; rounds_said = rounds.1 },
+    )
 command-says Workload front given words form =
     let a = first-place (Number SeedNumber) (Word (Number RoundCount) ∷ Word (Number WorkerCount) ∷ []) front form.places in
     let b = first-place (Number RoundCount) (Word (Number WorkerCount) ∷ []) a.rest a.others in
@@ -483,19 +467,15 @@ command-says Workload front given words form =
     let seed = there (number_in SeedNumber a.word) a.fit in
     let rounds = there (number_in RoundCount b.word) b.fit in
     let workers = there (number_in WorkerCount c.word) c.fit in
-    record {
-      command = WorkloadCommand seed.0 rounds.0 workers.0;
-      of_kind = refl;
-      says = (
-        a.word,
-        b.word,
-        c.word,
-        a.whole ∙ ap (λ r. one a.word ∷ r) (b.whole ∙ ap (λ r. one b.word ∷ r) (c.whole ∙ ap (λ r. one c.word ∷ r) (no-place c.rest c.others))),
-        seed.1,
-        rounds.1,
-        workers.1,
-      );
-    }
+    said_so (WorkloadCommand seed.0 rounds.0 workers.0) front given (
+      a.word,
+      b.word,
+      c.word,
+      a.whole ∙ ap (λ r. one a.word ∷ r) (b.whole ∙ ap (λ r. one b.word ∷ r) (c.whole ∙ ap (λ r. one c.word ∷ r) (no-place c.rest c.others))),
+      seed.1,
+      rounds.1,
+      workers.1,
+    )
 
 -- a command's words have the options that it needs
 pub has_needed-command : (kind : CommandKind) (front : List (List (List ℕ))) (given : List Given) (words : List (List ℕ)) → IsCommandOf kind front given words

@@ -313,3 +313,63 @@ view_without_breaks = read-refuses (words_of (codes "view w r b --seed 1")) 5 re
 pub workload_workers : IsRefusedAt (words_of (codes "workload 1 2 0")) 4
 unfolding kind_of choice_of is_among rest_after is_file_name is_dumps dumps_of number_of
 workload_workers = read-refuses (words_of (codes "workload 1 2 0")) 4 refl
+
+-- --seed is missing
+pub seed_missing : IsRefusedAt (words_of (codes "run w r b --rounds 1")) 7
+unfolding kind_of choice_of is_among rest_after is_file_name is_dumps dumps_of number_of
+seed_missing = read-refuses (words_of (codes "run w r b --rounds 1")) 7 refl
+
+-- a file name has a byte at least
+pub empty_name : IsRefusedAt (words_of (codes "brain ")) 2
+unfolding kind_of choice_of is_among rest_after is_file_name is_dumps dumps_of number_of
+empty_name = read-refuses (words_of (codes "brain ")) 2 refl
+
+-- an option and its number are two words
+pub equals_sign : IsRefusedAt (words_of (codes "run w r b --seed=1")) 5
+unfolding kind_of choice_of is_among rest_after is_file_name is_dumps dumps_of number_of
+equals_sign = read-refuses (words_of (codes "run w r b --seed=1")) 5 refl
+
+-- words are spelled exactly
+pub dump_spelled_otherwise : IsRefusedAt (words_of (codes "run w r b --dump None")) 6
+unfolding kind_of choice_of is_among rest_after is_file_name is_dumps dumps_of number_of
+dump_spelled_otherwise = read-refuses (words_of (codes "run w r b --dump None")) 6 refl
+
+-- `show` takes no option
+pub show_takes_no_option : IsRefusedAt (words_of (codes "show w 1 --seed 1")) 4
+unfolding kind_of choice_of is_among rest_after is_file_name is_dumps dumps_of number_of
+show_takes_no_option = read-refuses (words_of (codes "show w 1 --seed 1")) 4 refl
+
+-- `brain` takes no option
+pub brain_takes_no_option : IsRefusedAt (words_of (codes "brain b --stats")) 3
+unfolding kind_of choice_of is_among rest_after is_file_name is_dumps dumps_of number_of
+brain_takes_no_option = read-refuses (words_of (codes "brain b --stats")) 3 refl
+
+-- `minimise` takes no option
+pub minimise_takes_no_option : IsRefusedAt (words_of (codes "minimise b --stats")) 3
+unfolding kind_of choice_of is_among rest_after is_file_name is_dumps dumps_of number_of
+minimise_takes_no_option = read-refuses (words_of (codes "minimise b --stats")) 3 refl
+
+-- `workload` takes no option
+pub workload_takes_no_option : IsRefusedAt (words_of (codes "workload 1 2 3 --stats")) 5
+unfolding kind_of choice_of is_among rest_after is_file_name is_dumps dumps_of number_of
+workload_takes_no_option = read-refuses (words_of (codes "workload 1 2 3 --stats")) 5 refl
+
+-- `run` takes no shape
+pub run_takes_no_width : IsRefusedAt (words_of (codes "run w r b --width 150")) 5
+unfolding kind_of choice_of is_among rest_after is_file_name is_dumps dumps_of number_of
+run_takes_no_width = read-refuses (words_of (codes "run w r b --width 150")) 5 refl
+
+-- `cup` takes no window
+pub cup_takes_no_window : IsRefusedAt (words_of (codes "cup --worlds w --brains a b --window 1")) 7
+unfolding kind_of choice_of is_among rest_after is_file_name is_dumps dumps_of number_of
+cup_takes_no_window = read-refuses (words_of (codes "cup --worlds w --brains a b --window 1")) 7 refl
+
+-- `cup` takes no rules
+pub cup_takes_no_rules : IsRefusedAt (words_of (codes "cup --worlds w --brains a b --surround 5")) 7
+unfolding kind_of choice_of is_among rest_after is_file_name is_dumps dumps_of number_of
+cup_takes_no_rules = read-refuses (words_of (codes "cup --worlds w --brains a b --surround 5")) 7 refl
+
+-- `view` takes no workers
+pub view_takes_no_workers : IsRefusedAt (words_of (codes "view w r b k --workers 1")) 6
+unfolding kind_of choice_of is_among rest_after is_file_name is_dumps dumps_of number_of
+view_takes_no_workers = read-refuses (words_of (codes "view w r b k --workers 1")) 6 refl
