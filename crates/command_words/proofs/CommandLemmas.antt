@@ -363,6 +363,20 @@ pub record Said (kind : CommandKind) (front : List (List (List ℕ))) (given : L
   pub of_kind : kind_in command ≡ kind
   pub says : Says command front given
 
+-- the words of a cup's places, one after another
+cup-whole : (front after_keyword after_worlds after_brains_keyword after_brains : List (List (List ℕ))) (worlds brains : List (List ℕ)) (first second : List ℕ)
+    → front ≡ one first ∷ after_keyword → first ≡ keyword_of Worlds → after_keyword ≡ worlds ∷ after_worlds
+    → after_worlds ≡ one second ∷ after_brains_keyword → second ≡ keyword_of Brains → after_brains_keyword ≡ brains ∷ after_brains → after_brains ≡ []
+    → front ≡ cup_front worlds brains
+cup-whole front after_keyword after_worlds after_brains_keyword after_brains worlds brains first second a b c d e f g =
+    a
+    ∙ ap (λ w. one w ∷ after_keyword) b
+    ∙ ap (λ r. one (keyword_of Worlds) ∷ r) c
+    ∙ ap (λ r. one (keyword_of Worlds) ∷ worlds ∷ r) d
+    ∙ ap (λ w. one (keyword_of Worlds) ∷ worlds ∷ one w ∷ after_brains_keyword) e
+    ∙ ap (λ r. one (keyword_of Worlds) ∷ worlds ∷ one (keyword_of Brains) ∷ r) f
+    ∙ ap (λ r. one (keyword_of Worlds) ∷ worlds ∷ one (keyword_of Brains) ∷ brains ∷ r) g
+
 -- a command says of its kind what it says
 said_so : (command : PlainCommand) (front : List (List (List ℕ))) (given : List Given) → Says command front given → Said (kind_in command) front given
 said_so command front given says = record { command = command; of_kind = refl; says = says }
@@ -441,11 +455,7 @@ command-says Cup front given words form =
     let rounds = needed-said Cup given Rounds RoundCount refl form.options (form.needed Rounds (1, lit< tt, refl) refl) in
     let workers = free-said Cup given Workers default_workers WorkerCount refl form.options in
     said_so (CupCommand b.names d.names seed.0 rounds.0 workers.0) front given (
-      a.whole
-          ∙ ap (λ w. one w ∷ a.rest) before_worlds
-          ∙ ap (λ r. one (keyword_of Worlds) ∷ r) (b.whole ∙ ap (λ r. b.names ∷ r) (c.whole
-          ∙ ap (λ w. one w ∷ c.rest) before_brains
-          ∙ ap (λ r. one (keyword_of Brains) ∷ r) (d.whole ∙ ap (λ r. d.names ∷ r) (no-place d.rest d.others)))),
+      cup-whole front a.rest b.rest c.rest d.rest b.names d.names a.word c.word a.whole before_worlds b.whole c.whole before_brains d.whole (no-place d.rest d.others),
       record { seed_said = seed.1; rounds_said = rounds.1; workers_said = workers.1 },
     )
 command-says View front given words form =
