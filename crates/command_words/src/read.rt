@@ -1,7 +1,8 @@
 // The command that the words are.
 ghost use Rattle.std.specs.Prelude.{IfErr, IfOk, option_map, ◌≡◌, ℕ};
-ghost use Rattle.command_words.specs.Command.{IsCommand, IsRefusedAt, PlainCommand};
-ghost use Rattle.command_words.specs.Inner.Walk.{command_in, plain_result, read_of, setup_in, shape_in};
+ghost use Rattle.command_words.specs.Command.{IsCommand, IsRefusedAt, PlainCommand, number_or};
+ghost use Rattle.command_words.specs.Inner.Walk.{command_in, plain_result, read_of, setup_in, shape_in, word_after};
+ghost use Rattle.command_words.specs.Table.{default_workers};
 ghost use Rattle.command_words.specs.Words.{plain, plain_setup, texts};
 
 use crate::table::{
@@ -105,31 +106,26 @@ fn options_in<'w>(words: &'w [String]) -> Option<RunOptions<'w>>
     let seed = number_needed(NumberKind::SeedNumber, word_after(Choice::Seed, words))?;
     let rounds = number_needed(NumberKind::RoundCount, word_after(Choice::Rounds, words))?;
     let dumps = dumps_or_none(word_after(Choice::Dump, words))?;
-    let workers = number_or(
-        DEFAULT_WORKERS,
-        NumberKind::WorkerCount,
-        word_after(Choice::Workers, words),
-    )?;
+    let workers = workers_in(words)?;
     let window = number_or(
         DEFAULT_WINDOW,
         NumberKind::WindowSize,
-        word_after(Choice::Window, words),
+        Choice::Window,
+        words,
     )?;
     let surround = small_or(
         DEFAULT_SURROUND,
         NumberKind::FoeCount,
-        word_after(Choice::Surround, words),
+        Choice::Surround,
+        words,
     )?;
     let corpse = small_or(
         DEFAULT_CORPSE,
         NumberKind::CorpseFood,
-        word_after(Choice::Corpse, words),
+        Choice::Corpse,
+        words,
     )?;
-    let rest = small_or(
-        DEFAULT_REST,
-        NumberKind::RestRounds,
-        word_after(Choice::Rest, words),
-    )?;
+    let rest = small_or(DEFAULT_REST, NumberKind::RestRounds, Choice::Rest, words)?;
     let stats = is_among(Choice::Stats.word(), words);
     Some(RunOptions {
         seed,
@@ -144,6 +140,18 @@ fn options_in<'w>(words: &'w [String]) -> Option<RunOptions<'w>>
     })
 }
 
+// The number of workers that the options say.
+fn workers_in(words: &[String]) -> Option<u32>
+    ensures { result ≡ number_or default_workers NumberKind.WorkerCount (word_after Choice.Workers (texts words.now)) }
+{
+    number_or(
+        DEFAULT_WORKERS,
+        NumberKind::WorkerCount,
+        Choice::Workers,
+        words,
+    )
+}
+
 fn gen_in<'w>(words: &'w [String]) -> Option<Command<'w>>
     ensures { option_map plain result ≡ command_in CommandKind.Gen (texts words.now) }
 {
@@ -156,25 +164,19 @@ fn gen_in<'w>(words: &'w [String]) -> Option<Command<'w>>
 fn shape_in(words: &[String]) -> Option<GenShape>
     ensures { result ≡ shape_in (texts words.now) }
 {
-    let width = side_or(
-        DEFAULT_SIDE,
-        NumberKind::SideLength,
-        word_after(Choice::Width, words),
-    )?;
-    let height = side_or(
-        DEFAULT_SIDE,
-        NumberKind::SideLength,
-        word_after(Choice::Height, words),
-    )?;
+    let width = side_or(DEFAULT_SIDE, NumberKind::SideLength, Choice::Width, words)?;
+    let height = side_or(DEFAULT_SIDE, NumberKind::SideLength, Choice::Height, words)?;
     let rocks = small_or(
         DEFAULT_ROCKS,
         NumberKind::ElementCount,
-        word_after(Choice::Rocks, words),
+        Choice::Rocks,
+        words,
     )?;
     let blobs = small_or(
         DEFAULT_BLOBS,
         NumberKind::ElementCount,
-        word_after(Choice::Blobs, words),
+        Choice::Blobs,
+        words,
     )?;
     Some(GenShape {
         width,
@@ -191,11 +193,7 @@ fn cup_in<'w>(words: &'w [String]) -> Option<Command<'w>>
     let brains = names_of(NameList::Brains, words);
     let seed = number_needed(NumberKind::SeedNumber, word_after(Choice::Seed, words))?;
     let rounds = number_needed(NumberKind::RoundCount, word_after(Choice::Rounds, words))?;
-    let workers = number_or(
-        DEFAULT_WORKERS,
-        NumberKind::WorkerCount,
-        word_after(Choice::Workers, words),
-    )?;
+    let workers = workers_in(words)?;
     Some(Command::Cup {
         worlds,
         brains,

@@ -67,22 +67,32 @@ pub(crate) fn number_needed(kind: NumberKind, word: Option<&str>) -> Option<u32>
     }
 }
 
-// The number that a word says; without it the default.
-pub(crate) fn number_or(default: u32, kind: NumberKind, word: Option<&str>) -> Option<u32>
-    ensures { result ≡ number_or default kind (option_copied word.entry) }
+// The number that an option says; without it the default.
+pub(crate) fn number_or(
+    default: u32,
+    kind: NumberKind,
+    choice: Choice,
+    words: &[String],
+) -> Option<u32>
+    ensures { result ≡ number_or default kind (word_after choice (texts words.now)) }
 {
-    match word {
+    match word_after(choice, words) {
         None => Some(default),
         Some(word) => kind.read(word.as_bytes()),
     }
 }
 
 // The same, of a kind below 65,536.
-pub(crate) fn side_or(default: u16, kind: NumberKind, word: Option<&str>) -> Option<u16>
+pub(crate) fn side_or(
+    default: u16,
+    kind: NumberKind,
+    choice: Choice,
+    words: &[String],
+) -> Option<u16>
     requires { most_of kind < 65536 }
-    ensures { result ≡ number_or default kind (option_copied word.entry) }
+    ensures { result ≡ number_or default kind (word_after choice (texts words.now)) }
 {
-    match word {
+    match word_after(choice, words) {
         None => Some(default),
         Some(word) => {
             let number = kind.read(word.as_bytes())?;
@@ -92,11 +102,16 @@ pub(crate) fn side_or(default: u16, kind: NumberKind, word: Option<&str>) -> Opt
 }
 
 // The same, of a kind below 256.
-pub(crate) fn small_or(default: u8, kind: NumberKind, word: Option<&str>) -> Option<u8>
+pub(crate) fn small_or(
+    default: u8,
+    kind: NumberKind,
+    choice: Choice,
+    words: &[String],
+) -> Option<u8>
     requires { most_of kind < 256 }
-    ensures { result ≡ number_or default kind (option_copied word.entry) }
+    ensures { result ≡ number_or default kind (word_after choice (texts words.now)) }
 {
-    match word {
+    match word_after(choice, words) {
         None => Some(default),
         Some(word) => {
             let number = kind.read(word.as_bytes())?;
