@@ -1,23 +1,31 @@
 -- What holds of all words.
-use Rattle.std.proofs.Common.{◌≡◌, ◌≢◌, ℕ, ◌+◌, ◌<◌, ◌≤◌, Bool, true, false, cond, ◌&&◌, nat_le, codes, List, [], ◌∷◌, length, Option, Some, None, option_map, option_and_then, Result, Ok, Err, bytes_eq, refl, sym, ap, ◌∙◌, subst, ◌⊎◌, inl, inr, arith}
+use Rattle.std.proofs.Common.{◌≡◌, ◌≢◌, ℕ, ◌+◌, ◌<◌, ◌≤◌, Bool, true, false, cond, ◌&&◌, nat_le, codes, List, [], ◌∷◌, length, Option, Some, None, option_map, Result}
+use Rattle.std.proofs.Common.{Ok, Err, bytes_eq, refl, sym, ap, ◌∙◌, subst, ◌⊎◌, inl, inr, arith}
 use Rattle.std.specs.List.{Contains, AllByRecursion}
 use Rattle.std.proofs.lemmas.Bool.{cases_order, and_parts, leb-true, false≢true}
 use Rattle.std.proofs.lemmas.List.{append-nil}
-use Rattle.ant_base.specs.Number.{number_of, within, number_within}
-use Rattle.command_words.specs.declared.table.CommandKind.{CommandKind}
-use Rattle.command_words.specs.declared.table.CommandKind.TheVariants.{Show, Brain, Run}
+use Rattle.ant_base.specs.Number.{number_of, within}
+use Rattle.command_words.specs.declared.command.GenShape.{GenShape}
+use Rattle.command_words.specs.declared.limits.NumberKind.{NumberKind}
+use Rattle.command_words.specs.declared.limits.NumberKind.TheVariants.{SeedNumber, RoundCount, WorkerCount, WindowSize, FoeCount, CorpseFood, RestRounds, SideLength}
+use Rattle.command_words.specs.declared.limits.NumberKind.TheVariants.{ElementCount}
 use Rattle.command_words.specs.declared.table.Choice.{Choice}
-use Rattle.command_words.specs.declared.table.Choice.TheVariants.{Seed, Rounds, Dump}
-use Rattle.command_words.specs.Table.{option_of}
-use Rattle.command_words.specs.Slots.{most_seed, most_rounds, seed_number, round_number, with_number, numbers_of, pieces_of, dumps_of, DumpChoice}
+use Rattle.command_words.specs.declared.table.Choice.TheVariants.{Seed, Rounds, Dump, Workers, Window, Surround, Corpse, Rest, Stats, Width, Height, Rocks, Blobs}
+use Rattle.command_words.specs.Limits.{least_of, most_of, number_in}
+use Rattle.command_words.specs.Table.{places_of, option_of}
+use Rattle.command_words.specs.Table.{default_workers, default_window, default_surround, default_corpse, default_rest, default_side, default_rocks, default_blobs}
+use Rattle.command_words.specs.Slots.{with_number, numbers_of, pieces_of, dumps_of, DumpChoice}
 use Rattle.command_words.specs.Slots.DumpChoice.{NoDump, EveryDump, ChosenDumps}
-use Rattle.command_words.specs.Command.{Given, NoneTwice, PlainCommand, first_word, value_given, dumps_or_none, show_with, brain_with, run_with, command_of, IsCommand, IsBeginning, IsRefusedAt}
-use Rattle.command_words.specs.Command.PlainCommand.{ShowCommand, BrainCommand, RunCommand}
-use Rattle.command_words.specs.Walk.{read_of}
-use Rattle.command_words.specs.Laws.{OneCommand, OneRefusedWord, NeverBoth, OneOfBoth, FrontBegins, AnyOrder, AreWithin, IsWithin, WithinLimits}
-use Rattle.command_words.proofs.Members.{Contains-none, Contains-first, Contains-later, Contains-cases}
-use Rattle.command_words.proofs.Tables.{same_option, same_option-differs, bytes_eq-same}
-use Rattle.command_words.proofs.Reading.{read-command, read-accepts, read-refuses, IsBeginning-front, IsBeginning-take}
+use Rattle.command_words.specs.Command.{Given, NoneTwice, FitAll, RunSetup, PlainCommand, kind_in, first_word, joined, value_given, has_given, number_needed, number_or}
+use Rattle.command_words.specs.Command.{dumps_or_none}
+use Rattle.command_words.specs.Command.{SaysSetup, SaysShape, SaysCup, SaysView, Says, IsCommand, IsBeginning, IsRefusedAt}
+use Rattle.command_words.specs.Command.PlainCommand.{ShowCommand, BrainCommand, MinimiseCommand, RunCommand, GenCommand, CupCommand, ViewCommand, WorkloadCommand}
+use Rattle.command_words.specs.Inner.Walk.{read_of}
+use Rattle.command_words.specs.Laws.{OneCommand, OneRefusedWord, NeverBoth, OneOfBoth, FrontBegins, AnyOrder, IsWithin, AreWithin, SetupWithin, ShapeWithin}
+use Rattle.command_words.specs.Laws.{CommandWithin, WithinLimits}
+use Rattle.command_words.proofs.ListLemmas.{Contains-none, Contains-first, Contains-later, Contains-cases}
+use Rattle.command_words.proofs.TableLemmas.{same_option, same_option-differs, bytes_eq-same}
+use Rattle.command_words.proofs.ReadLemmas.{read-command, read-accepts, read-refuses, IsBeginning-front, IsBeginning-take}
 
 pub one_command : OneCommand
 one_command words a b is_a is_b = (let both : Ok a ≡ Ok b = sym (read-command words a is_a) ∙ read-command words b is_b in cc)
@@ -57,87 +65,193 @@ one_of_both words = go (read_of words) refl where
 pub front_begins : FrontBegins
 front_begins words more is = IsBeginning-front words more is
 
+-- another option than each of some isn't among them
+another : (given : List Given) (g : Given) → Contains given g → (choice : Choice) → AllByRecursion (λ other. other.choice ≢ choice) given → g.choice ≢ choice
+another [] g has choice differ = absurd (Contains-none g has)
+another (next ∷ given) g has choice differ = elim (Contains-cases next g given has) [
+  | inl here ↦ (λ same. differ.0 (ap (λ other. other.choice) here ∙ same))
+  | inr later ↦ another given g later choice differ.1
+]
+
 -- an option among some, none of which is given twice, says its first word
-value_given-here : (given : List Given) (g : Given) → NoneTwice given → Contains given g → value_given g.choice given ≡ first_word g.values
+value_given-here : (given : List Given) (g : Given) → NoneTwice given → Contains given g → value_given g.choice given ≡ first_word (joined g.values)
 value_given-here [] g once has = absurd (Contains-none g has)
 value_given-here (first ∷ given) g once has = elim (Contains-cases first g given has) [
-  | inl here ↦ ap (λ b. cond b (first_word first.values) (value_given g.choice given)) (ap (λ other. bytes_eq (option_of other.choice) (option_of g.choice)) here ∙ bytes_eq-same (option_of g.choice)) ∙ ap (λ other. first_word other.values) here
-  | inr later ↦ ap (λ b. cond b (first_word first.values) (value_given g.choice given)) (same_option-differs first.choice g.choice (λ same. another given g later first.choice once.0 (sym same))) ∙ value_given-here given g once.1 later
+  | inl here ↦
+      ap (λ b. cond b (first_word (joined first.values)) (value_given g.choice given))
+      (ap (λ other. bytes_eq (option_of other.choice) (option_of g.choice)) here ∙ bytes_eq-same (option_of g.choice))
+      ∙ ap (λ other. first_word (joined other.values)) here
+  | inr later ↦
+      ap (λ b. cond b (first_word (joined first.values)) (value_given g.choice given))
+      (same_option-differs first.choice g.choice (λ same. another given g later first.choice once.0 (sym same)))
+      ∙ value_given-here given g once.1 later
+]
+
+-- an option among some is given
+has_given-here : (given : List Given) (g : Given) → Contains given g → has_given g.choice given ≡ true
+has_given-here [] g has = absurd (Contains-none g has)
+has_given-here (first ∷ given) g has = elim (Contains-cases first g given has) [
+  | inl here ↦ ap (λ b. cond b true (has_given g.choice given))
+      (ap (λ other. bytes_eq (option_of other.choice) (option_of g.choice)) here ∙ bytes_eq-same (option_of g.choice))
+  | inr later ↦ whichever (bytes_eq (option_of first.choice) (option_of g.choice)) (has_given-here given g later)
 ]
   where
-    another : (given : List Given) (g : Given) → Contains given g → (choice : Choice) → AllByRecursion (λ other. other.choice ≢ choice) given → g.choice ≢ choice
-    another [] g has choice differ = absurd (Contains-none g has)
-    another (next ∷ given) g has choice differ = elim (Contains-cases next g given has) [ inl here ↦ (λ same. differ.0 (ap (λ other. other.choice) here ∙ same)) | inr later ↦ another given g later choice differ.1 ]
+    whichever : (b : Bool) → has_given g.choice given ≡ true → cond b true (has_given g.choice given) ≡ true
+    whichever true rest = refl
+    whichever false rest = rest
 
--- an option that isn't given says nothing, and any other is given somewhere
-given_or_not : (given : List Given) (choice : Choice) → ((g : Given) × Contains given g × (g.choice ≡ choice)) ⊎ (((g : Given) → Contains given g → g.choice ≢ choice) × (value_given choice given ≡ None))
-given_or_not [] choice = inr ((λ g has. absurd (Contains-none g has)), refl)
+-- an option that isn't given says nothing
+record IsAbsent (choice : Choice) (given : List Given) : Type 0 where
+  none : (g : Given) → Contains given g → g.choice ≢ choice
+  value : value_given choice given ≡ None
+  has : has_given choice given ≡ false
+
+-- an option is given somewhere, or isn't given
+given_or_not : (given : List Given) (choice : Choice) → ((g : Given) × Contains given g × (g.choice ≡ choice)) ⊎ IsAbsent choice given
+given_or_not [] choice = inr (record { none = λ g has. absurd (Contains-none g has); value = refl; has = refl })
 given_or_not (first ∷ given) choice = go (bytes_eq (option_of first.choice) (option_of choice)) refl (given_or_not given choice) where
-  go : (b : Bool) → bytes_eq (option_of first.choice) (option_of choice) ≡ b → ((g : Given) × Contains given g × (g.choice ≡ choice)) ⊎ (((g : Given) → Contains given g → g.choice ≢ choice) × (value_given choice given ≡ None))
-      → ((g : Given) × Contains (first ∷ given) g × (g.choice ≡ choice)) ⊎ (((g : Given) → Contains (first ∷ given) g → g.choice ≢ choice) × (cond b (first_word first.values) (value_given choice given) ≡ None))
+  later_absent : bytes_eq (option_of first.choice) (option_of choice) ≡ false → IsAbsent choice given → IsAbsent choice (first ∷ given)
+  later_absent differs absent = record {
+    none = λ g has. elim (Contains-cases first g given has) [
+      | inl here ↦
+          (λ same. false≢true (sym differs ∙ ap (λ c. bytes_eq (option_of c) (option_of choice)) (ap (λ other. other.choice) here ∙ same)
+          ∙ bytes_eq-same (option_of choice)))
+      | inr later ↦ absent.none g later
+    ];
+    value = ap (λ b. cond b (first_word (joined first.values)) (value_given choice given)) differs ∙ absent.value;
+    has = ap (λ b. cond b true (has_given choice given)) differs ∙ absent.has;
+  }
+
+  go : (b : Bool) → bytes_eq (option_of first.choice) (option_of choice) ≡ b → ((g : Given) × Contains given g × (g.choice ≡ choice)) ⊎ IsAbsent choice given
+      → ((g : Given) × Contains (first ∷ given) g × (g.choice ≡ choice)) ⊎ IsAbsent choice (first ∷ given)
   go true same rest = inl (first, Contains-first first given, same_option first.choice choice same)
   go false differs (inl later) = inl (later.0, Contains-later first later.0 given later.1, later.2)
-  go false differs (inr none) = inr (
-    (λ g has. elim (Contains-cases first g given has) [
-      | inl here ↦ (λ same. false≢true (sym differs ∙ ap (λ c. bytes_eq (option_of c) (option_of choice)) (ap (λ other. other.choice) here ∙ same) ∙ bytes_eq-same (option_of choice)))
-      | inr later ↦ none.0 g later
-    ]),
-    none.1,
-  )
+  go false differs (inr absent) = inr (later_absent differs absent)
+
+-- options say the same as others
+record SaySame (given others : List Given) : Type 0 where
+  value : (choice : Choice) → value_given choice others ≡ value_given choice given
+  has : (choice : Choice) → has_given choice others ≡ has_given choice given
 
 -- the same options say the same
-same-values : (given others : List Given) → NoneTwice given → NoneTwice others → ((g : Given) → Contains given g → Contains others g) → ((g : Given) → Contains others g → Contains given g) → (choice : Choice) → value_given choice given ≡ value_given choice others
-same-values given others once once_others to from choice = elim (given_or_not given choice) [
-  | inl here ↦ subst (λ c. value_given c given ≡ value_given c others) here.2 (value_given-here given here.0 once here.1 ∙ sym (value_given-here others here.0 once_others (to here.0 here.1)))
-  | inr none ↦ elim (given_or_not others choice) [ inl there ↦ absurd (none.0 there.0 (from there.0 there.1) there.2) | inr none_there ↦ none.1 ∙ sym none_there.1 ]
-]
+same-says : (given others : List Given) → NoneTwice given → NoneTwice others → ((g : Given) → Contains given g → Contains others g)
+    → ((g : Given) → Contains others g → Contains given g) → SaySame given others
+same-says given others once once_others to from = record {
+  value = λ choice. elim (given_or_not given choice) [
+    | inl here ↦ subst (λ c. value_given c others ≡ value_given c given) here.2
+        (value_given-here others here.0 once_others (to here.0 here.1) ∙ sym (value_given-here given here.0 once here.1))
+    | inr absent ↦ elim (given_or_not others choice) [
+      | inl there ↦ absurd (absent.none there.0 (from there.0 there.1) there.2)
+      | inr absent_there ↦ absent_there.value
+          ∙ sym absent.value
+    ]
+  ];
+  has = λ choice. elim (given_or_not given choice) [
+    | inl here ↦ subst (λ c. has_given c others ≡ has_given c given) here.2 (has_given-here others here.0 (to here.0 here.1) ∙ sym (has_given-here given here.0 here.1))
+    | inr absent ↦ elim (given_or_not others choice) [
+      | inl there ↦ absurd (absent.none there.0 (from there.0 there.1) there.2)
+      | inr absent_there ↦ absent_there.has
+          ∙ sym absent.has
+    ]
+  ];
+}
 
--- a command is made of what its options say
-same-command : (kind : CommandKind) (place : ℕ → Option (List ℕ)) (a b : Choice → Option (List ℕ)) → ((choice : Choice) → a choice ≡ b choice) → command_of kind place a ≡ command_of kind place b
-same-command Show place a b same = refl
-same-command Brain place a b same = refl
-same-command Run place a b same =
-    ap (λ s. run_with (place 0) (place 1) (place 2) (option_and_then seed_number s) (option_and_then round_number (a Rounds)) (dumps_or_none (a Dump))) (same Seed)
-    ∙ ap (λ r. run_with (place 0) (place 1) (place 2) (option_and_then seed_number (b Seed)) (option_and_then round_number r) (dumps_or_none (a Dump))) (same Rounds)
-    ∙ ap (λ d. run_with (place 0) (place 1) (place 2) (option_and_then seed_number (b Seed)) (option_and_then round_number (b Rounds)) (dumps_or_none d)) (same Dump)
+same-setup : (setup : RunSetup) (given others : List Given) → SaySame given others → SaysSetup setup given → SaysSetup setup others
+same-setup setup given others same says = record {
+  seed = ap (number_needed SeedNumber) (same.value Seed) ∙ says.seed;
+  rounds = ap (number_needed RoundCount) (same.value Rounds) ∙ says.rounds;
+  dumps = ap dumps_or_none (same.value Dump) ∙ says.dumps;
+  workers = ap (number_or default_workers WorkerCount) (same.value Workers) ∙ says.workers;
+  window = ap (number_or default_window WindowSize) (same.value Window) ∙ says.window;
+  surround = ap (number_or default_surround FoeCount) (same.value Surround) ∙ says.surround;
+  corpse = ap (number_or default_corpse CorpseFood) (same.value Corpse) ∙ says.corpse;
+  rest = ap (number_or default_rest RestRounds) (same.value Rest) ∙ says.rest;
+  stats = same.has Stats ∙ says.stats;
+}
+
+same-shape : (shape : GenShape) (given others : List Given) → SaySame given others → SaysShape shape given → SaysShape shape others
+same-shape shape given others same says = record {
+  width = ap (number_or default_side SideLength) (same.value Width) ∙ says.width;
+  height = ap (number_or default_side SideLength) (same.value Height) ∙ says.height;
+  rocks = ap (number_or default_rocks ElementCount) (same.value Rocks) ∙ says.rocks;
+  blobs = ap (number_or default_blobs ElementCount) (same.value Blobs) ∙ says.blobs;
+}
+
+same-cup : (seed rounds workers : ℕ) (given others : List Given) → SaySame given others → SaysCup seed rounds workers given → SaysCup seed rounds workers others
+same-cup seed rounds workers given others same says = record {
+  seed_said = ap (number_needed SeedNumber) (same.value Seed) ∙ says.seed_said;
+  rounds_said = ap (number_needed RoundCount) (same.value Rounds) ∙ says.rounds_said;
+  workers_said = ap (number_or default_workers WorkerCount) (same.value Workers) ∙ says.workers_said;
+}
+
+same-view : (seed rounds : ℕ) (given others : List Given) → SaySame given others → SaysView seed rounds given → SaysView seed rounds others
+same-view seed rounds given others same says = record {
+  seed_said = ap (number_needed SeedNumber) (same.value Seed) ∙ says.seed_said;
+  rounds_said = ap (number_needed RoundCount) (same.value Rounds) ∙ says.rounds_said;
+}
+
+-- a command is what its options say
+same-command : (command : PlainCommand) (front : List (List (List ℕ))) (given others : List Given) → SaySame given others → Says command front given
+    → Says command front others
+same-command (ShowCommand world seed) front given others same says = says
+same-command (BrainCommand file) front given others same says = says
+same-command (MinimiseCommand file) front given others same says = says
+same-command (RunCommand world red black setup) front given others same says = (says.0, same-setup setup given others same says.1)
+same-command (GenCommand seed shape) front given others same says = (says.0, says.1, says.2, same-shape shape given others same says.3)
+same-command (CupCommand worlds brains seed rounds workers) front given others same says = (says.0, same-cup seed rounds workers given others same says.1)
+same-command (ViewCommand world red black breaks seed rounds) front given others same says = (says.0, same-view seed rounds given others same says.1)
+same-command (WorkloadCommand seed rounds workers) front given others same says = says
 
 pub any_order : AnyOrder
 any_order words more command is others form to from = record {
-  kind = is.kind;
   front = is.front;
   given = others;
   form = form;
-  says = sym (same-command is.kind _ (λ choice. value_given choice is.given) (λ choice. value_given choice others) (same-values is.given others is.form.once form.once to from)) ∙ is.says;
+  says = same-command command is.front is.given others (same-says is.given others is.form.once form.once to from) is.says;
 }
 
--- a number within bounds is at most the greatest
-within-most : (least most n : ℕ) (o : Option ℕ) → within least most o ≡ Some n → n ≤ most
-within-most least most n None e = (let no : ⊥ = cc in absurd no)
-within-most least most n (Some m) e = go (nat_le least m && nat_le m most) refl e where
-  go : (b : Bool) → (nat_le least m && nat_le m most) ≡ b → cond b (Some m) None ≡ Some n → n ≤ most
+-- a number within bounds is none below the least and none above the greatest
+within-both : (least most n : ℕ) (o : Option ℕ) → within least most o ≡ Some n → (least ≤ n) × (n ≤ most)
+within-both least most n None e = (let no : ⊥ = cc in absurd no)
+within-both least most n (Some m) e = go (nat_le least m && nat_le m most) refl e where
+  go : (b : Bool) → (nat_le least m && nat_le m most) ≡ b → cond b (Some m) None ≡ Some n → (least ≤ n) × (n ≤ most)
   go true is e =
       let same : m ≡ n = cc in
-      let below : m ≤ most = leb-true m most ((and_parts (nat_le least m) (nat_le m most) is).1) in omega arith
+      let parts = and_parts (nat_le least m) (nat_le m most) is in
+      let above : least ≤ m = leb-true least m parts.0 in
+      let below : m ≤ most = leb-true m most parts.1 in
+      (omega arith, omega arith)
   go false is e = (let no : ⊥ = cc in absurd no)
 
--- what a word says within bounds is at most the greatest
-said-most : (most n : ℕ) (o : Option (List ℕ)) → option_and_then (number_within 0 most) o ≡ Some n → n ≤ most
-said-most most n None e = (let no : ⊥ = cc in absurd no)
-said-most most n (Some word) e = within-most 0 most n (number_of word) e
+-- what a word says is within the limits
+said-within : (kind : NumberKind) (word : List ℕ) (n : ℕ) → number_in kind word ≡ Some n → IsWithin kind n
+said-within kind word n e = within-both (least_of kind) (most_of kind) n (number_of word) e
 
--- the rounds of a list are at most the last that can be dumped
-numbers-most : (pieces : List (List ℕ)) (rounds : List ℕ) → numbers_of pieces ≡ Some rounds → AllByRecursion (λ round. round ≤ most_rounds) rounds
-numbers-most [] rounds e = (let none : [] ≡ rounds = cc in subst (AllByRecursion (λ round. round ≤ most_rounds)) none tt)
-numbers-most (piece ∷ pieces) rounds e = go (round_number piece) refl (numbers_of pieces) (λ others. numbers-most pieces others) e where
-  go : (o : Option ℕ) → round_number piece ≡ o → (more : Option (List ℕ)) → ((others : List ℕ) → more ≡ Some others → AllByRecursion (λ round. round ≤ most_rounds) others) → with_number o more ≡ Some rounds → AllByRecursion (λ round. round ≤ most_rounds) rounds
+needed-within : (kind : NumberKind) (o : Option (List ℕ)) (n : ℕ) → number_needed kind o ≡ Some n → IsWithin kind n
+needed-within kind None n e = (let no : ⊥ = cc in absurd no)
+needed-within kind (Some word) n e = said-within kind word n e
+
+-- so is the default
+free-within : (default : ℕ) (kind : NumberKind) (o : Option (List ℕ)) (n : ℕ) → IsWithin kind default → number_or default kind o ≡ Some n → IsWithin kind n
+free-within default kind None n fine e = (let same : default ≡ n = cc in subst (IsWithin kind) same fine)
+free-within default kind (Some word) n fine e = said-within kind word n e
+
+-- the rounds of a list are within the limits
+numbers-within : (pieces : List (List ℕ)) (rounds : List ℕ) → numbers_of pieces ≡ Some rounds → AllByRecursion (IsWithin RoundCount) rounds
+numbers-within [] rounds e = (let none : [] ≡ rounds = cc in subst (AllByRecursion (IsWithin RoundCount)) none tt)
+numbers-within (piece ∷ pieces) rounds e = go (number_in RoundCount piece) refl (numbers_of pieces) (λ others. numbers-within pieces others) e where
+  go : (o : Option ℕ) → number_in RoundCount piece ≡ o → (more : Option (List ℕ))
+      → ((others : List ℕ) → more ≡ Some others → AllByRecursion (IsWithin RoundCount) others)
+      → with_number o more ≡ Some rounds → AllByRecursion (IsWithin RoundCount) rounds
   go None is more rest e = (let no : ⊥ = cc in absurd no)
   go (Some n) is None rest e = (let no : ⊥ = cc in absurd no)
   go (Some n) is (Some others) rest e =
       let all : n ∷ others ≡ rounds = cc in
-      subst (AllByRecursion (λ round. round ≤ most_rounds)) all (within-most 0 most_rounds n (number_of piece) is, rest others refl)
+      subst (AllByRecursion (IsWithin RoundCount)) all (said-within RoundCount piece n is, rest others refl)
 
 -- a list is said where the word is neither `none` nor `all`
-list-said : (none all : Bool) (o : Option (List ℕ)) (rounds : List ℕ) → cond none (Some NoDump) (cond all (Some EveryDump) (option_map ChosenDumps o)) ≡ Some (ChosenDumps rounds) → o ≡ Some rounds
+list-said : (none all : Bool) (o : Option (List ℕ)) (rounds : List ℕ)
+    → cond none (Some NoDump) (cond all (Some EveryDump) (option_map ChosenDumps o)) ≡ Some (ChosenDumps rounds) → o ≡ Some rounds
 list-said true all o rounds e = (let no : ⊥ = cc in absurd no)
 list-said false true o rounds e = (let no : ⊥ = cc in absurd no)
 list-said false false None rounds e = (let no : ⊥ = cc in absurd no)
@@ -147,41 +261,52 @@ dumps-said : (word : List ℕ) (rounds : List ℕ) → dumps_of word ≡ Some (C
 unfolding dumps_of
 dumps-said word rounds e = list-said (bytes_eq word (codes "none")) (bytes_eq word (codes "all")) (numbers_of (pieces_of word)) rounds e
 
-dumps-most : (o : Option (List ℕ)) (dumps : DumpChoice) → dumps_or_none o ≡ Some dumps → AreWithin dumps
-dumps-most o NoDump e = tt
-dumps-most o EveryDump e = tt
-dumps-most None (ChosenDumps rounds) e = (let no : ⊥ = cc in absurd no)
-dumps-most (Some word) (ChosenDumps rounds) e = numbers-most (pieces_of word) rounds (dumps-said word rounds e)
+dumps-within : (o : Option (List ℕ)) (dumps : DumpChoice) → dumps_or_none o ≡ Some dumps → AreWithin dumps
+dumps-within o NoDump e = tt
+dumps-within o EveryDump e = tt
+dumps-within None (ChosenDumps rounds) e = (let no : ⊥ = cc in absurd no)
+dumps-within (Some word) (ChosenDumps rounds) e = numbers-within (pieces_of word) rounds (dumps-said word rounds e)
 
--- what each command is made of
-show-within : (world : Option (List ℕ)) (seed : Option (List ℕ)) (command : PlainCommand) → show_with world (option_and_then seed_number seed) ≡ Some command → IsWithin command
-show-within world seed command e = go world (option_and_then seed_number seed) refl e where
-  go : (world : Option (List ℕ)) (n : Option ℕ) → option_and_then seed_number seed ≡ n → show_with world n ≡ Some command → IsWithin command
-  go None n is e = (let no : ⊥ = cc in absurd no)
-  go (Some name) None is e = (let no : ⊥ = cc in absurd no)
-  go (Some name) (Some n) is e = (let said : ShowCommand name n ≡ command = cc in subst IsWithin said (said-most most_seed n seed is))
+setup-within : (setup : RunSetup) (given : List Given) → SaysSetup setup given → SetupWithin setup
+setup-within setup given says = record {
+  seed = needed-within SeedNumber (value_given Seed given) setup.seed says.seed;
+  rounds = needed-within RoundCount (value_given Rounds given) setup.rounds says.rounds;
+  dumps = dumps-within (value_given Dump given) setup.dumps says.dumps;
+  workers = free-within default_workers WorkerCount (value_given Workers given) setup.workers (omega arith, omega arith) says.workers;
+  window = free-within default_window WindowSize (value_given Window given) setup.window (omega arith, omega arith) says.window;
+  surround = free-within default_surround FoeCount (value_given Surround given) setup.surround (omega arith, omega arith) says.surround;
+  corpse = free-within default_corpse CorpseFood (value_given Corpse given) setup.corpse (omega arith, omega arith) says.corpse;
+  rest = free-within default_rest RestRounds (value_given Rest given) setup.rest (omega arith, omega arith) says.rest;
+}
 
-brain-within : (file : Option (List ℕ)) (command : PlainCommand) → brain_with file ≡ Some command → IsWithin command
-brain-within None command e = (let no : ⊥ = cc in absurd no)
-brain-within (Some name) command e = (let said : BrainCommand name ≡ command = cc in subst IsWithin said tt)
+shape-within : (shape : GenShape) (given : List Given) → SaysShape shape given → ShapeWithin shape
+shape-within shape given says = record {
+  width = free-within default_side SideLength (value_given Width given) shape.width (omega arith, omega arith) says.width;
+  height = free-within default_side SideLength (value_given Height given) shape.height (omega arith, omega arith) says.height;
+  rocks = free-within default_rocks ElementCount (value_given Rocks given) shape.rocks (omega arith, omega arith) says.rocks;
+  blobs = free-within default_blobs ElementCount (value_given Blobs given) shape.blobs (omega arith, omega arith) says.blobs;
+}
 
-run-within : (world red black seed rounds dumps : Option (List ℕ)) (command : PlainCommand) → run_with world red black (option_and_then seed_number seed) (option_and_then round_number rounds) (dumps_or_none dumps) ≡ Some command → IsWithin command
-run-within world red black seed rounds dumps command e = go world red black (option_and_then seed_number seed) (option_and_then round_number rounds) (dumps_or_none dumps) refl refl refl e where
-  go : (world red black : Option (List ℕ)) (s r : Option ℕ) (d : Option DumpChoice) → option_and_then seed_number seed ≡ s → option_and_then round_number rounds ≡ r → dumps_or_none dumps ≡ d → run_with world red black s r d ≡ Some command → IsWithin command
-  go None red black s r d is_s is_r is_d e = (let no : ⊥ = cc in absurd no)
-  go (Some w) None black s r d is_s is_r is_d e = (let no : ⊥ = cc in absurd no)
-  go (Some w) (Some x) None s r d is_s is_r is_d e = (let no : ⊥ = cc in absurd no)
-  go (Some w) (Some x) (Some y) None r d is_s is_r is_d e = (let no : ⊥ = cc in absurd no)
-  go (Some w) (Some x) (Some y) (Some s) None d is_s is_r is_d e = (let no : ⊥ = cc in absurd no)
-  go (Some w) (Some x) (Some y) (Some s) (Some r) None is_s is_r is_d e = (let no : ⊥ = cc in absurd no)
-  go (Some w) (Some x) (Some y) (Some s) (Some r) (Some d) is_s is_r is_d e =
-      let said : RunCommand w x y s r d ≡ command = cc in
-      subst IsWithin said (said-most most_seed s seed is_s, said-most most_rounds r rounds is_r, dumps-most dumps d is_d)
-
-command-within : (kind : CommandKind) (place : ℕ → Option (List ℕ)) (value : Choice → Option (List ℕ)) (command : PlainCommand) → command_of kind place value ≡ Some command → IsWithin command
-command-within Show place value command e = show-within (place 0) (place 1) command e
-command-within Brain place value command e = brain-within (place 0) command e
-command-within Run place value command e = run-within (place 0) (place 1) (place 2) (value Seed) (value Rounds) (value Dump) command e
+command-within : (command : PlainCommand) (front : List (List (List ℕ))) (given : List Given) → FitAll (places_of (kind_in command)) front → Says command front given
+    → CommandWithin command
+command-within (ShowCommand world seed) front given fit says = said-within SeedNumber says.0 seed says.2
+command-within (BrainCommand file) front given fit says = tt
+command-within (MinimiseCommand file) front given fit says = tt
+command-within (RunCommand world red black setup) front given fit says = setup-within setup given says.1
+command-within (GenCommand seed shape) front given fit says = (said-within SeedNumber says.0 seed says.2, shape-within shape given says.3)
+command-within (CupCommand worlds brains seed rounds workers) front given fit says =
+    let places = subst (FitAll (places_of (kind_in (CupCommand worlds brains seed rounds workers)))) says.0 fit in
+    record {
+      world_names = places.1.0;
+      brain_names = places.1.1.1.0;
+      seed_within = needed-within SeedNumber (value_given Seed given) seed says.1.seed_said;
+      rounds_within = needed-within RoundCount (value_given Rounds given) rounds says.1.rounds_said;
+      workers_within = free-within default_workers WorkerCount (value_given Workers given) workers (omega arith, omega arith) says.1.workers_said;
+    }
+command-within (ViewCommand world red black breaks seed rounds) front given fit says =
+    (needed-within SeedNumber (value_given Seed given) seed says.1.seed_said, needed-within RoundCount (value_given Rounds given) rounds says.1.rounds_said)
+command-within (WorkloadCommand seed rounds workers) front given fit says =
+    (said-within SeedNumber says.0 seed says.4, said-within RoundCount says.1 rounds says.5, said-within WorkerCount says.2 workers says.6)
 
 pub within_limits : WithinLimits
-within_limits words command is = command-within is.kind _ _ command is.says
+within_limits words command is = command-within command is.front is.given is.form.places is.says

@@ -1,7 +1,7 @@
+pub mod Limits
 pub mod Table
 pub mod Slots
-pub mod Pieces
 pub mod Command
 pub mod Words
-pub mod Walk
 pub mod Laws
+pub mod Inner

@@ -1,30 +1,20 @@
--- What one word of a command may be (this project's own).
-use Rattle.std.specs.Prelude.{ℕ, Bool, not, ◌&&◌, List, [], ◌∷◌, Option, Some, None, option_map, is_some, codes, length, nat_eq, nat_lt, ◌==◌, if◌then◌else◌}
-use Rattle.std.specs.List.{starts_with, slice_split}
+-- What the words at a place of a command may be.
+use Rattle.std.specs.Prelude.{◌≡◌, ◌≢◌, ℕ, ◌≤◌, Bool, true, not, ◌&&◌, List, [], ◌∷◌, length, Option, Some, None, option_map, is_some, codes, nat_eq, nat_lt, ◌==◌}
+use Rattle.std.specs.Prelude.{if◌then◌else◌}
+use Rattle.std.specs.List.{AllByRecursion, starts_with, slice_split}
 use Rattle.std.specs.Str.{bytes_eq}
-use Rattle.ant_base.specs.Number.{number_within}
+use Rattle.command_words.specs.declared.limits.NumberKind.TheVariants.{RoundCount}
+use Rattle.command_words.specs.declared.table.NameList.{NameList}
 use Rattle.command_words.specs.declared.slot.Slot.{Slot}
-use Rattle.command_words.specs.declared.slot.Slot.TheVariants.{FileName, SeedNumber, RoundNumber, Dumps}
+use Rattle.command_words.specs.declared.slot.Slot.TheVariants.{FileName, Number, Dumps, Keyword}
+use Rattle.command_words.specs.declared.slot.Place.{Place}
+use Rattle.command_words.specs.declared.slot.Place.TheVariants.{Word, Names}
+use Rattle.command_words.specs.Limits.{number_in}
+use Rattle.command_words.specs.Table.{keyword_of, fewest_names, most_names, must_differ}
 
 -- a word of at least one byte that doesn't begin with `--`
 unfoldable pub is_file_name : List ℕ → Bool
 is_file_name word = nat_lt 0 (length word) && not (starts_with nat_eq word (codes "--"))
-
--- the greatest seed
-abbrev pub most_seed : ℕ
-most_seed = 4294967295
-
--- the greatest number of rounds, and the last round that can be dumped
-abbrev pub most_rounds : ℕ
-most_rounds = 1000000
-
--- the seed that a word says: a number from 0 to 4,294,967,295
-abbrev pub seed_number : List ℕ → Option ℕ
-seed_number word = number_within 0 most_seed word
-
--- the number of rounds, or the round, that a word says: a number from 0 to 1,000,000
-abbrev pub round_number : List ℕ → Option ℕ
-round_number word = number_within 0 most_rounds word
 
 -- the pieces of a text between its commas: one more than commas
 abbrev pub pieces_of : List ℕ → List (List ℕ)
@@ -35,10 +25,10 @@ abbrev pub with_number : Option ℕ → Option (List ℕ) → Option (List ℕ)
 with_number None numbers = None
 with_number (Some number) numbers = option_map (λ more. number ∷ more) numbers
 
--- the numbers of the pieces, where each piece is one from 0 to 1,000,000
+-- the numbers of the pieces, where each piece is a count of rounds
 abbrev pub numbers_of : List (List ℕ) → Option (List ℕ)
 numbers_of [] = Some []
-numbers_of (piece ∷ pieces) = with_number (round_number piece) (numbers_of pieces)
+numbers_of (piece ∷ pieces) = with_number (number_in RoundCount piece) (numbers_of pieces)
 
 -- the rounds that are dumped: none, all, or those of a list, in its order
 pub data DumpChoice : Type 0 where
@@ -48,15 +38,36 @@ pub data DumpChoice : Type 0 where
 
 -- `none`, `all`, or numbers with one comma between them
 unfoldable pub dumps_of : List ℕ → Option DumpChoice
-dumps_of word = if bytes_eq word (codes "none") then Some NoDump else (if bytes_eq word (codes "all") then Some EveryDump else option_map ChosenDumps (numbers_of (pieces_of word)))
+dumps_of word =
+    if bytes_eq word (codes "none") then Some NoDump
+    else (if bytes_eq word (codes "all") then Some EveryDump else option_map ChosenDumps (numbers_of (pieces_of word)))
 
 -- whether a word is one of these
 unfoldable pub is_dumps : List ℕ → Bool
 is_dumps word = is_some (dumps_of word)
 
--- whether a word fits a place
+-- whether a word may be what a slot asks for
 abbrev pub fits : Slot → List ℕ → Bool
 fits FileName word = is_file_name word
-fits SeedNumber word = is_some (seed_number word)
-fits RoundNumber word = is_some (round_number word)
+fits (Number kind) word = is_some (number_in kind word)
 fits Dumps word = is_dumps word
+fits (Keyword list) word = bytes_eq word (keyword_of list)
+
+-- no two names are the same
+abbrev pub AllDiffer : List (List ℕ) → Type 0
+AllDiffer [] = Unit {0}
+AllDiffer (name ∷ names) = AllByRecursion (λ other. other ≢ name) names × AllDiffer names
+
+-- the names of a list: file names, as many as it asks for, and different ones where they must differ
+pub record AreNames (list : NameList) (names : List (List ℕ)) : Type 0 where
+  pub enough : fewest_names list ≤ length names
+  pub few : length names ≤ most_names
+  pub each : AllByRecursion (λ name. is_file_name name ≡ true) names
+  pub different : must_differ list ≡ true → AllDiffer names
+
+-- the words that stand at a place: one word, or names
+abbrev pub FitsPlace : Place → List (List ℕ) → Type 0
+FitsPlace (Word slot) [] = ⊥
+FitsPlace (Word slot) (word ∷ []) = fits slot word ≡ true
+FitsPlace (Word slot) (word ∷ other ∷ more) = ⊥
+FitsPlace (Names list) names = AreNames list names

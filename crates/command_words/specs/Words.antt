@@ -1,17 +1,15 @@
--- The program's words and what was read of them, without addresses (this project's own).
-use denote.Ref.{Bor}
-use Rattle.std.specs.Prelude.{ℕ, List, map, String, string_bytes, Result, Ok, Err}
+-- The program's words and what was read of them, without addresses.
+use Rattle.std.specs.Prelude.{ℕ, List, map, String, string_bytes}
 use Rattle.std.specs.declared.alloc.Global.{Global}
 use Rattle.command_words.specs.declared.command.Command.{Command}
-use Rattle.command_words.specs.declared.command.Command.TheVariants.{Show, Brain, Run}
-use Rattle.command_words.specs.declared.command.Refused.{Refused}
+use Rattle.command_words.specs.declared.command.Command.TheVariants.{Show, Brain, Minimise, Run, Gen, Cup, View, Workload}
+use Rattle.command_words.specs.declared.command.RunOptions.{RunOptions}
 use Rattle.command_words.specs.declared.dumps.DumpWord.{DumpWord}
 use Rattle.command_words.specs.declared.dumps.DumpWord.TheVariants.{Nothing, All, Chosen}
-use Rattle.command_words.specs.declared.slot.Slot.{Slot}
 use Rattle.command_words.specs.Slots.{DumpChoice}
 use Rattle.command_words.specs.Slots.DumpChoice.{NoDump, EveryDump, ChosenDumps}
-use Rattle.command_words.specs.Command.{PlainCommand}
-use Rattle.command_words.specs.Command.PlainCommand.{ShowCommand, BrainCommand, RunCommand}
+use Rattle.command_words.specs.Command.{PlainCommand, RunSetup}
+use Rattle.command_words.specs.Command.PlainCommand.{ShowCommand, BrainCommand, MinimiseCommand, RunCommand, GenCommand, CupCommand, ViewCommand, WorkloadCommand}
 
 -- the bytes of words
 abbrev pub texts : List (String Global) → List (List ℕ)
@@ -23,18 +21,27 @@ plain_dumps Nothing = NoDump
 plain_dumps All = EveryDump
 plain_dumps (Chosen numbers) = ChosenDumps numbers
 
+-- the options of `run` that were read
+abbrev pub plain_setup : RunOptions → RunSetup
+plain_setup options = record {
+  seed = options.seed;
+  rounds = options.rounds;
+  dumps = plain_dumps options.dumps;
+  workers = options.workers;
+  window = options.window;
+  surround = options.surround;
+  corpse = options.corpse;
+  rest = options.rest;
+  stats = options.stats;
+}
+
 -- the command that was read
 abbrev pub plain : Command → PlainCommand
 plain (Show world seed) = ShowCommand world.now seed
 plain (Brain file) = BrainCommand file.now
-plain (Run world red black seed rounds dumps) = RunCommand world.now red.now black.now seed rounds (plain_dumps dumps)
-
--- the command that was read, or the number of the refused word
-abbrev pub plain_result : Result Command Refused → Result PlainCommand ℕ
-plain_result (Ok command) = Ok (plain command)
-plain_result (Err refused) = Err refused.word
-
--- the places that are due, or the number of the refused word
-abbrev pub plain_walk : Result (Bor (List Slot)) Refused → Result (List Slot) ℕ
-plain_walk (Ok due) = Ok due.now
-plain_walk (Err refused) = Err refused.word
+plain (Minimise file) = MinimiseCommand file.now
+plain (Run world red black options) = RunCommand world.now red.now black.now (plain_setup options)
+plain (Gen seed shape) = GenCommand seed shape
+plain (Cup worlds brains seed rounds workers) = CupCommand (texts worlds.now) (texts brains.now) seed rounds workers
+plain (View world red black breaks seed rounds) = ViewCommand world.now red.now black.now breaks.now seed rounds
+plain (Workload seed rounds workers) = WorkloadCommand seed rounds workers

@@ -1,7 +1,7 @@
 // What the words of a command line say.
 use crate::DumpWord;
 
-/// A command, with the names of its files as they stand among the program's words (this project's own).
+/// A command, with the names of its files as they stand among the program's words.
 #[derive(Drop)]
 pub enum Command<'w> {
     /// `show WORLD SEED`
@@ -16,6 +16,11 @@ pub enum Command<'w> {
         /// the name of the brain's file
         file: &'w str,
     },
+    /// `minimise FILE`
+    Minimise {
+        /// the name of the brain's file
+        file: &'w str,
+    },
     /// `run WORLD RED BLACK`, and its options
     Run {
         /// the name of the world's file
@@ -24,17 +29,92 @@ pub enum Command<'w> {
         red: &'w str,
         /// the name of the black brain's file
         black: &'w str,
+        /// what its options say
+        options: RunOptions<'w>,
+    },
+    /// `gen SEED`, and its options
+    Gen {
+        /// the seed of the random numbers, from 0 to 4,294,967,295
+        seed: u32,
+        /// what its options say
+        shape: GenShape,
+    },
+    /// `cup --worlds NAMES --brains NAMES`, and its options
+    Cup {
+        /// the names of the worlds' files, 1 to 16
+        worlds: &'w [String],
+        /// the names of the brains' files, 2 to 16, no two the same
+        brains: &'w [String],
+        /// the seed of each game's random numbers, from 0 to 4,294,967,295
+        seed: u32,
+        /// how many rounds each game has, from 0 to 1,000,000
+        rounds: u32,
+        /// how many workers play, from 1 to 16
+        workers: u32,
+    },
+    /// `view WORLD RED BLACK BREAKS`, and its options
+    View {
+        /// the name of the world's file
+        world: &'w str,
+        /// the name of the red brain's file
+        red: &'w str,
+        /// the name of the black brain's file
+        black: &'w str,
+        /// the name of the file of breaks
+        breaks: &'w str,
         /// the seed of the random numbers, from 0 to 4,294,967,295
         seed: u32,
         /// how many rounds are played, from 0 to 1,000,000
         rounds: u32,
-        /// the rounds after which the world is dumped; the last of them may be above `rounds`
-        dumps: DumpWord<'w>,
+    },
+    /// `workload SEED ROUNDS WORKERS`
+    Workload {
+        /// the seed of the world and of the game, from 0 to 4,294,967,295
+        seed: u32,
+        /// how many rounds are played, from 0 to 1,000,000
+        rounds: u32,
+        /// how many workers play, from 1 to 16
+        workers: u32,
     },
 }
 
-/// The words are no command; names the refused word, the first one with which they are not the beginning of any command (this
-/// project's own).
+/// What the options of `run` say, or what holds where they aren't given.
+#[derive(Drop)]
+pub struct RunOptions<'w> {
+    /// the seed of the random numbers, from 0 to 4,294,967,295
+    pub seed: u32,
+    /// how many rounds are played, from 0 to 1,000,000
+    pub rounds: u32,
+    /// the rounds after which the world is dumped; the last of them may be above `rounds`
+    pub dumps: DumpWord<'w>,
+    /// how many workers play, from 1 to 16
+    pub workers: u32,
+    /// how many turns a window has, from 1 to 16,384
+    pub window: u32,
+    /// how many foes surround an ant, from 4 to 6
+    pub surround: u8,
+    /// how many food particles a killed ant leaves, from 0 to 9
+    pub corpse: u8,
+    /// how many rounds an ant rests after a step, from 0 to 255
+    pub rest: u8,
+    /// whether the counts of turns are wanted
+    pub stats: bool,
+}
+
+/// What the options of `gen` say, or what holds where they aren't given.
+#[derive(Clone, Copy, Debug, PartialEq, Eq)]
+pub struct GenShape {
+    /// the cells of a row, from 3 to 512
+    pub width: u16,
+    /// the rows, from 3 to 512
+    pub height: u16,
+    /// how many rocks, from 0 to 255
+    pub rocks: u8,
+    /// how many blobs of food, from 0 to 255
+    pub blobs: u8,
+}
+
+/// The words are no command; names the refused word, the first one with which they are not the beginning of any command.
 #[derive(Clone, Copy, Debug, PartialEq, Eq)]
 pub struct Refused {
     /// counted from 1; the number of words plus one where all of them are the beginning of a command and no command

@@ -4,7 +4,7 @@ ghost use Rattle.command_words.specs.Slots.{dumps_of, is_dumps};
 
 use crate::Numbers;
 
-/// The rounds after which the world is dumped, as the words choose them, counted from 0 for the start (this project's own).
+/// The rounds after which the world is dumped, as the words choose them, counted from 0 for the start.
 #[derive(Drop)]
 pub enum DumpWord<'w> {
     /// no round

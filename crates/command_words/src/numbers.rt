@@ -3,11 +3,11 @@ ghost use Rattle.std.specs.Prelude.{◌≡◌, is_some};
 ghost use Rattle.std.specs.Iterator.{YieldsFirst, item_count};
 ghost use Rattle.command_words.specs.Slots.{pieces_of, numbers_of};
 
+use crate::NumberKind;
 use crate::pieces::Pieces;
-use crate::slot::read_round;
 use std::marker::Model;
 
-/// The numbers of a list that are left, each from 0 to 1,000,000, in the order of the list (this project's own). Contracts see it as the
+/// The numbers of a list that are left, each from 0 to 1,000,000, in the order of the list. Contracts see it as the
 /// list of these numbers. It takes no memory and refuses nothing: the list was read whole when it was made.
 #[derive(Drop)]
 pub struct Numbers<'w> {
@@ -48,7 +48,7 @@ impl<'w> Iterator for Numbers<'w> {
 
     fn next(&mut self) -> Option<u32> {
         let piece = self.pieces.next()?;
-        read_round(piece)
+        NumberKind::RoundCount.read(piece)
     }
 }
 
@@ -57,7 +57,7 @@ fn are_numbers(word: &[u8]) -> bool
     ensures { result ≡ is_some (numbers_of (pieces_of word.now)) }
 {
     for piece in Pieces::new(word) {
-        if read_round(piece).is_none() {
+        if NumberKind::RoundCount.read(piece).is_none() {
             return false;
         }
     }

@@ -3,7 +3,7 @@ ghost use Rattle.std.specs.Prelude.{◌≡◌, ◌≤◌, ◌∷◌, length, not
 ghost use Rattle.std.specs.List.{prefix_len};
 ghost use Rattle.std.specs.Iterator.{YieldsFirstRef, item_count};
 ghost use Rattle.command_words.specs.Slots.{pieces_of};
-ghost use Rattle.command_words.specs.Pieces.{pieces_left, after_byte};
+ghost use Rattle.command_words.specs.Inner.Pieces.{pieces_left, after_byte};
 
 use std::marker::Model;
 
@@ -16,7 +16,7 @@ pub(crate) struct Pieces<'t> {
 
 impl<'t> Model for Pieces<'t> {
     ghost use Rattle.std.specs.Prelude.{List, ℕ, option_copied};
-    ghost use Rattle.command_words.specs.Pieces.{pieces_left};
+    ghost use Rattle.command_words.specs.Inner.Pieces.{pieces_left};
 
     ghost Value = { List (List ℕ) };
 

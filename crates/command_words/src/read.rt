@@ -1,17 +1,23 @@
 // The command that the words are.
-ghost use Rattle.std.specs.Prelude.{◌≡◌, ◌+◌, ℕ, IfOk, IfErr, option_map, option_copied, option_and_then, slice_get};
-ghost use Rattle.command_words.specs.Command.{PlainCommand, IsCommand, IsRefusedAt, dumps_or_none, command_of};
-ghost use Rattle.command_words.specs.Slots.{seed_number, round_number};
-ghost use Rattle.command_words.specs.Walk.{word_after, command_in, read_of};
-ghost use Rattle.command_words.specs.Words.{texts, plain, plain_dumps, plain_result};
+ghost use Rattle.std.specs.Prelude.{IfErr, IfOk, option_map, ◌≡◌, ℕ};
+ghost use Rattle.command_words.specs.Command.{IsCommand, IsRefusedAt, PlainCommand, number_or};
+ghost use Rattle.command_words.specs.Inner.Walk.{command_in, plain_result, read_of, setup_in, shape_in, word_after};
+ghost use Rattle.command_words.specs.Table.{default_workers};
+ghost use Rattle.command_words.specs.Words.{plain, plain_setup, texts};
 
-use crate::slot::{read_round, read_seed};
-use crate::walk::{is_finished, kind_of, walk};
-use crate::{Choice, Command, CommandKind, DumpWord, Refused};
+use crate::table::{
+    DEFAULT_BLOBS, DEFAULT_CORPSE, DEFAULT_REST, DEFAULT_ROCKS, DEFAULT_SIDE, DEFAULT_SURROUND,
+    DEFAULT_WINDOW, DEFAULT_WORKERS,
+};
+use crate::values::{
+    dumps_or_none, names_of, number_needed, number_or, side_or, small_or, word_after, word_at,
+};
+use crate::walk::{is_among, is_finished, kind_of, walk};
+use crate::{Choice, Command, CommandKind, GenShape, NameList, NumberKind, Refused, RunOptions};
 
-/// The command that the program's words are, without the program's own name (this project's own). Refused exactly where they are none, at
-/// the first word, counted from 1, with which the words up to and including it are not the beginning of any command, or at the number of
-/// words plus one where all of them are a beginning and no command. It takes no memory.
+/// The command that the program's words are, without the program's own name. Refused exactly where they are none, at the first word,
+/// counted from 1, with which the words up to and including it are not the beginning of any command, or at the number of words plus one
+/// where all of them are a beginning and no command. It takes no memory.
 pub fn read_words<'w>(words: &'w [String]) -> Result<Command<'w>, Refused>
     ensures command { IfOk result (λ command. IsCommand (texts words.now) (plain command)) }
     ensures refused { IfErr result (λ refused. IsRefusedAt (texts words.now) refused.word) }
@@ -47,7 +53,12 @@ fn command_in<'w>(kind: CommandKind, words: &'w [String]) -> Option<Command<'w>>
     match kind {
         CommandKind::Show => show_in(words),
         CommandKind::Brain => brain_in(words),
+        CommandKind::Minimise => minimise_in(words),
         CommandKind::Run => run_in(words),
+        CommandKind::Gen => gen_in(words),
+        CommandKind::Cup => cup_in(words),
+        CommandKind::View => view_in(words),
+        CommandKind::Workload => workload_in(words),
     }
 }
 
@@ -55,7 +66,7 @@ fn show_in<'w>(words: &'w [String]) -> Option<Command<'w>>
     ensures { option_map plain result ≡ command_in CommandKind.Show (texts words.now) }
 {
     let world = word_at(words, 1)?;
-    let seed = seed_in(word_at(words, 2))?;
+    let seed = number_needed(NumberKind::SeedNumber, word_at(words, 2))?;
     Some(Command::Show { world, seed })
 }
 
@@ -66,65 +77,160 @@ fn brain_in<'w>(words: &'w [String]) -> Option<Command<'w>>
     Some(Command::Brain { file })
 }
 
+fn minimise_in<'w>(words: &'w [String]) -> Option<Command<'w>>
+    ensures { option_map plain result ≡ command_in CommandKind.Minimise (texts words.now) }
+{
+    let file = word_at(words, 1)?;
+    Some(Command::Minimise { file })
+}
+
 fn run_in<'w>(words: &'w [String]) -> Option<Command<'w>>
     ensures { option_map plain result ≡ command_in CommandKind.Run (texts words.now) }
 {
     let world = word_at(words, 1)?;
     let red = word_at(words, 2)?;
     let black = word_at(words, 3)?;
-    let seed = seed_in(word_after(Choice::Seed, words))?;
-    let rounds = round_in(word_after(Choice::Rounds, words))?;
-    let dumps = dumps_in(word_after(Choice::Dump, words))?;
+    let options = options_in(words)?;
     Some(Command::Run {
         world,
         red,
         black,
-        seed,
-        rounds,
-        dumps,
+        options,
     })
 }
 
-// The word at a place, counted from 0.
-fn word_at<'w>(words: &'w [String], place: usize) -> Option<&'w str>
-    ensures { option_copied result ≡ slice_get (texts words.now) place }
+// What the options of `run` say.
+fn options_in<'w>(words: &'w [String]) -> Option<RunOptions<'w>>
+    ensures { option_map plain_setup result ≡ setup_in (texts words.now) }
 {
-    let word = words.get(place)?;
-    Some(word.as_str())
+    let seed = number_needed(NumberKind::SeedNumber, word_after(Choice::Seed, words))?;
+    let rounds = number_needed(NumberKind::RoundCount, word_after(Choice::Rounds, words))?;
+    let dumps = dumps_or_none(word_after(Choice::Dump, words))?;
+    let workers = workers_in(words)?;
+    let window = number_or(
+        DEFAULT_WINDOW,
+        NumberKind::WindowSize,
+        Choice::Window,
+        words,
+    )?;
+    let surround = small_or(
+        DEFAULT_SURROUND,
+        NumberKind::FoeCount,
+        Choice::Surround,
+        words,
+    )?;
+    let corpse = small_or(
+        DEFAULT_CORPSE,
+        NumberKind::CorpseFood,
+        Choice::Corpse,
+        words,
+    )?;
+    let rest = small_or(DEFAULT_REST, NumberKind::RestRounds, Choice::Rest, words)?;
+    let stats = is_among(Choice::Stats.word(), words);
+    Some(RunOptions {
+        seed,
+        rounds,
+        dumps,
+        workers,
+        window,
+        surround,
+        corpse,
+        rest,
+        stats,
+    })
 }
 
-// The word after the first one that is this option's.
-fn word_after<'w>(choice: Choice, words: &'w [String]) -> Option<&'w str>
-    ensures { option_copied result ≡ word_after choice (texts words.now) }
+// The number of workers that the options say.
+fn workers_in(words: &[String]) -> Option<u32>
+    ensures { result ≡ number_or default_workers NumberKind.WorkerCount (word_after Choice.Workers (texts words.now)) }
 {
-    for (at, word) in words.iter().enumerate() {
-        if word.as_str() == choice.word() {
-            return word_at(words, at + 1);
-        }
-    }
-    None
+    number_or(
+        DEFAULT_WORKERS,
+        NumberKind::WorkerCount,
+        Choice::Workers,
+        words,
+    )
 }
 
-// The seed that a word says.
-fn seed_in(word: Option<&str>) -> Option<u32>
-    ensures { result ≡ option_and_then seed_number (option_copied word.entry) }
+fn gen_in<'w>(words: &'w [String]) -> Option<Command<'w>>
+    ensures { option_map plain result ≡ command_in CommandKind.Gen (texts words.now) }
 {
-    read_seed(word?.as_bytes())
+    let seed = number_needed(NumberKind::SeedNumber, word_at(words, 1))?;
+    let shape = shape_in(words)?;
+    Some(Command::Gen { seed, shape })
 }
 
-// The number of rounds that a word says.
-fn round_in(word: Option<&str>) -> Option<u32>
-    ensures { result ≡ option_and_then round_number (option_copied word.entry) }
+// What the options of `gen` say.
+fn shape_in(words: &[String]) -> Option<GenShape>
+    ensures { result ≡ shape_in (texts words.now) }
 {
-    read_round(word?.as_bytes())
+    let width = side_or(DEFAULT_SIDE, NumberKind::SideLength, Choice::Width, words)?;
+    let height = side_or(DEFAULT_SIDE, NumberKind::SideLength, Choice::Height, words)?;
+    let rocks = small_or(
+        DEFAULT_ROCKS,
+        NumberKind::ElementCount,
+        Choice::Rocks,
+        words,
+    )?;
+    let blobs = small_or(
+        DEFAULT_BLOBS,
+        NumberKind::ElementCount,
+        Choice::Blobs,
+        words,
+    )?;
+    Some(GenShape {
+        width,
+        height,
+        rocks,
+        blobs,
+    })
 }
 
-// The dumps that a word says; without it there is none.
-fn dumps_in<'w>(word: Option<&'w str>) -> Option<DumpWord<'w>>
-    ensures { option_map plain_dumps result ≡ dumps_or_none (option_copied word.entry) }
+fn cup_in<'w>(words: &'w [String]) -> Option<Command<'w>>
+    ensures { option_map plain result ≡ command_in CommandKind.Cup (texts words.now) }
 {
-    match word {
-        None => Some(DumpWord::Nothing),
-        Some(word) => DumpWord::new(word.as_bytes()),
-    }
+    let worlds = names_of(NameList::Worlds, words);
+    let brains = names_of(NameList::Brains, words);
+    let seed = number_needed(NumberKind::SeedNumber, word_after(Choice::Seed, words))?;
+    let rounds = number_needed(NumberKind::RoundCount, word_after(Choice::Rounds, words))?;
+    let workers = workers_in(words)?;
+    Some(Command::Cup {
+        worlds,
+        brains,
+        seed,
+        rounds,
+        workers,
+    })
+}
+
+fn view_in<'w>(words: &'w [String]) -> Option<Command<'w>>
+    ensures { option_map plain result ≡ command_in CommandKind.View (texts words.now) }
+{
+    let world = word_at(words, 1)?;
+    let red = word_at(words, 2)?;
+    let black = word_at(words, 3)?;
+    let breaks = word_at(words, 4)?;
+    let seed = number_needed(NumberKind::SeedNumber, word_after(Choice::Seed, words))?;
+    let rounds = number_needed(NumberKind::RoundCount, word_after(Choice::Rounds, words))?;
+    Some(Command::View {
+        world,
+        red,
+        black,
+        breaks,
+        seed,
+        rounds,
+    })
+}
+
+fn workload_in<'w>(words: &'w [String]) -> Option<Command<'w>>
+    ensures { option_map plain result ≡ command_in CommandKind.Workload (texts words.now) }
+{
+    let seed = number_needed(NumberKind::SeedNumber, word_at(words, 1))?;
+    let rounds = number_needed(NumberKind::RoundCount, word_at(words, 2))?;
+    let workers = number_needed(NumberKind::WorkerCount, word_at(words, 3))?;
+    Some(Command::Workload {
+        seed,
+        rounds,
+        workers,
+    })
 }

@@ -1,63 +1,51 @@
-// What one word may be.
+// What the words at a place of a command may be.
 ghost use Rattle.std.specs.Prelude.{◌≡◌};
-ghost use Rattle.command_words.specs.Slots.{is_file_name, seed_number, round_number, is_dumps, fits};
+ghost use Rattle.command_words.specs.Slots.{fits, is_file_name};
 
 use crate::dumps::is_dumps;
-use ant_base::read_number_within;
+use crate::{NameList, NumberKind};
 
-// The greatest seed.
-const MOST_SEED: u64 = 4_294_967_295;
-
-// The greatest number of rounds, and the last round that can be dumped.
-const MOST_ROUNDS: u64 = 1_000_000;
-
-/// What one word of a command may be (this project's own). A number is 1 to 10 decimal digits; leading zeros are accepted.
+/// What one word of a command may be.
 #[derive(Clone, Copy, Debug, PartialEq, Eq)]
 pub enum Slot {
     /// a word of at least one byte that doesn't begin with `--`; `-` is one
     FileName,
-    /// a number from 0 to 4,294,967,295
-    SeedNumber,
-    /// a number from 0 to 1,000,000
-    RoundNumber,
+    /// a number within the limits of its kind
+    Number(NumberKind),
     /// `none`, `all`, or numbers from 0 to 1,000,000 with one comma between each two
     Dumps,
+    /// the word before the names of a list
+    Keyword(NameList),
+}
+
+/// A place of a command: one word, or names as many as one likes within the limits of their list.
+#[derive(Clone, Copy, Debug, PartialEq, Eq)]
+pub enum Place {
+    /// one word
+    Word(Slot),
+    /// the file names of a list
+    Names(NameList),
 }
 
 impl Slot {
     // Whether a word fits.
-    pub(crate) fn fits(self, word: &[u8]) -> bool
+    pub(crate) fn fits(self, word: &str) -> bool
         ensures { result ≡ fits self word.now }
     {
         match self {
             Slot::FileName => is_file_name(word),
-            Slot::SeedNumber => read_seed(word).is_some(),
-            Slot::RoundNumber => read_round(word).is_some(),
-            Slot::Dumps => is_dumps(word),
+            Slot::Number(kind) => kind.read(word.as_bytes()).is_some(),
+            Slot::Dumps => is_dumps(word.as_bytes()),
+            Slot::Keyword(list) => word == list.keyword(),
         }
     }
 }
 
 // Whether a word is a file name: at least one byte, and no `--` at its front.
 #[tactic(auto, unfolding(crate::specs::Slots::is_file_name))]
-fn is_file_name(word: &[u8]) -> bool
+pub(crate) fn is_file_name(word: &str) -> bool
     ensures { result ≡ is_file_name word.now }
 {
-    !word.is_empty() && !word.starts_with(b"--")
-}
-
-// The seed that a word says.
-pub(crate) fn read_seed(word: &[u8]) -> Option<u32>
-    ensures { result ≡ seed_number word.now }
-{
-    let seed = read_number_within(word, 0, MOST_SEED)?;
-    Some(seed as u32)
-}
-
-// The number of rounds, or the round, that a word says.
-pub(crate) fn read_round(word: &[u8]) -> Option<u32>
-    ensures { result ≡ round_number word.now }
-{
-    let round = read_number_within(word, 0, MOST_ROUNDS)?;
-    Some(round as u32)
+    let name = word.as_bytes();
+    !name.is_empty() && !name.starts_with(b"--")
 }

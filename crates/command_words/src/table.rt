@@ -1,36 +1,104 @@
-// The commands and their options, an entry each.
+// The commands, their options and their lists of names, a row each.
 ghost use Rattle.std.specs.Prelude.{◌≡◌};
-ghost use Rattle.command_words.specs.Table.{kinds, word_of, places_of, choices_of, option_of, values_of, is_needed};
+ghost use Rattle.command_words.specs.Table.{choices_of, fewest_names, is_needed, keyword_of, kinds, must_differ, option_of, places_of, values_of, word_of};
 
-use crate::Slot;
+use crate::{NumberKind, Place, Slot};
 
-/// A command, by its first word, which is spelled exactly as here (this project's own).
+/// A command, by its first word, which is spelled exactly as here.
 #[derive(Clone, Copy, Debug, PartialEq, Eq)]
 pub enum CommandKind {
     /// `show WORLD SEED`: the dump of a world at the start of a game
     Show,
     /// `brain FILE`: the canonical text of a brain
     Brain,
-    /// `run WORLD RED BLACK`, then `--seed N` and `--rounds N`, and `--dump D` if one likes: a game and its score
+    /// `minimise FILE`: a brain with as few states as serve
+    Minimise,
+    /// `run WORLD RED BLACK`, and its options: a game and its score
     Run,
+    /// `gen SEED`, and its options: a world made from a number
+    Gen,
+    /// `cup --worlds NAMES --brains NAMES`, and its options: all games between some brains
+    Cup,
+    /// `view WORLD RED BLACK BREAKS`, and its options: the first moment of a game at which a break holds
+    View,
+    /// `workload SEED ROUNDS WORKERS`: a game of a world made from a number
+    Workload,
 }
 
-/// An option that may follow the words of a command's places, in any order and at most once (this project's own).
+/// An option that may follow the words of a command's places, in any order and at most once.
 #[derive(Clone, Copy, Debug, PartialEq, Eq)]
 pub enum Choice {
-    /// `--seed N`, from 0 to 4,294,967,295; needed
+    /// `--seed N`, needed
     Seed,
-    /// `--rounds N`, from 0 to 1,000,000; needed
+    /// `--rounds N`, needed
     Rounds,
     /// `--dump D`, the rounds that are dumped; without it none
     Dump,
+    /// `--workers N`; without it 1
+    Workers,
+    /// `--window N`, the turns of a window; without it 16,384
+    Window,
+    /// `--surround N`, the foes that surround an ant; without it 5
+    Surround,
+    /// `--corpse N`, the food that a killed ant leaves; without it 3
+    Corpse,
+    /// `--rest N`, the rounds of rest after a step; without it 14
+    Rest,
+    /// `--stats`, whether the counts of turns are wanted
+    Stats,
+    /// `--width N`, the cells of a row; without it 150
+    Width,
+    /// `--height N`, the rows; without it 150
+    Height,
+    /// `--rocks N`; without it 14
+    Rocks,
+    /// `--blobs N`; without it 11
+    Blobs,
 }
 
-// All commands.
+/// A list of file names, after a word of its own.
+#[derive(Clone, Copy, Debug, PartialEq, Eq)]
+pub enum NameList {
+    /// `--worlds`, then 1 to 16 names
+    Worlds,
+    /// `--brains`, then 2 to 16 different names
+    Brains,
+}
+
+// The most names of a list.
+pub(crate) const MOST_NAMES: usize = 16;
+
+// What holds where a number's option isn't given.
+pub(crate) const DEFAULT_WORKERS: u32 = 1;
+
+pub(crate) const DEFAULT_WINDOW: u32 = 16_384;
+
+pub(crate) const DEFAULT_SURROUND: u8 = 5;
+
+pub(crate) const DEFAULT_CORPSE: u8 = 3;
+
+pub(crate) const DEFAULT_REST: u8 = 14;
+
+pub(crate) const DEFAULT_SIDE: u16 = 150;
+
+pub(crate) const DEFAULT_ROCKS: u8 = 14;
+
+pub(crate) const DEFAULT_BLOBS: u8 = 11;
+
+// All commands that are known.
 pub(crate) fn kinds() -> &'static [CommandKind]
     ensures { result.now ≡ kinds }
 {
-    &[CommandKind::Show, CommandKind::Brain, CommandKind::Run]
+    &[
+        CommandKind::Show,
+        CommandKind::Brain,
+        CommandKind::Minimise,
+        CommandKind::Run,
+        CommandKind::Gen,
+        CommandKind::Cup,
+        CommandKind::View,
+        CommandKind::Workload,
+    ]
 }
 
 impl CommandKind {
@@ -41,29 +109,75 @@ impl CommandKind {
         match self {
             CommandKind::Show => "show",
             CommandKind::Brain => "brain",
+            CommandKind::Minimise => "minimise",
             CommandKind::Run => "run",
+            CommandKind::Gen => "gen",
+            CommandKind::Cup => "cup",
+            CommandKind::View => "view",
+            CommandKind::Workload => "workload",
         }
     }
 
-    // What stands after its first word, one word a place.
-    pub(crate) fn places(self) -> &'static [Slot]
+    // What stands after its first word.
+    pub(crate) fn places(self) -> &'static [Place]
         ensures { result.now ≡ places_of self }
     {
         match self {
-            CommandKind::Show => &[Slot::FileName, Slot::SeedNumber],
-            CommandKind::Brain => &[Slot::FileName],
-            CommandKind::Run => &[Slot::FileName, Slot::FileName, Slot::FileName],
+            CommandKind::Show => &[
+                Place::Word(Slot::FileName),
+                Place::Word(Slot::Number(NumberKind::SeedNumber)),
+            ],
+            CommandKind::Brain => &[Place::Word(Slot::FileName)],
+            CommandKind::Minimise => &[Place::Word(Slot::FileName)],
+            CommandKind::Run => &[
+                Place::Word(Slot::FileName),
+                Place::Word(Slot::FileName),
+                Place::Word(Slot::FileName),
+            ],
+            CommandKind::Gen => &[Place::Word(Slot::Number(NumberKind::SeedNumber))],
+            CommandKind::Cup => &[
+                Place::Word(Slot::Keyword(NameList::Worlds)),
+                Place::Names(NameList::Worlds),
+                Place::Word(Slot::Keyword(NameList::Brains)),
+                Place::Names(NameList::Brains),
+            ],
+            CommandKind::View => &[
+                Place::Word(Slot::FileName),
+                Place::Word(Slot::FileName),
+                Place::Word(Slot::FileName),
+                Place::Word(Slot::FileName),
+            ],
+            CommandKind::Workload => &[
+                Place::Word(Slot::Number(NumberKind::SeedNumber)),
+                Place::Word(Slot::Number(NumberKind::RoundCount)),
+                Place::Word(Slot::Number(NumberKind::WorkerCount)),
+            ],
         }
     }
 
-    // The options that may follow.
+    // The options that are known, and may follow.
     pub(crate) fn choices(self) -> &'static [Choice]
         ensures { result.now ≡ choices_of self }
     {
         match self {
             CommandKind::Show => &[],
             CommandKind::Brain => &[],
-            CommandKind::Run => &[Choice::Seed, Choice::Rounds, Choice::Dump],
+            CommandKind::Minimise => &[],
+            CommandKind::Run => &[
+                Choice::Seed,
+                Choice::Rounds,
+                Choice::Dump,
+                Choice::Workers,
+                Choice::Window,
+                Choice::Surround,
+                Choice::Corpse,
+                Choice::Rest,
+                Choice::Stats,
+            ],
+            CommandKind::Gen => &[Choice::Width, Choice::Height, Choice::Rocks, Choice::Blobs],
+            CommandKind::Cup => &[Choice::Seed, Choice::Rounds, Choice::Workers],
+            CommandKind::View => &[Choice::Seed, Choice::Rounds],
+            CommandKind::Workload => &[],
         }
     }
 }
@@ -77,17 +191,37 @@ impl Choice {
             Choice::Seed => "--seed",
             Choice::Rounds => "--rounds",
             Choice::Dump => "--dump",
+            Choice::Workers => "--workers",
+            Choice::Window => "--window",
+            Choice::Surround => "--surround",
+            Choice::Corpse => "--corpse",
+            Choice::Rest => "--rest",
+            Choice::Stats => "--stats",
+            Choice::Width => "--width",
+            Choice::Height => "--height",
+            Choice::Rocks => "--rocks",
+            Choice::Blobs => "--blobs",
         }
     }
 
-    // What stands after its word, one word a place.
-    pub(crate) fn values(self) -> &'static [Slot]
+    // What stands after its word.
+    pub(crate) fn values(self) -> &'static [Place]
         ensures { result.now ≡ values_of self }
     {
         match self {
-            Choice::Seed => &[Slot::SeedNumber],
-            Choice::Rounds => &[Slot::RoundNumber],
-            Choice::Dump => &[Slot::Dumps],
+            Choice::Seed => &[Place::Word(Slot::Number(NumberKind::SeedNumber))],
+            Choice::Rounds => &[Place::Word(Slot::Number(NumberKind::RoundCount))],
+            Choice::Dump => &[Place::Word(Slot::Dumps)],
+            Choice::Workers => &[Place::Word(Slot::Number(NumberKind::WorkerCount))],
+            Choice::Window => &[Place::Word(Slot::Number(NumberKind::WindowSize))],
+            Choice::Surround => &[Place::Word(Slot::Number(NumberKind::FoeCount))],
+            Choice::Corpse => &[Place::Word(Slot::Number(NumberKind::CorpseFood))],
+            Choice::Rest => &[Place::Word(Slot::Number(NumberKind::RestRounds))],
+            Choice::Stats => &[],
+            Choice::Width => &[Place::Word(Slot::Number(NumberKind::SideLength))],
+            Choice::Height => &[Place::Word(Slot::Number(NumberKind::SideLength))],
+            Choice::Rocks => &[Place::Word(Slot::Number(NumberKind::ElementCount))],
+            Choice::Blobs => &[Place::Word(Slot::Number(NumberKind::ElementCount))],
         }
     }
 
@@ -99,6 +233,48 @@ impl Choice {
             Choice::Seed => true,
             Choice::Rounds => true,
             Choice::Dump => false,
+            Choice::Workers => false,
+            Choice::Window => false,
+            Choice::Surround => false,
+            Choice::Corpse => false,
+            Choice::Rest => false,
+            Choice::Stats => false,
+            Choice::Width => false,
+            Choice::Height => false,
+            Choice::Rocks => false,
+            Choice::Blobs => false,
+        }
+    }
+}
+
+impl NameList {
+    // The word before it.
+    pub(crate) fn keyword(self) -> &'static str
+        ensures { result.now ≡ keyword_of self }
+    {
+        match self {
+            NameList::Worlds => "--worlds",
+            NameList::Brains => "--brains",
+        }
+    }
+
+    // Its fewest names.
+    pub(crate) fn fewest(self) -> usize
+        ensures { result ≡ fewest_names self }
+    {
+        match self {
+            NameList::Worlds => 1,
+            NameList::Brains => 2,
+        }
+    }
+
+    // Whether its names are different.
+    pub(crate) fn must_differ(self) -> bool
+        ensures { result ≡ must_differ self }
+    {
+        match self {
+            NameList::Worlds => false,
+            NameList::Brains => true,
         }
     }
 }

@@ -1,14 +1,16 @@
 // Going over the words one after another.
-ghost use Rattle.std.specs.Prelude.{◌≡◌, ◌<◌, length, drop, take, option_copied};
-ghost use Rattle.command_words.specs.Table.{places_of, choices_of};
-ghost use Rattle.command_words.specs.Walk.{kind_of, choice_of, is_among, due_after, due_after_option, walk, has_needed, is_finished};
-ghost use Rattle.command_words.specs.Words.{texts, plain_walk};
+ghost use Rattle.std.specs.Prelude.{[], length, option_copied, ◌<◌, ◌≡◌, drop, if◌then◌else◌, take, ◌+◌};
+ghost use Rattle.command_words.specs.Inner.Walk.{choice_of, closed, due_after, due_after_option, has_enough, has_needed, is_among, is_finished};
+ghost use Rattle.command_words.specs.Inner.Walk.{is_repeated, kind_of, may_follow, plain_walk, reached, takes_names, walk};
+ghost use Rattle.command_words.specs.Table.{choices_of, places_of};
+ghost use Rattle.command_words.specs.Words.{texts};
 
-use crate::table::kinds;
-use crate::{Choice, CommandKind, Refused, Slot};
+use crate::slot::is_file_name;
+use crate::table::{MOST_NAMES, kinds};
+use crate::{Choice, CommandKind, NameList, Place, Refused};
 
-// The command of this first word.
-#[tactic(auto, unfolding(crate::specs::Walk::kind_of))]
+// The known command of this first word.
+#[tactic(auto, unfolding(crate::specs::Inner::Walk::kind_of))]
 pub(crate) fn kind_of(word: &str) -> Option<CommandKind>
     ensures { result ≡ kind_of word.now }
 {
@@ -16,22 +18,28 @@ pub(crate) fn kind_of(word: &str) -> Option<CommandKind>
 }
 
 // The places that are due after all the words, or the first word that no command of this kind has there.
-pub(crate) fn walk(kind: CommandKind, words: &[String]) -> Result<&'static [Slot], Refused>
+pub(crate) fn walk(kind: CommandKind, words: &[String]) -> Result<&'static [Place], Refused>
     requires { 0 < length words.now }
-    ensures { plain_walk result ≡ walk kind (drop 1 (texts words.now)) (places_of kind) (take 1 (texts words.now)) }
+    ensures { plain_walk result ≡ walk kind (drop 1 (texts words.now)) (places_of kind) [] (take 1 (texts words.now)) }
 {
     let mut due = kind.places();
+    // where the names at the place that is due begin
+    let mut from = 1;
     for at in 1..words.len() {
-        let Some(later) = due_after(kind, due, &words[..at], words[at].as_str()) else {
+        let before = &words[..at];
+        let word = words[at].as_str();
+        let here = reached(due, &before[from..], word);
+        let Some(later) = due_after(kind, here, &before[from..], before, word) else {
             return Err(Refused { word: at + 1 });
         };
+        from = names_from(here, from, at);
         due = later;
     }
-    Ok(due)
+    Ok(closed(due, &words[from..]))
 }
 
 // Whether no place is due, and each option that is needed stands among the words.
-pub(crate) fn is_finished(kind: CommandKind, due: &[Slot], words: &[String]) -> bool
+pub(crate) fn is_finished(kind: CommandKind, due: &[Place], words: &[String]) -> bool
     ensures { result ≡ is_finished kind due.now (texts words.now) }
 {
     due.is_empty() && has_needed(kind, words)
@@ -49,20 +57,50 @@ fn has_needed(kind: CommandKind, words: &[String]) -> bool
     true
 }
 
+// The places that are due where the words end: names that are enough are past.
+fn closed(due: &'static [Place], names: &[String]) -> &'static [Place]
+    ensures { result.now ≡ closed due.now (texts names.now) }
+{
+    match due {
+        [] => due,
+        [Place::Word(_), ..] => due,
+        [Place::Names(list), later @ ..] => { if has_enough(*list, names) { later } else { due } }
+    }
+}
+
+// The places that are due where one more word stands: one that is no name ends names that are enough.
+fn reached(due: &'static [Place], names: &[String], word: &str) -> &'static [Place]
+    ensures { result.now ≡ reached due.now (texts names.now) word.now }
+{
+    match due {
+        [] => due,
+        [Place::Word(_), ..] => due,
+        [Place::Names(_), ..] => {
+            if is_file_name(word) {
+                due
+            } else {
+                closed(due, names)
+            }
+        }
+    }
+}
+
 // The places that are due after one more word; where none is due, an option may follow.
 fn due_after(
     kind: CommandKind,
-    due: &'static [Slot],
+    due: &'static [Place],
+    names: &[String],
     before: &[String],
     word: &str,
-) -> Option<&'static [Slot]>
-    ensures { option_copied result ≡ due_after kind due.now (texts before.now) word.now }
+) -> Option<&'static [Place]>
+    ensures { option_copied result ≡ due_after kind due.now (texts names.now) (texts before.now) word.now }
 {
     match due {
         [] => due_after_option(kind, before, word),
-        [slot, later @ ..] => {
-            if slot.fits(word.as_bytes()) {
-                Some(later)
+        [Place::Word(slot), later @ ..] => { if slot.fits(word) { Some(later) } else { None } }
+        [Place::Names(list), ..] => {
+            if may_follow(*list, names, word) {
+                Some(due)
             } else {
                 None
             }
@@ -71,7 +109,7 @@ fn due_after(
 }
 
 // The places that are due after an option's word; no option stands twice.
-fn due_after_option(kind: CommandKind, before: &[String], word: &str) -> Option<&'static [Slot]>
+fn due_after_option(kind: CommandKind, before: &[String], word: &str) -> Option<&'static [Place]>
     ensures { option_copied result ≡ due_after_option (choice_of kind word.now) (is_among word.now (texts before.now)) }
 {
     let choice = choice_of(kind, word)?;
@@ -82,8 +120,41 @@ fn due_after_option(kind: CommandKind, before: &[String], word: &str) -> Option<
     }
 }
 
+// Where the names at the place that is due begin, after one more word.
+fn names_from(due: &'static [Place], from: usize, at: usize) -> usize
+    requires { at < 18446744073709551615 }
+    ensures { result ≡ if takes_names due.now then from else (at + 1) }
+{
+    match due {
+        [] => at + 1,
+        [Place::Word(_), ..] => at + 1,
+        [Place::Names(_), ..] => from,
+    }
+}
+
+// Whether names are enough for a list.
+fn has_enough(list: NameList, names: &[String]) -> bool
+    ensures { result ≡ has_enough list (texts names.now) }
+{
+    list.fewest() <= names.len()
+}
+
+// Whether a word may follow the names of a list.
+fn may_follow(list: NameList, names: &[String], word: &str) -> bool
+    ensures { result ≡ may_follow list (texts names.now) word.now }
+{
+    is_file_name(word) && names.len() < MOST_NAMES && !is_repeated(list, names, word)
+}
+
+// Whether a word stands among names that must differ.
+fn is_repeated(list: NameList, names: &[String], word: &str) -> bool
+    ensures { result ≡ is_repeated list (texts names.now) word.now }
+{
+    list.must_differ() && is_among(word, names)
+}
+
 // The command's option of this word.
-#[tactic(auto, unfolding(crate::specs::Walk::choice_of))]
+#[tactic(auto, unfolding(crate::specs::Inner::Walk::choice_of))]
 fn choice_of(kind: CommandKind, word: &str) -> Option<Choice>
     ensures { result ≡ choice_of kind word.now }
 {
@@ -94,7 +165,7 @@ fn choice_of(kind: CommandKind, word: &str) -> Option<Choice>
 }
 
 // Whether a word stands among others.
-fn is_among(word: &str, words: &[String]) -> bool
+pub(crate) fn is_among(word: &str, words: &[String]) -> bool
     ensures { result ≡ is_among word.now (texts words.now) }
 {
     for other in words {

@@ -1,4 +1,4 @@
-use Rattle.command_words.proofs.Cut.{pieces_of_cut}
+use Rattle.command_words.proofs.PiecesLemmas.{pieces_of_cut}
 use Rattle.command_words.proofs.pieces.cut_piece.Goals as goal
 
 pub returns : goal.returns

@@ -1,5 +1,5 @@
 use Rattle.command_words.specs.Words.{texts}
-use Rattle.command_words.proofs.Reading.{result-command, result-refused, result-none}
+use Rattle.command_words.proofs.ReadLemmas.{result-command, result-refused, result-none}
 use Rattle.command_words.proofs.read.read_words.Goals as goal
 
 pub returns-clause-command : goal.returns-clause-command

@@ -1,5 +1,5 @@
 use Rattle.std.proofs.Common.{◌≡◌, true, false, string_bytes, bytes_eq, sym, ◌∙◌, arith}
-use Rattle.command_words.proofs.Steps.{is_among-here, is_among-more, is_among-past}
+use Rattle.command_words.proofs.WalkSteps.{is_among-here, is_among-more, is_among-past}
 use Rattle.command_words.proofs.walk.is_among.Goals as goal
 
 pub returns-then-eq : goal.returns-then-eq

@@ -1,4 +1,4 @@
--- Pieces of a text that are left (this project's own).
+-- Pieces of a text that are left.
 use Rattle.std.specs.Prelude.{ℕ, List, [], ◌∷◌, Option, Some, None}
 use Rattle.command_words.specs.Slots.{pieces_of}
 
