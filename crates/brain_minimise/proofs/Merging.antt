@@ -1,25 +1,24 @@
 -- A brain that was minimised: what the classes, the seen states, the numbers and the kept instructions come to.
-use Rattle.std.proofs.Common.{◌≡◌, inl, inr, ℕ, zero, suc, ◌+◌, ◌<◌, ◌≤◌, Bool, true, false, List, [], ◌∷◌, map, length, slice_index, slice_index_or, slice_get, Option, Some, None, IsSome, unwrap_or, refl, sym, ap, ap₂, ◌∙◌, subst, arith}
+use Rattle.std.proofs.Common.{◌≡◌, ℕ, zero, suc, ◌<◌, Bool, true, false, List, [], ◌∷◌, map, length, slice_index, slice_get, Option, Some, None, IsSome, unwrap_or, refl, sym, ap, ap₂, ◌∙◌, subst, arith}
 use Rattle.std.specs.List.{AllByRecursion, Contains}
-use Rattle.std.proofs.lemmas.Bool.{cases_lt, false≢true}
-use Rattle.std.proofs.lemmas.Option.{none-some, same_Some, get_or_from_slice_get, slice_get_within}
+use Rattle.std.proofs.lemmas.Option.{same_Some, get_or_from_slice_get, slice_get_within}
 use Rattle.brain_read.specs.declared.instr.Instr.{Instr}
 use Rattle.brain_read.specs.declared.instr.Instr.TheVariants.{Drop}
 use Rattle.brain_read.specs.BrainText.{states_of}
-use Rattle.brain_read.specs.Soundness.{IsBrain, IsSound, most_states}
+use Rattle.brain_read.specs.Soundness.{IsBrain, IsSound}
 use Rattle.ant_turn.specs.Renumber.{number_of, redirected}
 use Rattle.ant_turn.specs.Turn.{instruction_at}
 use Rattle.brain_minimise.specs.Equivalence.{Relation, AreRelated, AreEquivalent, IsBisimulation, shape_of}
 use Rattle.brain_minimise.specs.Inner.Classes.{AreClasses, AreStable}
-use Rattle.brain_minimise.specs.Inner.Exploring.{AreSeen, is_seen}
+use Rattle.brain_minimise.specs.Inner.Exploring.{AreSeen}
 use Rattle.brain_minimise.specs.Inner.Kept.{AreKept}
 use Rattle.brain_minimise.specs.Inner.Numbering.{AreNumbers}
-use Rattle.brain_minimise.specs.Minimised.{IsLeast, IsMinimised, number_in}
+use Rattle.brain_minimise.specs.Minimised.{IsMinimised, number_in}
 use Rattle.brain_minimise.specs.Reach.{IsReachable}
 use Rattle.brain_minimise.specs.Reach.IsReachable.{Start, Next}
 use Rattle.brain_minimise.proofs.Equivalences.{class-equivalent, equivalent-class, stable_alike}
-use Rattle.brain_minimise.proofs.Numbers.{number-inside, seen-inside, the_number}
-use Rattle.brain_minimise.proofs.Redirecting.{All-at, All-from, All-then, Contains-map, IsSound-redirected, instruction-sound, redirected-same, shape-from, shape_of-redirected, states-from, states_of-redirected, successors-below}
+use Rattle.brain_minimise.proofs.Numbers.{seen-inside, the_number}
+use Rattle.brain_minimise.proofs.Redirecting.{All-from, All-then, Contains-map, IsSound-redirected, instruction-sound, redirected-same, shape-from, shape_of-redirected, states-from, states_of-redirected}
 
 -- the successors of a state that can be reached can be reached
 pub successors-reached : (brain : List Instr) (state : ℕ) → IsReachable brain state → AllByRecursion (IsReachable brain) (states_of (instruction_at brain state))

@@ -1,6 +1,6 @@
 -- Games with a brain and with its minimised one.
-use Rattle.std.proofs.Common.{◌≡◌, ◌≢◌, ℕ, zero, suc, ◌<◌, Bool, true, false, cond, List, length, Option, Some, None, IsSome, refl, sym, ap, ◌∙◌, subst, arith}
-use Rattle.std.specs.Prelude.{option_map, unwrap_or, if◌then◌else◌}
+use Rattle.std.proofs.Common.{◌≡◌, ◌≢◌, ℕ, Bool, true, false, cond, List, Option, Some, None, IsSome, refl, sym, ap, ◌∙◌, subst, arith}
+use Rattle.std.specs.Prelude.{option_map, unwrap_or}
 use Rattle.std.proofs.Math.Path.{fun_ext}
 use Rattle.std.proofs.lemmas.Option.{get_or_from_slice_get, slice_get_within}
 use Rattle.hex_geometry.specs.declared.position.Pos.{Pos}
@@ -19,7 +19,7 @@ use Rattle.brain_read.specs.declared.instr.Instr.{Instr}
 use Rattle.brain_read.specs.declared.instr.Instr.TheVariants.{Drop}
 use Rattle.brain_read.specs.BrainText.{states_of}
 use Rattle.ant_turn.specs.Minds.{Minds, mind_of}
-use Rattle.ant_turn.specs.Renumber.{AreNumbered, Carries, Numbers, number_of, redirected, renumbered, renumbered_ant, renumbered_cell, renumbered_moment, side_states, with_mind}
+use Rattle.ant_turn.specs.Renumber.{AreNumbered, Carries, Numbers, number_of, redirected, renumbered, renumbered_ant, renumbered_moment, side_states, with_mind}
 use Rattle.ant_turn.specs.Rounds.{Moment, after_rounds, start_of}
 use Rattle.ant_turn.specs.Turn.{instruction_at}
 use Rattle.ant_turn.proofs.RenumberedTurns.{after_rounds-renumbered}

@@ -1,5 +1,5 @@
 -- The numbers of a minimised brain: each appears after all lower ones.
-use Rattle.std.proofs.Common.{◌≡◌, ◌⊎◌, inl, inr, ℕ, zero, suc, ◌+◌, ◌<◌, ◌≤◌, List, [], ◌∷◌, map, length, slice_get, slice_index_or, Option, Some, None, IsSome, unwrap_or, refl, sym, ap, ◌∙◌, subst, arith}
+use Rattle.std.proofs.Common.{◌≡◌, ◌⊎◌, inl, inr, ℕ, zero, suc, ◌<◌, ◌≤◌, List, [], ◌∷◌, map, length, slice_get, slice_index_or, Option, Some, None, IsSome, unwrap_or, refl, sym, ap, ◌∙◌, arith}
 use Rattle.std.specs.Prelude.{option_map}
 use Rattle.std.proofs.lemmas.Bool.{cases_eq, cases_lt, cases_order}
 use Rattle.std.proofs.lemmas.List.{length-map, same_lists}
@@ -15,7 +15,7 @@ use Rattle.brain_minimise.specs.Inner.Numbering.{IsRising}
 use Rattle.brain_minimise.specs.Laws.{AreDifferent, KeepsText, Merges, kept_before, left_of}
 use Rattle.brain_minimise.specs.Minimised.{IsLeast, IsMinimised, number_in}
 use Rattle.brain_minimise.specs.Reach.{IsReachable}
-use Rattle.brain_minimise.specs.Reach.IsReachable.{Start, Next}
+use Rattle.brain_minimise.specs.Reach.IsReachable.{Start}
 use Rattle.brain_minimise.proofs.Merging.{successors-reached}
 use Rattle.brain_minimise.proofs.Numbers.{number-inside, the_number}
 use Rattle.brain_minimise.proofs.Redirecting.{All-then, redirected-agree, redirected-self}

@@ -1,5 +1,5 @@
 -- States that were seen, and those of which the successors weren't looked at yet.
-use Rattle.std.specs.Prelude.{◌≡◌, ℕ, ◌<◌, Bool, true, false, List, [], ◌∷◌, ◌++◌, length, slice_index_or, if◌then◌else◌}
+use Rattle.std.specs.Prelude.{◌≡◌, ℕ, Bool, true, false, List, [], ◌∷◌, ◌++◌, length, slice_index_or, if◌then◌else◌}
 use Rattle.brain_read.specs.declared.instr.Instr.{Instr}
 use Rattle.brain_minimise.specs.Reach.{IsReachable}
 

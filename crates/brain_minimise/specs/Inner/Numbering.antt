@@ -1,5 +1,5 @@
 -- Numbers of the classes of the seen states, in the order in which the states show them.
-use Rattle.std.specs.Prelude.{◌≡◌, ℕ, ◌<◌, Bool, true, false, List, length, slice_index, Option, Some, None, IsSome}
+use Rattle.std.specs.Prelude.{◌≡◌, ℕ, ◌<◌, Bool, true, List, length, slice_index, Option, Some, IsSome}
 use Rattle.ant_turn.specs.Renumber.{number_of}
 use Rattle.brain_minimise.specs.Inner.Exploring.{is_seen}
 use Rattle.brain_minimise.specs.Minimised.{number_in}

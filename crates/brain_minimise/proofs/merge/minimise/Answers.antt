@@ -1,4 +1,4 @@
-use Rattle.std.proofs.Common.{◌≡◌, ◌∙◌, length, refl, sym, subst, arith}
+use Rattle.std.proofs.Common.{arith}
 use Rattle.brain_minimise.proofs.Merging.{IsBrain-kept, IsMinimised-from}
 use Rattle.brain_minimise.proofs.merge.minimise.Goals as goal
 

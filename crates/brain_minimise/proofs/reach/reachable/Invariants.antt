@@ -1,4 +1,4 @@
-use Rattle.std.proofs.Common.{ℕ, ◌+◌, ◌*◌, length}
+use Rattle.std.proofs.Common.{◌+◌, ◌*◌, length}
 use Rattle.brain_minimise.proofs.Exploring.{Explores, unseen}
 use Rattle.brain_minimise.proofs.reach.reachable.Given as goal
 
