@@ -1,0 +1,9 @@
+pub mod Equivalences
+pub mod Exploring
+pub mod Merging
+pub mod Numbers
+pub mod Playing
+pub mod Ranks
+pub mod Redirecting
+pub mod Refining
+pub mod Texts

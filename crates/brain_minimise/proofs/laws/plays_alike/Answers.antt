@@ -1,0 +1,5 @@
+use Rattle.brain_minimise.proofs.Playing.{game-minimised}
+use Rattle.brain_minimise.proofs.laws.plays_alike.Goals as goal
+
+pub returns : goal.returns
+returns c = game-minimised

@@ -1,0 +1,5 @@
+use Rattle.brain_minimise.proofs.Playing.{score-minimised}
+use Rattle.brain_minimise.proofs.laws.scores_alike.Goals as goal
+
+pub returns : goal.returns
+returns c = score-minimised

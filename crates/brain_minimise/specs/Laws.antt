@@ -1,0 +1,50 @@
+-- What minimising comes to, in its own words (this project's own).
+use Rattle.std.specs.Prelude.{◌≡◌, ℕ, zero, suc, ◌<◌, ◌≤◌, List, [], ◌∷◌, length, map, Option, Some, None}
+use Rattle.brain_read.specs.declared.instr.Instr.{Instr}
+use Rattle.ant_turn.specs.Renumber.{number_of, redirected}
+use Rattle.brain_minimise.specs.Equivalence.{AreEquivalent}
+use Rattle.brain_minimise.specs.Minimised.{IsMinimised, number_in}
+use Rattle.brain_minimise.specs.Reach.{IsReachable}
+
+-- minimising a minimised brain changes nothing: the same brain comes out, and each state keeps its number
+abbrev pub TwiceIsOnce : Type 0
+TwiceIsOnce = (old new again : List Instr) (numbers others : List (Option ℕ)) → IsMinimised old new numbers → IsMinimised new again others →
+    (again ≡ new) × ((state : ℕ) → state < length new → number_in others state ≡ Some state)
+
+-- a brain follows another by merging equivalent reachable states alone: each reachable state has become one of its states, and states that
+-- became one are equivalent
+pub record Merges (old other : List Instr) (numbers : List (Option ℕ)) : Type 0 where
+  pub kept : (state : ℕ) → IsReachable old state → (number : ℕ) × (number < length other) × (number_in numbers state ≡ Some number)
+  pub merged : (a b number : ℕ) → number_in numbers a ≡ Some number → number_in numbers b ≡ Some number → AreEquivalent old a b
+
+-- no brain that follows so has fewer states than the minimised one
+abbrev pub FewestStates : Type 0
+FewestStates = (old new other : List Instr) (numbers others : List (Option ℕ)) → IsMinimised old new numbers → Merges old other others → length new ≤ length other
+
+-- no two states that can be reached are equivalent
+abbrev pub AreDifferent : List Instr → Type 0
+AreDifferent brain = (a b : ℕ) → IsReachable brain a → IsReachable brain b → AreEquivalent brain a b → a ≡ b
+
+-- how many states before this one have a number
+abbrev pub kept_before : List (Option ℕ) → ℕ → ℕ
+kept_before [] state = 0
+kept_before (o ∷ numbers) zero = 0
+kept_before (None ∷ numbers) (suc state) = kept_before numbers state
+kept_before (Some number ∷ numbers) (suc state) = suc (kept_before numbers state)
+
+-- the instructions of the states that have a number, in their order
+abbrev pub left_of : List (Option ℕ) → List Instr → List Instr
+left_of [] brain = []
+left_of (o ∷ numbers) [] = []
+left_of (None ∷ numbers) (instruction ∷ brain) = left_of numbers brain
+left_of (Some number ∷ numbers) (instruction ∷ brain) = instruction ∷ left_of numbers brain
+
+-- a brain of which no two reachable states are equivalent keeps its instructions, in their order, but for the unreachable states: the
+-- number of each state is how many reachable ones stand before it, and where all can be reached nothing changes
+pub record KeepsText (old new : List Instr) (numbers : List (Option ℕ)) : Type 0 where
+  pub order : (state number : ℕ) → number_in numbers state ≡ Some number → number ≡ kept_before numbers state
+  pub text : new ≡ map (redirected (number_of (number_in numbers))) (left_of numbers old)
+  pub whole : ((state : ℕ) → state < length old → IsReachable old state) → new ≡ old
+
+abbrev pub DifferentStay : Type 0
+DifferentStay = (old new : List Instr) (numbers : List (Option ℕ)) → IsMinimised old new numbers → AreDifferent old → KeepsText old new numbers

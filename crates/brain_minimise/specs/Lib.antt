@@ -1,0 +1,7 @@
+pub mod Equivalence
+pub mod Inner
+pub mod Laws
+pub mod Match
+pub mod Minimised
+pub mod Reach
+pub mod Text

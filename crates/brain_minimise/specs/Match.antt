@@ -1,0 +1,51 @@
+-- Games with a brain and with its minimised one (the task's game play; minimising is this project's own).
+use Rattle.std.specs.Prelude.{◌≡◌, ◌≢◌, ℕ, List, Option, Some, None}
+use Rattle.hex_geometry.specs.declared.position.Pos.{Pos}
+use Rattle.cell_world.specs.declared.ant.Ant.{Ant}
+use Rattle.cell_world.specs.declared.ant.Colour.{Colour}
+use Rattle.cell_world.specs.declared.kind.Kind.{Kind}
+use Rattle.cell_world.specs.Grid.{world_of}
+use Rattle.cell_world.specs.Opening.{opening}
+use Rattle.cell_world.specs.Score.{score_of}
+use Rattle.cell_world.specs.World.{World}
+use Rattle.brain_read.specs.declared.instr.Instr.{Instr}
+use Rattle.ant_turn.specs.Minds.{Minds, mind_of}
+use Rattle.ant_turn.specs.Renumber.{renumbered_moment, with_mind}
+use Rattle.ant_turn.specs.Rounds.{Moment, after_rounds, start_of}
+use Rattle.brain_minimise.specs.Minimised.{IsMinimised, number_in}
+
+-- the moment after r rounds of the game of these minds that starts in the opening world of these kinds
+abbrev pub game : Minds → ℕ → ℕ → ℕ → List Kind → ℕ → Moment
+game minds seed width height kinds r = after_rounds minds seed (start_of (world_of (opening width height kinds))) r
+
+-- whatever the opening world, the other brain, the numbers of the rules, the seed, the side and the number of rounds: the game with
+-- the minimised brain on that side is the game with the brain, but for the numbers of that side's states, at an equal place of the stream
+abbrev pub PlaysAlike : Type 0
+PlaysAlike = (minds : Minds) (side : Colour) (brain : List Instr) (numbers : List (Option ℕ)) (seed width height : ℕ) (kinds : List Kind) (r : ℕ) → IsMinimised (mind_of minds side) brain numbers →
+    game (with_mind minds side brain) seed width height kinds r ≡ renumbered_moment (number_in numbers) side (game minds seed width height kinds r)
+
+-- so the scores are equal
+abbrev pub ScoresAlike : Type 0
+ScoresAlike = (minds : Minds) (side : Colour) (brain : List Instr) (numbers : List (Option ℕ)) (seed width height : ℕ) (kinds : List Kind) (r : ℕ) → IsMinimised (mind_of minds side) brain numbers →
+    score_of (game (with_mind minds side brain) seed width height kinds r).world ≡ score_of (game minds seed width height kinds r).world
+
+-- one ant as the other, but for its state where it is of this side
+abbrev pub IsSameAnt : Colour → Option Ant → Option Ant → Type 0
+IsSameAnt side None None = Unit {0}
+IsSameAnt side None (Some b) = ⊥
+IsSameAnt side (Some a) None = ⊥
+IsSameAnt side (Some a) (Some b) = (b ≡ record a { state = b.state }) × (a.colour ≢ side → b.state ≡ a.state)
+
+-- one world as the other, but for the states of this side's ants: the sizes and the number of ids are equal, and each cell is the same but
+-- for such a state
+pub record DiffersInStates (side : Colour) (old new : World) : Type 0 where
+  pub width : new.width ≡ old.width
+  pub height : new.height ≡ old.height
+  pub ids : new.ids ≡ old.ids
+  pub cells : (p : Pos) → new.cells p ≡ record (old.cells p) { ant = (new.cells p).ant }
+  pub ants : (p : Pos) → IsSameAnt side (old.cells p).ant (new.cells p).ant
+
+-- so what a dump shows after any round differs in that side's states alone
+abbrev pub DumpsAlike : Type 0
+DumpsAlike = (minds : Minds) (side : Colour) (brain : List Instr) (numbers : List (Option ℕ)) (seed width height : ℕ) (kinds : List Kind) (r : ℕ) → IsMinimised (mind_of minds side) brain numbers →
+    DiffersInStates side (game minds seed width height kinds r).world (game (with_mind minds side brain) seed width height kinds r).world

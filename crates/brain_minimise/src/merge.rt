@@ -1,0 +1,45 @@
+// A brain with its equivalent states merged.
+ghost use Rattle.std.specs.Prelude.{IfOk};
+ghost use Rattle.brain_minimise.specs.Minimised.{IsMinimised};
+
+use crate::classes::equivalence_classes;
+use crate::numbering::{kept, numbered, table_of};
+use crate::reach::reachable;
+use crate::state_map::StateMap;
+use brain_read::Brain;
+use hex_geometry::OutOfMemory;
+use std::alloc::Global;
+
+/// A brain with its equivalent states merged, and what became of each state (this project's own).
+#[derive(Drop)]
+pub struct Minimised {
+    /// The minimised brain.
+    pub brain: Brain,
+    /// The new number of each old state, by its old number.
+    pub map: StateMap,
+}
+
+/// Merges the equivalent states of a brain among those that state 0 leads to, and drops all others (this project's own, over the task's
+/// neurology).
+///
+/// Two states are equivalent by the greatest relation in which related states have equal kinds and parameters and related successors. The
+/// kept states are numbered from 0 in rising order of their least reachable member; each has its members' instruction with the
+/// successors renumbered; no two of them are equivalent. The map is `None` exactly at the states that state 0 doesn't lead to. It is
+/// refused for want of memory alone.
+///
+/// Each round parts every class into the states that do as its least member and the others, in one pass; there are at most as many
+/// rounds as classes come out. So the worst case is quadratic: 10,000 states in a chain, or of 10,000 kinds, take 10,000 rounds of
+/// 10,000 short steps.
+pub fn minimise(alloc: Global, brain: &Brain) -> Result<Minimised, OutOfMemory>
+    ensures { IfOk result (λ minimised. IsMinimised brain.now minimised.brain minimised.map) }
+{
+    let seen = reachable(alloc, brain)?;
+    let classes = equivalence_classes(alloc, brain)?;
+    let numbers = numbered(alloc, &classes, &seen)?;
+    let table = table_of(alloc, &numbers)?;
+    let list = kept(alloc, brain, &numbers, &table)?;
+    Ok(Minimised {
+        brain: Brain::from_list(list),
+        map: StateMap::from_list(numbers),
+    })
+}
