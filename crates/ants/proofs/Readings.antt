@@ -16,7 +16,7 @@ use Rattle.ants.specs.declared.stop.Stop.TheVariants as stop
 use Rattle.ants.specs.Files.{File, FileKind, Content, AreAccepted, AreBegun, IsAccepted, IsRefused, Refuses, StopsAt}
 use Rattle.ants.specs.Inner.Reading.{CarriesOut, CarriesOutWords, ComesTo, Outcome, ReadingStops, ReadsFiles, ReadsText, TextStops, ending_of, fetch_reason, outcome_of}
 use Rattle.ants.specs.Inner.Reading.Outcome.{Contents, Stopped}
-use Rattle.ants.specs.Jobs.{files_of, job_text}
+use Rattle.ants.specs.Jobs.{files_of, IsJobText}
 use Rattle.ants.specs.Judged.{IsRefusedAs}
 use Rattle.ants.specs.Performing.{EndsBy, IsUnsure, StopsFor}
 use Rattle.ants.specs.Running.{Ends}
@@ -184,15 +184,15 @@ carries_stopped command shelf new_shelf out reason reads =
 
 -- a command's files were read, and its whole text was written
 pub carries_done : (command : PlainCommand) (shelf new_shelf : ShelfState) (out new_out : SinkState) (contents : List Content) → ReadsFiles shelf new_shelf (files_of command) (Contents contents)
-    → PushedAll out new_out (job_text command contents) → CarriesOut command shelf new_shelf out new_out None
-carries_done command shelf new_shelf out new_out contents reads pushed =
-    record { fetches = reads.fetches; fetched = reads.fetched; ends = record { contents = contents; accepted = reads.comes; written = pushed } }
+    → (text : List ℕ) → IsJobText command contents text → PushedAll out new_out text → CarriesOut command shelf new_shelf out new_out None
+carries_done command shelf new_shelf out new_out contents reads text is pushed =
+    record { fetches = reads.fetches; fetched = reads.fetched; ends = record { contents = contents; accepted = reads.comes; text = text; is_text = is; written = pushed } }
 
 -- a command's files were read, and a front of its text was written
 pub carries_cut : (command : PlainCommand) (shelf new_shelf : ShelfState) (out new_out : SinkState) (contents : List Content) → ReadsFiles shelf new_shelf (files_of command) (Contents contents)
-    → PushedFront out new_out (job_text command contents) → CarriesOut command shelf new_shelf out new_out (Some AtOutput)
-carries_cut command shelf new_shelf out new_out contents reads pushed =
-    record { fetches = reads.fetches; fetched = reads.fetched; ends = record { contents = contents; accepted = reads.comes; cut = pushed } }
+    → (text : List ℕ) → IsJobText command contents text → PushedFront out new_out text → CarriesOut command shelf new_shelf out new_out (Some AtOutput)
+carries_cut command shelf new_shelf out new_out contents reads text is pushed =
+    record { fetches = reads.fetches; fetched = reads.fetched; ends = record { contents = contents; accepted = reads.comes; text = text; is_text = is; cut = pushed } }
 
 -- memory was wanting before a file was fetched
 pub carries_nothing : (command : PlainCommand) (shelf : ShelfState) (out : SinkState) → CarriesOut command shelf shelf out out (Some AtMemory)
@@ -242,9 +242,13 @@ carries_stop command shelf new_shelf out result why same reads =
 
 -- a command that answers with a failed output
 pub carries_failure : {U : Type 0} (command : PlainCommand) (shelf new_shelf : ShelfState) (out new_out : SinkState) (contents : List Content) (result : Result U Stop) → IsErrAnd result (λ other. other ≡ stop.Write)
-    → ReadsFiles shelf new_shelf (files_of command) (Contents contents) → PushedFront out new_out (job_text command contents) → CarriesOut command shelf new_shelf out new_out (ending_of result)
-carries_failure command shelf new_shelf out new_out contents result same reads pushed =
-    subst (CarriesOut command shelf new_shelf out new_out) (ending_stopped result stop.Write same) (carries_cut command shelf new_shelf out new_out contents reads pushed)
+    → ReadsFiles shelf new_shelf (files_of command) (Contents contents) → (text : List ℕ) → IsJobText command contents text → PushedFront out new_out text → CarriesOut command shelf new_shelf out new_out (ending_of result)
+carries_failure command shelf new_shelf out new_out contents result same reads text is pushed =
+    subst (CarriesOut command shelf new_shelf out new_out) (ending_stopped result stop.Write same) (carries_cut command shelf new_shelf out new_out contents reads text is pushed)
+
+-- a command that answers with want of memory before a file was fetched
+pub carries_wanting : {U : Type 0} (command : PlainCommand) (shelf : ShelfState) (out : SinkState) (result : Result U Stop) → IsErrAnd result (λ other. other ≡ stop.Memory) → CarriesOut command shelf shelf out out (ending_of result)
+carries_wanting command shelf out result same = subst (CarriesOut command shelf shelf out out) (ending_stopped result stop.Memory same) (carries_nothing command shelf out)
 
 -- words that answer with want of memory before a file was fetched
 pub carries_want : {U : Type 0} (words : List (List ℕ)) (command : PlainCommand) (shelf : ShelfState) (out : SinkState) (result : Result U Stop) → IsErrAnd result (λ other. other ≡ stop.Memory) → IsCommand words command

@@ -1,7 +1,11 @@
 -- What each command reads and writes (this project's own): one equation a command.
-use Rattle.std.specs.Prelude.{ℕ, List, [], ◌∷◌}
+use Rattle.std.specs.Prelude.{◌≡◌, ℕ, List, [], ◌∷◌, Option}
 use Rattle.ant_base.specs.Layout.{◌+++◌}
-use Rattle.ant_turn.specs.Minds.{contest_minds}
+use Rattle.ant_turn.specs.Minds.{Minds}
+use Rattle.ant_turn.specs.Sheet.{Sheet}
+use Rattle.brain_minimise.specs.Minimised.{IsMinimised}
+use Rattle.brain_minimise.specs.Text.{minimised_text}
+use Rattle.brain_read.specs.declared.instr.Instr.{Instr}
 use Rattle.brain_read.specs.Canonical.{brain_text}
 use Rattle.cell_world.specs.Grid.{world_of}
 use Rattle.command_words.specs.Slots.{DumpChoice}
@@ -10,8 +14,8 @@ use Rattle.match_run.specs.declared.dumps.Dumps.{Dumps}
 use Rattle.match_run.specs.declared.dumps.Dumps.TheVariants.{Nothing, All, Chosen}
 use Rattle.match_run.specs.Run.{run_text}
 use Rattle.dump_print.specs.Texts.{seed_text, dump_text}
-use Rattle.command_words.specs.Command.{PlainCommand}
-use Rattle.command_words.specs.Command.PlainCommand.{ShowCommand, BrainCommand, RunCommand}
+use Rattle.command_words.specs.Command.{PlainCommand, RunSetup}
+use Rattle.command_words.specs.Command.PlainCommand.{ShowCommand, BrainCommand, MinimiseCommand, RunCommand, GenCommand, CupCommand, ViewCommand, WorkloadCommand}
 use Rattle.ants.specs.Files.{File, Content}
 use Rattle.ants.specs.Files.FileKind.{WorldFile, BrainFile}
 use Rattle.ants.specs.Files.Content.{WorldContent, BrainContent}
@@ -31,7 +35,12 @@ game_files world red black = world_file world ∷ brain_file red ∷ brain_file 
 abbrev pub files_of : PlainCommand → List File
 files_of (ShowCommand world seed) = world_file world ∷ []
 files_of (BrainCommand file) = brain_file file ∷ []
-files_of (RunCommand world red black seed rounds dumps) = game_files world red black
+files_of (MinimiseCommand file) = brain_file file ∷ []
+files_of (RunCommand world red black setup) = game_files world red black
+files_of (GenCommand seed shape) = []
+files_of (CupCommand worlds brains seed rounds workers) = []
+files_of (ViewCommand world red black breaks seed rounds) = []
+files_of (WorkloadCommand seed rounds workers) = []
 
 -- the output of `show`: the line of the seed, and the dump after round 0
 unfoldable pub show_output : ℕ → Content → List ℕ
@@ -49,15 +58,36 @@ chosen_rounds NoDump = Nothing
 chosen_rounds EveryDump = All
 chosen_rounds (ChosenDumps numbers) = Chosen numbers
 
--- the output of `run`: the line of the seed, the chosen dumps and the score
-unfoldable pub match_output : ℕ → ℕ → DumpChoice → Content → Content → Content → List ℕ
-match_output seed rounds dumps (WorldContent grid) (BrainContent red) (BrainContent black) =
-    run_text (contest_minds red black) seed rounds (chosen_rounds dumps) (world_of grid)
-match_output seed rounds dumps world red black = []
+-- the numbers of the rules that the words of a game name
+abbrev pub sheet_named : RunSetup → Sheet
+sheet_named setup = record { surround = setup.surround; corpse = setup.corpse; rest = setup.rest }
 
--- the output of a command whose files were accepted as these contents
-abbrev pub job_text : PlainCommand → List Content → List ℕ
-job_text (ShowCommand world seed) (content ∷ []) = show_output seed content
-job_text (BrainCommand file) (content ∷ []) = brain_output content
-job_text (RunCommand world red black seed rounds dumps) (first ∷ second ∷ third ∷ []) = match_output seed rounds dumps first second third
-job_text command contents = []
+-- both brains of a game, and the numbers of its rules
+abbrev pub minds_named : RunSetup → List Instr → List Instr → Minds
+minds_named setup red black = record { red = red; black = black; sheet = sheet_named setup }
+
+-- the output of `run`: the line of the seed, the chosen dumps and the score
+unfoldable pub match_output : RunSetup → Content → Content → Content → List ℕ
+match_output setup (WorldContent grid) (BrainContent red) (BrainContent black) =
+    run_text (minds_named setup red black) setup.seed setup.rounds (chosen_rounds setup.dumps) (world_of grid)
+match_output setup world red black = []
+
+-- the output of `minimise`: what is told of this brain, minimised
+pub record TellsMinimised (old : List Instr) (text : List ℕ) : Type 0 where
+  pub new : List Instr
+  pub numbers : List (Option ℕ)
+  pub minimised : IsMinimised old new numbers
+  pub told : text ≡ minimised_text old new
+
+abbrev pub IsMinimisedOutput : Content → List ℕ → Type 0
+IsMinimisedOutput (WorldContent grid) text = ⊥
+IsMinimisedOutput (BrainContent list) text = TellsMinimised list text
+
+-- a text is the output of a command whose files were accepted as these contents
+abbrev pub IsJobText : PlainCommand → List Content → List ℕ → Type 0
+IsJobText (ShowCommand world seed) (content ∷ []) text = text ≡ show_output seed content
+IsJobText (BrainCommand file) (content ∷ []) text = text ≡ brain_output content
+IsJobText (MinimiseCommand file) (content ∷ []) text = IsMinimisedOutput content text
+IsJobText (RunCommand world red black setup) (first ∷ second ∷ third ∷ []) text = text ≡ match_output setup first second third
+-- never: a command's files are as many as its contents
+IsJobText command contents text = ⊥

@@ -8,7 +8,7 @@ use Rattle.ant_base.specs.declared.shelf.FetchFault.TheVariants as answer
 use Rattle.command_words.specs.Command.{PlainCommand}
 use Rattle.ants.specs.declared.stop.FileFault.{FileFault}
 use Rattle.ants.specs.Files.{File, Content, AreAccepted, AreBegun, StopsAt}
-use Rattle.ants.specs.Jobs.{files_of, job_text}
+use Rattle.ants.specs.Jobs.{files_of, IsJobText}
 use Rattle.ants.specs.Judged.{IsRefusedAs}
 use Rattle.ants.specs.Stopping.{Reason}
 use Rattle.ants.specs.Stopping.Reason.{AtWord, AtFile, AtOutput, AtInput, AtMemory}
@@ -17,13 +17,17 @@ use Rattle.ants.specs.Stopping.Reason.{AtWord, AtFile, AtOutput, AtInput, AtMemo
 pub record IsDone (command : PlainCommand) (fetches : List Fetched) (out new_out : SinkState) : Type 0 where
   pub contents : List Content
   pub accepted : AreAccepted (files_of command) fetches contents
-  pub written : PushedAll out new_out (job_text command contents)
+  pub text : List ℕ
+  pub is_text : IsJobText command contents text
+  pub written : PushedAll out new_out text
 
 -- all files were accepted, and a front of the text was written before the output failed
 pub record IsCut (command : PlainCommand) (fetches : List Fetched) (out new_out : SinkState) : Type 0 where
   pub contents : List Content
   pub accepted : AreAccepted (files_of command) fetches contents
-  pub cut : PushedFront out new_out (job_text command contents)
+  pub text : List ℕ
+  pub is_text : IsJobText command contents text
+  pub cut : PushedFront out new_out text
 
 -- the fetch of the file, which has this name, failed, and the shelf wasn't sure of it
 pub record IsUnsure (shelf : ShelfState) (name : List ℕ) (file : File) (fetch : Fetched) : Type 0 where

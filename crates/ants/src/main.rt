@@ -7,6 +7,7 @@
 mod brain;
 mod fetching;
 mod laws;
+mod minimise;
 mod program;
 mod run;
 mod show;

@@ -1,8 +1,10 @@
 // The whole program, over any shelf and any sinks.
 ghost use Rattle.std.specs.Prelude.{◌≡◌, ◌↔◌, Some};
-ghost use Rattle.command_words.specs.Words.{plain_dumps, texts};
+ghost use Rattle.command_words.specs.Command.PlainCommand.{RunCommand};
+ghost use Rattle.command_words.specs.Laws.{SetupWithin};
+ghost use Rattle.command_words.specs.Words.{plain_setup, texts};
 ghost use Rattle.ants.specs.Inner.Planning.{IsPlanned};
-ghost use Rattle.ants.specs.Inner.Reading.{CarriesOutWords, ending_of};
+ghost use Rattle.ants.specs.Inner.Reading.{CarriesOut, CarriesOutWords, ending_of};
 ghost use Rattle.ants.specs.Running.{IsComplete, IsNoCommand, IsOrderly, IsRead, IsRefusing, IsRun, IsRunTo, Reports};
 ghost use Rattle.ants.specs.Status.{number_of};
 ghost use Rattle.ants.specs.Stopping.{reason_of, status_of};
@@ -10,32 +12,47 @@ ghost use Rattle.ants.specs.Stopping.Reason.{AtMemory};
 ghost use Rattle.std.specs.Process.{exit_status};
 
 use crate::brain::brain;
+use crate::minimise::minimise;
 use crate::run::{Names, dumps_of, run};
 use crate::show::show;
 use crate::status::Status;
 use crate::stop::Stop;
 use ant_base::{Gate, Layout, Shelf, Sink};
-use command_words::{Command, DumpWord, read_words};
+use ant_turn::Sheet;
+use command_words::{Command, RunOptions, read_words};
 use match_run::Plan;
 use std::alloc::Global;
 use std::process::ExitCode;
 use std::thread::Threads;
 
-// A game's window of looks has as many turns as a whole round at most.
-const WHOLE_ROUND: u32 = 16_384;
-
 // What a game is asked to do.
-fn plan_of<'w>(alloc: Global, seed: u32, rounds: u32, word: DumpWord<'_>) -> Result<Plan, Stop<'w>>
-    ensures { IsPlanned seed rounds (plain_dumps word.entry) result }
+fn plan_of<'w>(alloc: Global, options: RunOptions<'_>) -> Result<Plan, Stop<'w>>
+    ensures { IsPlanned (plain_setup options.entry) result }
 {
-    let dumps = dumps_of(alloc, word)?;
+    let dumps = dumps_of(alloc, options.dumps)?;
     Ok(Plan {
-        seed,
-        rounds,
+        seed: options.seed,
+        rounds: options.rounds,
         dumps,
-        window: WHOLE_ROUND,
-        stats: false,
+        window: options.window,
+        stats: options.stats,
     })
+}
+
+// Plays the game that the words ask for.
+fn carry_out_run<'w, S: Shelf, K: Sink>(
+    alloc: Global,
+    names: Names<'w>,
+    options: RunOptions<'w>,
+    shelf: &mut S,
+    out: &mut K,
+) -> Result<(), Stop<'w>>
+    requires { SetupWithin (plain_setup options) }
+    ensures { CarriesOut (RunCommand names.entry.world.now names.entry.red.now names.entry.black.now (plain_setup options.entry)) (S.state shelf.old) (S.state shelf.new) (K.state out.old) (K.state out.new) (ending_of result) }
+{
+    let sheet = Sheet::new(options.surround, options.corpse, options.rest);
+    let plan = plan_of(alloc, options)?;
+    run(alloc, names, sheet, &plan, shelf, out)
 }
 
 // Carries out the command that the words are.
@@ -51,19 +68,16 @@ fn carry_out<'w, S: Shelf, K: Sink>(
         Err(refused) => Err(Stop::Words(refused.word)),
         Ok(Command::Show { world, seed }) => show(alloc, world, seed, shelf, out),
         Ok(Command::Brain { file }) => brain(alloc, file, shelf, out),
+        Ok(Command::Minimise { file }) => minimise(alloc, file, shelf, out),
         Ok(
             Command::Run {
                 world,
                 red,
                 black,
-                seed,
-                rounds,
-                dumps,
+                options,
             },
-        ) => {
-            let plan = plan_of(alloc, seed, rounds, dumps)?;
-            run(alloc, Names { world, red, black }, &plan, shelf, out)
-        }
+        ) => carry_out_run(alloc, Names { world, red, black }, options, shelf, out),
+        Ok(_) => Err(Stop::Memory),
     }
 }
 

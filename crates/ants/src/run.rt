@@ -1,20 +1,21 @@
 // The command `run`.
 ghost use Rattle.std.specs.Prelude.{◌≡◌, ◌≤◌, IfOk};
 ghost use Rattle.ant_base.specs.Sink.{Pushed};
-ghost use Rattle.ant_turn.specs.Minds.{Fits, contest_minds};
+ghost use Rattle.ant_turn.specs.Minds.{Fits};
+ghost use Rattle.ant_turn.specs.Sheet.{sheet_of};
 ghost use Rattle.cell_world.specs.Grid.{world_of};
 ghost use Rattle.command_words.specs.Command.PlainCommand.{RunCommand};
-ghost use Rattle.command_words.specs.Slots.{DumpChoice};
+ghost use Rattle.command_words.specs.Command.{RunSetup};
 ghost use Rattle.command_words.specs.Words.{plain_dumps};
 ghost use Rattle.match_run.specs.Run.{run_text};
-ghost use Rattle.ants.specs.Inner.Planning.{setting_contents};
+ghost use Rattle.ants.specs.Inner.Planning.{IsSheetOf, Plans, setting_contents};
 ghost use Rattle.ants.specs.Inner.Reading.{CarriesOut, ReadsFiles, ending_of, outcome_of};
 ghost use Rattle.ants.specs.Jobs.{chosen_rounds, game_files};
 
 use crate::fetching::read_file;
 use crate::stop::Stop;
 use ant_base::{Failed, Shelf, Sink};
-use ant_turn::Brains;
+use ant_turn::{Brains, Sheet};
 use brain_read::Brain;
 use cell_world::World;
 use command_words::{DumpWord, Numbers};
@@ -74,15 +75,17 @@ fn setting_of<'w, S: Shelf>(
 }
 
 // Plays a game, and pushes its text.
-fn play<K: Sink>(setting: Setting, plan: &Plan, out: &mut K) -> Result<(), Failed>
-    requires fit { Fits (world_of setting.world) (contest_minds setting.red setting.black) }
+fn play<K: Sink>(setting: Setting, sheet: Sheet, plan: &Plan, out: &mut K) -> Result<(), Failed>
+    requires fit { Fits (world_of setting.world) (record { red = setting.red; black = setting.black; sheet = sheet_of sheet }) }
     requires few_rounds { plan.now.rounds ≤ 1000000 }
-    ensures { Pushed (K.state out.old) (K.state out.new) (run_text (contest_minds setting.red setting.black) plan.now.seed plan.now.rounds plan.now.dumps (world_of setting.world)) result }
+    ensures { Pushed (K.state out.old) (K.state out.new)
+        (run_text (record { red = setting.red; black = setting.black; sheet = sheet_of sheet }) plan.now.seed plan.now.rounds plan.now.dumps (world_of setting.world)) result }
 {
     let Setting { world, red, black } = setting;
     let brains = Brains {
         red: &red,
         black: &black,
+        sheet,
     };
     match play_alone(world, brains, plan, out) {
         Ok(_) => Ok(()),
@@ -94,14 +97,15 @@ fn play<K: Sink>(setting: Setting, plan: &Plan, out: &mut K) -> Result<(), Faile
 pub fn run<'w, S: Shelf, K: Sink>(
     alloc: Global,
     names: Names<'w>,
+    sheet: Sheet,
     plan: &Plan,
     shelf: &mut S,
     out: &mut K,
 ) -> Result<(), Stop<'w>>
     requires { plan.now.rounds ≤ 1000000 }
-    ensures { (dumps : DumpChoice) → plan.now.dumps ≡ chosen_rounds dumps → CarriesOut (RunCommand names.entry.world.now names.entry.red.now names.entry.black.now plan.now.seed plan.now.rounds dumps) (S.state shelf.old) (S.state shelf.new) (K.state out.old) (K.state out.new) (ending_of result) }
+    ensures { (setup : RunSetup) → Plans setup plan.now → IsSheetOf setup sheet → CarriesOut (RunCommand names.entry.world.now names.entry.red.now names.entry.black.now setup) (S.state shelf.old) (S.state shelf.new) (K.state out.old) (K.state out.new) (ending_of result) }
 {
     let setting = setting_of(alloc, names, shelf)?;
-    play(setting, plan, out)?;
+    play(setting, sheet, plan, out)?;
     Ok(())
 }

@@ -1,24 +1,32 @@
 -- What the private functions that plan a game ensure.
 use Rattle.std.specs.Prelude.{◌≡◌, ℕ, List, [], ◌∷◌, Result, Ok, Err}
-use Rattle.command_words.specs.Slots.{DumpChoice}
+use Rattle.ant_turn.specs.declared.sheet.Sheet.{Sheet}
+use Rattle.ant_turn.specs.Sheet.{sheet_of}
+use Rattle.command_words.specs.Command.{RunSetup}
 use Rattle.match_run.specs.declared.plan.Plan.{Plan}
 use Rattle.ants.specs.declared.run.Setting.{Setting}
 use Rattle.ants.specs.declared.stop.Stop.{Stop}
 use Rattle.ants.specs.declared.stop.Stop.TheVariants as stop
 use Rattle.ants.specs.Files.{Content}
 use Rattle.ants.specs.Files.Content.{WorldContent, BrainContent}
-use Rattle.ants.specs.Jobs.{chosen_rounds}
+use Rattle.ants.specs.Jobs.{chosen_rounds, sheet_named}
 
--- the plan has this seed, these rounds and these dumps
-pub record Plans (seed rounds : ℕ) (dumps : DumpChoice) (plan : Plan) : Type 0 where
-  pub seed_is : plan.seed ≡ seed
-  pub rounds_are : plan.rounds ≡ rounds
-  pub dumps_are : plan.dumps ≡ chosen_rounds dumps
+-- the plan is what the words say
+pub record Plans (setup : RunSetup) (plan : Plan) : Type 0 where
+  pub seed_is : plan.seed ≡ setup.seed
+  pub rounds_are : plan.rounds ≡ setup.rounds
+  pub dumps_are : plan.dumps ≡ chosen_rounds setup.dumps
+  pub window_is : plan.window ≡ setup.window
+  pub stats_are : plan.stats ≡ setup.stats
+
+-- the sheet has the numbers that the words name
+abbrev pub IsSheetOf : RunSetup → Sheet → Type 0
+IsSheetOf setup sheet = sheet_of sheet ≡ sheet_named setup
 
 -- a plan was made; only memory can be wanting
-abbrev pub IsPlanned : ℕ → ℕ → DumpChoice → Result Plan Stop → Type 0
-IsPlanned seed rounds dumps (Ok plan) = Plans seed rounds dumps plan
-IsPlanned seed rounds dumps (Err reason) = reason ≡ stop.Memory
+abbrev pub IsPlanned : RunSetup → Result Plan Stop → Type 0
+IsPlanned setup (Ok plan) = Plans setup plan
+IsPlanned setup (Err reason) = reason ≡ stop.Memory
 
 -- what the files of a game were read as
 abbrev pub setting_contents : Setting → List Content
