@@ -10,9 +10,13 @@ use Rattle.dump_print.specs.Content.{content_text}
 abbrev pub line_break : ℕ → ℕ → List ℕ
 line_break x y = if (x == 0) && (y == 0) then [] else codes "\n"
 
+-- what stands between the column and the content of each cell of row y
+unfoldable pub row_tail : ℕ → List ℕ
+row_tail y = codes ", " +++ decimal y +++ codes "): "
+
 -- the line of a cell without its LF
 unfoldable pub line_body : ℕ → ℕ → Cell → List ℕ
-line_body x y cell = codes "cell (" +++ decimal x +++ codes ", " +++ decimal y +++ codes "): " +++ content_text cell
+line_body x y cell = codes "cell (" +++ decimal x +++ row_tail y +++ content_text cell
 
 -- the line of the cell in column x of row y, behind the LF of the line before
 abbrev pub broken_line : World → ℕ → ℕ → List ℕ

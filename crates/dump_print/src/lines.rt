@@ -1,35 +1,51 @@
 // The lines of cells, row by row.
-ghost use Rattle.std.specs.Prelude.{◌<◌};
+ghost use Rattle.std.specs.Prelude.{◌≡◌, ◌<◌, codes, decimal};
 ghost use Rattle.cell_world.specs.Grid.{world_of};
 ghost use Rattle.ant_base.specs.Layout.{◌+++◌};
-ghost use Rattle.dump_print.specs.Breaks.{line_body, line_break, broken_line, broken_row};
+ghost use Rattle.dump_print.specs.Breaks.{line_break, row_tail, broken_line, broken_row};
+ghost use Rattle.dump_print.specs.Content.{content_text};
 ghost use Rattle.dump_print.specs.Texts.{cells_text};
 
 use crate::content::Content;
 use ant_base::{Each, Failed, Layout, Parts, Sink, layout};
+use arrayvec::ArrayString;
 use cell_world::{Cell, World};
 use hex_geometry::Pos;
+use itoa::Buffer;
+
+// What stands between the column and the content of each cell of row `y`, as `, 7): `: it is made once for a row.
+#[tactic(auto, unfolding(crate::specs::Breaks::row_tail))]
+fn row_tail(y: u16) -> ArrayString<16>
+    ensures { result.bytes ≡ row_tail y }
+{
+    let mut buffer = Buffer::new();
+    let mut tail = ArrayString::new();
+    tail.push_str(", ");
+    tail.push_str(buffer.format(y));
+    tail.push_str("): ");
+    tail
+}
 
 // The line of a cell without its LF, and in front of it the LF of the line before, if there is one: pieces that end in LF are flushed
 // by the sinks of streams, and so all lines are flushed at once.
 #[derive(Clone, Copy)]
-pub struct CellLine {
+pub struct CellLine<'r> {
     pub x: u16,
     pub y: u16,
+    pub tail: &'r str,
     pub cell: Cell,
 }
 
-impl Layout for CellLine {
-    ghost text = { λ line. line_break line.x line.y +++ line_body line.x line.y line.cell };
+impl Layout for CellLine<'_> {
+    ghost text = { λ line. line_break line.x line.y +++ codes "cell (" +++ decimal line.x +++ line.tail.now +++ content_text line.cell };
 
-    #[tactic(auto, unfolding(crate::specs::Breaks::line_body))]
     fn push_to<K: Sink>(&self, sink: &mut K) -> Result<(), Failed> {
         let start = if self.x == 0 && self.y == 0 {
             "cell ("
         } else {
             "\ncell ("
         };
-        layout!(start, self.x, ", ", self.y, "): ", Content(self.cell)).push_to(sink)
+        layout!(start, self.x, self.tail, Content(self.cell)).push_to(sink)
     }
 }
 
@@ -38,7 +54,9 @@ impl Layout for CellLine {
 pub struct Row<'w> {
     pub world: &'w World,
     pub y: u16,
+    pub tail: &'w str,
     ghost inside: { y < world.now.height },
+    ghost told: { tail.now ≡ row_tail y },
 }
 
 impl Parts for Row<'_> {
@@ -50,14 +68,16 @@ impl Parts for Row<'_> {
         self.world.width() as usize
     }
 
+    #[tactic(auto, unfolding(crate::specs::Breaks::line_body))]
     fn push_part<K: Sink>(&self, at: usize, sink: &mut K) -> Result<(), Failed> {
         let world = self.world;
         let columns = world.width();
         prove!(at < columns as usize);
         let x = at as u16;
         let y = self.y;
+        let tail = self.tail;
         let cell = world.cell(Pos { x, y });
-        CellLine { x, y, cell }.push_to(sink)
+        CellLine { x, y, tail, cell }.push_to(sink)
     }
 }
 
@@ -79,9 +99,12 @@ impl Parts for Rows<'_> {
         let world = self.0;
         let rows = world.height();
         prove!(at < rows as usize);
+        let y = at as u16;
+        let tail = row_tail(y);
         Each(Row {
             world,
-            y: at as u16,
+            y,
+            tail: tail.as_str(),
         })
         .push_to(sink)
     }
