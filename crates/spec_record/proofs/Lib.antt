@@ -5,7 +5,9 @@ pub mod OwnSteps
 pub mod Patched
 pub mod Raising
 pub mod Settling
+pub mod Sizes
 pub mod SettlingTurns
 pub mod Steps
 pub mod TurnSteps
+pub mod WritesAlone
 pub mod WritesClear

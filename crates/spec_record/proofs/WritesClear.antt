@@ -68,11 +68,15 @@ module _ (w : World) (valid : Valid w) (p : Pos) (ant : Ant) (is : (w.cells p).a
 
   -- what an ant writes that goes
   going_clear : (sheet : Sheet) (q : Pos) (next : ℕ) → is_blocked (w.cells q) ≡ false → AreClear (positions (writes_going sheet w.cells p ant q next))
-  going_clear sheet q next free =
-      (here_clear, (free_clear (w.cells q) free,
+  going_clear sheet q next free = (
+    here_clear,
+    (
+      free_clear (w.cells q) free,
       subst AreClear (sym (positions-emptied (emptied sheet (stepped sheet w.cells p ant q next) (places_around q))))
-      (all_map (λ r. has_ant (stepped sheet w.cells p ant q next r).ant ≡ true) (λ r. (w.cells r).rocky ≡ false) (emptied sheet (stepped sheet w.cells p ant q next) (places_around q)) (stepped-clear sheet w p ant q next valid free)
-      (emptied-manned sheet (places_around q) (stepped sheet w.cells p ant q next)))))
+          (all_map (λ r. has_ant (stepped sheet w.cells p ant q next r).ant ≡ true) (λ r. (w.cells r).rocky ≡ false) (emptied sheet (stepped sheet w.cells p ant q next) (places_around q)) (stepped-clear sheet w p ant q next valid free)
+          (emptied-manned sheet (places_around q) (stepped sheet w.cells p ant q next))),
+    ),
+  )
 
   move_clear : (sheet : Sheet) (next : ℕ) (blocked : Bool) → is_blocked (w.cells (adjacent_pos p ant.facing)) ≡ blocked → AreClear (positions (if blocked then [] else writes_going sheet w.cells p ant (adjacent_pos p ant.facing) next))
   move_clear sheet next true at = tt
