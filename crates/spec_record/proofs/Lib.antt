@@ -9,5 +9,6 @@ pub mod Sizes
 pub mod SettlingTurns
 pub mod Steps
 pub mod TurnSteps
+pub mod WorkedLooks
 pub mod WritesAlone
 pub mod WritesClear
