@@ -1,16 +1,15 @@
 -- A look has at most 19 reads and 7 writes.
 use Rattle.std.proofs.Common.{◌≡◌, ◌≢◌, ◌⊎◌, inl, inr, ℕ, zero, suc, ◌+◌, ◌-◌, ◌%◌, ◌<◌, ◌≤◌, Bool, true, false, if◌then◌else◌, Option, Some, None, List, [], ◌∷◌, ◌++◌, map, length, refl, sym, ◌∙◌, ap, subst, arith}
-use Rattle.std.specs.Prelude.{Contains, slice_index_or}
 use Rattle.std.specs.List.{AllByRecursion, flat_map}
-use Rattle.std.proofs.lemmas.Bool.{cases_Bool, cond-true, cond-false}
+use Rattle.std.proofs.lemmas.Bool.{cases_Bool, cond-true, cond-false, or_left, or_right}
 use Rattle.hex_geometry.specs.declared.direction.Dir.{Dir}
 use Rattle.hex_geometry.specs.declared.direction.Dir.TheVariants.{East, SouthEast, SouthWest, West, NorthWest, NorthEast}
 use Rattle.hex_geometry.specs.declared.position.Pos.{Pos}
 use Rattle.hex_geometry.specs.Direction.{directions}
 use Rattle.hex_geometry.specs.Neighbourhood.{adjacent_pos, neighbours_of, sensed_pos}
 use Rattle.hex_geometry.specs.Position.{IsInner}
-use Rattle.hex_geometry.proofs.Beside.{neighbours_of_contains, neighbours_of_mutual}
-use Rattle.hex_geometry.proofs.Places.{pos_same}
+use Rattle.hex_geometry.specs.Position.{same_pos}
+use Rattle.hex_geometry.proofs.Places.{same_pos_self}
 use Rattle.cell_world.specs.declared.ant.Ant.{Ant}
 use Rattle.cell_world.specs.declared.cell.Cell.{Cell}
 use Rattle.cell_world.specs.declared.part.Part.TheVariants as part
@@ -26,217 +25,58 @@ use Rattle.ant_turn.specs.Minds.{Minds, mind_of}
 use Rattle.ant_turn.specs.Sheet.{Sheet}
 use Rattle.ant_turn.specs.Turn.{has_ant, instruction_at, is_blocked, stepped}
 use Rattle.ant_turn.proofs.KeptByTurns.{free_clear}
-use Rattle.spec_record.specs.Claims.{Claim, claim, merged}
+use Rattle.cell_world.specs.Cell.{rock}
+use Rattle.spec_record.specs.Claims.{Claim, claim, merged, with_cells_at}
+use Rattle.spec_record.specs.Inner.Sightings.{all_sighted}
 use Rattle.spec_record.specs.Reads.{ant_and_food, emptied, load_and_food, neighbours_if_manned, reads, reads_acting, reads_besides, reads_from, reads_going, reads_of, seen_around, who_and_mind, whole_ant}
 use Rattle.spec_record.specs.Writes.{writes, writes_acting, writes_besides, writes_from, writes_going, writes_of}
+use Rattle.spec_record.proofs.Bounds.{from-beside, seen-ring}
 use Rattle.spec_record.proofs.CheckSteps.{all_map}
-use Rattle.spec_record.proofs.Claiming.{EachOnce, EachOnce-merged, positions, positions-merged}
-use Rattle.spec_record.proofs.WritesClear.{all_joined}
+use Rattle.spec_record.proofs.Claiming.{positions}
+use Rattle.spec_record.proofs.Emptying.{seen_around-from}
+use Rattle.spec_record.proofs.Ring.{among-self, around-length, ring, ring-around, ring-length}
+use Rattle.spec_record.proofs.SettlingTurns.{all_at_places}
+use Rattle.spec_record.proofs.Sighting.{all-append, all_sighted-fits, among, with_cells_at-merged}
 
--- a position is in a list
-abbrev IsIn : List Pos → Pos → Type 0
-IsIn [] p = ⊥
-IsIn (q ∷ places) p = (q ≡ p) ⊎ IsIn places p
-
-length-cons : (p : Pos) (places : List Pos) → length (p ∷ places) ≡ suc (length places)
-length-cons p places = refl
-
--- a list without one of its positions
-record Without (places : List Pos) (p : Pos) : Type 0 where
-  rest : List Pos
-  one_less : length places ≡ suc (length rest)
-  others : (q : Pos) → q ≢ p → IsIn places q → IsIn rest q
-
-without : (places : List Pos) (p : Pos) → IsIn places p → Without places p
-without [] p found = absurd found
-without (r ∷ places) p (inl here) = record {
-  rest = places;
-  one_less = length-cons r places;
-  others = λ q apart found. elim found [
-    | inl at ↦ absurd (apart (sym at ∙ here))
-    | inr later ↦ later
-  ];
-}
-without (r ∷ places) p (inr found) =
-    let it : Without places p = without places p found in
-    record {
-      rest = r ∷ it.rest;
-      one_less = length-cons r places ∙ ap suc (it.one_less ∙ sym (length-cons r it.rest));
-      others = λ q apart there. elim there [
-        | inl at ↦ inl at
-        | inr later ↦ inr (it.others q apart later)
-      ];
-    }
-
--- what holds of each by two other things
-all_two : (P Q R : Pos → Type 0) (places : List Pos) → ((p : Pos) → P p → Q p → R p) → AllByRecursion P places → AllByRecursion Q places → AllByRecursion R places
-all_two P Q R [] f first second = tt
-all_two P Q R (p ∷ places) f first second = (f p first.0 second.0, all_two P Q R places f first.1 second.1)
-
--- positions that are each there once, and all in a list, are no more than it has
-within : (places all : List Pos) → EachOnce places → AllByRecursion (IsIn all) places → length places ≤ length all
-within [] all once found = omega arith
-within (p ∷ places) all once found =
-    let it : Without all p = without all p found.0 in
-    let less : length places ≤ length it.rest = within places it.rest once.1 (all_two (λ q. q ≢ p) (IsIn all) (IsIn it.rest) places (λ q apart there. it.others q apart there) once.0 found.1) in
-    let one : length (p ∷ places) ≡ suc (length places) = length-cons p places in
-    omega (arith, one, it.one_less, less)
-
--- every position of a list is in it, and in a longer one
-IsIn-more : (front places : List Pos) (p : Pos) → IsIn places p → IsIn (front ++ places) p
-IsIn-more [] places p found = found
-IsIn-more (q ∷ front) places p found = inr (IsIn-more front places p found)
-
-IsIn-less : (places more : List Pos) (p : Pos) → IsIn places p → IsIn (places ++ more) p
-IsIn-less [] more p found = absurd found
-IsIn-less (q ∷ places) more p (inl here) = inl here
-IsIn-less (q ∷ places) more p (inr later) = inr (IsIn-less places more p later)
-
-in_itself : (places : List Pos) → AllByRecursion (IsIn places) places
-in_itself [] = tt
-in_itself (p ∷ places) = (inl refl, all_map (IsIn places) (IsIn (p ∷ places)) places (λ q found. inr found) (in_itself places))
-
-IsIn-Contains : (places : List Pos) (p : Pos) (k : ℕ) → k < length places → slice_index_or places k p ≡ p → IsIn places p
-IsIn-Contains [] p k below at = absurd (omega (arith, below))
-IsIn-Contains (q ∷ places) p zero below at = inl at
-IsIn-Contains (q ∷ places) p (suc k) below at = inr (IsIn-Contains places p k (let one : length (q ∷ places) ≡ suc (length places) = length-cons q places in omega (arith, below, one)) at)
-
--- the twelve positions round the six neighbours of one
-ring : Pos → List Pos
-ring q =
-    record { x = q.x + 2; y = q.y }
-    ∷ record { x = q.x + q.y % 2 + 1; y = q.y + 1 }
-    ∷ record { x = q.x + 1; y = q.y + 2 }
-    ∷ record { x = q.x; y = q.y + 2 }
-    ∷ record { x = q.x - 1; y = q.y + 2 }
-    ∷ record { x = q.x + q.y % 2 - 2; y = q.y + 1 }
-    ∷ record { x = q.x - 2; y = q.y }
-    ∷ record { x = q.x + q.y % 2 - 2; y = q.y - 1 }
-    ∷ record { x = q.x - 1; y = q.y - 2 }
-    ∷ record { x = q.x; y = q.y - 2 }
-    ∷ record { x = q.x + 1; y = q.y - 2 }
-    ∷ record { x = q.x + q.y % 2 + 1; y = q.y - 1 }
-    ∷ []
-
--- a position, its neighbours, and those round them: nineteen
-ball : Pos → List Pos
-ball q = places_around q ++ ring q
-
-ball-length : (q : Pos) → length (ball q) ≡ 19
-unfolding ball ring places_around neighbours_of directions
-ball-length q = refl
-
-around-length : (q : Pos) → length (places_around q) ≡ 7
-unfolding places_around neighbours_of directions
-around-length q = refl
-
--- the neighbours of neighbours are among them
-near_twice : (q : Pos) (d e : Dir) → 1 ≤ q.x → 1 ≤ q.y → IsIn (ball q) (adjacent_pos (adjacent_pos q d) e)
-unfolding ball ring places_around neighbours_of directions adjacent_pos
-near_twice q East East hx hy = inr (inr (inr (inr (inr (inr (inr (inl (pos_same (omega arith) (omega arith)))))))))
-near_twice q East SouthEast hx hy = inr (inr (inr (inr (inr (inr (inr (inr (inl (pos_same (omega arith) (omega arith))))))))))
-near_twice q East SouthWest hx hy = inr (inr (inl (pos_same (omega arith) (omega arith))))
-near_twice q East West hx hy = inl (pos_same (omega arith) (omega arith))
-near_twice q East NorthWest hx hy = inr (inr (inr (inr (inr (inr (inl (pos_same (omega arith) (omega arith))))))))
-near_twice q East NorthEast hx hy = inr (inr (inr (inr (inr (inr (inr (inr (inr (inr (inr (inr (inr (inr (inr (inr (inr (inr (inl (pos_same (omega arith) (omega arith))))))))))))))))))))
-near_twice q SouthEast East hx hy = inr (inr (inr (inr (inr (inr (inr (inr (inl (pos_same (omega arith) (omega arith))))))))))
-near_twice q SouthEast SouthEast hx hy = inr (inr (inr (inr (inr (inr (inr (inr (inr (inl (pos_same (omega arith) (omega arith)))))))))))
-near_twice q SouthEast SouthWest hx hy = inr (inr (inr (inr (inr (inr (inr (inr (inr (inr (inl (pos_same (omega arith) (omega arith))))))))))))
-near_twice q SouthEast West hx hy = inr (inr (inr (inl (pos_same (omega arith) (omega arith)))))
-near_twice q SouthEast NorthWest hx hy = inl (pos_same (omega arith) (omega arith))
-near_twice q SouthEast NorthEast hx hy = inr (inl (pos_same (omega arith) (omega arith)))
-near_twice q SouthWest East hx hy = inr (inr (inl (pos_same (omega arith) (omega arith))))
-near_twice q SouthWest SouthEast hx hy = inr (inr (inr (inr (inr (inr (inr (inr (inr (inr (inl (pos_same (omega arith) (omega arith))))))))))))
-near_twice q SouthWest SouthWest hx hy = inr (inr (inr (inr (inr (inr (inr (inr (inr (inr (inr (inl (pos_same (omega arith) (omega arith)))))))))))))
-near_twice q SouthWest West hx hy = inr (inr (inr (inr (inr (inr (inr (inr (inr (inr (inr (inr (inl (pos_same (omega arith) (omega arith))))))))))))))
-near_twice q SouthWest NorthWest hx hy = inr (inr (inr (inr (inl (pos_same (omega arith) (omega arith))))))
-near_twice q SouthWest NorthEast hx hy = inl (pos_same (omega arith) (omega arith))
-near_twice q West East hx hy = inl (pos_same (omega arith) (omega arith))
-near_twice q West SouthEast hx hy = inr (inr (inr (inl (pos_same (omega arith) (omega arith)))))
-near_twice q West SouthWest hx hy = inr (inr (inr (inr (inr (inr (inr (inr (inr (inr (inr (inr (inl (pos_same (omega arith) (omega arith))))))))))))))
-near_twice q West West hx hy = inr (inr (inr (inr (inr (inr (inr (inr (inr (inr (inr (inr (inr (inl (pos_same (omega arith) (omega arith)))))))))))))))
-near_twice q West NorthWest hx hy = inr (inr (inr (inr (inr (inr (inr (inr (inr (inr (inr (inr (inr (inr (inl (pos_same (omega arith) (omega arith))))))))))))))))
-near_twice q West NorthEast hx hy = inr (inr (inr (inr (inr (inl (pos_same (omega arith) (omega arith)))))))
-near_twice q NorthWest East hx hy = inr (inr (inr (inr (inr (inr (inl (pos_same (omega arith) (omega arith))))))))
-near_twice q NorthWest SouthEast hx hy = inl (pos_same (omega arith) (omega arith))
-near_twice q NorthWest SouthWest hx hy = inr (inr (inr (inr (inl (pos_same (omega arith) (omega arith))))))
-near_twice q NorthWest West hx hy = inr (inr (inr (inr (inr (inr (inr (inr (inr (inr (inr (inr (inr (inr (inl (pos_same (omega arith) (omega arith))))))))))))))))
-near_twice q NorthWest NorthWest hx hy = inr (inr (inr (inr (inr (inr (inr (inr (inr (inr (inr (inr (inr (inr (inr (inl (pos_same (omega arith) (omega arith)))))))))))))))))
-near_twice q NorthWest NorthEast hx hy = inr (inr (inr (inr (inr (inr (inr (inr (inr (inr (inr (inr (inr (inr (inr (inr (inl (pos_same (omega arith) (omega arith))))))))))))))))))
-near_twice q NorthEast East hx hy = inr (inr (inr (inr (inr (inr (inr (inr (inr (inr (inr (inr (inr (inr (inr (inr (inr (inr (inl (pos_same (omega arith) (omega arith))))))))))))))))))))
-near_twice q NorthEast SouthEast hx hy = inr (inl (pos_same (omega arith) (omega arith)))
-near_twice q NorthEast SouthWest hx hy = inl (pos_same (omega arith) (omega arith))
-near_twice q NorthEast West hx hy = inr (inr (inr (inr (inr (inl (pos_same (omega arith) (omega arith)))))))
-near_twice q NorthEast NorthWest hx hy = inr (inr (inr (inr (inr (inr (inr (inr (inr (inr (inr (inr (inr (inr (inr (inr (inl (pos_same (omega arith) (omega arith))))))))))))))))))
-near_twice q NorthEast NorthEast hx hy = inr (inr (inr (inr (inr (inr (inr (inr (inr (inr (inr (inr (inr (inr (inr (inr (inr (inl (pos_same (omega arith) (omega arith)))))))))))))))))))
-
--- all neighbours of each neighbour
-near_neighbours : (q : Pos) (d : Dir) → 1 ≤ q.x → 1 ≤ q.y → AllByRecursion (IsIn (ball q)) (neighbours_of (adjacent_pos q d))
-unfolding neighbours_of directions
-near_neighbours q d hx hy = (near_twice q d East hx hy, (near_twice q d SouthEast hx hy, (near_twice q d SouthWest hx hy, (near_twice q d West hx hy, (near_twice q d NorthWest hx hy, (near_twice q d NorthEast hx hy, tt))))))
-
-if_manned : (q : Pos) (v : Cells) (n : Pos) → AllByRecursion (IsIn (ball q)) (neighbours_of n) → AllByRecursion (IsIn (ball q)) (neighbours_if_manned v n)
-if_manned q v n all = elim (cases_Bool (has_ant (v n).ant)) [
-  | inl has ↦ subst (AllByRecursion (IsIn (ball q))) (sym (cond-true _ _ _ has)) all
-  | inr none ↦ subst (AllByRecursion (IsIn (ball q))) (sym (cond-false _ _ _ none)) tt
-]
-
-all_flat : (P : Pos → Type 0) (f : Pos → List Pos) (places : List Pos) → AllByRecursion (λ n. AllByRecursion P (f n)) places → AllByRecursion P (flat_map f places)
-all_flat P f [] all = tt
-all_flat P f (n ∷ places) all = all_joined P (f n) (flat_map f places) all.0 (all_flat P f places all.1)
-
-near_all : (q : Pos) (v : Cells) → 1 ≤ q.x → 1 ≤ q.y → AllByRecursion (λ n. AllByRecursion (IsIn (ball q)) (neighbours_if_manned v n)) (neighbours_of q)
-unfolding neighbours_of directions
-near_all q v hx hy = (
-  if_manned q v (adjacent_pos q East) (near_neighbours q East hx hy),
-  (
-    if_manned q v (adjacent_pos q SouthEast) (near_neighbours q SouthEast hx hy),
-    (
-      if_manned q v (adjacent_pos q SouthWest) (near_neighbours q SouthWest hx hy),
-      (
-        if_manned q v (adjacent_pos q West) (near_neighbours q West hx hy),
-        (
-          if_manned q v (adjacent_pos q NorthWest) (near_neighbours q NorthWest hx hy),
-          (if_manned q v (adjacent_pos q NorthEast) (near_neighbours q NorthEast hx hy), tt),
-        ),
-      ),
-    ),
-  ),
-)
-
--- what is around a position is near it
-around_near : (q : Pos) (places : List Pos) → AllByRecursion (IsIn (places_around q)) places → AllByRecursion (IsIn (ball q)) places
-unfolding ball
-around_near q places all = all_map (IsIn (places_around q)) (IsIn (ball q)) places (λ r found. IsIn-less (places_around q) (ring q) r found) all
-
--- all whose ants decide the checks around a position are near it
-near_seen : (q : Pos) (v : Cells) → 1 ≤ q.x → 1 ≤ q.y → AllByRecursion (IsIn (ball q)) (seen_around v q)
-near_seen q v hx hy =
-    all_joined (IsIn (ball q)) (places_around q) (flat_map (neighbours_if_manned v) (neighbours_of q)) (around_near q (places_around q) (in_itself (places_around q)))
-    (all_flat (IsIn (ball q)) (neighbours_if_manned v) (neighbours_of q) (near_all q v hx hy))
+-- whose ants decide the checks around the cell that an ant enters are in the ring around it
+near_seen : (sheet : Sheet) (w : World) (p : Pos) (ant : Ant) (q : Pos) (next : ℕ) → Valid w → 1 ≤ q.x → 1 ≤ q.y → AllByRecursion (λ r. among r (ring q) ≡ true) (seen_around (stepped sheet w.cells p ant q next) q)
+near_seen sheet w p ant q next valid left top =
+    subst (AllByRecursion (λ r. among r (ring q) ≡ true)) (sym (seen_around-from sheet w.cells p ant q next left top)) (seen-ring w p q valid left top)
 
 -- checks empty cells among those that they check
-emptied_in : (sheet : Sheet) (places : List Pos) (v : Cells) → AllByRecursion (IsIn places) (emptied sheet v places)
+emptied_in : (sheet : Sheet) (places : List Pos) (v : Cells) → AllByRecursion (λ r. among r places ≡ true) (emptied sheet v places)
 emptied_in sheet [] v = tt
 emptied_in sheet (x ∷ places) v =
-    all_joined (IsIn (x ∷ places)) (if is_surrounded sheet v x then x ∷ [] else []) (emptied sheet (check_at sheet v x) places)
+    let In : Pos → Type 0 = λ r. among r (x ∷ places) ≡ true in
+    all-append In (if is_surrounded sheet v x then x ∷ [] else []) (emptied sheet (check_at sheet v x) places)
     (elim (cases_Bool (is_surrounded sheet v x)) [
-      | inl struck ↦ subst (AllByRecursion (IsIn (x ∷ places))) (sym (cond-true _ (x ∷ []) [] struck)) (inl refl, tt)
-      | inr spared ↦ subst (AllByRecursion (IsIn (x ∷ places))) (sym (cond-false _ (x ∷ []) [] spared)) tt
+      | inl struck ↦ subst (AllByRecursion In) (sym (cond-true _ (x ∷ []) [] struck)) (or_left (same_pos x x) (among x places) (same_pos_self x), tt)
+      | inr spared ↦ subst (AllByRecursion In) (sym (cond-false _ (x ∷ []) [] spared)) tt
     ])
-    (all_map (IsIn places) (IsIn (x ∷ places)) (emptied sheet (check_at sheet v x) places) (λ q found. inr found) (emptied_in sheet places (check_at sheet v x)))
+    (all_map (λ r. among r places ≡ true) In (emptied sheet (check_at sheet v x) places) (λ q found. or_right (same_pos x q) (among q places) found) (emptied_in sheet places (check_at sheet v x)))
 
--- as many positions as claims
+-- every position of a list is in it
+in_itself : (places : List Pos) → AllByRecursion (λ r. among r places ≡ true) places
+in_itself [] = tt
+in_itself (p ∷ places) = (or_left (same_pos p p) (among p places) (same_pos_self p), all_map (λ r. among r places ≡ true) (λ r. among r (p ∷ places) ≡ true) places (λ q found. or_right (same_pos p q) (among q places) found) (in_itself places))
+
+-- as many positions as claims, and as many with cells
 length-positions : (claims : List Claim) → length (positions claims) ≡ length claims
 length-positions [] = refl
 length-positions (c ∷ claims) = ap suc (length-positions claims)
 
+length-with_cells_at : (cells : Cells) (claims : List Claim) → length (with_cells_at cells claims) ≡ length claims
+length-with_cells_at cells [] = refl
+length-with_cells_at cells (c ∷ claims) = ap suc (length-with_cells_at cells claims)
+
 -- claims at positions of a list are merged into no more than it has
-merged-within : (claims : List Claim) (all : List Pos) → AllByRecursion (IsIn all) (positions claims) → length (merged claims) ≤ length all
-merged-within claims all found =
-    let less : length (positions (merged claims)) ≤ length all = within (positions (merged claims)) all (EachOnce-merged claims) (positions-merged (IsIn all) claims found) in
-    let same : length (positions (merged claims)) ≡ length (merged claims) = length-positions (merged claims) in
-    omega (arith, less, same)
+merged-within : (claims : List Claim) (places : List Pos) → AllByRecursion (λ r. among r places ≡ true) (positions claims) → length (merged claims) ≤ length places
+merged-within claims places found =
+    let cells : Cells = λ r. rock in
+    let less : length (all_sighted [] (with_cells_at cells claims)) ≤ length places = all_sighted-fits (with_cells_at cells claims) places (all_at_places (λ r. among r places ≡ true) cells claims found) in
+    let same : length (with_cells_at cells (merged claims)) ≡ length (all_sighted [] (with_cells_at cells claims)) = ap length (with_cells_at-merged cells claims) in
+    let as_many : length (with_cells_at cells (merged claims)) ≡ length (merged claims) = length-with_cells_at cells (merged claims) in
+    omega (arith, less, same, as_many)
 
 -- and into no more than there are
 merged-fewer : (claims : List Claim) (n : ℕ) → length claims ≤ n → length (merged claims) ≤ n
@@ -257,24 +97,16 @@ positions-append (c ∷ claims) more = ap (λ l. c.at ∷ l) (positions-append c
 -- an ant on a cell of a world
 module _ (minds : Minds) (w : World) (valid : Valid w) (p : Pos) (ant : Ant) (is : (w.cells p).ant ≡ Some ant) where
   -- it is one of the six around the cell ahead
-  own_around : IsIn (places_around (adjacent_pos p ant.facing)) p
-  unfolding places_around
-  own_around =
-      let inner : IsInner w.width w.height p = valid.rim p (ant-clear w p ant valid is) in
-      let it : Contains (neighbours_of (adjacent_pos p ant.facing)) p = neighbours_of_mutual p (adjacent_pos p ant.facing) inner.from_left inner.from_top (neighbours_of_contains p ant.facing) in
-      inr (IsIn-Contains (neighbours_of (adjacent_pos p ant.facing)) p it.0 it.1 it.2)
-
-  ahead_around : IsIn (places_around (adjacent_pos p ant.facing)) (adjacent_pos p ant.facing)
-  unfolding places_around
-  ahead_around = inl refl
+  own_around : among p (places_around (adjacent_pos p ant.facing)) ≡ true
+  own_around = let inner : IsInner w.width w.height p = valid.rim p (ant-clear w p ant valid is) in from-beside p (adjacent_pos p ant.facing) ant.facing inner.from_left inner.from_top refl
 
   -- what it writes when it goes
   writes_going-few : (next : ℕ) → length (merged (claim p (only part.Mind) ∷ writes_going minds.sheet w.cells p ant (adjacent_pos p ant.facing) next)) ≤ 7
   writes_going-few next =
       let q : Pos = adjacent_pos p ant.facing in
       let gone : List Pos = emptied minds.sheet (stepped minds.sheet w.cells p ant q next) (places_around q) in
-      let all : AllByRecursion (IsIn (places_around q)) (positions (map (λ r. claim r ant_and_food) gone)) = subst (AllByRecursion (IsIn (places_around q))) (sym (positions-map ant_and_food gone)) (emptied_in minds.sheet (places_around q) (stepped minds.sheet w.cells p ant q next)) in
-      let less = merged-within (claim p (only part.Mind) ∷ writes_going minds.sheet w.cells p ant q next) (places_around q) (own_around, (own_around, (ahead_around, all))) in
+      let all : AllByRecursion (λ r. among r (places_around q) ≡ true) (positions (map (λ r. claim r ant_and_food) gone)) = subst (AllByRecursion (λ r. among r (places_around q) ≡ true)) (sym (positions-map ant_and_food gone)) (emptied_in minds.sheet (places_around q) (stepped minds.sheet w.cells p ant q next)) in
+      let less = merged-within (claim p (only part.Mind) ∷ writes_going minds.sheet w.cells p ant q next) (places_around q) (own_around, (own_around, (among-self q, all))) in
       let seven : length (places_around q) ≡ 7 = around-length q in
       omega (arith, less, seven)
 
@@ -285,14 +117,14 @@ module _ (minds : Minds) (w : World) (valid : Valid w) (p : Pos) (ant : Ant) (is
       let there : Cells = stepped minds.sheet w.cells p ant q next in
       let inner : IsInner w.width w.height q = valid.rim q (free_clear (w.cells q) free) in
       let gone : List Pos = emptied minds.sheet there (places_around q) in
-      let seen : AllByRecursion (IsIn (ball q)) (positions (map (λ r. claim r (only part.Who)) (seen_around there q))) = subst (AllByRecursion (IsIn (ball q))) (sym (positions-map (only part.Who) (seen_around there q))) (near_seen q there inner.from_left inner.from_top) in
-      let left : AllByRecursion (IsIn (ball q)) (positions (map (λ r. claim r load_and_food) gone)) = subst (AllByRecursion (IsIn (ball q))) (sym (positions-map load_and_food gone)) (around_near q gone (emptied_in minds.sheet (places_around q) there)) in
-      let more : AllByRecursion (IsIn (ball q)) (positions (map (λ r. claim r (only part.Who)) (seen_around there q) ++ map (λ r. claim r load_and_food) gone)) =
-      subst (AllByRecursion (IsIn (ball q))) (sym (positions-append (map (λ r. claim r (only part.Who)) (seen_around there q)) (map (λ r. claim r load_and_food) gone)))
-      (all_joined (IsIn (ball q)) (positions (map (λ r. claim r (only part.Who)) (seen_around there q))) (positions (map (λ r. claim r load_and_food) gone)) seen left) in
-      let own : IsIn (ball q) p = (around_near q (p ∷ []) (own_around, tt)).0 in
-      let less = merged-within (claim p who_and_mind ∷ reads_going minds.sheet w.cells p ant q next) (ball q) (own, (own, more)) in
-      let nineteen : length (ball q) ≡ 19 = ball-length q in
+      let seen : AllByRecursion (λ r. among r (ring q) ≡ true) (positions (map (λ r. claim r (only part.Who)) (seen_around there q))) = subst (AllByRecursion (λ r. among r (ring q) ≡ true)) (sym (positions-map (only part.Who) (seen_around there q))) (near_seen minds.sheet w p ant q next valid inner.from_left inner.from_top) in
+      let left : AllByRecursion (λ r. among r (ring q) ≡ true) (positions (map (λ r. claim r load_and_food) gone)) = subst (AllByRecursion (λ r. among r (ring q) ≡ true)) (sym (positions-map load_and_food gone)) (all_map (λ r. among r (places_around q) ≡ true) (λ r. among r (ring q) ≡ true) gone (λ r found. ring-around q r found) (emptied_in minds.sheet (places_around q) there)) in
+      let more : AllByRecursion (λ r. among r (ring q) ≡ true) (positions (map (λ r. claim r (only part.Who)) (seen_around there q) ++ map (λ r. claim r load_and_food) gone)) =
+      subst (AllByRecursion (λ r. among r (ring q) ≡ true)) (sym (positions-append (map (λ r. claim r (only part.Who)) (seen_around there q)) (map (λ r. claim r load_and_food) gone)))
+      (all-append (λ r. among r (ring q) ≡ true) (positions (map (λ r. claim r (only part.Who)) (seen_around there q))) (positions (map (λ r. claim r load_and_food) gone)) seen left) in
+      let own : among p (ring q) ≡ true = ring-around q p own_around in
+      let less = merged-within (claim p who_and_mind ∷ reads_going minds.sheet w.cells p ant q next) (ring q) (own, (own, more)) in
+      let nineteen : length (ring q) ≡ 19 = ring-length q in
       omega (arith, less, nineteen)
 
   -- a Move

@@ -23,17 +23,13 @@ use Rattle.spec_record.specs.Reads.{ant_and_food, emptied, whole_ant}
 use Rattle.spec_record.specs.Writes.{writes, writes_acting, writes_besides, writes_from, writes_going, writes_of}
 use Rattle.spec_record.proofs.CheckSteps.{all_map, no_new}
 use Rattle.spec_record.proofs.Claiming.{positions, positions-merged}
-
--- what holds of two lists
-pub all_joined : {A : Type 0} (P : A → Type 0) (xs ys : List A) → AllByRecursion P xs → AllByRecursion P ys → AllByRecursion P (xs ++ ys)
-all_joined {A} P [] ys first second = second
-all_joined {A} P (x ∷ xs) ys first second = (first.0, all_joined P xs ys first.1 second)
+use Rattle.spec_record.proofs.Sighting.{all-append}
 
 -- the cells that checks empty held ants
 pub emptied-manned : (sheet : Sheet) (places : List Pos) (v : Cells) → AllByRecursion (λ r. has_ant (v r).ant ≡ true) (emptied sheet v places)
 emptied-manned sheet [] v = tt
 emptied-manned sheet (x ∷ places) v =
-    all_joined (λ r. has_ant (v r).ant ≡ true) (if is_surrounded sheet v x then x ∷ [] else []) (emptied sheet (check_at sheet v x) places)
+    all-append (λ r. has_ant (v r).ant ≡ true) (if is_surrounded sheet v x then x ∷ [] else []) (emptied sheet (check_at sheet v x) places)
     (elim (cases_Bool (is_surrounded sheet v x)) [
       | inl struck ↦ let it : Struck sheet v x = is_surrounded-true sheet v x struck in rw struck (ap has_ant it.is, tt)
       | inr spared ↦ rw spared tt
