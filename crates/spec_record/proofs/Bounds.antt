@@ -65,7 +65,7 @@ unfolding neighbours_of directions
 beyond-all w p q valid left top = (beyond-ring w p q East valid left top, (beyond-ring w p q SouthEast valid left top, (beyond-ring w p q SouthWest valid left top, (beyond-ring w p q West valid left top, (beyond-ring w p q NorthWest valid left top, (beyond-ring w p q NorthEast valid left top, tt))))))
 
 -- whose ants decide the checks, they are in the ring
-seen-ring : (w : World) (p q : Pos) → Valid w → 1 ≤ q.x → 1 ≤ q.y → AllByRecursion (λ r. among r (ring q) ≡ true) (seen_from w.cells p q)
+pub seen-ring : (w : World) (p q : Pos) → Valid w → 1 ≤ q.x → 1 ≤ q.y → AllByRecursion (λ r. among r (ring q) ≡ true) (seen_from w.cells p q)
 seen-ring w p q valid left top =
     let In : Pos → Type 0 = λ r. among r (ring q) ≡ true in
     all-append In (places_around q) (flat_map (beyond w.cells p) (neighbours_of q)) (around-ring q) (flat_map-all In (beyond w.cells p) (neighbours_of q) (beyond-all w p q valid left top))
@@ -79,7 +79,7 @@ fallen-all : (P : Pos → Type 0) (cells last : Cells) (p q : Pos) → AllByRecu
 fallen-all P cells last p q all = flat_map-all P (fallen_at cells last p q) (places_around q) (fallen_at-all P cells last p q (places_around q) all)
 
 -- the cell from which an ant goes is beside the one to which it goes
-from-beside : (p q : Pos) (d : Dir) → 1 ≤ p.x → 1 ≤ p.y → q ≡ adjacent_pos p d → among p (places_around q) ≡ true
+pub from-beside : (p q : Pos) (d : Dir) → 1 ≤ p.x → 1 ≤ p.y → q ≡ adjacent_pos p d → among p (places_around q) ≡ true
 from-beside p q d left top ahead =
     let back : adjacent_pos q (opposite d) ≡ p = ap (λ r. adjacent_pos r (opposite d)) ahead ∙ adjacent_pos_back p d left top in
     subst (λ r. among r (places_around q) ≡ true) back (among-beside q (opposite d))

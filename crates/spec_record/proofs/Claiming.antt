@@ -248,9 +248,10 @@ positions-merged P claims all = positions-merged_onto P claims [] tt all
 -- where each position is claimed once, what is claimed there is that claim's
 pub own_parts : (claims : List Claim) → EachOnce (positions claims) → AllByRecursion (λ c. parts_at claims c.at ≡ c.parts) claims
 own_parts [] once = tt
-own_parts (c ∷ claims) once =
-    (ap (λ a. union a (parts_at claims c.at)) (parts_there-here c c.at refl) ∙ ap (union c.parts) (parts_at-fresh claims c.at once.0) ∙ union-none c.parts,
-    go claims once.0 (own_parts claims once.1)) where
+own_parts (c ∷ claims) once = (
+  ap (λ a. union a (parts_at claims c.at)) (parts_there-here c c.at refl) ∙ ap (union c.parts) (parts_at-fresh claims c.at once.0) ∙ union-none c.parts,
+  go claims once.0 (own_parts claims once.1),
+) where
   go : (more : List Claim) → AllByRecursion (λ q. q ≢ c.at) (positions more) → AllByRecursion (λ d. parts_at claims d.at ≡ d.parts) more → AllByRecursion (λ d. parts_at (c ∷ claims) d.at ≡ d.parts) more
   go [] fresh all = tt
   go (d ∷ more) fresh all = (ap (λ a. union a (parts_at claims d.at)) (parts_there-elsewhere c d.at (λ e. fresh.0 (sym e))) ∙ all.0, go more fresh.1 all.1)

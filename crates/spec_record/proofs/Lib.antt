@@ -4,6 +4,7 @@ pub mod Claiming
 pub mod Emptying
 pub mod Flipping
 pub mod Flips
+pub mod HoldsWorked
 pub mod Laying
 pub mod Looking
 pub mod LooksWorked
@@ -16,7 +17,9 @@ pub mod RoundsWorked
 pub mod Settling
 pub mod SettlingTurns
 pub mod Sighting
+pub mod Sizes
 pub mod Steps
 pub mod TurnSteps
 pub mod Unguessed
+pub mod WritesAlone
 pub mod WritesClear

@@ -81,7 +81,7 @@ module _ (minds : Minds) (seed : ℕ) (base : World) (guess : ℕ) (now : World)
       ∙ ap₂ (made (patched_cells now.cells (with_cells_at (turn minds seed base guess t).cells (writes minds base t)))) (sym both.drew) (sym both.killed)
 
 -- the parts that no claim of a position has
-unclaimed : (claims : List Claim) (after : Cells) (p : Pos) (k : Part) → AllByRecursion (λ write. write.0 ≡ p → has_part write.1 k ≡ false) (with_cells_at after claims) → has_part (parts_at claims p) k ≡ false
+pub unclaimed : (claims : List Claim) (after : Cells) (p : Pos) (k : Part) → AllByRecursion (λ write. write.0 ≡ p → has_part write.1 k ≡ false) (with_cells_at after claims) → has_part (parts_at claims p) k ≡ false
 unclaimed [] after p k none = has_part-none k
 unclaimed (c ∷ claims) after p k none =
     has_part-union (parts_there c p) (parts_at claims p) k

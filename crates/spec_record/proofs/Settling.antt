@@ -123,14 +123,15 @@ lighter_all room wanted (write ∷ writes) w left valid once eases =
       | inl heavy ↦
           let rest : CanSetLighter w room writes × Eased w wanted writes (after_lighter w writes) = lighter_all room wanted writes w left valid once.1 eases.1 in
           let skip : w ≡ with_lighter w write = sym (with_lighter-raises w write heavy) in
-          let it : Eased w wanted writes (after_lighter w writes) = rest.1 in
-          ((λ light. absurd (both_ways (raises w.cells write) light heavy), subst (λ (u : World). CanSetLighter u room writes) skip rest.0),
-          subst (Eased w wanted (write ∷ writes)) (ap (λ (u : World). after_lighter u writes) skip) (record {
-            valid = it.valid;
-            sizes = it.sizes;
-            others = λ p apart. it.others p apart.1;
-            each = ((λ light. absurd (both_ways (raises w.cells write) light heavy), λ _. it.others write.0 once.0), it.each);
-          }))
+          let it : Eased w wanted writes (after_lighter w writes) = rest.1 in (
+            (λ light. absurd (both_ways (raises w.cells write) light heavy), subst (λ (u : World). CanSetLighter u room writes) skip rest.0),
+            subst (Eased w wanted (write ∷ writes)) (ap (λ (u : World). after_lighter u writes) skip) (record {
+              valid = it.valid;
+              sizes = it.sizes;
+              others = λ p apart. it.others p apart.1;
+              each = ((λ light. absurd (both_ways (raises w.cells write) light heavy), λ _. it.others write.0 once.0), it.each);
+            }),
+          )
       | inr light ↦
           let can : CanWrite w room write = lighter_can w room wanted write left valid eases.0 light in
           let next : World = put w write.0 (patched_by_write w.cells write) in
@@ -141,20 +142,25 @@ lighter_all room wanted (write ∷ writes) w left valid once eases =
           let rest : CanSetLighter next room writes × Eased next wanted writes (after_lighter next writes) = lighter_all room wanted writes next left still once.1 later in
           let it : Eased next wanted writes (after_lighter next writes) = rest.1 in
           let Now : Sighting → Type 0 = λ other. (raises w.cells other ≡ false → (after_lighter next writes).cells other.0 ≡ wanted other.0) × (raises w.cells other ≡ true → (after_lighter next writes).cells other.0 ≡ w.cells other.0) in
-          let Then : Sighting → Type 0 = λ other. (raises next.cells other ≡ false → (after_lighter next writes).cells other.0 ≡ wanted other.0) × (raises next.cells other ≡ true → (after_lighter next writes).cells other.0 ≡ next.cells other.0) in
-          ((λ _. can, subst (λ (u : World). CanSetLighter u room writes) sets rest.0),
-          subst (Eased w wanted (write ∷ writes)) (ap (λ (u : World). after_lighter u writes) sets) (record {
-            valid = it.valid;
-            sizes = ap (λ (u : World). with_cells u w.cells) it.sizes;
-            others = λ p apart. it.others p apart.1 ∙ put_cell-other w.cells write.0 (patched_by_write w.cells write) p apart.0;
-            each = (
-              (λ _. it.others write.0 once.0 ∙ put_cell-same w.cells write.0 (patched_by_write w.cells write) ∙ eases.0.makes.makes,
-              λ heavy. absurd (both_ways (raises w.cells write) light heavy)),
-              all_apart Then Now writes write.0 once.0
-              (λ other apart each. (
-                λ easy. each.0 (raises-same w.cells next.cells other (same other apart) ∙ easy),
-                λ heavy. each.1 (raises-same w.cells next.cells other (same other apart) ∙ heavy) ∙ same other apart)) it.each);
-          }))
+          let Then : Sighting → Type 0 = λ other. (raises next.cells other ≡ false → (after_lighter next writes).cells other.0 ≡ wanted other.0) × (raises next.cells other ≡ true → (after_lighter next writes).cells other.0 ≡ next.cells other.0) in (
+            (λ _. can, subst (λ (u : World). CanSetLighter u room writes) sets rest.0),
+            subst (Eased w wanted (write ∷ writes)) (ap (λ (u : World). after_lighter u writes) sets) (record {
+              valid = it.valid;
+              sizes = ap (λ (u : World). with_cells u w.cells) it.sizes;
+              others = λ p apart. it.others p apart.1 ∙ put_cell-other w.cells write.0 (patched_by_write w.cells write) p apart.0;
+              each = (
+                (
+                  λ _. it.others write.0 once.0 ∙ put_cell-same w.cells write.0 (patched_by_write w.cells write) ∙ eases.0.makes.makes,
+                  λ heavy. absurd (both_ways (raises w.cells write) light heavy),
+                ),
+                all_apart Then Now writes write.0 once.0
+                    (λ other apart each. (
+                      λ easy. each.0 (raises-same w.cells next.cells other (same other apart) ∙ easy),
+                      λ heavy. each.1 (raises-same w.cells next.cells other (same other apart) ∙ heavy) ∙ same other apart,
+                    )) it.each,
+              );
+            }),
+          )
     ]
 
 -- a write that is set doesn't raise its cell's weight again
@@ -167,9 +173,10 @@ settled-light cells now wanted write made is =
 -- writes of which none raises its cell's weight
 heavier_none : (room : ℕ) (writes : List Sighting) (w : World) → AllByRecursion (λ write. raises w.cells write ≡ false) writes → CanSetHeavier w room writes
 heavier_none room [] w light = tt
-heavier_none room (write ∷ writes) w light =
-    ((λ heavy. absurd (both_ways (raises w.cells write) light.0 heavy)),
-    subst (λ (u : World). CanSetHeavier u room writes) (sym (with_heavier-light w write light.0)) (heavier_none room writes w light.1))
+heavier_none room (write ∷ writes) w light = (
+  (λ heavy. absurd (both_ways (raises w.cells write) light.0 heavy)),
+  subst (λ (u : World). CanSetHeavier u room writes) (sym (with_heavier-light w write light.0)) (heavier_none room writes w light.1),
+)
 
 -- writes of which one at most raises its cell's weight, and may be set
 heavier_one : (room : ℕ) (q : Pos) (writes : List Sighting) (w : World) → EachOnce (places_of writes) → AllByRecursion (λ write. write.0 ≢ q → raises w.cells write ≡ false) writes →
@@ -187,9 +194,10 @@ heavier_one room q (write ∷ writes) w once light can =
                 (can.0 here, subst (λ (u : World). CanSetHeavier u room writes) (sym (with_heavier-sets w write heavy)) (heavier_none room writes next easy))
             | inr other ↦ absurd (both_ways (raises w.cells write) (light.0 other) heavy)
           ]
-      | inr easy ↦
-          ((λ heavy. absurd (both_ways (raises w.cells write) easy heavy)),
-          subst (λ (u : World). CanSetHeavier u room writes) (sym (with_heavier-light w write easy)) (heavier_one room q writes w once.1 light.1 can.1))
+      | inr easy ↦ (
+        (λ heavy. absurd (both_ways (raises w.cells write) easy heavy)),
+        subst (λ (u : World). CanSetHeavier u room writes) (sym (with_heavier-light w write easy)) (heavier_one room q writes w once.1 light.1 can.1),
+      )
     ]
 
 -- what comes of the writes that raise their cell's weight: each of these cells is as wanted, and all others are as they were
@@ -221,12 +229,16 @@ heavier_all wanted (write ∷ writes) w once made =
             sizes = ap (λ (u : World). with_cells u w.cells) it.sizes;
             others = λ p apart. it.others p apart.1 ∙ put_cell-other w.cells write.0 (patched_by_write w.cells write) p apart.0;
             each = (
-              (λ _. it.others write.0 once.0 ∙ put_cell-same w.cells write.0 (patched_by_write w.cells write) ∙ made.0.makes,
-              λ light. absurd (both_ways (raises w.cells write) light heavy)),
+              (
+                λ _. it.others write.0 once.0 ∙ put_cell-same w.cells write.0 (patched_by_write w.cells write) ∙ made.0.makes,
+                λ light. absurd (both_ways (raises w.cells write) light heavy),
+              ),
               all_apart Then Now writes write.0 once.0
-              (λ other apart each. (
-                λ more. each.0 (raises-same w.cells next.cells other (same other apart) ∙ more),
-                λ easy. each.1 (raises-same w.cells next.cells other (same other apart) ∙ easy) ∙ same other apart)) it.each);
+                  (λ other apart each. (
+                    λ more. each.0 (raises-same w.cells next.cells other (same other apart) ∙ more),
+                    λ easy. each.1 (raises-same w.cells next.cells other (same other apart) ∙ easy) ∙ same other apart,
+                  )) it.each,
+            );
           })
     ]
 
@@ -357,15 +369,15 @@ module _ {w : World} {wanted : Cells} {writes : List Sighting} {q : Pos} (settle
       let now : World = after_heavier between writes in
       let second : Raised between wanted writes now = heavier_all wanted writes between settles.once made_between in
       let cells : now.cells ≡ wanted = fun_ext λ p.
-          everywhere (λ r. now.cells r ≡ wanted r) writes p
-          (λ fresh. second.others p fresh ∙ first.1.others p fresh ∙ sym (settles.others p fresh))
-          (zip_all (λ write. (raises w.cells write ≡ false → between.cells write.0 ≡ wanted write.0) × (raises w.cells write ≡ true → between.cells write.0 ≡ w.cells write.0))
-          (λ write. (raises between.cells write ≡ true → now.cells write.0 ≡ wanted write.0) × (raises between.cells write ≡ false → now.cells write.0 ≡ between.cells write.0)) (λ write. now.cells write.0 ≡ wanted write.0) writes
-          (λ write before each. elim (cases_Bool (raises between.cells write)) [
-            | inl heavy ↦ each.0 heavy
-            | inr light ↦ each.1 light ∙ elim (cases_Bool (raises w.cells write)) [
-              | inl more ↦ absurd (both_ways (raises between.cells write) light (raises-same w.cells between.cells write (before.1 more) ∙ more))
-              | inr easy ↦ before.0 easy
-            ]
-          ]) first.1.each second.each) in
+      everywhere (λ r. now.cells r ≡ wanted r) writes p
+      (λ fresh. second.others p fresh ∙ first.1.others p fresh ∙ sym (settles.others p fresh))
+      (zip_all (λ write. (raises w.cells write ≡ false → between.cells write.0 ≡ wanted write.0) × (raises w.cells write ≡ true → between.cells write.0 ≡ w.cells write.0))
+      (λ write. (raises between.cells write ≡ true → now.cells write.0 ≡ wanted write.0) × (raises between.cells write ≡ false → now.cells write.0 ≡ between.cells write.0)) (λ write. now.cells write.0 ≡ wanted write.0) writes
+      (λ write before each. elim (cases_Bool (raises between.cells write)) [
+        | inl heavy ↦ each.0 heavy
+        | inr light ↦ each.1 light ∙ elim (cases_Bool (raises w.cells write)) [
+          | inl more ↦ absurd (both_ways (raises between.cells write) light (raises-same w.cells between.cells write (before.1 more) ∙ more))
+          | inr easy ↦ before.0 easy
+        ]
+      ]) first.1.each second.each) in
       ap (with_cells now) cells ∙ ap (λ (u : World). with_cells (with_cells u w.cells) wanted) second.sizes ∙ ap (λ (u : World). with_cells u wanted) first.1.sizes

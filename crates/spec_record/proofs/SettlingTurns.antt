@@ -35,7 +35,7 @@ all_with_cells P after [] all = tt
 all_with_cells P after (c ∷ claims) all = (all.0, all_with_cells P after claims all.1)
 
 -- of their positions too
-all_at_places : (P : Pos → Type 0) (after : Cells) (claims : List Claim) → AllByRecursion P (positions claims) → AllByRecursion (λ write. P write.0) (with_cells_at after claims)
+pub all_at_places : (P : Pos → Type 0) (after : Cells) (claims : List Claim) → AllByRecursion P (positions claims) → AllByRecursion (λ write. P write.0) (with_cells_at after claims)
 all_at_places P after [] all = tt
 all_at_places P after (c ∷ claims) all = (all.0, all_at_places P after claims all.1)
 

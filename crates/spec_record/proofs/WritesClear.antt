@@ -23,17 +23,13 @@ use Rattle.spec_record.specs.Reads.{ant_and_food, emptied, whole_ant}
 use Rattle.spec_record.specs.Writes.{writes, writes_acting, writes_besides, writes_from, writes_going, writes_of}
 use Rattle.spec_record.proofs.CheckSteps.{all_map, no_new}
 use Rattle.spec_record.proofs.Claiming.{positions, positions-merged}
-
--- what holds of two lists
-pub all_joined : {A : Type 0} (P : A → Type 0) (xs ys : List A) → AllByRecursion P xs → AllByRecursion P ys → AllByRecursion P (xs ++ ys)
-all_joined {A} P [] ys first second = second
-all_joined {A} P (x ∷ xs) ys first second = (first.0, all_joined P xs ys first.1 second)
+use Rattle.spec_record.proofs.Sighting.{all-append}
 
 -- the cells that checks empty held ants
 pub emptied-manned : (sheet : Sheet) (places : List Pos) (v : Cells) → AllByRecursion (λ r. has_ant (v r).ant ≡ true) (emptied sheet v places)
 emptied-manned sheet [] v = tt
 emptied-manned sheet (x ∷ places) v =
-    all_joined (λ r. has_ant (v r).ant ≡ true) (if is_surrounded sheet v x then x ∷ [] else []) (emptied sheet (check_at sheet v x) places)
+    all-append (λ r. has_ant (v r).ant ≡ true) (if is_surrounded sheet v x then x ∷ [] else []) (emptied sheet (check_at sheet v x) places)
     (elim (cases_Bool (is_surrounded sheet v x)) [
       | inl struck ↦ let it : Struck sheet v x = is_surrounded-true sheet v x struck in rw struck (ap has_ant it.is, tt)
       | inr spared ↦ rw spared tt
@@ -68,11 +64,15 @@ module _ (w : World) (valid : Valid w) (p : Pos) (ant : Ant) (is : (w.cells p).a
 
   -- what an ant writes that goes
   going_clear : (sheet : Sheet) (q : Pos) (next : ℕ) → is_blocked (w.cells q) ≡ false → AreClear (positions (writes_going sheet w.cells p ant q next))
-  going_clear sheet q next free =
-      (here_clear, (free_clear (w.cells q) free,
+  going_clear sheet q next free = (
+    here_clear,
+    (
+      free_clear (w.cells q) free,
       subst AreClear (sym (positions-emptied (emptied sheet (stepped sheet w.cells p ant q next) (places_around q))))
-      (all_map (λ r. has_ant (stepped sheet w.cells p ant q next r).ant ≡ true) (λ r. (w.cells r).rocky ≡ false) (emptied sheet (stepped sheet w.cells p ant q next) (places_around q)) (stepped-clear sheet w p ant q next valid free)
-      (emptied-manned sheet (places_around q) (stepped sheet w.cells p ant q next)))))
+          (all_map (λ r. has_ant (stepped sheet w.cells p ant q next r).ant ≡ true) (λ r. (w.cells r).rocky ≡ false) (emptied sheet (stepped sheet w.cells p ant q next) (places_around q)) (stepped-clear sheet w p ant q next valid free)
+          (emptied-manned sheet (places_around q) (stepped sheet w.cells p ant q next))),
+    ),
+  )
 
   move_clear : (sheet : Sheet) (next : ℕ) (blocked : Bool) → is_blocked (w.cells (adjacent_pos p ant.facing)) ≡ blocked → AreClear (positions (if blocked then [] else writes_going sheet w.cells p ant (adjacent_pos p ant.facing) next))
   move_clear sheet next true at = tt
