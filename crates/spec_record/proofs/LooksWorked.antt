@@ -4,7 +4,7 @@ use Rattle.hex_geometry.specs.declared.position.Pos.{Pos}
 use Rattle.hex_geometry.specs.Direction.{directions}
 use Rattle.hex_geometry.specs.Neighbourhood.{adjacent_pos, neighbours_of, sensed_pos}
 use Rattle.hex_geometry.specs.Position.{same_pos}
-use Rattle.hex_geometry.specs.declared.neighbourhood.Sight.TheVariants.{Ahead}
+use Rattle.hex_geometry.specs.declared.neighbourhood.Sight.TheVariants.{Ahead, Here}
 use Rattle.cell_world.specs.declared.ant.Ant.{Ant}
 use Rattle.cell_world.specs.declared.ant.Colour.{Colour}
 use Rattle.cell_world.specs.declared.ant.Colour.TheVariants.{Red, Black}
@@ -14,11 +14,12 @@ use Rattle.cell_world.specs.declared.part.Part.TheVariants as part
 use Rattle.cell_world.specs.declared.part.Parts.{Parts}
 use Rattle.cell_world.specs.Cell.{rock}
 use Rattle.cell_world.specs.Grid.{cell_in, world_of}
-use Rattle.cell_world.specs.Opening.{floor, opening}
+use Rattle.cell_world.specs.Opening.{floor, hill_cell, new_ant, opening}
 use Rattle.cell_world.specs.Parts.{no_parts, only, with_part}
-use Rattle.cell_world.specs.World.{World, place_in, put_cell}
+use Rattle.cell_world.specs.World.{World, place_in, put, put_cell}
+use Rattle.brain_read.specs.declared.instr.Cond.{Cond}
 use Rattle.brain_read.specs.declared.instr.Cond.TheVariants as condition
-use Rattle.brain_read.specs.declared.instr.Instr.TheVariants.{Flip, Move}
+use Rattle.brain_read.specs.declared.instr.Instr.TheVariants.{Drop, Flip, Mark, Move, Sense}
 use Rattle.ant_random.specs.Stream.{drawn, random_at, state_at}
 use Rattle.ant_turn.specs.Kills.{check_at, is_surrounded, killed_at, places_around}
 use Rattle.ant_turn.specs.Minds.{Minds, contest_minds}
@@ -106,6 +107,59 @@ reads-flips = refl
 writes-flips : (writes minds field 2 ≡ claim (at 3 3) mind ∷ []) × ((look_of minds 12345 field 0 2).drew ≡ true)
 unfolding look_of turn reads writes merged stepped is_surrounded check_at killed_at places_around put_cell same_pos neighbours_of adjacent_pos sensed_pos directions opening cell_in rock floor place_in drawn random_at state_at
 writes-flips = (refl, refl)
+
+-- the others are blocked by ants or by rock, or at a Flip
+reads-others :
+    (reads minds field 3 ≡ claim (at 4 3) posture ∷ claim (at 5 3) who ∷ [])
+    × (reads minds field 4 ≡ claim (at 1 4) posture ∷ [])
+    × (reads minds field 5 ≡ claim (at 3 4) posture ∷ claim (at 4 4) who ∷ [])
+    × (reads minds field 6 ≡ claim (at 4 4) posture ∷ claim (at 5 4) who ∷ [])
+unfolding reads writes merged stepped is_surrounded check_at killed_at places_around put_cell same_pos neighbours_of adjacent_pos sensed_pos directions opening cell_in rock floor place_in
+reads-others = (refl, refl, refl, refl)
+
+writes-others :
+    (writes minds field 3 ≡ claim (at 4 3) mind ∷ [])
+    × (writes minds field 4 ≡ claim (at 1 4) mind ∷ [])
+    × (writes minds field 5 ≡ claim (at 3 4) mind ∷ [])
+    × (writes minds field 6 ≡ claim (at 4 4) mind ∷ [])
+unfolding reads writes merged stepped is_surrounded check_at killed_at places_around put_cell same_pos neighbours_of adjacent_pos sensed_pos directions opening cell_in rock floor place_in
+writes-others = (refl, refl, refl, refl)
+
+-- two of the seven draw, and one kills
+draws-and-kills :
+    (map (λ t. (turn minds 12345 field 0 t).drew) (0 ∷ 1 ∷ 2 ∷ 3 ∷ 4 ∷ 5 ∷ 6 ∷ []) ≡ false ∷ false ∷ true ∷ false ∷ true ∷ false ∷ false ∷ [])
+    × (map (λ t. (turn minds 12345 field 0 t).killed) (0 ∷ 1 ∷ 2 ∷ 3 ∷ 4 ∷ 5 ∷ 6 ∷ []) ≡ [] ∷ (2 ∷ []) ∷ [] ∷ [] ∷ [] ∷ [] ∷ [] ∷ [])
+unfolding turn reads writes merged stepped is_surrounded check_at killed_at places_around put_cell same_pos neighbours_of adjacent_pos sensed_pos directions opening cell_in rock floor place_in drawn random_at state_at
+draws-and-kills = (refl, refl)
+
+-- the red ant of id 2 senses the cell ahead of it: what it reads there is what the condition asks
+reads-senses : (asking : Cond) → reads (contest_minds (Sense Ahead 0 0 asking ∷ []) (Move 0 0 ∷ [])) field 2 ≡ claim (at 3 3) posture ∷ claim (at 4 3) (asked asking Red) ∷ []
+unfolding reads writes merged stepped is_surrounded check_at killed_at places_around put_cell same_pos neighbours_of adjacent_pos sensed_pos directions opening cell_in rock floor place_in
+reads-senses asking = refl
+
+-- and its own cell, where it senses that: both in one claim
+reads-own : reads (contest_minds (Sense Here 0 0 condition.Food ∷ []) (Move 0 0 ∷ [])) field 2 ≡ claim (at 3 3) (record { who = true; mind = true; load = false; food = true; red_marks = false; black_marks = false }) ∷ []
+unfolding reads writes merged stepped is_surrounded check_at killed_at places_around put_cell same_pos neighbours_of adjacent_pos sensed_pos directions opening cell_in rock floor place_in
+reads-own = refl
+
+-- the same ant with food
+abbrev laden_field : World
+laden_field = put field (at 3 3) (record (field.cells (at 3 3)) { ant = Some (record (new_ant Red 2) { laden = true }) })
+
+-- what it carries and what lies there are read and written by a Drop
+looks-laden :
+    (reads (contest_minds (Drop 0 ∷ []) (Move 0 0 ∷ [])) laden_field 2 ≡ claim (at 3 3) (record { who = true; mind = true; load = true; food = true; red_marks = false; black_marks = false }) ∷ [])
+    × (writes (contest_minds (Drop 0 ∷ []) (Move 0 0 ∷ [])) laden_field 2 ≡ claim (at 3 3) (record { who = false; mind = true; load = true; food = true; red_marks = false; black_marks = false }) ∷ [])
+    × ((turn (contest_minds (Drop 0 ∷ []) (Move 0 0 ∷ [])) 12345 laden_field 0 2).cells (at 3 3) ≡ record (hill_cell Red 2) { food = 1 })
+unfolding turn reads writes merged stepped is_surrounded check_at killed_at places_around put_cell same_pos neighbours_of adjacent_pos sensed_pos directions opening cell_in rock floor place_in drawn random_at state_at
+looks-laden = (refl, refl, refl)
+
+-- by a Mark the markers of its colour
+looks-marks :
+    (reads (contest_minds (Mark 3 0 ∷ []) (Move 0 0 ∷ [])) field 2 ≡ claim (at 3 3) (record { who = true; mind = true; load = false; food = false; red_marks = true; black_marks = false }) ∷ [])
+    × (writes (contest_minds (Mark 3 0 ∷ []) (Move 0 0 ∷ [])) field 2 ≡ claim (at 3 3) (record { who = false; mind = true; load = false; food = false; red_marks = true; black_marks = false }) ∷ [])
+unfolding reads writes merged stepped is_surrounded check_at killed_at places_around put_cell same_pos neighbours_of adjacent_pos sensed_pos directions opening cell_in rock floor place_in
+looks-marks = (refl, refl)
 
 -- what each condition asks of the sensed cell, for a red ant
 asked-each :

@@ -1,5 +1,5 @@
 // At which random number each turn of a window is guessed to stand.
-ghost use Rattle.std.specs.Prelude.{◌≡◌, ◌+◌, ◌-◌, ◌≤◌, ◌<◌, ◌^◌, IfOk, length};
+ghost use Rattle.std.specs.Prelude.{◌≡◌, ◌+◌, ◌-◌, ◌≤◌, ◌<◌, ◌^◌, IfOk, length, nat_eq};
 ghost use Rattle.cell_world.specs.Grid.{world_of};
 ghost use Rattle.brain_read.specs.Soundness.{IsSound};
 ghost use Rattle.ant_turn.specs.Minds.{Fits, minds_of, mind_of};
@@ -26,7 +26,7 @@ pub fn at_flip(base: &World, brains: Brains<'_>, id: u32) -> bool
     let Some(ant) = cell.ant else {
         return false;
     };
-    ant.resting == 0 && is_flip(instruction(brains, &ant))
+    acts(&ant) && is_flip(instruction(brains, &ant))
 }
 
 /// The guess of each turn from `from` to `to - 1`, in order: at which random number the turn stands if each turn before it draws as it would
@@ -55,6 +55,14 @@ pub fn guesses(
         next += u64::from(at_flip(base, brains, id));
     }
     Ok(all)
+}
+
+// Whether an ant doesn't rest.
+#[inline]
+fn acts(ant: &Ant) -> bool
+    ensures { result ≡ nat_eq ant.now.resting 0 }
+{
+    ant.resting == 0
 }
 
 // The instruction at which an ant is.

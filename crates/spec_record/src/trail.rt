@@ -39,6 +39,7 @@ impl<'w> Trail<'w> {
         ensures world { trail_world result ≡ world_of base.now }
         ensures room { trail_room result ≡ 9 }
     {
+        // that the base keeps what every world keeps is known from any of its readers
         let _width = base.width();
         Trail {
             base,
