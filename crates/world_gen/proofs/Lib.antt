@@ -1,0 +1,11 @@
+pub mod Balls
+pub mod Bares
+pub mod CellLists
+pub mod Follows
+pub mod Indexes
+pub mod Lines
+pub mod Makings
+pub mod SetLists
+pub mod Stamps
+pub mod Steps
+pub mod Trials
