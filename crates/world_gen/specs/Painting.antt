@@ -2,7 +2,7 @@
 use Rattle.std.specs.Prelude.{◌≡◌, ℕ, ◌*◌, ◌≤◌, List, length, Contains, Result, Ok, Err}
 use Rattle.cell_world.specs.Grid.{Grid}
 use Rattle.cell_world.specs.Limits.{least_size, most_size}
-use Rattle.cell_world.specs.Opening.{kind_at, opening}
+use Rattle.cell_world.specs.Opening.{IsPlan, kind_at, opening}
 use Rattle.cell_world.specs.declared.ant.Colour.{Colour}
 use Rattle.cell_world.specs.declared.ant.Colour.TheVariants.{Red, Black}
 use Rattle.cell_world.specs.declared.kind.Kind.{Kind}
@@ -43,12 +43,13 @@ pub record IsShape (shape : Shape) : Type 0 where
   pub tall : least_size ≤ shape.height
   pub low : shape.height ≤ most_size
 
--- the world of a seed and a shape: the opening world of its elements, placed and painted
+-- the world of a seed and a shape: the opening world of its elements, placed and painted, which are a plan
 pub record IsGenerated (seed : ℕ) (shape : Shape) (world : Grid) : Type 0 where
   pub placed : List Spot
   pub placing : IsPlacing seed shape placed
   pub kinds : List Kind
   pub painted : IsPainted shape.width shape.height placed kinds
+  pub plan : IsPlan shape.width shape.height kinds
   pub is : world ≡ opening shape.width shape.height kinds
 
 -- what is refused: an element has no room, or there is no memory
