@@ -1,12 +1,12 @@
 -- Balls that end before the rim.
 use Rattle.hex_geometry.proofs.BallRows.{ball_within, within_ball}
 use Rattle.hex_geometry.proofs.Metric.{distance_one}
-use Rattle.hex_geometry.proofs.Walks.{Within, half, slant}
+use Rattle.hex_geometry.proofs.Walks.{Within, half}
 use Rattle.hex_geometry.specs.Distance.{HasBall, IsDistance, IsInBall}
 use Rattle.hex_geometry.specs.Position.{HasNeighbours, IsInner, Point, point_of}
 use Rattle.hex_geometry.specs.declared.position.Pos.{Pos}
-use Rattle.std.proofs.Common.{◌≡◌, ℕ, ◌+◌, ◌-◌, ◌*◌, ◌/◌, ◌<◌, ◌≤◌, List, true, false, refl, sym, ◌∙◌, ap, arith, subst, inl, inr}
-use Rattle.std.proofs.lemmas.Bool.{cases_Bool, cases_lt, false≢true}
+use Rattle.std.proofs.Common.{◌≡◌, ℕ, ◌+◌, ◌-◌, ◌*◌, ◌<◌, ◌≤◌, List, true, refl, sym, ◌∙◌, ap, arith, subst, inl, inr}
+use Rattle.std.proofs.lemmas.Bool.{cases_Bool, false≢true}
 use Rattle.std.proofs.lemmas.Int.{ints}
 use Rattle.std.specs.Prelude.{Bool, ℤ, pos, negsuc, ◌+ℤ◌, ◌-ℤ◌}
 use Rattle.world_gen.proofs.Steps.{point_one}
@@ -31,7 +31,6 @@ pub record HasSides (P : Pos → Type 0) (centre : Pos) (radius : ℕ) : Type 0 
   pub bottom : (p : Pos) × (p.y ≡ centre.y + radius) × P p
 
 module _ (P : Pos → Type 0) (centre : Pos) (radius : ℕ) (all : (q : Point) → IsInBall (point_of centre) radius q → (p : Pos) × (point_of p ≡ q) × P p) where
-
   at : (x y : ℤ) → Within radius (point_of centre) (record { x = x; y = y }) → (p : Pos) × (point_of p ≡ record { x = x; y = y }) × P p
   at x y w = all (record { x = x; y = y }) (within_ball (point_of centre) (record { x = x; y = y }) radius w)
 
@@ -85,7 +84,7 @@ ball_has centre radius all =
 pub open_within : (width height : ℕ) (blocked : List Bool) (centre : Pos) (radius : ℕ) → IsFenced width height blocked → BallIsOpen width height blocked (point_of centre) radius → IsWithin width height centre radius
 open_within width height blocked centre radius fence all =
     let inner : (q : Point) → IsInBall (point_of centre) radius q → (p : Pos) × (point_of p ≡ q) × IsInner width height p =
-      λ q ball. let found = all q ball in (found.0, found.1, fence.rim found.0 found.2) in
+    λ q ball. let found = all q ball in (found.0, found.1, fence.rim found.0 found.2) in
     let left = left_side (IsInner width height) centre radius inner in
     let right = right_side (IsInner width height) centre radius inner in
     let top = top_side (IsInner width height) centre radius inner in
@@ -113,12 +112,14 @@ row_of width height blocked centre radius n (pos x) (pos y) within whole rows ba
     let p : Pos = record { x = x; y = y } in
     let row : centre.y - radius + i ≡ y = omega (arith, ints) in
     let column : centre.x - radius + j ≡ x = omega (arith, ints) in
-    let here : in_row centre radius (centre.y - radius + i) j ≡ p = ap (λ z. record { x = z; y = centre.y - radius + i }) column ∙ ap (λ z. record { x = x; y = z }) row in
-    (p, refl,
-        elim (cases_Bool (is_open width height blocked p)) [
-          | inl free ↦ free
-          | inr shut ↦ absurd (rows i low j wide (subst (IsShut width height blocked centre radius) (sym here) (ball, shut)))
-        ])
+    let here : in_row centre radius (centre.y - radius + i) j ≡ p = ap (λ z. record { x = z; y = centre.y - radius + i }) column ∙ ap (λ z. record { x = x; y = z }) row in (
+      p,
+      refl,
+      elim (cases_Bool (is_open width height blocked p)) [
+        | inl free ↦ free
+        | inr shut ↦ absurd (rows i low j wide (subst (IsShut width height blocked centre radius) (sym here) (ball, shut)))
+      ],
+    )
 row_of width height blocked centre radius n (negsuc x) (pos y) within whole rows ball w = absurd (omega (arith, ints))
 row_of width height blocked centre radius n (pos x) (negsuc y) within whole rows ball w = absurd (omega (arith, ints))
 row_of width height blocked centre radius n (negsuc x) (negsuc y) within whole rows ball w = absurd (omega (arith, ints))

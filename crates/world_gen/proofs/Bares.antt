@@ -7,17 +7,16 @@ use Rattle.cell_world.specs.declared.kind.Kind.{Kind}
 use Rattle.cell_world.specs.declared.kind.Kind.TheVariants as kind
 use Rattle.hex_geometry.specs.Position.{IsInner, IsInside}
 use Rattle.hex_geometry.specs.declared.position.Pos.{Pos}
-use Rattle.std.proofs.Common.{◌≡◌, ◌≢◌, ℕ, zero, suc, ◌+◌, ◌*◌, ◌<◌, ◌≤◌, List, [], ◌∷◌, ◌++◌, length, get_or, true, false, refl, sym, ◌∙◌, ap, arith, subst, inl, inr, add-one}
+use Rattle.std.proofs.Common.{◌≡◌, ◌≢◌, ℕ, zero, suc, ◌+◌, ◌*◌, ◌<◌, ◌≤◌, List, [], ◌∷◌, ◌++◌, length, get_or, true, false, refl, sym, ◌∙◌, ap, arith, inl, inr, add-one}
 use Rattle.std.proofs.lemmas.Bool.{and_from, and_parts, cases_Bool, cases_lt, eqb-false, eqb-true, lt-ltb, ltb-true, or_parts, false_from_ne_true}
 use Rattle.std.proofs.lemmas.List.{get_or_push, length_push}
 use Rattle.std.proofs.Math.ListN.{get_or-append}
 use Rattle.std.proofs.lemmas.List.Elements.{All-push}
 use Rattle.std.specs.List.{All}
-use Rattle.std.specs.Prelude.{Bool, Contains, ◌==◌, ◌||◌, ◌&&◌, not}
+use Rattle.std.specs.Prelude.{Bool, Contains, ◌==◌, ◌||◌, not}
 use Rattle.world_gen.proofs.Indexes.{index_below, pos_at_index}
-use Rattle.world_gen.specs.Inner.Open.{IsFenced, is_open}
+use Rattle.world_gen.specs.Inner.Open.{is_open}
 use Rattle.world_gen.specs.Inner.Yards.{IsYard, bare_blocked, bare_kind, bare_kinds, is_rim}
-use Rattle.world_gen.specs.Painting.{IsPainted}
 
 no_member : {X : Type 0} (z : X) → Contains [] z → ⊥
 no_member z found = let h = found.1 in omega arith
@@ -146,21 +145,21 @@ bare_yard width height narrow low = record {
     narrow = narrow;
     low = low;
     rim = λ p free.
-      let inside = open_inside width height _ p free in
-      rim_false_inner width height p inside (sym (bare_blocked_is width height p inside) ∙ open_free width height _ p free);
+        let inside = open_inside width height _ p free in
+        rim_false_inner width height p inside (sym (bare_blocked_is width height p inside) ∙ open_free width height _ p free);
   };
   shut = λ p other inside among touched free. no_member other among;
   free = λ p inner none.
-    let inside = inner_inside width height p inner in
-    open_from width height _ p inside (bare_blocked_is width height p inside ∙ inner_rim_false width height p inner);
+      let inside = inner_inside width height p inner in
+      open_from width height _ p inside (bare_blocked_is width height p inside ∙ inner_rim_false width height p inner);
   off_rim = λ other q among cell. absurd (no_member other among);
   painted = record {
     full = bare_kinds_length width height (width * height);
     rim = λ p inside outer.
-      elim (cases_Bool (is_rim width height p)) [
-        | inl on ↦ bare_kind_is width height p inside ∙ ap bare_kind on
-        | inr off ↦ absurd (outer (rim_false_inner width height p inside off))
-      ];
+        elim (cases_Bool (is_rim width height p)) [
+          | inl on ↦ bare_kind_is width height p inside ∙ ap bare_kind on
+          | inr off ↦ absurd (outer (rim_false_inner width height p inside off))
+        ];
     cell = λ p spot among cell. absurd (no_member spot among);
     floor = λ p inner none. bare_kind_is width height p (inner_inside width height p inner) ∙ ap bare_kind (inner_rim_false width height p inner);
   };

@@ -16,8 +16,8 @@ blob_cells : (spot : Spot) (first : Dir) (cells : List Pos) → spot.form ≡ Bl
 blob_cells spot first cells form all is = record {
   each = λ p among. subst (λ (f : Form). IsCellOf f (point_of spot.place) (point_of p)) (sym form) (lines_each spot.place first all p (subst (λ l. Contains l p) is among));
   every = λ q cell.
-    let place = lines_every spot.place first all q (subst (λ (f : Form). IsCellOf f (point_of spot.place) q) form cell) in
-    (place.0, place.1, subst (λ l. Contains l place.0) (sym is) place.2);
+      let place = lines_every spot.place first all q (subst (λ (f : Form). IsCellOf f (point_of spot.place) q) form cell) in
+      (place.0, place.1, subst (λ l. Contains l place.0) (sym is) place.2);
 }
 
 pub blob_lists : (spot : Spot) (first : Dir) (r : Result (Vec Pos Global) OutOfMemory) → spot.form ≡ Blob first → ((q : Point) → IsInBlob (point_of spot.place) first q → (p : Pos) × (point_of p ≡ q) × HasNeighbours p)

@@ -3,14 +3,14 @@ use Rattle.cell_world.specs.Cell.{one_if}
 use Rattle.cell_world.specs.Opening.{IsFed, is_hill}
 use Rattle.cell_world.specs.declared.ant.Colour.{Colour}
 use Rattle.cell_world.specs.declared.ant.Colour.TheVariants.{Red, Black}
-use Rattle.std.proofs.Common.{◌≡◌, ℕ, zero, suc, ◌+◌, ◌*◌, ◌<◌, ◌≤◌, min, List, [], ◌∷◌, ◌++◌, length, true, false, refl, sym, ◌∙◌, ap, arith, subst, inl, inr, append_assoc}
+use Rattle.std.proofs.Common.{◌≡◌, ℕ, zero, suc, ◌+◌, ◌*◌, ◌≤◌, min, List, [], ◌∷◌, ◌++◌, length, false, refl, sym, ◌∙◌, ap, arith, subst, inl, inr, append_assoc}
 use Rattle.std.proofs.lemmas.Bool.{cond_both}
 use Rattle.std.proofs.lemmas.List.{append-nil}
-use Rattle.std.specs.Prelude.{◌⊎◌, nat_lt}
+use Rattle.std.specs.Prelude.{nat_lt}
 use Rattle.world_gen.specs.Elements.{element_of}
 use Rattle.world_gen.specs.Fitting.{Fits}
 use Rattle.world_gen.specs.Painting.{paint_of}
-use Rattle.world_gen.specs.Placing.{Follow, Goes, HasNone, IsBarred, IsFound, IsTaken, after_begun, begun, tried_form}
+use Rattle.world_gen.specs.Placing.{Follow, Goes, HasNone, IsFound, IsTaken, after_begun, begun, tried_form}
 use Rattle.world_gen.specs.declared.element.Element.{Element}
 use Rattle.world_gen.specs.declared.element.Element.TheVariants as element
 use Rattle.world_gen.specs.declared.shape.Shape.{Shape}
@@ -56,11 +56,11 @@ pub follow_more : (seed : ℕ) (shape : Shape) (placed : List Spot) (g : ℕ) (r
     → Follow seed shape placed g (rest ++ spot ∷ []) next
 follow_more seed shape placed g [] after spot next same goes =
     let here : Goes (Fits shape.width shape.height placed) seed shape.width shape.height (element_of shape (length placed)) after spot next =
-      subst (λ l. Goes (Fits shape.width shape.height l) seed shape.width shape.height (element_of shape (length l)) after spot next) (append-nil placed) goes in
+    subst (λ l. Goes (Fits shape.width shape.height l) seed shape.width shape.height (element_of shape (length l)) after spot next) (append-nil placed) goes in
     (next, subst (λ n. Goes (Fits shape.width shape.height placed) seed shape.width shape.height (element_of shape (length placed)) n spot next) (sym same) here, refl)
 follow_more seed shape placed g (one ∷ rest) after spot next follow goes =
     let moved : Goes (Fits shape.width shape.height ((placed ++ one ∷ []) ++ rest)) seed shape.width shape.height (element_of shape (length ((placed ++ one ∷ []) ++ rest))) after spot next =
-      subst (λ l. Goes (Fits shape.width shape.height l) seed shape.width shape.height (element_of shape (length l)) after spot next) (sym (append_assoc placed (one ∷ []) rest)) goes in
+    subst (λ l. Goes (Fits shape.width shape.height l) seed shape.width shape.height (element_of shape (length l)) after spot next) (sym (append_assoc placed (one ∷ []) rest)) goes in
     (follow.0, follow.1, follow_more seed shape (placed ++ one ∷ []) follow.0 rest after spot next follow.2 moved)
 
 -- the cells of each element are of a kind that a world may have

@@ -1,9 +1,9 @@
 -- Food is part of what a world weighs.
-use Rattle.cell_world.specs.Cell.{ant_weight, cell_weight}
-use Rattle.cell_world.specs.World.{World, area, pos_at, sum_over, total, weight}
+use Rattle.cell_world.specs.Cell.{cell_weight}
+use Rattle.cell_world.specs.World.{World, pos_at, sum_over, weight}
 use Rattle.cell_world.specs.declared.cell.Cell.{Cell}
 use Rattle.hex_geometry.specs.declared.position.Pos.{Pos}
-use Rattle.std.proofs.Common.{◌≡◌, ℕ, zero, suc, ◌+◌, ◌-◌, ◌*◌, ◌≤◌, ◌<◌, refl, arith, add-one, subst}
+use Rattle.std.proofs.Common.{◌≡◌, ℕ, zero, suc, ◌+◌, ◌-◌, ◌*◌, ◌≤◌, arith, subst}
 
 food_weighs : (cell : Cell) → cell.food ≤ cell_weight cell
 unfolding cell_weight

@@ -4,7 +4,7 @@ use Rattle.cell_world.specs.World.{pos_at}
 use Rattle.hex_geometry.proofs.Places.{pos_same}
 use Rattle.hex_geometry.specs.Position.{IsInside}
 use Rattle.hex_geometry.specs.declared.position.Pos.{Pos}
-use Rattle.std.proofs.Common.{◌≡◌, ℕ, ◌+◌, ◌*◌, ◌/◌, ◌%◌, ◌<◌, ◌≤◌, refl, sym, ◌∙◌, ap, arith}
+use Rattle.std.proofs.Common.{◌≡◌, ℕ, ◌+◌, ◌*◌, ◌<◌, sym, ◌∙◌, ap, arith}
 use Rattle.std.proofs.lemmas.Nat.{div-add-mod', div-mul-add, mod-mul-add}
 
 -- the number of a position inside is below the number of cells

@@ -3,18 +3,18 @@ use Rattle.hex_geometry.proofs.Beside.{adjacent_pos_table}
 use Rattle.hex_geometry.proofs.Places.{inner_has_neighbours}
 use Rattle.hex_geometry.specs.Direction.{turned_by}
 use Rattle.hex_geometry.specs.Neighbourhood.{adjacent_point, adjacent_pos}
-use Rattle.hex_geometry.specs.Position.{HasNeighbours, IsInner, Point, point_of}
+use Rattle.hex_geometry.specs.Position.{HasNeighbours, Point, point_of}
 use Rattle.hex_geometry.specs.declared.direction.Dir.{Dir}
 use Rattle.hex_geometry.specs.declared.direction.Side.TheVariants.{Right}
 use Rattle.hex_geometry.specs.declared.position.Pos.{Pos}
-use Rattle.std.proofs.Common.{◌≡◌, ℕ, zero, suc, ◌+◌, ◌<◌, ◌≤◌, List, [], ◌∷◌, ◌++◌, length, true, false, refl, sym, ◌∙◌, ap, arith, subst, inl, inr, add-one, append_assoc}
-use Rattle.std.proofs.lemmas.Bool.{cases_lt, false≢true}
+use Rattle.std.proofs.Common.{◌≡◌, ℕ, zero, suc, ◌+◌, ◌<◌, List, [], ◌∷◌, ◌++◌, true, refl, sym, ◌∙◌, ap, arith, subst, inl, inr, add-one, append_assoc}
+use Rattle.std.proofs.lemmas.Bool.{cases_lt}
 use Rattle.std.proofs.lemmas.List.{append-nil}
 use Rattle.std.proofs.lemmas.List.Elements.{Contains-append_cases, Contains-append_left, Contains-append_right, Contains-push, Contains-push_cases}
-use Rattle.std.specs.Prelude.{Bool, Contains, ◌⊎◌}
+use Rattle.std.specs.Prelude.{Bool, Contains}
 use Rattle.world_gen.proofs.Steps.{point_one}
 use Rattle.world_gen.specs.Elements.{IsInBlob, stepped}
-use Rattle.world_gen.specs.Inner.Open.{BlobHasNeighbours, BlobIsOpen, IsFenced, IsOpen, LineHasNeighbours, LineIsOpen, LinesAreOpen, is_open, line_from, lines_from, walked}
+use Rattle.world_gen.specs.Inner.Open.{BlobHasNeighbours, BlobIsOpen, IsFenced, IsOpen, LineIsOpen, LinesAreOpen, is_open, line_from, lines_from, walked}
 
 -- a place that is a position with neighbours
 abbrev HasRound : Point → Type 0
@@ -57,7 +57,7 @@ lines_more width height blocked start corner first n here free before i below =
       | inr h ↦
           let same : n ≡ i = omega arith in
           subst (λ k. LineIsOpen width height blocked (stepped k first corner) (turned_by first Right) 5) same
-            (subst (λ q. LineIsOpen width height blocked q (turned_by first Right) 5) here free)
+          (subst (λ q. LineIsOpen width height blocked q (turned_by first Right) 5) here free)
     ]
 
 -- five lines of five are the blob
@@ -71,7 +71,7 @@ pub blob_line : (width height : ℕ) (blocked : List Bool) (start : Pos) (corner
     → BlobIsOpen width height blocked corner first → LineIsOpen width height blocked (point_of start) (turned_by first Right) 5
 blob_line width height blocked start corner first n low here free j below =
     subst (λ q. IsOpen width height blocked (stepped j (turned_by first Right) q)) (sym here)
-      (free (stepped j (turned_by first Right) (stepped n first corner)) (record { along = n; beside = j; is_long = omega arith; is_wide = omega arith; is = refl }))
+    (free (stepped j (turned_by first Right) (stepped n first corner)) (record { along = n; beside = j; is_long = omega arith; is_wide = omega arith; is = refl }))
 
 -- the start of an open line is open
 pub line_start : (width height : ℕ) (blocked : List Bool) (start : Pos) (way : Dir) → LineIsOpen width height blocked (point_of start) way 5 → is_open width height blocked start ≡ true
@@ -89,7 +89,6 @@ walked_is (suc n) d p q is has =
     adjacent_pos_table (walked n d p) d around.from_left around.from_top ∙ ap (λ r. adjacent_point r d) before
 
 module _ (corner : Pos) (first : Dir) (all : (q : Point) → IsInBlob (point_of corner) first q → (p : Pos) × (point_of p ≡ q) × HasNeighbours p) where
-
   in_blob : (i j : ℕ) → i < 5 → j < 5 → IsInBlob (point_of corner) first (stepped j (turned_by first Right) (stepped i first (point_of corner)))
   in_blob i j hi hj = record { along = i; beside = j; is_long = omega arith; is_wide = omega arith; is = refl }
 
@@ -140,7 +139,7 @@ module _ (corner : Pos) (first : Dir) (all : (q : Point) → IsInBlob (point_of 
         | inr high ↦
             let same : n ≡ i = omega arith in
             subst (λ k. Contains (lines_from (suc n) first corner) (walked j (turned_by first Right) (walked k first corner))) same
-              (Contains-append_right (lines_from n first corner) (line_from 5 (turned_by first Right) (walked n first corner)) _ (line_has 5 (turned_by first Right) (walked n first corner) j hj))
+            (Contains-append_right (lines_from n first corner) (line_from 5 (turned_by first Right) (walked n first corner)) _ (line_has 5 (turned_by first Right) (walked n first corner) j hj))
       ]
 
   pub lines_each : (p : Pos) → Contains (lines_from 5 first corner) p → IsInBlob (point_of corner) first (point_of p)

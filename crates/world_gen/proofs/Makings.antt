@@ -1,7 +1,7 @@
 -- Elements placed and painted, one after another.
 use Rattle.cell_world.specs.Opening.{hill_count}
 use Rattle.cell_world.specs.declared.kind.Kind.{Kind}
-use Rattle.std.proofs.Common.{◌≡◌, ℕ, ◌+◌, ◌*◌, ◌<◌, ◌≤◌, min, List, [], ◌∷◌, ◌++◌, length, refl, sym, ◌∙◌, ap, arith, subst}
+use Rattle.std.proofs.Common.{◌≡◌, ℕ, ◌+◌, ◌*◌, ◌<◌, ◌≤◌, List, [], ◌∷◌, ◌++◌, length, refl, sym, ◌∙◌, ap, arith, subst}
 use Rattle.std.proofs.lemmas.List.{length_push}
 use Rattle.std.specs.Prelude.{Bool, Err}
 use Rattle.world_gen.proofs.Bares.{bare_hills, bare_yard}
@@ -36,11 +36,10 @@ begun_none seed shape blocked kinds g narrow low is_blocked is_kinds zero =
 
 -- one element more, in a yard of the shape's sizes
 module _ (seed : ℕ) (shape : Shape) (n g after : ℕ) (blocked now : List Bool) (kinds paint : List Kind) (begun : IsBegun seed shape n blocked kinds g) where
-
   goes_there : (spot : Spot) → Goes (AllOpen shape.width shape.height blocked) seed shape.width shape.height (element_of shape n) g spot after → Goes (Fits shape.width shape.height begun.placed) seed shape.width shape.height (element_of shape n) g spot after
   goes_there spot goes =
       goes_as (AllOpen shape.width shape.height blocked) (Fits shape.width shape.height begun.placed) (λ s open_all. open_fits shape.width shape.height begun.placed blocked kinds s begun.yard open_all) (λ s fits. fits_open shape.width shape.height begun.placed blocked kinds s begun.yard fits)
-        seed shape.width shape.height (element_of shape n) g spot after goes
+      seed shape.width shape.height (element_of shape n) g spot after goes
 
   step : (spot : Spot) → Goes (AllOpen shape.width shape.height blocked) seed shape.width shape.height (element_of shape n) g spot after → IsPut spot shape.width shape.height blocked now kinds paint → IsBegun seed shape (n + 1) now paint after
   step spot goes put =

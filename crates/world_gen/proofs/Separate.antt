@@ -1,15 +1,13 @@
 -- Placed elements lie apart.
-use Rattle.hex_geometry.proofs.Metric.{adjacent_back}
-use Rattle.hex_geometry.specs.Position.{Point}
-use Rattle.std.proofs.Common.{◌≡◌, ℕ, List, [], ◌∷◌, ◌++◌, length, get_or, sym, ◌∙◌, ap, arith, subst, inl, inr, append_assoc}
+use Rattle.std.proofs.Common.{ℕ, List, [], ◌∷◌, ◌++◌, length, get_or, sym, arith, subst, inl, inr, append_assoc}
 use Rattle.std.proofs.lemmas.List.{append-nil}
 use Rattle.std.proofs.lemmas.List.Elements.{Contains-get_or, Contains-push_cases}
 use Rattle.std.proofs.lemmas.List.Quantifiers.{all_pairs_push}
 use Rattle.std.specs.Prelude.{Contains}
 use Rattle.world_gen.proofs.Follows.{goes_fits}
 use Rattle.world_gen.specs.Elements.{IsCell, element_of}
-use Rattle.world_gen.specs.Fitting.{Fits, IsOffRim, IsTouching}
-use Rattle.world_gen.specs.Placing.{Follow, IsPlacing}
+use Rattle.world_gen.specs.Fitting.{Fits}
+use Rattle.world_gen.specs.Placing.{Follow}
 use Rattle.world_gen.specs.PlacingLaws.{AreApart, ElementsLieApart, IsSeparated}
 use Rattle.world_gen.specs.declared.shape.Shape.{Shape}
 use Rattle.world_gen.specs.declared.spot.Spot.{Spot}
@@ -24,10 +22,10 @@ apart_none width height = record { off_rim = λ spot q among cell. absurd (no_me
 apart_more : (width height : ℕ) (placed : List Spot) (spot : Spot) → IsSeparated width height placed → Fits width height placed spot → IsSeparated width height (placed ++ spot ∷ [])
 apart_more width height placed spot before fits = record {
   off_rim = λ other q among cell.
-    elim (Contains-push_cases placed spot other among) [
-      | inl old ↦ before.off_rim other q old cell
-      | inr same ↦ fits.off_rim q (subst (λ s. IsCell s q) (sym same) cell)
-    ];
+      elim (Contains-push_cases placed spot other among) [
+        | inl old ↦ before.off_rim other q old cell
+        | inr same ↦ fits.off_rim q (subst (λ s. IsCell s q) (sym same) cell)
+      ];
   apart = all_pairs_push AreApart placed spot before.apart (λ k d h q r one other touching. fits.apart (get_or placed k d) r q (Contains-get_or placed k d h) other one touching);
 }
 
@@ -36,7 +34,7 @@ follow_apart seed shape placed g [] after follow before = subst (IsSeparated sha
 follow_apart seed shape placed g (spot ∷ rest) after follow before =
     let fits = goes_fits (Fits shape.width shape.height placed) seed shape.width shape.height (element_of shape (length placed)) g spot follow.0 follow.1 in
     subst (IsSeparated shape.width shape.height) (append_assoc placed (spot ∷ []) rest)
-      (follow_apart seed shape (placed ++ spot ∷ []) follow.0 rest after follow.2 (apart_more shape.width shape.height placed spot before fits))
+    (follow_apart seed shape (placed ++ spot ∷ []) follow.0 rest after follow.2 (apart_more shape.width shape.height placed spot before fits))
 
 pub lie_apart : ElementsLieApart
 lie_apart seed shape placed placing = follow_apart seed shape [] 0 placed placing.after placing.follow (apart_none shape.width shape.height)

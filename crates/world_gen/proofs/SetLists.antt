@@ -2,7 +2,7 @@
 use Rattle.cell_world.specs.Grid.{index_of}
 use Rattle.hex_geometry.specs.Position.{IsInside}
 use Rattle.hex_geometry.specs.declared.position.Pos.{Pos}
-use Rattle.std.proofs.Common.{◌≡◌, ◌≢◌, ℕ, ◌*◌, ◌<◌, ◌≤◌, List, length, get_or, refl, sym, ◌∙◌, ap, arith, subst, inl, inr, get_or-set_other, get_or-set_same}
+use Rattle.std.proofs.Common.{◌≡◌, ◌≢◌, ℕ, ◌*◌, ◌<◌, List, length, get_or, refl, sym, ◌∙◌, subst, inl, inr, get_or-set_other, get_or-set_same}
 use Rattle.std.proofs.Math.ListN.{set, length-set}
 use Rattle.std.proofs.lemmas.Bool.{cases_Bool, eqb-false, eqb-true}
 use Rattle.std.specs.Prelude.{◌⊎◌, ◌==◌}
@@ -27,9 +27,9 @@ sets_one {X} width height v q xs full inside =
     let within : index_of width q < length xs = subst (λ n. index_of width q < n) (sym full) (index_below width height q inside) in
     let at_q : (d : X) → get_or (set xs (index_of width q) v) (index_of width q) d ≡ v = λ d. rw get_or-set_same refl in
     let elsewhere : (p : Pos) (d : X) → IsInside width height p → (q ≡ p → ⊥) → get_or (set xs (index_of width q) v) (index_of width p) d ≡ get_or xs (index_of width p) d =
-      λ p d here other.
-      let apart : index_of width p ≢ index_of width q = λ same. other (sym (index_one width p q here.column inside.column same)) in
-      rw get_or-set_other refl in
+    λ p d here other.
+    let apart : index_of width p ≢ index_of width q = λ same. other (sym (index_one width p q here.column inside.column same)) in
+    rw get_or-set_other refl in
     record {
       same_length = length-set xs (index_of width q) v;
       on = λ p d here same. subst (λ r. get_or (set xs (index_of width q) v) (index_of width r) d ≡ v) same (at_q d);

@@ -9,7 +9,7 @@ use Rattle.hex_geometry.specs.Direction.{dir_of, number_of}
 use Rattle.hex_geometry.specs.Neighbourhood.{adjacent_pos, neighbours_of}
 use Rattle.hex_geometry.specs.Position.{IsInside}
 use Rattle.hex_geometry.specs.declared.position.Pos.{Pos}
-use Rattle.std.proofs.Common.{◌≡◌, ◌≢◌, ℕ, zero, suc, ◌+◌, ◌*◌, ◌<◌, ◌≤◌, List, [], ◌∷◌, ◌++◌, length, take, get_or, true, refl, sym, ◌∙◌, ap, arith, subst, inl, inr}
+use Rattle.std.proofs.Common.{◌≡◌, ℕ, zero, suc, ◌+◌, ◌*◌, ◌<◌, ◌≤◌, List, [], ◌∷◌, ◌++◌, length, take, get_or, true, refl, sym, ◌∙◌, ap, arith, subst, inl, inr}
 use Rattle.std.proofs.Math.ListN.{length-set, set}
 use Rattle.std.proofs.lemmas.Bool.{cases_lt}
 use Rattle.std.proofs.lemmas.List.{length_push, take_more}
@@ -86,22 +86,22 @@ pub stamped_more : (width height : ℕ) (done : List Pos) (cell : Pos) (kind : K
     → IsStamped width height (done ++ cell ∷ []) kind blocked now kinds (set paint (index_of width cell) kind)
 stamped_more width height done cell kind blocked mid now kinds paint before round full inside = record {
   blocks = sets_both width height true (IsRoundAny done) (IsRound cell) (IsRoundAny (done ++ cell ∷ [])) blocked mid now before.blocks round
-    (λ p here. elim (Contains-push_cases done cell here.0 here.1) [
-      | inl old ↦ inl (here.0, old, here.2)
-      | inr e ↦ inr (subst (λ r. IsRound r p) (sym e) here.2)
-    ])
-    (λ p here. (here.0, Contains-append_left done (cell ∷ []) here.0 here.1, here.2))
-    (λ p here. (cell, Contains-push done cell, here));
+      (λ p here. elim (Contains-push_cases done cell here.0 here.1) [
+        | inl old ↦ inl (here.0, old, here.2)
+        | inr e ↦ inr (subst (λ r. IsRound r p) (sym e) here.2)
+      ])
+      (λ p here. (here.0, Contains-append_left done (cell ∷ []) here.0 here.1, here.2))
+      (λ p here. (cell, Contains-push done cell, here));
   paints = sets_both width height kind (Contains done) (λ p. cell ≡ p) (Contains (done ++ cell ∷ [])) kinds paint (set paint (index_of width cell) kind) before.paints
-    (sets_one width height kind cell paint (before.paints.same_length ∙ full) inside)
-    (λ p here. Contains-push_cases done cell p here)
-    (λ p here. Contains-append_left done (cell ∷ []) p here)
-    (λ p e. subst (Contains (done ++ cell ∷ [])) e (Contains-push done cell));
+      (sets_one width height kind cell paint (before.paints.same_length ∙ full) inside)
+      (λ p here. Contains-push_cases done cell p here)
+      (λ p here. Contains-append_left done (cell ∷ []) p here)
+      (λ p e. subst (Contains (done ++ cell ∷ [])) e (Contains-push done cell));
   hills =
-    let one = hills_set paint (index_of width cell) kind in
-    let so_far = before.hills in
-    let long : length (done ++ cell ∷ []) ≡ length done + 1 = length_push done cell in
-    rw long (omega arith);
+      let one = hills_set paint (index_of width cell) kind in
+      let so_far = before.hills in
+      let long : length (done ++ cell ∷ []) ≡ length done + 1 = length_push done cell in
+      rw long (omega arith);
   fed = λ one all. All-set IsFed paint (index_of width cell) kind one (before.fed one all);
 }
 

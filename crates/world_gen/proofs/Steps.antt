@@ -5,19 +5,18 @@ use Rattle.cell_world.specs.declared.kind.Kind.{Kind}
 use Rattle.cell_world.specs.declared.kind.Kind.TheVariants as kind
 use Rattle.hex_geometry.proofs.Beside.{adjacent_pos_table, neighbours_of_contains, neighbours_of_only}
 use Rattle.hex_geometry.proofs.Places.{inner_inside, pos_same}
-use Rattle.hex_geometry.specs.Distance.{IsAdjacent}
 use Rattle.hex_geometry.specs.Neighbourhood.{adjacent_pos, neighbours_of}
 use Rattle.hex_geometry.specs.Position.{IsInner, IsInside, Point, point_of}
 use Rattle.hex_geometry.specs.declared.position.Pos.{Pos}
-use Rattle.std.proofs.Common.{◌≡◌, ◌≢◌, ℕ, ◌*◌, ◌≤◌, List, [], ◌∷◌, ◌++◌, length, get_or, true, false, refl, sym, ◌∙◌, ap, subst, inl, inr}
+use Rattle.std.proofs.Common.{◌≡◌, ℕ, List, [], ◌∷◌, ◌++◌, get_or, true, false, refl, sym, ◌∙◌, ap, subst, inl, inr}
 use Rattle.std.proofs.lemmas.Bool.{false_from_ne_true, false≢true}
 use Rattle.std.proofs.lemmas.List.Elements.{Contains-append_left, Contains-push, Contains-push_cases}
-use Rattle.std.specs.Prelude.{Bool, Contains, ℤ, pos, ◌⊎◌}
+use Rattle.std.specs.Prelude.{Bool, Contains, pos, ◌⊎◌}
 use Rattle.world_gen.proofs.Bares.{open_free, open_from, open_inside}
 use Rattle.world_gen.specs.Elements.{IsCell}
 use Rattle.world_gen.specs.Fitting.{Fits, IsOffRim, IsTouching}
-use Rattle.world_gen.specs.Inner.Open.{AllOpen, IsOpen, ListsCells, is_open}
-use Rattle.world_gen.specs.Inner.Sets.{IsRound, IsRoundAny, Sets}
+use Rattle.world_gen.specs.Inner.Open.{AllOpen, ListsCells, is_open}
+use Rattle.world_gen.specs.Inner.Sets.{IsRound, IsRoundAny}
 use Rattle.world_gen.specs.Inner.Yards.{IsStamped, IsTouched, IsYard}
 use Rattle.world_gen.specs.Painting.{IsPainted, paint_of}
 use Rattle.world_gen.specs.declared.spot.Spot.{Spot}
@@ -53,8 +52,8 @@ pub open_fits : (width height : ℕ) (placed : List Spot) (blocked : List Bool) 
 open_fits width height placed blocked kinds spot yard all = record {
   off_rim = λ q cell. let place = all q cell in (place.0, place.1, yard.fenced.rim place.0 place.2);
   apart = λ other q r among cell of touching.
-    let place = all q cell in
-    yard.shut place.0 other (open_inside width height blocked place.0 place.2) among (record { cell = r; of = of; touching = subst (IsTouching r) (sym place.1) touching }) place.2;
+      let place = all q cell in
+      yard.shut place.0 other (open_inside width height blocked place.0 place.2) among (record { cell = r; of = of; touching = subst (IsTouching r) (sym place.1) touching }) place.2;
 }
 
 pub fits_open : (width height : ℕ) (placed : List Spot) (blocked : List Bool) (kinds : List Kind) (spot : Spot) → IsYard width height placed blocked kinds → Fits width height placed spot → AllOpen width height blocked spot
@@ -67,8 +66,7 @@ among_cases : (placed : List Spot) (spot other : Spot) → Contains (placed ++ s
 among_cases placed spot other among = Contains-push_cases placed spot other among
 
 module _ (width height : ℕ) (placed : List Spot) (blocked now : List Bool) (kinds paint : List Kind) (spot : Spot) (cells : List Pos)
-  (yard : IsYard width height placed blocked kinds) (fits : Fits width height placed spot) (lists : ListsCells spot cells) (stamped : IsStamped width height cells (paint_of spot.form) blocked now kinds paint) where
-
+    (yard : IsYard width height placed blocked kinds) (fits : Fits width height placed spot) (lists : ListsCells spot cells) (stamped : IsStamped width height cells (paint_of spot.form) blocked now kinds paint) where
   cell_inner : (p : Pos) → Contains cells p → IsInner width height p
   cell_inner p among =
       let place = fits.off_rim (point_of p) (lists.each p among) in
@@ -86,7 +84,7 @@ module _ (width height : ℕ) (placed : List Spot) (blocked now : List Bool) (ki
       let inside = open_inside width height now p free in
       let clear : get_or now (index_of width p) true ≡ false = open_free width height now p free in
       open_from width height blocked p inside
-        (false_from_ne_true (get_or blocked (index_of width p) true) (λ shut. false≢true (sym clear ∙ stamped.blocks.stay p true inside shut)))
+      (false_from_ne_true (get_or blocked (index_of width p) true) (λ shut. false≢true (sym clear ∙ stamped.blocks.stay p true inside shut)))
 
   -- what touches the spot is blocked now
   spot_shut : (p : Pos) → IsInside width height p → IsTouched spot p → is_open width height now p ≡ true → ⊥
@@ -141,8 +139,8 @@ module _ (width height : ℕ) (placed : List Spot) (blocked now : List Bool) (ki
     rim = λ p inside outer. stamped.paints.off p kind.Rock inside (λ among. outer (cell_inner p among)) ∙ yard.painted.rim p inside outer;
     cell = now_cell;
     floor = λ p inner none.
-      stamped.paints.off p kind.Rock (inner_inside inner) (λ among. none spot (Contains-push placed spot) (lists.each p among))
-      ∙ yard.painted.floor p inner (λ other among. none other (Contains-append_left placed (spot ∷ []) other among));
+        stamped.paints.off p kind.Rock (inner_inside inner) (λ among. none spot (Contains-push placed spot) (lists.each p among))
+        ∙ yard.painted.floor p inner (λ other among. none other (Contains-append_left placed (spot ∷ []) other among));
   }
 
   pub yard_more : IsFed (paint_of spot.form) → IsYard width height (placed ++ spot ∷ []) now paint

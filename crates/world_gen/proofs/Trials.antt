@@ -1,10 +1,9 @@
 -- Tries, and the search after them.
 use Rattle.hex_geometry.specs.Position.{IsInside}
-use Rattle.hex_geometry.specs.declared.position.Pos.{Pos}
-use Rattle.std.proofs.Common.{◌≡◌, ℕ, ◌+◌, ◌*◌, ◌<◌, sym, ◌∙◌, ap, arith, subst, inl, inr}
+use Rattle.std.proofs.Common.{◌≡◌, ℕ, ◌+◌, ◌*◌, sym, ◌∙◌, ap, arith, subst, inl, inr}
 use Rattle.std.proofs.lemmas.Bool.{cases_lt}
 use Rattle.std.specs.Prelude.{Option, Some, None}
-use Rattle.world_gen.specs.Inner.Answers.{IsChosen, IsFirstSpot, IsSearched, IsTried}
+use Rattle.world_gen.specs.Inner.Answers.{IsChosen, IsSearched, IsTried}
 use Rattle.world_gen.specs.Placing.{NoTryFits, after_begun, begun, draws_of, tried_at, try_of}
 use Rattle.world_gen.specs.declared.element.Element.{Element}
 use Rattle.world_gen.specs.declared.spot.Form.{Form}

@@ -8,14 +8,14 @@ use Rattle.hex_geometry.proofs.Places.{pos_same}
 use Rattle.hex_geometry.specs.Distance.{IsBefore}
 use Rattle.hex_geometry.specs.Position.{IsInner, IsInside, point_of}
 use Rattle.hex_geometry.specs.declared.position.Pos.{Pos}
-use Rattle.std.proofs.Common.{◌≡◌, ◌≢◌, ℕ, zero, suc, ◌+◌, ◌*◌, ◌<◌, ◌≤◌, List, [], ◌∷◌, ◌++◌, length, get_or, true, false, refl, sym, ◌∙◌, ap, arith, subst, inl, inr, append_assoc}
+use Rattle.std.proofs.Common.{◌≡◌, ◌≢◌, ℕ, zero, suc, ◌+◌, ◌*◌, ◌<◌, List, [], ◌∷◌, ◌++◌, length, get_or, refl, sym, ◌∙◌, ap, arith, subst, inl, inr, append_assoc}
 use Rattle.std.proofs.Math.Nat.{div-lt_iff_lt-mul, mul_comm}
 use Rattle.std.proofs.lemmas.Bool.{cases_Bool, cases_lt, eqb-false, eqb-true, false≢true}
 use Rattle.std.proofs.lemmas.List.{append-nil, get_or_default, same_lists}
 use Rattle.std.specs.Prelude.{Contains, ◌⊎◌, ◌==◌}
 use Rattle.world_gen.proofs.Bares.{inner_rim_false, rim_false_inner}
 use Rattle.world_gen.proofs.Indexes.{index_pos_at}
-use Rattle.world_gen.specs.Elements.{IsCell, count_of, element_of}
+use Rattle.world_gen.specs.Elements.{IsCell, element_of}
 use Rattle.world_gen.specs.Inner.Yards.{is_rim}
 use Rattle.world_gen.specs.Painting.{IsGenerated, IsPainted}
 use Rattle.world_gen.specs.Fitting.{Fits}
@@ -32,30 +32,29 @@ order p q =
     elim (cases_lt p.y q.y) [
       | inl up ↦ inr (inl (record { row = omega arith; column = λ e. absurd (omega arith) }))
       | inr h ↦ elim (cases_lt q.y p.y) [
-          | inl low ↦ inr (inr (record { row = omega arith; column = λ e. absurd (omega arith) }))
-          | inr g ↦
-              let rows : p.y ≡ q.y = omega arith in
-              elim (cases_lt p.x q.x) [
-                | inl left ↦ inr (inl (record { row = omega arith; column = λ e. left }))
-                | inr a ↦ elim (cases_lt q.x p.x) [
-                    | inl right ↦ inr (inr (record { row = omega arith; column = λ e. right }))
-                    | inr b ↦ inl (pos_same (omega arith) rows)
-                  ]
+        | inl low ↦ inr (inr (record { row = omega arith; column = λ e. absurd (omega arith) }))
+        | inr g ↦
+            let rows : p.y ≡ q.y = omega arith in
+            elim (cases_lt p.x q.x) [
+              | inl left ↦ inr (inl (record { row = omega arith; column = λ e. left }))
+              | inr a ↦ elim (cases_lt q.x p.x) [
+                | inl right ↦ inr (inr (record { row = omega arith; column = λ e. right }))
+                | inr b ↦ inl (pos_same (omega arith) rows)
               ]
-        ]
+            ]
+      ]
     ]
 
 module _ (fits : Spot → Type 0) (seed width height : ℕ) (form : Form) (g : ℕ) where
-
   -- the first try that fits is one
   one_try : (s t : Spot) (a b : ℕ) (x : IsTaken fits seed width height form g s a) (y : IsTaken fits seed width height form g t b) → x.try ≡ y.try
   one_try s t a b x y =
       elim (cases_lt x.try y.try) [
         | inl h ↦ absurd (y.first x.try h (subst fits x.is x.fitting))
         | inr h ↦ elim (cases_lt y.try x.try) [
-            | inl k ↦ absurd (x.first y.try k (subst fits y.is y.fitting))
-            | inr k ↦ omega arith
-          ]
+          | inl k ↦ absurd (x.first y.try k (subst fits y.is y.fitting))
+          | inr k ↦ omega arith
+        ]
       ]
 
   taken_one : (s t : Spot) (a b : ℕ) → IsTaken fits seed width height form g s a → IsTaken fits seed width height form g t b → (s ≡ t) × (a ≡ b)
@@ -69,13 +68,13 @@ module _ (fits : Spot → Type 0) (seed width height : ℕ) (form : Form) (g : �
   found_one : (s t : Spot) (a b : ℕ) → IsFound fits seed width height form g s a → IsFound fits seed width height form g t b → (s ≡ t) × (a ≡ b)
   found_one s t a b x y =
       let same : x.place ≡ y.place =
-        elim (order x.place y.place) [
-          | inl e ↦ e
-          | inr other ↦ elim other [
-              | inl h ↦ absurd (y.first x.place x.inside h (subst fits x.is x.fitting))
-              | inr h ↦ absurd (x.first y.place y.inside h (subst fits y.is y.fitting))
-            ]
-        ] in
+      elim (order x.place y.place) [
+        | inl e ↦ e
+        | inr other ↦ elim other [
+          | inl h ↦ absurd (y.first x.place x.inside h (subst fits x.is x.fitting))
+          | inr h ↦ absurd (x.first y.place y.inside h (subst fits y.is y.fitting))
+        ]
+      ] in
       (x.is ∙ ap (spot_at form) same ∙ sym y.is, x.drew ∙ sym y.drew)
 
   taken_barred : (s : Spot) (a : ℕ) → IsTaken fits seed width height form g s a → IsBarred fits seed width height form g → ⊥
@@ -115,15 +114,15 @@ follow_barred : (seed : ℕ) (shape : Shape) (placed : List Spot) (g : ℕ) (xs 
 follow_barred seed shape placed g [] ys a b x y longer none = omega arith
 follow_barred seed shape placed g (s ∷ xs) [] a b x y longer none =
     let here : HasNone (Fits shape.width shape.height placed) seed shape.width shape.height (element_of shape (length placed)) b =
-      subst (λ l. HasNone (Fits shape.width shape.height l) seed shape.width shape.height (element_of shape (length l)) b) (append-nil placed) none in
+    subst (λ l. HasNone (Fits shape.width shape.height l) seed shape.width shape.height (element_of shape (length l)) b) (append-nil placed) none in
     goes_none (Fits shape.width shape.height placed) seed shape.width shape.height (element_of shape (length placed)) g s x.0 x.1
-      (subst (λ n. HasNone (Fits shape.width shape.height placed) seed shape.width shape.height (element_of shape (length placed)) n) (sym y) here)
+    (subst (λ n. HasNone (Fits shape.width shape.height placed) seed shape.width shape.height (element_of shape (length placed)) n) (sym y) here)
 follow_barred seed shape placed g (s ∷ xs) (t ∷ ys) a b x y longer none =
     let one = goes_one (Fits shape.width shape.height placed) seed shape.width shape.height (element_of shape (length placed)) g s t x.0 y.0 x.1 y.1 in
     let moved : Follow seed shape (placed ++ t ∷ []) x.0 xs a = subst (λ (u : Spot). Follow seed shape (placed ++ u ∷ []) x.0 xs a) one.0 x.2 in
     let moved_too : Follow seed shape (placed ++ t ∷ []) y.0 xs a = subst (λ n. Follow seed shape (placed ++ t ∷ []) n xs a) one.1 moved in
     let none_on : HasNone (Fits shape.width shape.height ((placed ++ t ∷ []) ++ ys)) seed shape.width shape.height (element_of shape (length ((placed ++ t ∷ []) ++ ys))) b =
-      subst (λ l. HasNone (Fits shape.width shape.height l) seed shape.width shape.height (element_of shape (length l)) b) (sym (append_assoc placed (t ∷ []) ys)) none in
+    subst (λ l. HasNone (Fits shape.width shape.height l) seed shape.width shape.height (element_of shape (length l)) b) (sym (append_assoc placed (t ∷ []) ys)) none in
     follow_barred seed shape (placed ++ t ∷ []) y.0 xs ys a b moved_too y.2 (omega arith) none_on
 
 barred_here : (seed : ℕ) (shape : Shape) (number : ℕ) (none : HasNoRoom seed shape number)
@@ -165,12 +164,12 @@ painted_at width height placed xs ys x y p inside =
           let outer : IsInner width height p → ⊥ = λ inner. false≢true (sym (inner_rim_false width height p inner) ∙ on) in
           x.rim p inside outer ∙ sym (y.rim p inside outer)
       | inr off ↦ elim (kinds_apart (kind_at width xs p) (kind_at width ys p)) [
-          | inl same ↦ same
-          | inr other ↦
-              let none : (spot : Spot) → Contains placed spot → IsCell spot (point_of p) → ⊥ = λ spot among cell. other (x.cell p spot among cell ∙ sym (y.cell p spot among cell)) in
-              let inner : IsInner width height p = rim_false_inner width height p inside off in
-              x.floor p inner none ∙ sym (y.floor p inner none)
-        ]
+        | inl same ↦ same
+        | inr other ↦
+            let none : (spot : Spot) → Contains placed spot → IsCell spot (point_of p) → ⊥ = λ spot among cell. other (x.cell p spot among cell ∙ sym (y.cell p spot among cell)) in
+            let inner : IsInner width height p = rim_false_inner width height p inside off in
+            x.floor p inner none ∙ sym (y.floor p inner none)
+      ]
     ]
 
 positive : (w h k : ℕ) → k < w * h → 0 < w
@@ -204,9 +203,9 @@ one_outcome = record {
   one = λ seed shape first second x y. (follow_same seed shape [] 0 first second x.after y.after x.follow y.follow (x.all ∙ sym y.all)).0;
   none = placing_barred;
   number = λ seed shape first second x y.
-    elim (cases_lt first second) [
-      | inl h ↦ absurd (barred_later seed shape first second x y h)
-      | inr h ↦ elim (cases_lt second first) [ inl k ↦ absurd (barred_later seed shape second first y x k) | inr k ↦ omega arith ]
-    ];
+      elim (cases_lt first second) [
+        | inl h ↦ absurd (barred_later seed shape first second x y h)
+        | inr h ↦ elim (cases_lt second first) [ inl k ↦ absurd (barred_later seed shape second first y x k) | inr k ↦ omega arith ]
+      ];
   world = generated_one;
 }

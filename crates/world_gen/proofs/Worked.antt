@@ -3,17 +3,14 @@ use Rattle.ant_random.specs.Stream.{drawn, random_at, state_at}
 use Rattle.cell_world.specs.declared.ant.Colour.TheVariants.{Red, Black}
 use Rattle.hex_geometry.specs.Neighbourhood.{adjacent_point}
 use Rattle.hex_geometry.specs.Position.{Point}
-use Rattle.hex_geometry.specs.declared.direction.Dir.TheVariants.{East, SouthEast, SouthWest}
+use Rattle.hex_geometry.specs.declared.direction.Dir.TheVariants.{SouthEast, SouthWest}
 use Rattle.hex_geometry.specs.declared.position.Pos.{Pos}
-use Rattle.std.proofs.Common.{◌≡◌, ℕ, List, [], ◌∷◌, map, refl}
-use Rattle.std.specs.Prelude.{ℤ, pos}
+use Rattle.std.proofs.Common.{◌≡◌, ℕ, [], ◌∷◌, map, refl}
+use Rattle.std.specs.Prelude.{pos}
 use Rattle.world_gen.specs.Elements.{element_of, stepped}
 use Rattle.world_gen.specs.Placing.{after_begun, begun, try_of}
-use Rattle.world_gen.specs.declared.element.Element.{Element}
 use Rattle.world_gen.specs.declared.element.Element.TheVariants as element
-use Rattle.world_gen.specs.declared.shape.Shape.{Shape}
 use Rattle.world_gen.specs.declared.spot.Form.TheVariants.{Hill, Rock, Blob}
-use Rattle.world_gen.specs.declared.spot.Spot.{Spot}
 
 abbrev place : ℕ → ℕ → Pos
 place x y = record { x = x; y = y }

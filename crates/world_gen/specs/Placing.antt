@@ -1,5 +1,5 @@
 -- How the elements are placed with random numbers (this project's own).
-use Rattle.std.specs.Prelude.{◌≡◌, ℕ, ◌+◌, ◌*◌, ◌<◌, List, [], ◌∷◌, ◌++◌, length, ◌⊎◌, Option, Some, None}
+use Rattle.std.specs.Prelude.{◌≡◌, ℕ, ◌+◌, ◌*◌, ◌<◌, List, [], ◌∷◌, ◌++◌, length, ◌⊎◌}
 use Rattle.ant_random.specs.Stream.{drawn}
 use Rattle.hex_geometry.specs.Direction.{dir_of}
 use Rattle.hex_geometry.specs.Distance.{IsBefore}

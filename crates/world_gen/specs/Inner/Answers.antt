@@ -1,9 +1,8 @@
 -- What the steps of placing an element answer.
-use Rattle.std.specs.Prelude.{◌≡◌, ℕ, ◌+◌, ◌*◌, ◌<◌, ◌≤◌, Option, Some, None, ◌⊎◌, Bool, List, length, Result, Ok, Err}
+use Rattle.std.specs.Prelude.{◌≡◌, ℕ, ◌+◌, ◌*◌, ◌<◌, ◌≤◌, Option, Some, None, Bool, List, length, Result, Ok, Err}
 use Rattle.hex_geometry.specs.Distance.{IsBefore}
-use Rattle.hex_geometry.specs.Position.{IsInside}
 use Rattle.hex_geometry.specs.declared.position.Pos.{Pos}
-use Rattle.world_gen.specs.Placing.{Goes, HasNone, IsPlacing, IsTaken, NoTryFits, after_begun, begun, draws_of, spot_at}
+use Rattle.world_gen.specs.Placing.{Goes, HasNone, IsPlacing, IsTaken, NoTryFits, draws_of, spot_at}
 use Rattle.cell_world.specs.Cell.{one_if}
 use Rattle.cell_world.specs.Opening.{IsFed, hill_count, is_hill}
 use Rattle.cell_world.specs.declared.kind.Kind.{Kind}

@@ -6,7 +6,7 @@ use Rattle.hex_geometry.specs.Distance.{IsInBall}
 use Rattle.hex_geometry.specs.Neighbourhood.{adjacent_pos}
 use Rattle.hex_geometry.specs.declared.direction.Dir.{Dir}
 use Rattle.hex_geometry.specs.declared.direction.Side.TheVariants.{Right}
-use Rattle.hex_geometry.specs.Position.{HasNeighbours, IsInner, IsInside, Point, point_of}
+use Rattle.hex_geometry.specs.Position.{HasNeighbours, IsInner, Point, point_of}
 use Rattle.hex_geometry.specs.declared.position.Pos.{Pos}
 use Rattle.world_gen.specs.Elements.{IsCell, IsInBlob, stepped}
 use Rattle.world_gen.specs.Fitting.{IsOffRim}

@@ -15,7 +15,7 @@ loop-along-init c = record { here = walked_none c.args.first c.args.corner; item
 pub push_line-requires : goal.push_line-requires
 push_line-requires c =
     subst (λ (p : Pos). LineHasNeighbours p c.turned-second.result) (sym c.loop-along.invariant.here)
-      (subst (λ (d : Dir). LineHasNeighbours (walked c.loop-along.along c.args.first c.args.corner) d) (sym c.turned-second.ensures) (c.requires c.loop-along.along (omega arith)))
+    (subst (λ (d : Dir). LineHasNeighbours (walked c.loop-along.along c.args.first c.args.corner) d) (sym c.turned-second.ensures) (c.requires c.loop-along.along (omega arith)))
 
 pub adjacent-start-requires : goal.adjacent-start-requires
 adjacent-start-requires c =

@@ -1,7 +1,7 @@
 -- by the element's form
 use Rattle.hex_geometry.specs.Position.{HasNeighbours, Point, point_of}
 use Rattle.hex_geometry.specs.declared.position.Pos.{Pos}
-use Rattle.std.proofs.Common.{◌≡◌, subst, sym}
+use Rattle.std.proofs.Common.{◌≡◌, subst}
 use Rattle.world_gen.proofs.Balls.{ball_has}
 use Rattle.world_gen.proofs.CellLists.{blob_lists}
 use Rattle.world_gen.proofs.Lines.{blob_neighbours}

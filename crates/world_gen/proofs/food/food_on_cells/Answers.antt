@@ -1,10 +1,8 @@
 -- the food is part of the weight, which is bounded
-use Rattle.cell_world.specs.Cell.{cell_weight}
 use Rattle.cell_world.specs.Grid.{world_of}
 use Rattle.cell_world.specs.World.{pos_at, sum_over, weight}
 use Rattle.cell_world.specs.declared.cell.Cell.{Cell}
-use Rattle.hex_geometry.specs.declared.position.Pos.{Pos}
-use Rattle.std.proofs.Common.{◌≡◌, ℕ, ◌+◌, ◌*◌, ◌<◌, ◌≤◌, ◌∙◌, ap, sym, arith, subst, add-one, refl}
+use Rattle.std.proofs.Common.{◌≡◌, ◌+◌, ◌*◌, ◌≤◌, ◌∙◌, ap, arith, add-one, refl}
 use Rattle.world_gen.proofs.Foods.{food_low}
 use Rattle.world_gen.proofs.food.food_on_cells.Goals as goal
 use Rattle.world_gen.specs.Food.{food_on}

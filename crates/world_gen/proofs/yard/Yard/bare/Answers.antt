@@ -1,11 +1,7 @@
 -- one cell after another
-use Rattle.std.proofs.Common.{◌∙◌, refl, ap, add-one, arith, subst, ◌≡◌, sym, ◌++◌, ◌∷◌, [], List}
-use Rattle.std.specs.Prelude.{Bool}
-use Rattle.cell_world.specs.World.{pos_at}
-use Rattle.cell_world.specs.declared.kind.Kind.{Kind}
+use Rattle.std.proofs.Common.{◌∙◌, refl}
 use Rattle.world_gen.proofs.Bares.{bare_blocked_more, bare_kinds_more, bare_blocked_none, bare_kinds_none}
 use Rattle.world_gen.proofs.yard.Yard.bare.Goals as goal
-use Rattle.world_gen.specs.Inner.Yards.{bare_kind, is_rim}
 
 pub loop-number-init : goal.loop-number-init
 loop-number-init c = record {

@@ -1,6 +1,6 @@
 -- by the element's form
 use Rattle.hex_geometry.specs.Position.{Point, point_of}
-use Rattle.std.proofs.Common.{◌≡◌, sym, subst, true}
+use Rattle.std.proofs.Common.{sym, subst}
 use Rattle.std.specs.Bool.{Decides}
 use Rattle.world_gen.proofs.yard.Yard.fits.Goals as goal
 use Rattle.world_gen.specs.Elements.{IsCellOf}

@@ -1,7 +1,6 @@
 -- a position inside has an entry
-use Rattle.hex_geometry.specs.Position.{IsInside}
-use Rattle.std.proofs.Common.{◌≡◌, ◌<◌, ◌*◌, length, vec_len, arith, ap, sym, ◌∙◌, true, false}
-use Rattle.std.proofs.lemmas.Bool.{ltb-true, false≢true}
+use Rattle.std.proofs.Common.{◌≡◌, ◌<◌, length, vec_len, arith, sym, ◌∙◌}
+use Rattle.std.proofs.lemmas.Bool.{ltb-true}
 use Rattle.world_gen.proofs.Indexes.{index_below}
 use Rattle.world_gen.proofs.yard.Yard.is_open.Goals as goal
 use Rattle.world_gen.proofs.yard.Yard.is_open.Goals.{then-p-self, else-p-self}

@@ -5,20 +5,20 @@ use Rattle.std.proofs.lemmas.Bool.{false≢true}
 use Rattle.world_gen.proofs.Lines.{line_more, open_here, step_none, step_on}
 use Rattle.world_gen.proofs.Lines.{open_neighbours}
 use Rattle.world_gen.proofs.yard.Yard.line_is_open.Goals as goal
-use Rattle.world_gen.specs.Elements.{stepped}
 use Rattle.world_gen.specs.Inner.Open.{LineIsOpen, is_open}
 
 pub loop-beside-init : goal.loop-beside-init
 loop-beside-init c = record { here = step_none c.args.way (point_of c.args.start); free = λ j h. absurd (omega arith) }
 
 pub returns-then-not-is_open : goal.returns-then-not-is_open
-returns-then-not-is_open c =
-    (λ e. absurd (false≢true e),
-        λ all.
-        let free : is_open c.args.self.now.width c.args.self.now.height c.args.self.now.blocked.items c.loop-beside.p ≡ true =
-          open_here c.args.self.now.width c.args.self.now.height c.args.self.now.blocked.items c.loop-beside.p _ c.loop-beside.invariant.here (all c.loop-beside.beside (omega arith)) in
-        let shut : c.is_open.result ≡ false = c.if-not-is_open.true in
-        absurd (false≢true (sym shut ∙ c.is_open.ensures ∙ free)))
+returns-then-not-is_open c = (
+  λ e. absurd (false≢true e),
+  λ all.
+      let free : is_open c.args.self.now.width c.args.self.now.height c.args.self.now.blocked.items c.loop-beside.p ≡ true =
+      open_here c.args.self.now.width c.args.self.now.height c.args.self.now.blocked.items c.loop-beside.p _ c.loop-beside.invariant.here (all c.loop-beside.beside (omega arith)) in
+      let shut : c.is_open.result ≡ false = c.if-not-is_open.true in
+      absurd (false≢true (sym shut ∙ c.is_open.ensures ∙ free)),
+)
 
 pub loop-beside-preserved : goal.loop-beside-preserved
 loop-beside-preserved c =

@@ -1,11 +1,9 @@
 -- one element after another
-use Rattle.cell_world.specs.Opening.{hill_count}
-use Rattle.std.proofs.Common.{◌≡◌, ◌+◌, ◌*◌, ◌≤◌, ◌<◌, length, ◌∙◌, ap, sym, arith, subst, refl, Ok}
+use Rattle.std.proofs.Common.{◌*◌, ◌∙◌, ap, sym, arith, subst}
 use Rattle.std.proofs.lemmas.Result.{err_from_is_err_and}
 use Rattle.world_gen.proofs.Makings.{begun_more, begun_none, begun_whole, step_refused}
 use Rattle.world_gen.proofs.yard.Yard.of_shape.Goals as goal
 use Rattle.world_gen.specs.Inner.Open.{IsFenced}
-use Rattle.world_gen.specs.Inner.Yards.{IsBegun}
 
 pub loop-number-init : goal.loop-number-init
 loop-number-init c = record {
@@ -41,15 +39,15 @@ returns-in_err-put-clause-refused c =
     let i = c.loop-number.invariant in
     let p = err_from_is_err_and c.from_residual-in_err-put.result c.from_residual-in_err-put.ensures.1 in
     rw (p.1, p.2)
-      (step_refused c.args.seed c.args.shape c.loop-number.number c.loop-number.yard.width c.loop-number.yard.height c.loop-number.stream.seed c.loop-number.stream.place c.put.new.stream.place c.element.result c.loop-number.yard.blocked.items c.put.new.self.blocked.items c.loop-number.yard.kinds.items c.put.new.self.kinds.items _
-        i.wide i.high i.seed c.element.ensures i.begun (let t = i.total in omega arith) c.in_err-put.ensures.step)
+    (step_refused c.args.seed c.args.shape c.loop-number.number c.loop-number.yard.width c.loop-number.yard.height c.loop-number.stream.seed c.loop-number.stream.place c.put.new.stream.place c.element.result c.loop-number.yard.blocked.items c.put.new.self.blocked.items c.loop-number.yard.kinds.items c.put.new.self.kinds.items _
+    i.wide i.high i.seed c.element.ensures i.begun (let t = i.total in omega arith) c.in_err-put.ensures.step)
 
 pub loop-number-preserved : goal.loop-number-preserved
 loop-number-preserved c =
     let i = c.loop-number.invariant in
     record {
       begun = begun_more c.args.seed c.args.shape c.loop-number.number c.loop-number.yard.width c.loop-number.yard.height c.loop-number.stream.seed c.loop-number.stream.place c.put.new.stream.place c.element.result c.loop-number.yard.blocked.items c.put.new.self.blocked.items c.loop-number.yard.kinds.items c.put.new.self.kinds.items
-        i.wide i.high i.seed c.element.ensures i.begun c.in_ok-put.ensures.step;
+          i.wide i.high i.seed c.element.ensures i.begun c.in_ok-put.ensures.step;
       wide = c.put.ensures.width ∙ i.wide;
       high = c.put.ensures.height ∙ i.high;
       seed = c.put.ensures.seed ∙ i.seed;

@@ -1,8 +1,5 @@
 -- the elements so far are placed
-use Rattle.cell_world.specs.Opening.{hill_count}
-use Rattle.std.proofs.Common.{◌≡◌, ℕ, ◌+◌, ◌*◌, ◌≤◌, min, List, [], length}
-use Rattle.std.specs.Prelude.{Bool}
-use Rattle.cell_world.specs.declared.kind.Kind.{Kind}
+use Rattle.std.proofs.Common.{◌≡◌, ◌+◌, ◌*◌, ◌≤◌}
 use Rattle.world_gen.proofs.yard.Yard.of_shape.Given as goal
 use Rattle.world_gen.specs.Inner.Yards.{IsBegun}
 
