@@ -2,8 +2,6 @@
 ghost use Rattle.std.specs.Prelude.{◌≡◌, ◌+◌, ◌*◌, ◌++◌, ◌≤◌, IfOk, OnOk, length};
 ghost use Rattle.cell_world.specs.Cell.{one_if};
 ghost use Rattle.cell_world.specs.Opening.{is_hill};
-ghost use Rattle.hex_geometry.specs.Direction.{turned_by};
-ghost use Rattle.hex_geometry.specs.declared.direction.Side.TheVariants.{Right};
 ghost use Rattle.world_gen.specs.Inner.Open.{AllHaveNeighbours, BlobHasNeighbours, LineHasNeighbours, ListsCells, line_from, lines_from};
 ghost use Rattle.world_gen.specs.Painting.{paint_of};
 

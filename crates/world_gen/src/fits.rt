@@ -1,7 +1,7 @@
 // Whether an element's cells are open at a place. Nothing here takes memory.
 ghost use Rattle.hex_geometry.specs.Position.{point_of};
 ghost use Rattle.std.specs.Bool.{Decides};
-ghost use Rattle.std.specs.Prelude.{◌≡◌, ◌+◌, ◌*◌, ◌≤◌};
+ghost use Rattle.std.specs.Prelude.{◌+◌, ◌*◌, ◌≤◌};
 ghost use Rattle.world_gen.specs.Inner.Open.{AllOpen, BallIsOpen, BlobIsOpen, IsFenced, IsShut, IsWithin, LineIsOpen, RowIsOpen};
 
 use crate::spot::{Form, HILL_RADIUS, Spot};

@@ -2,9 +2,8 @@
 ghost use Rattle.cell_world.specs.Grid.{index_of};
 ghost use Rattle.cell_world.specs.World.{pos_at};
 ghost use Rattle.hex_geometry.specs.Position.{IsInner};
-ghost use Rattle.std.specs.Prelude.{◌≡◌, ◌+◌, ◌*◌, ◌++◌, ◌∷◌, [], ◌<◌, ◌≤◌, ℕ, true, Contains, IfOk, OnOk, length, slice_set};
-ghost use Rattle.std.specs.List.{All};
-ghost use Rattle.world_gen.specs.Inner.Open.{AllOffRim, ListsCells, is_open};
+ghost use Rattle.std.specs.Prelude.{◌≡◌, ◌+◌, ◌*◌, ◌++◌, ◌∷◌, [], ◌<◌, ◌≤◌, true, Contains, IfOk, OnOk, length, slice_set};
+ghost use Rattle.world_gen.specs.Inner.Open.{is_open};
 ghost use Rattle.world_gen.specs.Inner.Sets.{IsRound, Sets};
 ghost use Rattle.world_gen.specs.Inner.Yards.{IsStamped, bare_blocked, bare_kind, bare_kinds, is_rim};
 
