@@ -1,7 +1,7 @@
 // All positions up to a distance.
 ghost use Rattle.hex_geometry.specs.Distance.{HasBall, ListsBall};
-ghost use Rattle.hex_geometry.specs.Inner.BallRows.{IsBallRow, column_count, first_column, line, rows};
-ghost use Rattle.std.specs.Prelude.{◌≡◌, ◌+◌, ◌*◌, ◌++◌, ◌≤◌, IfOk, OnOk, vec_len};
+ghost use Rattle.hex_geometry.specs.Inner.BallRows.{IsBallRow, column_count, first_column, line};
+ghost use Rattle.std.specs.Prelude.{◌≡◌, ◌+◌, ◌*◌, ◌++◌, IfOk, OnOk, vec_len};
 
 use crate::memory::OutOfMemory;
 use crate::position::Pos;

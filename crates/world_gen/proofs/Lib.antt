@@ -1,0 +1,15 @@
+pub mod Balls
+pub mod Bares
+pub mod CellLists
+pub mod Follows
+pub mod Foods
+pub mod Indexes
+pub mod Lines
+pub mod Makings
+pub mod Separate
+pub mod SetLists
+pub mod Stamps
+pub mod Steps
+pub mod Trials
+pub mod Unique
+pub mod Worked

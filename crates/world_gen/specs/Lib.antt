@@ -1,0 +1,7 @@
+pub mod Elements
+pub mod Fitting
+pub mod Food
+pub mod Inner
+pub mod Painting
+pub mod Placing
+pub mod PlacingLaws

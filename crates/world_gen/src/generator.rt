@@ -1,0 +1,92 @@
+// The whole procedure.
+ghost use Rattle.std.specs.Prelude.{◌≡◌, ◌+◌, ◌*◌, ◌<◌, ◌≤◌, IfErr, IfOk, length};
+ghost use Rattle.world_gen.specs.Inner.Answers.{IsMade, IsStep};
+ghost use Rattle.world_gen.specs.Inner.Open.{IsFenced};
+ghost use Rattle.world_gen.specs.Painting.{IsAnswer, IsRefusal, IsShape};
+
+use crate::cells::cells_of;
+use crate::element::Element;
+use crate::shape::Shape;
+use crate::yard::Yard;
+use ant_random::Stream;
+use cell_world::World;
+use hex_geometry::OutOfMemory;
+use std::alloc::Global;
+
+/// Why no world was generated (this project's own).
+#[derive(Clone, Copy, Debug, PartialEq, Eq)]
+pub enum GenFault {
+    /// This element fits at no place of the grid: 0 is the red hill, 1 the black hill, then come the rocks, then the blobs.
+    NoRoom {
+        /// the number of the element
+        element: u32,
+    },
+    /// There was no memory.
+    OutOfMemory,
+}
+
+impl From<OutOfMemory> for GenFault {
+    ghost use Rattle.world_gen.specs.declared.generator.GenFault.TheVariants.{OutOfMemory};
+
+    ghost from_gives = { λ _ fault. fault ≡ OutOfMemory };
+
+    fn from(_: OutOfMemory) -> Self {
+        GenFault::OutOfMemory
+    }
+}
+
+/// The world of a seed, from 0 to 4,294,967,295, and a shape, whose width and height are from 3 to 512 (this project's own). The rim and
+/// the rocks are rocky, each blob's cells have 5 food particles each, all else but the hills is clear, and an ant begins on each hill
+/// cell. An element goes to the first of its 50 tries that fits, else to the first place that fits in row order; `NoRoom` comes exactly
+/// where there is none for an element, the first such. Apart from that it is refused for want of memory alone.
+pub fn generate(alloc: Global, seed: u32, shape: Shape) -> Result<World, GenFault>
+    requires { IsShape shape }
+    ensures { IsAnswer seed shape result }
+{
+    let yard = Yard::of_shape(alloc, seed, shape)?;
+    let world = World::build(alloc, shape.width, shape.height, &yard.kinds)?;
+    Ok(world)
+}
+
+impl Yard {
+    // The yard in which all elements of the shape are placed.
+    fn of_shape(alloc: Global, seed: u32, shape: Shape) -> Result<Yard, GenFault>
+        requires { IsShape shape }
+        ensures made { IfOk result (λ yard. IsMade seed shape yard.width yard.height yard.kinds.items) }
+        ensures refused { IfErr result (λ fault. IsRefusal seed shape fault) }
+    {
+        let mut yard = Yard::bare(alloc, shape.width, shape.height)?;
+        let mut stream = Stream::from_seed(seed);
+        for number in 0..shape.count() {
+            yard.put(alloc, &mut stream, shape.element(number), number)?;
+        }
+        Ok(yard)
+    }
+
+    // Places the element of this number.
+    fn put(
+        &mut self,
+        alloc: Global,
+        stream: &mut Stream,
+        element: Element,
+        number: u32,
+    ) -> Result<(), GenFault>
+        requires fence { IsFenced self.old.width self.old.height self.old.blocked.items }
+        requires kinds { length self.old.kinds.items ≡ self.old.width * self.old.height }
+        requires wide { 1 ≤ self.old.width }
+        requires high { 1 ≤ self.old.height }
+        requires early { stream.old.place < 1000000 }
+        ensures width { self.new.width ≡ self.old.width }
+        ensures height { self.new.height ≡ self.old.height }
+        ensures seed { stream.new.seed ≡ stream.old.seed }
+        ensures place { stream.new.place ≤ stream.old.place + 151 }
+        ensures step { IsStep stream.old.seed self.old.width self.old.height element number stream.old.place stream.new.place self.old.blocked.items self.new.blocked.items self.old.kinds.items self.new.kinds.items result }
+    {
+        let Some(spot) = self.choose(stream, element) else {
+            return Err(GenFault::NoRoom { element: number });
+        };
+        let cells = cells_of(alloc, spot)?;
+        self.stamp_all(&cells, spot.form.kind());
+        Ok(())
+    }
+}

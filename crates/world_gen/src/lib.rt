@@ -1,0 +1,28 @@
+//! Worlds made from a number: the contest's shape, and others like it.
+//!
+//! The generator is this project's own, in the manner of the contest's worlds: two hills, then rocks, then blobs of food, each placed at
+//! random where it touches neither the rim nor what was placed before. [`generate`] gives the opening world of exactly the placed
+//! elements, or says which element has no room; the laws say that placed elements lie apart, and that a seed and a shape have one
+//! outcome. No place that is tried takes memory. This crate stands on `hex_geometry`, `ant_random` and `cell_world`.
+#![tactic(auto)]
+
+mod cells;
+mod element;
+mod fits;
+mod food;
+mod generator;
+mod laws;
+mod shape;
+mod spot;
+mod tries;
+mod yard;
+
+pub use cell_world::World;
+pub use food::food_on_cells;
+pub use generator::{GenFault, generate};
+pub use hex_geometry::OutOfMemory;
+pub use laws::{elements_lie_apart, placing_is_one};
+pub use shape::Shape;
+
+#[cfg(test)]
+mod tests;

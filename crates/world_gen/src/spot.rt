@@ -1,0 +1,41 @@
+// Elements at their places.
+ghost use Rattle.std.specs.Prelude.{◌≡◌};
+ghost use Rattle.world_gen.specs.Painting.{paint_of};
+
+use cell_world::{Colour, Kind};
+use hex_geometry::{Dir, Pos};
+
+// The radius of a hill.
+pub const HILL_RADIUS: u16 = 6;
+
+// An element with all that is drawn of it but its place.
+#[derive(Clone, Copy, Debug, PartialEq, Eq)]
+pub enum Form {
+    // The hill of a colour.
+    Hill(Colour),
+    // A rock of a radius, from 1 to 4.
+    Rock(u8),
+    // A blob whose one side goes in a direction, and the other in the next direction with the clock.
+    Blob(Dir),
+}
+
+// An element at a place: the centre of a hill or a rock, or a blob's corner.
+#[derive(Clone, Copy, Debug, PartialEq, Eq)]
+pub struct Spot {
+    pub form: Form,
+    pub place: Pos,
+}
+
+impl Form {
+    // What its cells are painted as.
+    pub fn kind(self) -> Kind
+        ensures { result ≡ paint_of self }
+    {
+        match self {
+            Form::Hill(Colour::Red) => Kind::RedHill,
+            Form::Hill(Colour::Black) => Kind::BlackHill,
+            Form::Rock(_) => Kind::Rock,
+            Form::Blob(_) => Kind::Food(5),
+        }
+    }
+}

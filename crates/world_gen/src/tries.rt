@@ -1,0 +1,124 @@
+// Where an element goes. Nothing here takes memory.
+ghost use Rattle.std.specs.Prelude.{◌≡◌, ◌+◌, ◌<◌, ◌≤◌};
+ghost use Rattle.hex_geometry.specs.Position.{IsInside};
+ghost use Rattle.world_gen.specs.Inner.Answers.{IsChosen, IsInRow, IsSearched, IsTried};
+ghost use Rattle.world_gen.specs.Inner.Open.{AllOpen, IsFenced};
+ghost use Rattle.world_gen.specs.Placing.{after_begun, begun, draws_of, tried_at, tried_form};
+
+use crate::element::Element;
+use crate::spot::{Form, Spot};
+use crate::yard::Yard;
+use ant_random::Stream;
+use hex_geometry::{Dir, Pos};
+
+// How many random places an element is tried at.
+const TRIES: u32 = 50;
+
+impl Yard {
+    // The first of 50 tries that fits, or else the first place of the grid.
+    pub fn choose(&self, stream: &mut Stream, element: Element) -> Option<Spot>
+        requires fence { IsFenced self.now.width self.now.height self.now.blocked.items }
+        requires wide { 1 ≤ self.now.width }
+        requires high { 1 ≤ self.now.height }
+        requires early { stream.old.place < 1000000 }
+        ensures seed { stream.new.seed ≡ stream.old.seed }
+        ensures place { stream.new.place ≤ stream.old.place + 151 }
+        ensures chosen { IsChosen (AllOpen self.now.width self.now.height self.now.blocked.items) stream.old.seed self.now.width self.now.height element stream.old.place result stream.new.place }
+    {
+        let form = begin(stream, element);
+        match self.try_spots(stream, form) {
+            Some(spot) => Some(spot),
+            None => self.first_place(form),
+        }
+    }
+
+    // The first of 50 tries that fits.
+    fn try_spots(&self, stream: &mut Stream, form: Form) -> Option<Spot>
+        requires fence { IsFenced self.now.width self.now.height self.now.blocked.items }
+        requires wide { 1 ≤ self.now.width }
+        requires high { 1 ≤ self.now.height }
+        requires early { stream.old.place < 1000001 }
+        ensures seed { stream.new.seed ≡ stream.old.seed }
+        ensures place { stream.new.place ≤ stream.old.place + 150 }
+        ensures tried { IsTried (AllOpen self.now.width self.now.height self.now.blocked.items) stream.old.seed self.now.width self.now.height form stream.old.place result stream.new.place }
+    {
+        for number in 0..TRIES {
+            let spot = self.draw_spot(stream, form);
+            if self.fits(spot) {
+                return Some(spot);
+            }
+        }
+        None
+    }
+
+    // The spot of the next try.
+    fn draw_spot(&self, stream: &mut Stream, form: Form) -> Spot
+        requires wide { 1 ≤ self.now.width }
+        requires high { 1 ≤ self.now.height }
+        requires early { stream.old.place < 1000200 }
+        ensures seed { stream.new.seed ≡ stream.old.seed }
+        ensures place { stream.new.place ≡ stream.old.place + draws_of form }
+        ensures spot { result ≡ tried_at stream.old.seed self.now.width self.now.height form stream.old.place }
+    {
+        let x = stream.draw(self.width as u32) as u16;
+        let y = stream.draw(self.height as u32) as u16;
+        let place = Pos { x, y };
+        let form = draw_form(stream, form);
+        Spot { form, place }
+    }
+
+    // The first place of the grid, in row order, at which it fits.
+    fn first_place(&self, form: Form) -> Option<Spot>
+        requires { IsFenced self.now.width self.now.height self.now.blocked.items }
+        ensures { IsSearched (AllOpen self.now.width self.now.height self.now.blocked.items) form (IsInside self.now.width self.now.height) result }
+    {
+        for y in 0..self.height {
+            if let Some(spot) = self.first_in_row(form, y) {
+                return Some(spot);
+            }
+        }
+        None
+    }
+
+    // The first place of a row at which it fits.
+    fn first_in_row(&self, form: Form, y: u16) -> Option<Spot>
+        requires { IsFenced self.now.width self.now.height self.now.blocked.items }
+        ensures { IsSearched (AllOpen self.now.width self.now.height self.now.blocked.items) form (IsInRow self.now.width y) result }
+    {
+        for x in 0..self.width {
+            let place = Pos { x, y };
+            let spot = Spot { form, place };
+            if self.fits(spot) {
+                return Some(spot);
+            }
+        }
+        None
+    }
+}
+
+// The form of an element before its tries: a rock's radius is drawn now, once, and a blob has direction 0.
+fn begin(stream: &mut Stream, element: Element) -> Form
+    requires early { stream.old.place < 1000000 }
+    ensures seed { stream.new.seed ≡ stream.old.seed }
+    ensures place { stream.new.place ≡ after_begun stream.old.place element }
+    ensures form { result ≡ begun stream.old.seed stream.old.place element }
+{
+    match element {
+        Element::Hill(colour) => Form::Hill(colour),
+        Element::Rock => Form::Rock(1 + stream.draw(4) as u8),
+        Element::Blob => Form::Blob(Dir::East),
+    }
+}
+
+// The form in a try: a blob's direction is drawn in each.
+fn draw_form(stream: &mut Stream, form: Form) -> Form
+    requires early { stream.old.place < 1000202 }
+    ensures seed { stream.new.seed ≡ stream.old.seed }
+    ensures place { stream.new.place + 2 ≡ stream.old.place + draws_of form }
+    ensures form { result ≡ tried_form stream.old.seed stream.old.place form }
+{
+    match form {
+        Form::Blob(_) => Form::Blob(Dir::new(stream.draw(3) as u8)),
+        other => other,
+    }
+}

@@ -1,0 +1,143 @@
+// A world in the making: what each cell is, and where nothing may be placed.
+ghost use Rattle.cell_world.specs.Grid.{index_of};
+ghost use Rattle.cell_world.specs.World.{pos_at};
+ghost use Rattle.hex_geometry.specs.Position.{IsInner};
+ghost use Rattle.std.specs.Prelude.{◌≡◌, ◌+◌, ◌*◌, ◌++◌, ◌∷◌, [], ◌<◌, ◌≤◌, true, Contains, IfOk, OnOk, length, slice_set};
+ghost use Rattle.world_gen.specs.Inner.Open.{is_open};
+ghost use Rattle.world_gen.specs.Inner.Sets.{IsRound, Sets};
+ghost use Rattle.world_gen.specs.Inner.Yards.{IsStamped, bare_blocked, bare_kind, bare_kinds, is_rim};
+
+use cell_world::Kind;
+use hex_geometry::{Dir, OutOfMemory, Pos, adjacent};
+use std::alloc::Global;
+
+// The kinds in row order, and beside each whether its cell is on the rim or touched by an element.
+#[derive(Drop)]
+pub struct Yard {
+    pub width: u16,
+    pub height: u16,
+    pub blocked: Vec<bool>,
+    pub kinds: Vec<Kind>,
+}
+
+impl Yard {
+    // A yard of these sizes without elements.
+    pub fn bare(alloc: Global, width: u16, height: u16) -> Result<Yard, OutOfMemory>
+        requires wide { 1 ≤ width }
+        requires narrow { width ≤ 512 }
+        requires low { height ≤ 512 }
+        ensures width { IfOk result (λ yard. yard.width ≡ width) }
+        ensures height { IfOk result (λ yard. yard.height ≡ height) }
+        ensures blocked { IfOk result (λ yard. yard.blocked.items ≡ bare_blocked width height (width * height)) }
+        ensures kinds { IfOk result (λ yard. yard.kinds.items ≡ bare_kinds width height (width * height)) }
+    {
+        let area = width as usize * height as usize;
+        let mut yard = Yard {
+            width,
+            height,
+            blocked: Vec::with_capacity(alloc, area)?,
+            kinds: Vec::with_capacity(alloc, area)?,
+        };
+        for number in 0..width as u32 * height as u32 {
+            yard.add(number)?;
+        }
+        Ok(yard)
+    }
+
+    // Adds the cell of this number in row order: rock on the rim, which is blocked, and clear inside.
+    fn add(&mut self, number: u32) -> Result<(), OutOfMemory>
+        requires wide { 1 ≤ self.old.width }
+        ensures width { self.new.width ≡ self.old.width }
+        ensures height { self.new.height ≡ self.old.height }
+        ensures blocked { OnOk result (self.new.blocked.items ≡ self.old.blocked.items ++ is_rim self.old.width self.old.height (pos_at self.old.width number) ∷ []) }
+        ensures kinds { OnOk result (self.new.kinds.items ≡ self.old.kinds.items ++ bare_kind (is_rim self.old.width self.old.height (pos_at self.old.width number)) ∷ []) }
+    {
+        let rim = is_rim(self.width, self.height, number);
+        let kind = bare_kind(rim);
+        self.blocked.push(rim)?;
+        self.kinds.push(kind)?;
+        Ok(())
+    }
+
+    // Whether the cell at `p` is inside and open.
+    #[inline]
+    pub fn is_open(&self, p: Pos) -> bool
+        requires { length self.now.blocked.items ≡ self.now.width * self.now.height }
+        ensures { result ≡ is_open self.now.width self.now.height self.now.blocked.items p }
+    {
+        p.x < self.width && p.y < self.height && !self.blocked[index_of(self.width, p)]
+    }
+
+    // Paints these cells, and blocks them and their neighbours. None of them is on the rim.
+    pub fn stamp_all(&mut self, cells: &[Pos], kind: Kind)
+        requires blocked { length self.old.blocked.items ≡ self.old.width * self.old.height }
+        requires kinds { length self.old.kinds.items ≡ self.old.width * self.old.height }
+        requires narrow { self.old.width ≤ 512 }
+        requires low { self.old.height ≤ 512 }
+        requires inner { (p : Pos) → Contains cells.now p → IsInner self.old.width self.old.height p }
+        ensures width { self.new.width ≡ self.old.width }
+        ensures height { self.new.height ≡ self.old.height }
+        ensures stamped { IsStamped self.old.width self.old.height cells.now kind self.old.blocked.items self.new.blocked.items self.old.kinds.items self.new.kinds.items }
+    {
+        let (width, height) = (self.width, self.height);
+        for cell in cells {
+            block_round(&mut self.blocked, width, height, *cell);
+            paint(&mut self.kinds, width, *cell, kind);
+        }
+    }
+}
+
+// Whether the cell of this number in row order is in the first or last column or row.
+fn is_rim(width: u16, height: u16, number: u32) -> bool
+    requires { 1 ≤ width }
+    ensures { result ≡ is_rim width height (pos_at width number) }
+{
+    let x = number % width as u32;
+    let y = number / width as u32;
+    x == 0 || y == 0 || x + 1 == width as u32 || y + 1 == height as u32
+}
+
+// Rock on the rim, and nothing inside.
+fn bare_kind(rim: bool) -> Kind
+    ensures { result ≡ bare_kind rim }
+{
+    if rim { Kind::Rock } else { Kind::Clear }
+}
+
+// The number of a position in row order.
+#[inline]
+fn index_of(width: u16, p: Pos) -> usize
+    ensures { result ≡ index_of width p }
+{
+    p.y as usize * width as usize + p.x as usize
+}
+
+// Paints a cell.
+fn paint(kinds: &mut [Kind], width: u16, p: Pos, kind: Kind)
+    requires { index_of width p < length kinds.old }
+    ensures { kinds.new ≡ slice_set kinds.old (index_of width p) kind }
+{
+    kinds[index_of(width, p)] = kind;
+}
+
+// Blocks a cell.
+fn block(blocked: &mut [bool], width: u16, p: Pos)
+    requires { index_of width p < length blocked.old }
+    ensures { blocked.new ≡ slice_set blocked.old (index_of width p) true }
+{
+    blocked[index_of(width, p)] = true;
+}
+
+// Blocks a cell that isn't on the rim, and its neighbours.
+fn block_round(blocked: &mut [bool], width: u16, height: u16, p: Pos)
+    requires full { length blocked.old ≡ width * height }
+    requires narrow { width ≤ 512 }
+    requires low { height ≤ 512 }
+    requires inner { IsInner width height p }
+    ensures { Sets width height true (IsRound p) blocked.old blocked.new }
+{
+    block(blocked, width, p);
+    for number in 0..6u8 {
+        block(blocked, width, adjacent(p, Dir::new(number)));
+    }
+}
