@@ -7,3 +7,4 @@ pub mod Ranks
 pub mod Redirecting
 pub mod Refining
 pub mod Texts
+pub mod Worked
