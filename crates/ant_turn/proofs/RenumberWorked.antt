@@ -1,5 +1,5 @@
 -- Renumbering, worked out.
-use Rattle.std.proofs.Common.{◌≡◌, ℕ, zero, suc, Option, Some, None, true, refl}
+use Rattle.std.proofs.Common.{◌≡◌, ℕ, zero, suc, Some, None, true, refl}
 use Rattle.hex_geometry.specs.declared.direction.Dir.TheVariants.{West}
 use Rattle.hex_geometry.specs.declared.neighbourhood.Sight.TheVariants.{Ahead}
 use Rattle.cell_world.specs.declared.ant.Ant.{Ant}

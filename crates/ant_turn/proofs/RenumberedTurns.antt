@@ -1,5 +1,5 @@
 -- Turns and rounds under new numbers of a side's states.
-use Rattle.std.proofs.Common.{◌≡◌, inl, inr, ℕ, zero, suc, ◌+◌, Bool, true, false, cond, List, [], ◌∷◌, Option, Some, None, refl, sym, ap, ◌∙◌, subst}
+use Rattle.std.proofs.Common.{◌≡◌, inl, inr, ℕ, zero, suc, ◌+◌, Bool, true, false, List, [], ◌∷◌, Option, Some, None, refl, sym, ap, ◌∙◌, subst}
 use Rattle.std.specs.Prelude.{option_map, unwrap_or, IsSome, ◌||◌, ◌==◌, ◌-◌, if◌then◌else◌}
 use Rattle.std.specs.List.{AllByRecursion}
 use Rattle.std.proofs.lemmas.Bool.{cond_both}
@@ -22,7 +22,7 @@ use Rattle.ant_turn.specs.Minds.{Minds, mind_of}
 use Rattle.ant_turn.specs.Renumber.{Numbers, Carries, AreNumbered, number_of, redirected, renumbered, renumbered_ant, renumbered_cells, renumbered_moment, renumbered_outcome, renumbered_world, side_states, with_mind}
 use Rattle.ant_turn.specs.Rounds.{Moment, after_round, after_rounds, after_turn, after_turns, moment_of}
 use Rattle.ant_turn.specs.Sheet.{Sheet}
-use Rattle.ant_turn.specs.Turn.{Outcome, acts, arrived, execute, idle, in_state, instruction_at, is_blocked, left_by_ant, marked, stepped, turn, turn_from, turn_of, unmarked, with_ant}
+use Rattle.ant_turn.specs.Turn.{Outcome, acts, arrived, execute, in_state, instruction_at, is_blocked, left_by_ant, marked, stepped, turn, turn_from, turn_of, unmarked, with_ant}
 use Rattle.ant_turn.proofs.Checks.{check_at-cases}
 use Rattle.ant_turn.proofs.RenumberLemmas.{after, becomes-renumbered, execute-renumbered, place_in-renumbered}
 
