@@ -15,6 +15,7 @@ pub mod OwnCells
 pub mod Parts
 pub mod Quiet
 pub mod RenumberLemmas
+pub mod RenumberWorked
 pub mod RenumberedTurns
 pub mod RulesWorked
 pub mod SheetWorked

@@ -1,5 +1,5 @@
 -- What a turn's parts do under other states of the ants: the states decide nothing but which instruction is executed.
-use Rattle.std.proofs.Common.{◌≡◌, ℕ, ◌+◌, ◌-◌, Bool, true, false, cond, if◌then◌else◌, nat_le, List, [], ◌∷◌, ◌++◌, length, filter, Option, Some, None, refl, sym, ap, ap₂, ◌∙◌, ◌&&◌, ◌||◌}
+use Rattle.std.proofs.Common.{◌≡◌, ℕ, ◌+◌, ◌-◌, Bool, true, false, cond, if◌then◌else◌, nat_le, List, [], ◌∷◌, ◌++◌, length, filter, Option, Some, None, refl, ap, ap₂, ◌∙◌, ◌&&◌, ◌||◌}
 use Rattle.std.specs.Prelude.{option_map, ◌==◌}
 use Rattle.std.proofs.Math.Path.{fun_ext}
 use Rattle.hex_geometry.specs.declared.position.Pos.{Pos}

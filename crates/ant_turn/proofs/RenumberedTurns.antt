@@ -1,5 +1,5 @@
 -- Turns and rounds under new numbers of a side's states.
-use Rattle.std.proofs.Common.{◌≡◌, inl, inr, ℕ, zero, suc, ◌+◌, Bool, true, false, cond, List, [], ◌∷◌, Option, Some, None, refl, sym, ap, ◌∙◌, subst}
+use Rattle.std.proofs.Common.{◌≡◌, inl, inr, ℕ, zero, suc, ◌+◌, Bool, true, false, List, [], ◌∷◌, Option, Some, None, refl, sym, ap, ◌∙◌, subst}
 use Rattle.std.specs.Prelude.{option_map, unwrap_or, IsSome, ◌||◌, ◌==◌, ◌-◌, if◌then◌else◌}
 use Rattle.std.specs.List.{AllByRecursion}
 use Rattle.std.proofs.lemmas.Bool.{cond_both}
@@ -22,7 +22,7 @@ use Rattle.ant_turn.specs.Minds.{Minds, mind_of}
 use Rattle.ant_turn.specs.Renumber.{Numbers, Carries, AreNumbered, number_of, redirected, renumbered, renumbered_ant, renumbered_cells, renumbered_moment, renumbered_outcome, renumbered_world, side_states, with_mind}
 use Rattle.ant_turn.specs.Rounds.{Moment, after_round, after_rounds, after_turn, after_turns, moment_of}
 use Rattle.ant_turn.specs.Sheet.{Sheet}
-use Rattle.ant_turn.specs.Turn.{Outcome, acts, arrived, execute, idle, in_state, instruction_at, is_blocked, left_by_ant, marked, stepped, turn, turn_from, turn_of, unmarked, with_ant}
+use Rattle.ant_turn.specs.Turn.{Outcome, acts, arrived, execute, in_state, instruction_at, is_blocked, left_by_ant, marked, stepped, turn, turn_from, turn_of, unmarked, with_ant}
 use Rattle.ant_turn.proofs.Checks.{check_at-cases}
 use Rattle.ant_turn.proofs.RenumberLemmas.{after, becomes-renumbered, execute-renumbered, place_in-renumbered}
 
@@ -152,22 +152,22 @@ module _ (P : Colour → ℕ → Type 0) (minds : Minds) (onward : (colour : Col
   turn-have seed w place t all = turn_from-have seed w.cells place (place_in w t) all
 
 -- what stays is no other instruction
-redirected-same : (instruction : Instr) → redirected (λ state. state) instruction ≡ instruction
-redirected-same (Sense sight met unmet condition) = refl
-redirected-same (Mark i next) = refl
-redirected-same (Unmark i next) = refl
-redirected-same (PickUp met unmet) = refl
-redirected-same (Drop next) = refl
-redirected-same (Turn side next) = refl
-redirected-same (Move met unmet) = refl
-redirected-same (Flip bound met unmet) = refl
+pub redirected-self : (instruction : Instr) → redirected (λ state. state) instruction ≡ instruction
+redirected-self (Sense sight met unmet condition) = refl
+redirected-self (Mark i next) = refl
+redirected-self (Unmark i next) = refl
+redirected-self (PickUp met unmet) = refl
+redirected-self (Drop next) = refl
+redirected-self (Turn side next) = refl
+redirected-self (Move met unmet) = refl
+redirected-self (Flip bound met unmet) = refl
 
 -- a state of this side has a number
 abbrev HasNumber : Numbers → Colour → Colour → ℕ → Type 0
 HasNumber numbers colour own state = own ≡ colour → IsSome (numbers state)
 
 -- the number, where there is one
-the_number : (o : Option ℕ) → IsSome o → (k : ℕ) × (o ≡ Some k)
+pub the_number : (o : Option ℕ) → IsSome o → (k : ℕ) × (o ≡ Some k)
 the_number None none = absurd (cc)
 the_number (Some k) some = (k, refl)
 
@@ -181,14 +181,14 @@ carried numbers old new state carries some =
 carried_side : (numbers : Numbers) (colour own : Colour) (minds : Minds) (brain : List Instr) (state : ℕ) → Carries numbers (mind_of minds colour) brain → HasNumber numbers colour own state →
     instruction_at (mind_of (with_mind minds colour brain) own) (side_states numbers colour own state) ≡ redirected (side_states numbers colour own) (instruction_at (mind_of minds own) state)
 carried_side numbers Red Red minds brain state carries some = carried numbers minds.red brain state carries (some refl)
-carried_side numbers Red Black minds brain state carries some = sym (redirected-same (instruction_at minds.black state))
-carried_side numbers Black Red minds brain state carries some = sym (redirected-same (instruction_at minds.red state))
+carried_side numbers Red Black minds brain state carries some = sym (redirected-self (instruction_at minds.black state))
+carried_side numbers Black Red minds brain state carries some = sym (redirected-self (instruction_at minds.red state))
 carried_side numbers Black Black minds brain state carries some = carried numbers minds.black brain state carries (some refl)
 
--- what holds of all holds of all where a premise is added
-AllByRecursion-map : {P Q : ℕ → Type 0} → ((n : ℕ) → P n → Q n) → (list : List ℕ) → AllByRecursion P list → AllByRecursion Q list
-AllByRecursion-map each [] all = tt
-AllByRecursion-map each (n ∷ list) all = (each n all.0, AllByRecursion-map each list all.1)
+-- what follows of each follows of all
+pub All-then : {P Q : ℕ → Type 0} → (list : List ℕ) → AllByRecursion P list → ((n : ℕ) → P n → Q n) → AllByRecursion Q list
+All-then [] all each = tt
+All-then (n ∷ list) all each = (each n all.0, All-then list all.1 each)
 
 -- where nothing is asked, it holds of all
 AllByRecursion-any : {P : ℕ → Type 0} → ((n : ℕ) → P n) → (list : List ℕ) → AllByRecursion P list
@@ -199,7 +199,7 @@ AllByRecursion-any each (n ∷ list) = (each n, AllByRecursion-any each list)
 onward_own : (numbers : Numbers) (old new : List Instr) (colour : Colour) (state : ℕ) → Carries numbers old new → IsSome (numbers state) → AllByRecursion (HasNumber numbers colour colour) (states_of (instruction_at old state))
 onward_own numbers old new colour state carries some =
     let k : (k : ℕ) × (numbers state ≡ Some k) = the_number (numbers state) some in
-    AllByRecursion-map (λ n holds _. holds) (states_of (instruction_at old state)) (carries.onward state k.0 k.1)
+    All-then (states_of (instruction_at old state)) (carries.onward state k.0 k.1) (λ n holds _. holds)
 
 -- the successors of a state of a side are numbered where it's the side that matters
 onward_side : (numbers : Numbers) (colour own : Colour) (minds : Minds) (brain : List Instr) (state : ℕ) → Carries numbers (mind_of minds colour) brain → HasNumber numbers colour own state → AllByRecursion (HasNumber numbers colour own) (states_of (instruction_at (mind_of minds own) state))

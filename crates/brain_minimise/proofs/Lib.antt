@@ -7,3 +7,5 @@ pub mod Ranks
 pub mod Redirecting
 pub mod Refining
 pub mod Texts
+pub mod Uniqueness
+pub mod Worked

@@ -1,4 +1,5 @@
 -- Numbering the classes of the seen states, and keeping an instruction for each number.
+pub use Rattle.ant_turn.proofs.RenumberedTurns.{the_number}
 use Rattle.std.proofs.Common.{◌≡◌, ◌⊎◌, inl, inr, ℕ, zero, suc, ◌+◌, ◌<◌, ◌≤◌, Bool, true, false, List, [], ◌∷◌, ◌++◌, length, slice_index, slice_get, Option, Some, None, unwrap_or, IsSome, refl, sym, ap, ◌∙◌, subst, arith}
 use Rattle.std.specs.Prelude.{nat_eq}
 use Rattle.std.specs.List.{IsDistinct}
@@ -38,11 +39,6 @@ pub record IsKeeping (brain : List Instr) (numbers : List (Option ℕ)) (table :
   pub few : length list ≤ i
   pub below : (state number : ℕ) → state < i → number_in numbers state ≡ Some number → number < length list
   pub from : (number : ℕ) → number < length list → (state : ℕ) × (state < i) × (number_in numbers state ≡ Some number) × (slice_get list number ≡ Some (redirected (slice_index table) (instruction_at brain state)))
-
--- the number, where there is one
-pub the_number : (o : Option ℕ) → IsSome o → (number : ℕ) × (o ≡ Some number)
-the_number None none = absurd (cc)
-the_number (Some number) some = (number, refl)
 
 -- a seen state is one of the list
 pub seen-inside : (seen : List Bool) (state : ℕ) → is_seen seen state ≡ true → state < length seen

@@ -184,7 +184,7 @@ left_of-length (None ∷ numbers) (x ∷ brain) each = left_of-length numbers br
 left_of-length (Some k ∷ numbers) (x ∷ brain) each = ap suc (left_of-length numbers brain (omega arith))
 
 -- lists with the same entries are one
-same_entries : (xs ys : List Instr) → length xs ≡ length ys → ((k : ℕ) → k < length xs → slice_get xs k ≡ slice_get ys k) → xs ≡ ys
+pub same_entries : (xs ys : List Instr) → length xs ≡ length ys → ((k : ℕ) → k < length xs → slice_get xs k ≡ slice_get ys k) → xs ≡ ys
 same_entries xs ys size same =
     same_lists xs ys size (λ k d below.
     get_or_from_slice_get xs k (slice_index_or ys k d) d (same k below ∙ slice_get-get_or ys k d (omega arith)))

@@ -1,4 +1,5 @@
 -- Instructions whose states are mapped: their shape, and the states that they name.
+pub use Rattle.ant_turn.proofs.RenumberedTurns.{All-then, redirected-self}
 use Rattle.std.proofs.Common.{◌≡◌, ℕ, zero, suc, ◌<◌, List, [], ◌∷◌, map, length, slice_index_or, refl, sym, ap, ap₂, ◌∙◌, subst, arith}
 use Rattle.std.specs.List.{AllByRecursion, Contains}
 use Rattle.std.proofs.lemmas.Option.{slice_get-get_or}
@@ -20,17 +21,6 @@ redirected-redirected f g (Drop next) = refl
 redirected-redirected f g (Turn side next) = refl
 redirected-redirected f g (Move met unmet) = refl
 redirected-redirected f g (Flip bound met unmet) = refl
-
--- mapping nothing
-pub redirected-self : (x : Instr) → redirected (λ state. state) x ≡ x
-redirected-self (Sense sight met unmet condition) = refl
-redirected-self (Mark i next) = refl
-redirected-self (Unmark i next) = refl
-redirected-self (PickUp met unmet) = refl
-redirected-self (Drop next) = refl
-redirected-self (Turn side next) = refl
-redirected-self (Move met unmet) = refl
-redirected-self (Flip bound met unmet) = refl
 
 -- the states that it names then
 pub states_of-redirected : (f : ℕ → ℕ) (x : Instr) → states_of (redirected f x) ≡ map f (states_of x)
@@ -99,11 +89,6 @@ pub All-at : (P : ℕ → Type 0) (list : List ℕ) (n : ℕ) → AllByRecursion
 All-at P [] n all (k, below, is) = absurd (omega arith)
 All-at P (m ∷ list) n all (zero, below, is) = subst P is all.0
 All-at P (m ∷ list) n all (suc k, below, is) = All-at P list n all.1 (k, omega arith, is)
-
--- and what follows of each
-pub All-then : {P Q : ℕ → Type 0} → (list : List ℕ) → AllByRecursion P list → ((n : ℕ) → P n → Q n) → AllByRecursion Q list
-All-then [] all each = tt
-All-then (n ∷ list) all each = (each n all.0, All-then list all.1 each)
 
 -- what is among some states is among their images
 pub Contains-map : (f : ℕ → ℕ) (list : List ℕ) (n : ℕ) → Contains list n → Contains (map f list) (f n)

@@ -1,6 +1,12 @@
 // Laws of minimised brains.
-ghost use Rattle.brain_minimise.specs.Laws.{DifferentStay, FewestStates, TwiceIsOnce};
+ghost use Rattle.brain_minimise.specs.Laws.{DifferentStay, FewestStates, OneMinimised, TwiceIsOnce};
 ghost use Rattle.brain_minimise.specs.Match.{DumpsAlike, PlaysAlike, ScoresAlike};
+
+/// A brain has one minimised brain and one map to it: what `minimise` promises leaves nothing open (this project's own). The call does
+/// nothing: its clause is the law.
+pub fn one_minimised()
+    ensures { OneMinimised }
+{}
 
 /// Minimising twice is minimising once: a minimised brain comes out as it is, and each of its states keeps its number (this project's
 /// own). The call does nothing: its clause is the law.

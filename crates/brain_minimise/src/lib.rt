@@ -20,7 +20,8 @@ mod text;
 
 pub use hex_geometry::OutOfMemory;
 pub use laws::{
-    different_stay, dumps_alike, fewest_states, plays_alike, scores_alike, twice_is_once,
+    different_stay, dumps_alike, fewest_states, one_minimised, plays_alike, scores_alike,
+    twice_is_once,
 };
 pub use merge::{Minimised, minimise};
 pub use state_map::StateMap;
