@@ -1,4 +1,5 @@
 pub mod Accepted
+pub mod Generated
 pub mod Judgements
 pub mod Planned
 pub mod Readings

@@ -21,7 +21,7 @@ use Rattle.ants.specs.Judged.{IsRefusedAs}
 use Rattle.ants.specs.Performing.{EndsBy, IsUnsure, StopsFor}
 use Rattle.ants.specs.Running.{Ends}
 use Rattle.ants.specs.Stopping.{Reason, reason_of}
-use Rattle.ants.specs.Stopping.Reason.{AtWord, AtFile, AtOutput, AtInput, AtMemory}
+use Rattle.ants.specs.Stopping.Reason.{AtWord, AtFile, AtOutput, AtInput, AtRoom, AtMemory}
 use Rattle.ants.proofs.Texts.{never_long}
 
 -- the files a were accepted, and then the files b
@@ -94,6 +94,7 @@ reading_stops_later first second third a b fetches more contents (AtFile name) e
     }
 reading_stops_later first second third a b fetches more contents AtOutput each accepted stops = stops
 reading_stops_later first second third a b fetches more contents (AtInput name fault) each accepted stops = stops_later (IsRefusedAs name fault) a b fetches more contents accepted stops
+reading_stops_later first second third a b fetches more contents (AtRoom element) each accepted stops = stops
 reading_stops_later first second third a b fetches more contents AtMemory each accepted stops = begun_later a b fetches more contents accepted stops
 
 reading_stops_first : (first second : ShelfState) (a b : List File) (fetches : List Fetched) (reason : Reason) → ReadingStops first second a fetches reason → ReadingStops first second (a ++ b) fetches reason
@@ -101,6 +102,7 @@ reading_stops_first first second a b fetches (AtWord word) stops = stops
 reading_stops_first first second a b fetches (AtFile name) stops = record { stopped = stops_first (IsUnsure first name) a b fetches stops.stopped; rose = stops.rose }
 reading_stops_first first second a b fetches AtOutput stops = stops
 reading_stops_first first second a b fetches (AtInput name fault) stops = stops_first (IsRefusedAs name fault) a b fetches stops
+reading_stops_first first second a b fetches (AtRoom element) stops = stops
 reading_stops_first first second a b fetches AtMemory stops = begun_first a b fetches stops
 
 -- what comes of some contents, and then of an outcome
@@ -144,6 +146,7 @@ text_stops shelf new_shelf file fetch bytes (AtWord word) got stops = stops
 text_stops shelf new_shelf file fetch bytes (AtFile name) got stops = absurd stops
 text_stops shelf new_shelf file fetch bytes AtOutput got stops = stops
 text_stops shelf new_shelf file fetch bytes (AtInput name fault) got stops = inl (record { named = sym stops.0; refused = refused_text file fetch bytes fault got stops.1 }, refl)
+text_stops shelf new_shelf file fetch bytes (AtRoom element) got stops = absurd stops
 text_stops shelf new_shelf file fetch bytes AtMemory got stops = inl (inl (bytes, got), refl)
 
 text_comes : {A : Type 0} (content_of : A → Content) (shelf new_shelf : ShelfState) (file : File) (fetch : Fetched) (bytes : List ℕ) (result : Result A Stop) → fetch ≡ record { name = file.name; answer = Ok bytes }
@@ -175,6 +178,7 @@ stops_for command shelf new_shelf fetches out (AtWord word) stops = stops
 stops_for command shelf new_shelf fetches out (AtFile name) stops = record { stopped = stops.stopped; rose = stops.rose; unwritten = refl }
 stops_for command shelf new_shelf fetches out AtOutput stops = absurd stops
 stops_for command shelf new_shelf fetches out (AtInput name fault) stops = record { stopped = stops; unwritten = refl }
+stops_for command shelf new_shelf fetches out (AtRoom element) stops = absurd stops
 stops_for command shelf new_shelf fetches out AtMemory stops = record { begun = stops; unwritten = refl }
 
 -- a command stopped at its files, with nothing written
@@ -205,6 +209,7 @@ ends_as words command shelf new_shelf fetches out new_out (Some (AtWord word)) i
 ends_as words command shelf new_shelf fetches out new_out (Some (AtFile name)) is ends = record { command = command; is_command = is; ends = ends }
 ends_as words command shelf new_shelf fetches out new_out (Some AtOutput) is ends = record { command = command; is_command = is; ends = ends }
 ends_as words command shelf new_shelf fetches out new_out (Some (AtInput name fault)) is ends = record { command = command; is_command = is; ends = ends }
+ends_as words command shelf new_shelf fetches out new_out (Some (AtRoom element)) is ends = record { command = command; is_command = is; ends = ends }
 ends_as words command shelf new_shelf fetches out new_out (Some AtMemory) is ends = record { command = command; is_command = is; ends = ends }
 
 -- words that are a command were carried out as it was
@@ -230,7 +235,7 @@ pub stopped_later : {V : Type 0} (contents_of : V → List Content) (first secon
 stopped_later contents_of first second third a b contents result why same one two =
     subst (ReadsFiles first third (a ++ b)) (outcome_stopped contents_of result why same) (reads_then first second third a b contents (Stopped (reason_of why)) one two)
 
-ending_stopped : {U : Type 0} (result : Result U Stop) (why : Stop) → IsErrAnd result (λ other. other ≡ why) → Some (reason_of why) ≡ ending_of result
+pub ending_stopped : {U : Type 0} (result : Result U Stop) (why : Stop) → IsErrAnd result (λ other. other ≡ why) → Some (reason_of why) ≡ ending_of result
 ending_stopped (Ok done) why same = absurd same
 ending_stopped (Err other) why same = ap (λ s. Some (reason_of s)) (sym same)
 

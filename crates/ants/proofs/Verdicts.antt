@@ -10,18 +10,20 @@ use Rattle.ant_base.specs.Sink.{SinkState}
 use Rattle.ant_base.specs.declared.shelf.FetchFault.TheVariants as answer
 use Rattle.command_words.proofs.WordLaws as words_laws
 use Rattle.command_words.specs.Command.{PlainCommand, IsCommand}
+use Rattle.command_words.specs.Command.PlainCommand.{ShowCommand, BrainCommand, MinimiseCommand, RunCommand, GenCommand, CupCommand, ViewCommand, WorkloadCommand}
+use Rattle.world_gen.proofs.Unique.{one_outcome}
 use Rattle.ants.specs.declared.status.Status.{Status}
 use Rattle.ants.specs.declared.status.Status.TheVariants as status
 use Rattle.ants.specs.declared.stop.FileFault.{FileFault}
 use Rattle.ants.specs.declared.stop.FileFault.TheVariants.{TooLong, World, Brain}
 use Rattle.ants.specs.Files.{AreAccepted, AreBegun, AreInOrder, Content, File, IsAccepted, IsFetched, IsRefused, Reads, Refuses, StopsAt}
-use Rattle.ants.specs.Jobs.{files_of}
+use Rattle.ants.specs.Jobs.{HasRoom, IsJobText, LacksRoom, files_of, shape_named}
 use Rattle.ants.specs.Judged.{IsJudged, IsRefusedAs, Judged, Verdict}
 use Rattle.ants.specs.Judged.Verdict.{AllAccepted, FirstRefused}
 use Rattle.ants.specs.Performing.{EndsBy, IsUnsure, StopsFor}
-use Rattle.ants.specs.Running.{Ends, IsComplete, IsJudgedCommand, IsNoCommand, IsOrderly, IsRead, IsRefusing, IsRun, ending_status}
+use Rattle.ants.specs.Running.{Ends, IsComplete, IsJudgedCommand, IsNoCommand, IsOrderly, IsRead, IsRefusing, IsRun, ending_status, IsCrowding}
 use Rattle.ants.specs.Stopping.{Reason}
-use Rattle.ants.specs.Stopping.Reason.{AtWord, AtFile, AtOutput, AtInput, AtMemory}
+use Rattle.ants.specs.Stopping.Reason.{AtWord, AtFile, AtOutput, AtInput, AtRoom, AtMemory}
 use Rattle.ants.proofs.Texts.{never_both, one_reading, one_refusal}
 
 -- the contents of each name
@@ -180,6 +182,7 @@ in_order_by command shelf new_shelf fetches out new_out (Some (AtFile name)) end
 in_order_by command shelf new_shelf fetches out new_out (Some AtOutput) ends = in_order_accepted (files_of command) fetches ends.contents ends.accepted
 in_order_by command shelf new_shelf fetches out new_out (Some (AtInput name fault)) ends =
     in_order_stopped (IsRefusedAs name fault) (files_of command) fetches (λ file fetch is. refused_name file fetch fault is.refused) ends.stopped
+in_order_by command shelf new_shelf fetches out new_out (Some (AtRoom element)) ends = in_order_accepted (files_of command) fetches ends.contents ends.accepted
 in_order_by command shelf new_shelf fetches out new_out (Some AtMemory) ends = in_order_begun (files_of command) fetches ends.begun
 
 -- lists with the same front are the same in their rests
@@ -199,6 +202,8 @@ as_command words command shelf new_shelf fetches out new_out (Some AtOutput) is 
     subst (λ (c : PlainCommand). EndsBy c shelf new_shelf fetches out new_out (Some AtOutput)) (words_laws.one_command words ends.command command ends.is_command is) ends.ends
 as_command words command shelf new_shelf fetches out new_out (Some (AtInput name fault)) is ends =
     subst (λ (c : PlainCommand). EndsBy c shelf new_shelf fetches out new_out (Some (AtInput name fault))) (words_laws.one_command words ends.command command ends.is_command is) ends.ends
+as_command words command shelf new_shelf fetches out new_out (Some (AtRoom element)) is ends =
+    subst (λ (c : PlainCommand). EndsBy c shelf new_shelf fetches out new_out (Some (AtRoom element))) (words_laws.one_command words ends.command command ends.is_command is) ends.ends
 as_command words command shelf new_shelf fetches out new_out (Some AtMemory) is ends =
     subst (λ (c : PlainCommand). EndsBy c shelf new_shelf fetches out new_out (Some AtMemory)) (words_laws.one_command words ends.command command ends.is_command is) ends.ends
 
@@ -211,25 +216,65 @@ orderly_run words shelf new_shelf out new_out err new_err ended run = λ command
 
 -- a run whose files are all accepted is done, or wants memory
 complete_by : (at : At) (command : PlainCommand) (shelf new_shelf : ShelfState) (fetches told : List Fetched) (out new_out : SinkState) (contents : List Content) (ending : Option Reason) → AllByRecursion (IsTold (Some at)) fetches
-    → AllByRecursion (IsTold (Some at)) told → AreAccepted (files_of command) told contents → EndsBy command shelf new_shelf fetches out new_out ending → ¬ Rose shelf.faults new_shelf.faults → ¬ Rose out.faults new_out.faults
+    → AllByRecursion (IsTold (Some at)) told → AreAccepted (files_of command) told contents → HasRoom command → EndsBy command shelf new_shelf fetches out new_out ending → ¬ Rose shelf.faults new_shelf.faults → ¬ Rose out.faults new_out.faults
     → (ending_status ending ≡ status.Done) ⊎ (ending_status ending ≡ status.Memory)
-complete_by at command shelf new_shelf fetches told out new_out contents None one two are ends shelf_held out_held = inl refl
-complete_by at command shelf new_shelf fetches told out new_out contents (Some (AtWord word)) one two are ends shelf_held out_held = absurd ends
-complete_by at command shelf new_shelf fetches told out new_out contents (Some (AtFile name)) one two are ends shelf_held out_held = absurd (shelf_held ends.rose)
-complete_by at command shelf new_shelf fetches told out new_out contents (Some AtOutput) one two are ends shelf_held out_held = absurd (out_held ends.cut.rose)
-complete_by at command shelf new_shelf fetches told out new_out contents (Some (AtInput name fault)) one two are ends shelf_held out_held =
+complete_by at command shelf new_shelf fetches told out new_out contents None one two are room ends shelf_held out_held = inl refl
+complete_by at command shelf new_shelf fetches told out new_out contents (Some (AtWord word)) one two are room ends shelf_held out_held = absurd ends
+complete_by at command shelf new_shelf fetches told out new_out contents (Some (AtFile name)) one two are room ends shelf_held out_held = absurd (shelf_held ends.rose)
+complete_by at command shelf new_shelf fetches told out new_out contents (Some AtOutput) one two are room ends shelf_held out_held = absurd (out_held ends.cut.rose)
+complete_by at command shelf new_shelf fetches told out new_out contents (Some (AtInput name fault)) one two are room ends shelf_held out_held =
     absurd (accepted_never_refused at (files_of command) told fetches contents name fault two one are ends.stopped)
-complete_by at command shelf new_shelf fetches told out new_out contents (Some AtMemory) one two are ends shelf_held out_held = inr refl
+complete_by at command shelf new_shelf fetches told out new_out contents (Some (AtRoom element)) one two are room ends shelf_held out_held = absurd (room element ends.lacks)
+complete_by at command shelf new_shelf fetches told out new_out contents (Some AtMemory) one two are room ends shelf_held out_held = inr refl
 
 -- the fetches of a run agree with what is told
 told_of_run : (words : List (List ℕ)) (shelf new_shelf : ShelfState) (out new_out err new_err : SinkState) (ended : Status) (at : At) → (run : IsRun words shelf new_shelf out new_out err new_err ended) → shelf.files ≡ Some at → AllByRecursion (IsTold (Some at)) run.fetches
 told_of_run words shelf new_shelf out new_out err new_err ended at run told = subst (λ (files : Told). AllByRecursion (IsTold files) run.fetches) told run.fetched.told
 
 pub complete_run : (words : List (List ℕ)) (shelf new_shelf : ShelfState) (out new_out err new_err : SinkState) (ended : Status) → IsRun words shelf new_shelf out new_out err new_err ended → IsComplete words shelf new_shelf out new_out ended
-complete_run words shelf new_shelf out new_out err new_err ended run = λ contents is shelf_held out_held.
+complete_run words shelf new_shelf out new_out err new_err ended run = λ contents is room shelf_held out_held.
     subst (λ (s : Status). (s ≡ status.Done) ⊎ (s ≡ status.Memory)) (sym run.is_status)
-    (complete_by is.at is.command shelf new_shelf run.fetches is.judged.fetches out new_out contents run.ending (told_of_run words shelf new_shelf out new_out err new_err ended is.at run is.told) is.judged.told is.judged.judged
+    (complete_by is.at is.command shelf new_shelf run.fetches is.judged.fetches out new_out contents run.ending (told_of_run words shelf new_shelf out new_out err new_err ended is.at run is.told) is.judged.told is.judged.judged room
     (as_command words is.command shelf new_shelf run.fetches out new_out run.ending is.is_command run.ends) shelf_held out_held)
+
+-- a text that is written of a generated world is none where an element has no room
+text_has_room : (command : PlainCommand) (contents : List Content) (text : List ℕ) (element : ℕ) → IsJobText command contents text → LacksRoom command element → ⊥
+text_has_room (GenCommand seed shape) [] text element is lacks = one_outcome.none seed (shape_named shape) is.generated.placed element is.generated.placing lacks
+text_has_room (GenCommand seed shape) (content ∷ contents) text element is lacks = is
+text_has_room (ShowCommand world seed) contents text element is lacks = lacks
+text_has_room (BrainCommand file) contents text element is lacks = lacks
+text_has_room (MinimiseCommand file) contents text element is lacks = lacks
+text_has_room (RunCommand world red black setup) contents text element is lacks = lacks
+text_has_room (CupCommand worlds brains seed rounds workers) contents text element is lacks = lacks
+text_has_room (ViewCommand world red black breaks seed rounds) contents text element is lacks = lacks
+text_has_room (WorkloadCommand seed rounds workers) contents text element is lacks = lacks
+
+-- a command that lacks room fetches nothing
+lacks_no_file : (command : PlainCommand) (element : ℕ) → LacksRoom command element → files_of command ≡ []
+lacks_no_file (GenCommand seed shape) element lacks = refl
+lacks_no_file (ShowCommand world seed) element lacks = absurd lacks
+lacks_no_file (BrainCommand file) element lacks = absurd lacks
+lacks_no_file (MinimiseCommand file) element lacks = absurd lacks
+lacks_no_file (RunCommand world red black setup) element lacks = absurd lacks
+lacks_no_file (CupCommand worlds brains seed rounds workers) element lacks = absurd lacks
+lacks_no_file (ViewCommand world red black breaks seed rounds) element lacks = absurd lacks
+lacks_no_file (WorkloadCommand seed rounds workers) element lacks = absurd lacks
+
+-- a run of which an element has no room ends so, or wants memory
+crowding_by : (command : PlainCommand) (shelf new_shelf : ShelfState) (fetches : List Fetched) (out new_out : SinkState) (element : ℕ) (ending : Option Reason) → LacksRoom command element → EndsBy command shelf new_shelf fetches out new_out ending
+    → (ending_status ending ≡ status.Input) ⊎ (ending_status ending ≡ status.Memory)
+crowding_by command shelf new_shelf fetches out new_out element None lacks ends = absurd (text_has_room command ends.contents ends.text element ends.is_text lacks)
+crowding_by command shelf new_shelf fetches out new_out element (Some (AtWord word)) lacks ends = absurd ends
+crowding_by command shelf new_shelf fetches out new_out element (Some (AtFile name)) lacks ends = absurd (subst (λ files. StopsAt (IsUnsure shelf name) files fetches) (lacks_no_file command element lacks) ends.stopped)
+crowding_by command shelf new_shelf fetches out new_out element (Some AtOutput) lacks ends = absurd (text_has_room command ends.contents ends.text element ends.is_text lacks)
+crowding_by command shelf new_shelf fetches out new_out element (Some (AtInput name fault)) lacks ends = inl refl
+crowding_by command shelf new_shelf fetches out new_out element (Some (AtRoom other)) lacks ends = inl refl
+crowding_by command shelf new_shelf fetches out new_out element (Some AtMemory) lacks ends = inr refl
+
+pub crowding_run : (words : List (List ℕ)) (shelf new_shelf : ShelfState) (out new_out err new_err : SinkState) (ended : Status) → IsRun words shelf new_shelf out new_out err new_err ended → IsCrowding words ended
+crowding_run words shelf new_shelf out new_out err new_err ended run = λ command element is lacks.
+    subst (λ (s : Status). (s ≡ status.Input) ⊎ (s ≡ status.Memory)) (sym run.is_status)
+    (crowding_by command shelf new_shelf run.fetches out new_out element run.ending lacks (as_command words command shelf new_shelf run.fetches out new_out run.ending is run.ends))
 
 -- a run of which a file is refused ends so, or wants memory
 refusing_by : (at : At) (command : PlainCommand) (shelf new_shelf : ShelfState) (fetches told : List Fetched) (out new_out : SinkState) (name : List ℕ) (fault : FileFault) (ending : Option Reason) → AllByRecursion (IsTold (Some at)) fetches
@@ -242,6 +287,7 @@ refusing_by at command shelf new_shelf fetches told out new_out name fault (Some
 refusing_by at command shelf new_shelf fetches told out new_out name fault (Some AtOutput) one two stops ends shelf_held =
     absurd (accepted_never_refused at (files_of command) fetches told ends.contents name fault one two ends.accepted stops)
 refusing_by at command shelf new_shelf fetches told out new_out name fault (Some (AtInput other another)) one two stops ends shelf_held = inl refl
+refusing_by at command shelf new_shelf fetches told out new_out name fault (Some (AtRoom element)) one two stops ends shelf_held = inl refl
 refusing_by at command shelf new_shelf fetches told out new_out name fault (Some AtMemory) one two stops ends shelf_held = inr refl
 
 pub refusing_run : (words : List (List ℕ)) (shelf new_shelf : ShelfState) (out new_out err new_err : SinkState) (ended : Status) → IsRun words shelf new_shelf out new_out err new_err ended → IsRefusing words shelf new_shelf ended
@@ -258,6 +304,7 @@ read_by at command shelf new_shelf fetches told out new_out verdict (Some (AtWor
 read_by at command shelf new_shelf fetches told out new_out verdict (Some (AtFile name)) one two judged sure ends = λ same. sure_judged at shelf name (files_of command) fetches told verdict one two sure ends.stopped judged
 read_by at command shelf new_shelf fetches told out new_out verdict (Some AtOutput) one two judged sure ends = λ same. cc
 read_by at command shelf new_shelf fetches told out new_out verdict (Some (AtInput name fault)) one two judged sure ends = λ same. cc
+read_by at command shelf new_shelf fetches told out new_out verdict (Some (AtRoom element)) one two judged sure ends = λ same. cc
 read_by at command shelf new_shelf fetches told out new_out verdict (Some AtMemory) one two judged sure ends = λ same. cc
 
 pub read_run : (words : List (List ℕ)) (shelf new_shelf : ShelfState) (out new_out err new_err : SinkState) (ended : Status) → IsRun words shelf new_shelf out new_out err new_err ended → IsRead words shelf ended
@@ -272,6 +319,7 @@ no_command_by words shelf new_shelf fetches out new_out (Some (AtWord word)) end
 no_command_by words shelf new_shelf fetches out new_out (Some (AtFile name)) ends same = cc
 no_command_by words shelf new_shelf fetches out new_out (Some AtOutput) ends same = cc
 no_command_by words shelf new_shelf fetches out new_out (Some (AtInput name fault)) ends same = cc
+no_command_by words shelf new_shelf fetches out new_out (Some (AtRoom element)) ends same = cc
 no_command_by words shelf new_shelf fetches out new_out (Some AtMemory) ends same = cc
 
 words_by : (words : List (List ℕ)) (shelf new_shelf : ShelfState) (fetches : List Fetched) (out new_out : SinkState) (ending : Option Reason) → Ends words shelf new_shelf fetches out new_out ending → IsNoCommand words → ending_status ending ≡ status.Words
@@ -280,6 +328,7 @@ words_by words shelf new_shelf fetches out new_out (Some (AtWord word)) ends non
 words_by words shelf new_shelf fetches out new_out (Some (AtFile name)) ends none = absurd (none ends.command ends.is_command)
 words_by words shelf new_shelf fetches out new_out (Some AtOutput) ends none = absurd (none ends.command ends.is_command)
 words_by words shelf new_shelf fetches out new_out (Some (AtInput name fault)) ends none = absurd (none ends.command ends.is_command)
+words_by words shelf new_shelf fetches out new_out (Some (AtRoom element)) ends none = absurd (none ends.command ends.is_command)
 words_by words shelf new_shelf fetches out new_out (Some AtMemory) ends none = absurd (none ends.command ends.is_command)
 
 pub no_command_run : (words : List (List ℕ)) (shelf new_shelf : ShelfState) (out new_out err new_err : SinkState) (ended : Status) → IsRun words shelf new_shelf out new_out err new_err ended → ended ≡ status.Words → IsNoCommand words

@@ -7,7 +7,8 @@ use Rattle.brain_minimise.specs.Minimised.{IsMinimised}
 use Rattle.brain_minimise.specs.Text.{minimised_text}
 use Rattle.brain_read.specs.declared.instr.Instr.{Instr}
 use Rattle.brain_read.specs.Canonical.{brain_text}
-use Rattle.cell_world.specs.Grid.{world_of}
+use Rattle.cell_world.specs.Grid.{Grid, world_of}
+use Rattle.command_words.specs.declared.command.GenShape.{GenShape}
 use Rattle.command_words.specs.Slots.{DumpChoice}
 use Rattle.command_words.specs.Slots.DumpChoice.{NoDump, EveryDump, ChosenDumps}
 use Rattle.match_run.specs.declared.dumps.Dumps.{Dumps}
@@ -16,6 +17,11 @@ use Rattle.match_run.specs.Run.{run_text}
 use Rattle.dump_print.specs.Texts.{seed_text, dump_text}
 use Rattle.command_words.specs.Command.{PlainCommand, RunSetup}
 use Rattle.command_words.specs.Command.PlainCommand.{ShowCommand, BrainCommand, MinimiseCommand, RunCommand, GenCommand, CupCommand, ViewCommand, WorkloadCommand}
+use Rattle.world_gen.specs.declared.shape.Shape.{Shape}
+use Rattle.world_gen.specs.Painting.{IsGenerated}
+use Rattle.world_gen.specs.Placing.{HasNoRoom}
+use Rattle.world_read.specs.Canonical.{canonical_text}
+use Rattle.world_read.specs.Opened.{kinds_of}
 use Rattle.ants.specs.Files.{File, Content}
 use Rattle.ants.specs.Files.FileKind.{WorldFile, BrainFile}
 use Rattle.ants.specs.Files.Content.{WorldContent, BrainContent}
@@ -83,11 +89,37 @@ abbrev pub IsMinimisedOutput : Content → List ℕ → Type 0
 IsMinimisedOutput (WorldContent grid) text = ⊥
 IsMinimisedOutput (BrainContent list) text = TellsMinimised list text
 
+-- the shape that the words of `gen` name
+abbrev pub shape_named : GenShape → Shape
+shape_named shape = record { width = shape.width; height = shape.height; rocks = shape.rocks; blobs = shape.blobs }
+
+-- the output of `gen`: the canonical text of the world of this seed and shape
+pub record TellsGenerated (seed : ℕ) (shape : Shape) (text : List ℕ) : Type 0 where
+  pub world : Grid
+  pub generated : IsGenerated seed shape world
+  pub told : text ≡ canonical_text world.width world.height (kinds_of world)
+
+-- this element of the world that a command generates has no room
+abbrev pub LacksRoom : PlainCommand → ℕ → Type 0
+LacksRoom (GenCommand seed shape) element = HasNoRoom seed (shape_named shape) element
+LacksRoom (ShowCommand world seed) element = ⊥
+LacksRoom (BrainCommand file) element = ⊥
+LacksRoom (MinimiseCommand file) element = ⊥
+LacksRoom (RunCommand world red black setup) element = ⊥
+LacksRoom (CupCommand worlds brains seed rounds workers) element = ⊥
+LacksRoom (ViewCommand world red black breaks seed rounds) element = ⊥
+LacksRoom (WorkloadCommand seed rounds workers) element = ⊥
+
+-- each element of the world that a command generates has room
+abbrev pub HasRoom : PlainCommand → Type 0
+HasRoom command = (element : ℕ) → ¬ LacksRoom command element
+
 -- a text is the output of a command whose files were accepted as these contents
 abbrev pub IsJobText : PlainCommand → List Content → List ℕ → Type 0
 IsJobText (ShowCommand world seed) (content ∷ []) text = text ≡ show_output seed content
 IsJobText (BrainCommand file) (content ∷ []) text = text ≡ brain_output content
 IsJobText (MinimiseCommand file) (content ∷ []) text = IsMinimisedOutput content text
 IsJobText (RunCommand world red black setup) (first ∷ second ∷ third ∷ []) text = text ≡ match_output setup first second third
+IsJobText (GenCommand seed shape) [] text = TellsGenerated seed (shape_named shape) text
 -- never: a command's files are as many as its contents
 IsJobText command contents text = ⊥

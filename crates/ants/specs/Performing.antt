@@ -8,10 +8,10 @@ use Rattle.ant_base.specs.declared.shelf.FetchFault.TheVariants as answer
 use Rattle.command_words.specs.Command.{PlainCommand}
 use Rattle.ants.specs.declared.stop.FileFault.{FileFault}
 use Rattle.ants.specs.Files.{File, Content, AreAccepted, AreBegun, StopsAt}
-use Rattle.ants.specs.Jobs.{files_of, IsJobText}
+use Rattle.ants.specs.Jobs.{files_of, IsJobText, LacksRoom}
 use Rattle.ants.specs.Judged.{IsRefusedAs}
 use Rattle.ants.specs.Stopping.{Reason}
-use Rattle.ants.specs.Stopping.Reason.{AtWord, AtFile, AtOutput, AtInput, AtMemory}
+use Rattle.ants.specs.Stopping.Reason.{AtWord, AtFile, AtOutput, AtInput, AtRoom, AtMemory}
 
 -- all files were accepted, and the whole text was written
 pub record IsDone (command : PlainCommand) (fetches : List Fetched) (out new_out : SinkState) : Type 0 where
@@ -46,6 +46,13 @@ pub record IsBadInput (command : PlainCommand) (fetches : List Fetched) (out new
   pub stopped : StopsAt (IsRefusedAs name fault) (files_of command) fetches
   pub unwritten : new_out ≡ out
 
+-- all files were accepted, an element of the world to be generated has no room, and nothing was written
+pub record IsCrowded (command : PlainCommand) (fetches : List Fetched) (out new_out : SinkState) (element : ℕ) : Type 0 where
+  pub contents : List Content
+  pub accepted : AreAccepted (files_of command) fetches contents
+  pub lacks : LacksRoom command element
+  pub unwritten : new_out ≡ out
+
 -- memory could not be had, while no file had failed or was refused, and nothing was written
 pub record WantsMemory (command : PlainCommand) (fetches : List Fetched) (out new_out : SinkState) : Type 0 where
   pub begun : AreBegun (files_of command) fetches
@@ -57,6 +64,7 @@ StopsFor command shelf new_shelf fetches out new_out (AtWord word) = ⊥
 StopsFor command shelf new_shelf fetches out new_out (AtFile name) = IsUnread command shelf new_shelf fetches out new_out name
 StopsFor command shelf new_shelf fetches out new_out AtOutput = IsCut command fetches out new_out
 StopsFor command shelf new_shelf fetches out new_out (AtInput name fault) = IsBadInput command fetches out new_out name fault
+StopsFor command shelf new_shelf fetches out new_out (AtRoom element) = IsCrowded command fetches out new_out element
 StopsFor command shelf new_shelf fetches out new_out AtMemory = WantsMemory command fetches out new_out
 
 -- how a command ended: with its text, or for a reason

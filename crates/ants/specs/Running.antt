@@ -10,13 +10,13 @@ use Rattle.ants.specs.declared.status.Status.{Status}
 use Rattle.ants.specs.declared.status.Status.TheVariants as status
 use Rattle.ants.specs.declared.stop.FileFault.{FileFault}
 use Rattle.ants.specs.Files.{AreInOrder, Content}
-use Rattle.ants.specs.Jobs.{files_of}
+use Rattle.ants.specs.Jobs.{HasRoom, LacksRoom, files_of}
 use Rattle.ants.specs.Judged.{IsJudged, Verdict}
 use Rattle.ants.specs.Judged.Verdict.{AllAccepted, FirstRefused}
 use Rattle.ants.specs.Performing.{EndsBy}
 use Rattle.ants.specs.Status.{number_of}
 use Rattle.ants.specs.Stopping.{Reason, fault_line, status_of}
-use Rattle.ants.specs.Stopping.Reason.{AtWord, AtFile, AtOutput, AtInput, AtMemory}
+use Rattle.ants.specs.Stopping.Reason.{AtWord, AtFile, AtOutput, AtInput, AtRoom, AtMemory}
 
 -- the words are a command, and it ended so
 pub record IsCarriedOut (words : List (List ℕ)) (shelf new_shelf : ShelfState) (fetches : List Fetched) (out new_out : SinkState) (ending : Option Reason) : Type 0 where
@@ -38,6 +38,7 @@ Ends words shelf new_shelf fetches out new_out (Some (AtWord word)) = IsRefusedB
 Ends words shelf new_shelf fetches out new_out (Some (AtFile name)) = IsCarriedOut words shelf new_shelf fetches out new_out (Some (AtFile name))
 Ends words shelf new_shelf fetches out new_out (Some AtOutput) = IsCarriedOut words shelf new_shelf fetches out new_out (Some AtOutput)
 Ends words shelf new_shelf fetches out new_out (Some (AtInput name fault)) = IsCarriedOut words shelf new_shelf fetches out new_out (Some (AtInput name fault))
+Ends words shelf new_shelf fetches out new_out (Some (AtRoom element)) = IsCarriedOut words shelf new_shelf fetches out new_out (Some (AtRoom element))
 Ends words shelf new_shelf fetches out new_out (Some AtMemory) = IsCarriedOut words shelf new_shelf fetches out new_out (Some AtMemory)
 
 -- the errors got the line of the reason, or a front of it where they failed; and nothing where there is none
@@ -78,10 +79,15 @@ pub record IsJudgedCommand (words : List (List ℕ)) (shelf : ShelfState) (verdi
   pub told : shelf.files ≡ Some at
   pub judged : IsJudged at (files_of command) verdict
 
--- where each file is accepted, and neither the shelf nor the output failed, a run is done, or wants memory
+-- where each file is accepted, each element of a world to be generated has room, and neither the shelf nor the output failed, a run is
+-- done, or wants memory
 abbrev pub IsComplete : List (List ℕ) → ShelfState → ShelfState → SinkState → SinkState → Status → Type 0
 IsComplete words shelf new_shelf out new_out ended =
-    (contents : List Content) → IsJudgedCommand words shelf (AllAccepted contents) → ¬ Rose shelf.faults new_shelf.faults → ¬ Rose out.faults new_out.faults → (ended ≡ status.Done) ⊎ (ended ≡ status.Memory)
+    (contents : List Content) (is : IsJudgedCommand words shelf (AllAccepted contents)) → HasRoom is.command → ¬ Rose shelf.faults new_shelf.faults → ¬ Rose out.faults new_out.faults → (ended ≡ status.Done) ⊎ (ended ≡ status.Memory)
+
+-- where an element of a world to be generated has no room, a run ends as refused input, or wants memory
+abbrev pub IsCrowding : List (List ℕ) → Status → Type 0
+IsCrowding words ended = (command : PlainCommand) (element : ℕ) → IsCommand words command → LacksRoom command element → (ended ≡ status.Input) ⊎ (ended ≡ status.Memory)
 
 -- where a file is refused, and the shelf didn't fail, a run ends as refused input, or wants memory
 abbrev pub IsRefusing : List (List ℕ) → ShelfState → ShelfState → Status → Type 0

@@ -12,12 +12,14 @@ use Rattle.ants.specs.declared.stop.FileFault.TheVariants.{TooLong, World, Brain
 use Rattle.ants.specs.declared.stop.Stop.{Stop}
 use Rattle.ants.specs.declared.stop.Stop.TheVariants as stop
 
--- why a command stopped: at a word, at a file that was not read, at the output, at a file that was refused, or for want of memory
+-- why a command stopped: at a word, at a file that was not read, at the output, at a file that was refused, at an element of a
+-- generated world that has no room, or for want of memory
 pub data Reason : Type 0 where
   AtWord : ℕ → Reason
   AtFile : List ℕ → Reason
   AtOutput : Reason
   AtInput : List ℕ → FileFault → Reason
+  AtRoom : ℕ → Reason
   AtMemory : Reason
 
 -- a stop without the addresses of its names
@@ -26,6 +28,7 @@ reason_of (stop.Words word) = AtWord word
 reason_of (stop.Read name) = AtFile name.now
 reason_of stop.Write = AtOutput
 reason_of (stop.Input name fault) = AtInput name.now fault
+reason_of (stop.NoRoom element) = AtRoom element
 reason_of stop.Memory = AtMemory
 
 -- the status of a command that stopped so
@@ -34,6 +37,7 @@ status_of (AtWord word) = status.Words
 status_of (AtFile name) = status.Read
 status_of AtOutput = status.Write
 status_of (AtInput name fault) = status.Input
+status_of (AtRoom element) = status.Input
 status_of AtMemory = status.Memory
 
 -- what a world file's fault says
@@ -73,6 +77,7 @@ reason_text (AtWord word) = codes "word " +++ decimal word +++ codes " refused"
 reason_text (AtFile name) = name +++ codes ": not read"
 reason_text AtOutput = codes "output failed"
 reason_text (AtInput name fault) = name +++ codes ": " +++ file_fault_text fault
+reason_text (AtRoom element) = codes "no room for element " +++ decimal element
 reason_text AtMemory = codes "out of memory"
 
 -- the line that is written to the errors

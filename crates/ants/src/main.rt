@@ -6,6 +6,7 @@
 
 mod brain;
 mod fetching;
+mod generating;
 mod laws;
 mod minimise;
 mod program;

@@ -5,13 +5,14 @@ ghost use Rattle.command_words.specs.Laws.{SetupWithin};
 ghost use Rattle.command_words.specs.Words.{plain_setup, texts};
 ghost use Rattle.ants.specs.Inner.Planning.{IsPlanned};
 ghost use Rattle.ants.specs.Inner.Reading.{CarriesOut, CarriesOutWords, ending_of};
-ghost use Rattle.ants.specs.Running.{IsComplete, IsNoCommand, IsOrderly, IsRead, IsRefusing, IsRun, IsRunTo, Reports};
+ghost use Rattle.ants.specs.Running.{IsComplete, IsCrowding, IsNoCommand, IsOrderly, IsRead, IsRefusing, IsRun, IsRunTo, Reports};
 ghost use Rattle.ants.specs.Status.{number_of};
 ghost use Rattle.ants.specs.Stopping.{reason_of, status_of};
 ghost use Rattle.ants.specs.Stopping.Reason.{AtMemory};
 ghost use Rattle.std.specs.Process.{exit_status};
 
 use crate::brain::brain;
+use crate::generating::gen_world;
 use crate::minimise::minimise;
 use crate::run::{Names, dumps_of, run};
 use crate::show::show;
@@ -77,7 +78,11 @@ fn carry_out<'w, S: Shelf, K: Sink>(
                 options,
             },
         ) => carry_out_run(alloc, Names { world, red, black }, options, shelf, out),
-        Ok(_) => Err(Stop::Memory),
+        Ok(Command::Gen { seed, shape }) => gen_world(alloc, seed, shape, shelf, out),
+        // The table of commands knows no others, so no words are one of them.
+        Ok(Command::Cup { .. } | Command::View { .. } | Command::Workload { .. }) => {
+            Err(Stop::Memory)
+        }
     }
 }
 
@@ -109,6 +114,7 @@ pub fn run_ants<R: Threads + Sync, S: Shelf, K: Sink, E: Sink, G: Gate>(
     ensures words { (result ≡ Status.Words) ↔ IsNoCommand (texts words.now) }
     ensures orderly { IsOrderly (texts words.now) (S.state shelf.old) (S.state shelf.new) }
     ensures complete { IsComplete (texts words.now) (S.state shelf.old) (S.state shelf.new) (K.state out.old) (K.state out.new) result }
+    ensures crowding { IsCrowding (texts words.now) result }
     ensures refusing { IsRefusing (texts words.now) (S.state shelf.old) (S.state shelf.new) result }
     ensures read { IsRead (texts words.now) (S.state shelf.old) result }
 {

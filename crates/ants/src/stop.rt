@@ -30,6 +30,8 @@ pub enum Stop<'w> {
     Write,
     /// The file of this name was refused.
     Input(&'w str, FileFault),
+    /// This element of a world to be generated, counted from 0, has no room.
+    NoRoom(u32),
     /// Memory could not be had.
     Memory,
 }
@@ -140,6 +142,7 @@ impl Layout for StopWords<'_> {
             Stop::Read(name) => layout!(name, ": not read").push_to(sink),
             Stop::Write => "output failed".push_to(sink),
             Stop::Input(name, fault) => layout!(name, ": ", FileWords(fault)).push_to(sink),
+            Stop::NoRoom(element) => layout!("no room for element ", element).push_to(sink),
             Stop::Memory => "out of memory".push_to(sink),
         }
     }
@@ -163,7 +166,7 @@ impl Stop<'_> {
             Stop::Words(_) => Status::Words,
             Stop::Read(_) => Status::Read,
             Stop::Write => Status::Write,
-            Stop::Input(_, _) => Status::Input,
+            Stop::Input(_, _) | Stop::NoRoom(_) => Status::Input,
             Stop::Memory => Status::Memory,
         }
     }

@@ -3,7 +3,11 @@ use Rattle.std.specs.Prelude.{◌≡◌, ℕ, List, [], ◌∷◌, Result, Ok, E
 use Rattle.ant_turn.specs.declared.sheet.Sheet.{Sheet}
 use Rattle.ant_turn.specs.Sheet.{sheet_of}
 use Rattle.command_words.specs.Command.{RunSetup}
+use Rattle.cell_world.specs.Grid.{Grid}
 use Rattle.match_run.specs.declared.plan.Plan.{Plan}
+use Rattle.world_gen.specs.declared.shape.Shape.{Shape}
+use Rattle.world_gen.specs.Painting.{IsGenerated}
+use Rattle.world_gen.specs.Placing.{HasNoRoom}
 use Rattle.ants.specs.declared.run.Setting.{Setting}
 use Rattle.ants.specs.declared.stop.Stop.{Stop}
 use Rattle.ants.specs.declared.stop.Stop.TheVariants as stop
@@ -27,6 +31,13 @@ IsSheetOf setup sheet = sheet_of sheet ≡ sheet_named setup
 abbrev pub IsPlanned : RunSetup → Result Plan Stop → Type 0
 IsPlanned setup (Ok plan) = Plans setup plan
 IsPlanned setup (Err reason) = reason ≡ stop.Memory
+
+-- a world was generated, or why not
+abbrev pub IsGenerating : ℕ → Shape → Result Grid Stop → Type 0
+IsGenerating seed shape (Ok world) = IsGenerated seed shape world
+IsGenerating seed shape (Err (stop.NoRoom element)) = HasNoRoom seed shape element
+IsGenerating seed shape (Err stop.Memory) = Unit {0}
+IsGenerating seed shape (Err other) = ⊥
 
 -- what the files of a game were read as
 abbrev pub setting_contents : Setting → List Content

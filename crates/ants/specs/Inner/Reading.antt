@@ -18,7 +18,7 @@ use Rattle.ants.specs.Judged.{IsRefusedAs}
 use Rattle.ants.specs.Performing.{EndsBy, IsUnsure}
 use Rattle.ants.specs.Running.{Ends}
 use Rattle.ants.specs.Stopping.{Reason, reason_of}
-use Rattle.ants.specs.Stopping.Reason.{AtWord, AtFile, AtOutput, AtInput, AtMemory}
+use Rattle.ants.specs.Stopping.Reason.{AtWord, AtFile, AtOutput, AtInput, AtRoom, AtMemory}
 
 -- what the reading of some files came to: their contents, or why it stopped
 pub data Outcome : Type 0 where
@@ -41,6 +41,7 @@ ReadingStops shelf new_shelf files fetches (AtWord word) = ⊥
 ReadingStops shelf new_shelf files fetches (AtFile name) = FailsAt shelf new_shelf files fetches name
 ReadingStops shelf new_shelf files fetches AtOutput = ⊥
 ReadingStops shelf new_shelf files fetches (AtInput name fault) = StopsAt (IsRefusedAs name fault) files fetches
+ReadingStops shelf new_shelf files fetches (AtRoom element) = ⊥
 ReadingStops shelf new_shelf files fetches AtMemory = AreBegun files fetches
 
 -- the reading of files came to this
@@ -76,6 +77,7 @@ TextStops kind bytes name (AtWord word) = ⊥
 TextStops kind bytes name (AtFile other) = ⊥
 TextStops kind bytes name AtOutput = ⊥
 TextStops kind bytes name (AtInput other fault) = (other ≡ name) × Refuses kind bytes fault
+TextStops kind bytes name (AtRoom element) = ⊥
 TextStops kind bytes name AtMemory = Unit {0}
 
 -- what the reading of the bytes of a file gave: its content, or why it stopped

@@ -4,7 +4,7 @@ use Rattle.command_words.specs.Words.{texts}
 use Rattle.ants.specs.declared.status.Status.TheVariants.{Done}
 use Rattle.ants.specs.Running.{IsRun}
 use Rattle.ants.specs.Stopping.{reason_of}
-use Rattle.ants.proofs.Verdicts.{complete_run, no_command_run, orderly_run, read_run, refusing_run, words_run}
+use Rattle.ants.proofs.Verdicts.{complete_run, crowding_run, no_command_run, orderly_run, read_run, refusing_run, words_run}
 use Rattle.ants.proofs.program.run_ants.Goals as goal
 
 pub returns-in-Ok : goal.returns-in-Ok
@@ -16,6 +16,7 @@ returns-in-Ok g c =
       words = (no_command_run _ _ _ _ _ _ _ _ run, words_run _ _ _ _ _ _ _ _ run);
       orderly = orderly_run _ _ _ _ _ _ _ _ run;
       complete = complete_run _ _ _ _ _ _ _ _ run;
+      crowding = crowding_run _ _ _ _ _ _ _ _ run;
       refusing = refusing_run _ _ _ _ _ _ _ _ run;
       read = read_run _ _ _ _ _ _ _ _ run;
     }
@@ -29,6 +30,7 @@ returns-in-Err g c =
       words = (no_command_run _ _ _ _ _ _ _ _ run, words_run _ _ _ _ _ _ _ _ run);
       orderly = orderly_run _ _ _ _ _ _ _ _ run;
       complete = complete_run _ _ _ _ _ _ _ _ run;
+      crowding = crowding_run _ _ _ _ _ _ _ _ run;
       refusing = refusing_run _ _ _ _ _ _ _ _ run;
       read = read_run _ _ _ _ _ _ _ _ run;
     }

@@ -1,0 +1,57 @@
+// The command `gen`.
+ghost use Rattle.std.specs.Prelude.{◌≡◌};
+ghost use Rattle.ant_base.specs.Sink.{Pushed};
+ghost use Rattle.command_words.specs.Command.PlainCommand.{GenCommand};
+ghost use Rattle.command_words.specs.Laws.{ShapeWithin};
+ghost use Rattle.world_gen.specs.Painting.{IsAnswer};
+ghost use Rattle.ants.specs.Inner.Reading.{CarriesOut, ending_of};
+ghost use Rattle.ants.specs.Inner.Planning.{IsGenerating};
+ghost use Rattle.ants.specs.Jobs.{shape_named};
+
+use crate::stop::Stop;
+use ant_base::{Shelf, Sink};
+use cell_world::World;
+use command_words::GenShape;
+use std::alloc::Global;
+use world_gen::{GenFault, Shape, generate};
+use world_read::write_world;
+
+// The world of a seed and a shape.
+fn generated<'w>(alloc: Global, seed: u32, shape: GenShape) -> Result<World, Stop<'w>>
+    requires { ShapeWithin shape }
+    ensures { IsGenerating seed (shape_named shape) result }
+{
+    let GenShape {
+        width,
+        height,
+        rocks,
+        blobs,
+    } = shape;
+    let shape = Shape {
+        width,
+        height,
+        rocks,
+        blobs,
+    };
+    match generate(alloc, seed, shape) {
+        Ok(world) => Ok(world),
+        Err(GenFault::NoRoom { element }) => Err(Stop::NoRoom(element)),
+        Err(GenFault::OutOfMemory) => Err(Stop::Memory),
+    }
+}
+
+/// Writes the canonical text of the world of a seed and a shape.
+pub fn gen_world<'w, S: Shelf, K: Sink>(
+    alloc: Global,
+    seed: u32,
+    shape: GenShape,
+    shelf: &mut S,
+    out: &mut K,
+) -> Result<(), Stop<'w>>
+    requires { ShapeWithin shape }
+    ensures { CarriesOut (GenCommand seed shape) (S.state shelf.old) (S.state shelf.new) (K.state out.old) (K.state out.new) (ending_of result) }
+{
+    let world = generated(alloc, seed, shape)?;
+    write_world(&world, out)?;
+    Ok(())
+}
