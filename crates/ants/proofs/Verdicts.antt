@@ -1,5 +1,5 @@
 -- What the end of a run says of its status: when the words are no command, when input is refused, and that nothing else is in the way.
-use Rattle.std.proofs.Common.{◌≡◌, ◌≢◌, ◌⊎◌, inl, inr, ℕ, ◌<◌, ◌≤◌, true, false, List, [], ◌∷◌, ◌++◌, length, map, Ok, Err, Option, Some, None, refl, sym, ◌∙◌, ap, subst, arith}
+use Rattle.std.proofs.Common.{◌≡◌, ◌≢◌, ◌⊎◌, inl, inr, ℕ, ◌<◌, ◌≤◌, true, List, [], ◌∷◌, ◌++◌, length, map, Ok, Err, Option, Some, None, refl, sym, ◌∙◌, ap, subst, arith}
 use Rattle.std.specs.List.{AllByRecursion}
 use Rattle.std.specs.Prelude.{IsSomeAnd}
 use Rattle.std.proofs.lemmas.Bool.{false≢true}
@@ -16,13 +16,13 @@ use Rattle.ants.specs.declared.stop.FileFault.{FileFault}
 use Rattle.ants.specs.declared.stop.FileFault.TheVariants.{TooLong, World, Brain}
 use Rattle.ants.specs.Files.{AreAccepted, AreBegun, AreInOrder, Content, File, IsAccepted, IsFetched, IsRefused, Reads, Refuses, StopsAt}
 use Rattle.ants.specs.Jobs.{files_of}
-use Rattle.ants.specs.Judged.{IsJudged, IsRefusedAs, Judged, Verdict}
+use Rattle.ants.specs.Judged.{IsRefusedAs, Judged, Verdict}
 use Rattle.ants.specs.Judged.Verdict.{AllAccepted, FirstRefused}
-use Rattle.ants.specs.Performing.{EndsBy, IsUnsure, StopsFor}
-use Rattle.ants.specs.Running.{Ends, IsComplete, IsJudgedCommand, IsNoCommand, IsOrderly, IsRead, IsRefusing, IsRun, ending_status}
+use Rattle.ants.specs.Performing.{EndsBy, IsUnsure}
+use Rattle.ants.specs.Running.{Ends, IsComplete, IsNoCommand, IsOrderly, NeverUnread, IsRefusing, IsRun, ending_status}
 use Rattle.ants.specs.Stopping.{Reason}
 use Rattle.ants.specs.Stopping.Reason.{AtWord, AtFile, AtOutput, AtInput, AtMemory}
-use Rattle.ants.proofs.Texts.{never_both, one_reading, one_refusal}
+use Rattle.ants.proofs.Texts.{never_both, one_reading}
 
 -- the contents of each name
 abbrev At : Type 0
@@ -260,7 +260,7 @@ read_by at command shelf new_shelf fetches told out new_out verdict (Some AtOutp
 read_by at command shelf new_shelf fetches told out new_out verdict (Some (AtInput name fault)) one two judged sure ends = λ same. cc
 read_by at command shelf new_shelf fetches told out new_out verdict (Some AtMemory) one two judged sure ends = λ same. cc
 
-pub read_run : (words : List (List ℕ)) (shelf new_shelf : ShelfState) (out new_out err new_err : SinkState) (ended : Status) → IsRun words shelf new_shelf out new_out err new_err ended → IsRead words shelf ended
+pub read_run : (words : List (List ℕ)) (shelf new_shelf : ShelfState) (out new_out err new_err : SinkState) (ended : Status) → IsRun words shelf new_shelf out new_out err new_err ended → NeverUnread words shelf ended
 read_run words shelf new_shelf out new_out err new_err ended run = λ verdict is sure same.
     read_by is.at is.command shelf new_shelf run.fetches is.judged.fetches out new_out verdict run.ending (told_of_run words shelf new_shelf out new_out err new_err ended is.at run is.told) is.judged.told is.judged.judged sure
     (as_command words is.command shelf new_shelf run.fetches out new_out run.ending is.is_command run.ends) (sym run.is_status ∙ same)

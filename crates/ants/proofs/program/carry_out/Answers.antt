@@ -1,9 +1,8 @@
 -- the rounds of the words are within their limit
-use Rattle.std.proofs.Common.{◌≡◌, ℕ, ◌≤◌, sym, subst}
+use Rattle.std.proofs.Common.{◌≡◌, subst}
 use Rattle.std.specs.Prelude.{IsErrAnd}
 use Rattle.ants.specs.declared.stop.Stop.{Stop}
 use Rattle.command_words.specs.Words.{plain_dumps, texts}
-use Rattle.command_words.proofs.WordLaws.{within_limits}
 use Rattle.command_words.specs.Command.PlainCommand.{RunCommand}
 use Rattle.ants.proofs.Readings.{carries_want}
 use Rattle.ants.proofs.program.carry_out.Goals as goal

@@ -1,5 +1,5 @@
 -- the files were accepted, and their game was played
-use Rattle.std.proofs.Common.{◌∷◌, [], subst}
+use Rattle.std.proofs.Common.{subst}
 use Rattle.ant_base.specs.Sink.{PushedAll, PushedFront}
 use Rattle.ant_turn.specs.Minds.{contest_minds}
 use Rattle.cell_world.specs.Grid.{world_of}
