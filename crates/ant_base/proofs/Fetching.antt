@@ -11,7 +11,7 @@ use Rattle.ant_base.specs.Inner.Noted.{noted}
 use Rattle.ant_base.specs.Faults.{Rose}
 use Rattle.ant_base.specs.Fetched.{Fetched, fetched}
 use Rattle.ant_base.specs.MemShelf.{MemShelfState, content_of, none_fails, shelf_of}
-use Rattle.ant_base.specs.Shelf.{Answers, AreSure, Fetches, FetchesEach, IsTold, ShelfState, Told}
+use Rattle.ant_base.specs.Shelf.{Answers, Fetches, FetchesEach, IsTold, ShelfState, Told}
 use Rattle.ant_base.specs.declared.files.Entry.{Entry}
 use Rattle.ant_base.specs.declared.shelf.FetchFault.{FetchFault}
 use Rattle.ant_base.specs.declared.shelf.FetchFault.TheVariants.{Failed, TooLong, OutOfMemory}

@@ -1,9 +1,9 @@
 -- A shelf in memory (this project's own).
-use Rattle.std.specs.Prelude.{◌≡◌, ℕ, ◌<◌, ◌≤◌, Bool, true, false, ◌&&◌, ◌||◌, List, [], ◌∷◌, ◌++◌, length, Option, Some, None, Result, Ok, Err, Vec, is_some, is_none, nat_lt, if◌then◌else◌, unwrap_or}
+use Rattle.std.specs.Prelude.{◌≡◌, ℕ, ◌<◌, ◌≤◌, Bool, true, false, ◌&&◌, ◌||◌, List, [], ◌∷◌, length, Option, Some, None, Result, Ok, Err, Vec, is_some, is_none, nat_lt, if◌then◌else◌, unwrap_or}
 use Rattle.std.specs.Str.{bytes_eq}
 use Rattle.ant_base.specs.Faults.{one_more}
 use Rattle.ant_base.specs.Calls.{is_failing}
-use Rattle.ant_base.specs.Fetched.{Fetched, fetched}
+use Rattle.ant_base.specs.Fetched.{Fetched}
 use Rattle.ant_base.specs.Shelf.{ShelfState, longest}
 use Rattle.ant_base.specs.declared.shelf.FetchFault.{FetchFault}
 use Rattle.ant_base.specs.declared.shelf.FetchFault.TheVariants.{Failed, TooLong, OutOfMemory}

@@ -9,7 +9,7 @@ use Rattle.ant_base.specs.declared.shelf.FetchFault.TheVariants as answer
 use Rattle.ants.specs.declared.stop.FileFault.{FileFault}
 use Rattle.ants.specs.declared.stop.FileFault.TheVariants.{TooLong, World, Brain}
 use Rattle.ants.specs.Files.{AreAccepted, Content, File, IsAccepted, IsRefused, Refuses, StopsAt}
-use Rattle.ants.specs.Judged.{AreThere, HasOneVerdict, IsJudged, IsRefusedAs, Judged, JudgesOnce, Verdict}
+use Rattle.ants.specs.Judged.{AreThere, IsJudged, IsRefusedAs, Judged, JudgesOnce, Verdict}
 use Rattle.ants.specs.Judged.Verdict.{AllAccepted, FirstRefused}
 use Rattle.ants.proofs.Readings.{refused_text}
 use Rattle.ants.proofs.Texts.{one_refusal, some_reading}

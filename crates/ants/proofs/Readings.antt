@@ -1,5 +1,5 @@
 -- Files read one after another: what the reading of some and then of others comes to.
-use Rattle.std.proofs.Common.{◌≡◌, ℕ, ◌≤◌, Bool, true, false, List, [], ◌∷◌, ◌++◌, refl, sym, ◌∙◌, ap, subst, arith, inl, inr, Result, Ok, Err, Option, None, Some}
+use Rattle.std.proofs.Common.{◌≡◌, ℕ, ◌≤◌, Bool, true, false, List, [], ◌∷◌, ◌++◌, refl, sym, ap, subst, arith, inl, inr, Result, Ok, Err, Option, None, Some}
 use Rattle.std.specs.Prelude.{IsErrAnd, Vec}
 use Rattle.ant_base.proofs.Fetching.{fetches_none, fetches_one, fetches_then}
 use Rattle.ant_base.specs.Faults.{Rose}
@@ -13,7 +13,7 @@ use Rattle.ants.specs.declared.stop.FileFault.{FileFault}
 use Rattle.ants.specs.declared.stop.FileFault.TheVariants.{TooLong, World, Brain}
 use Rattle.ants.specs.declared.stop.Stop.{Stop}
 use Rattle.ants.specs.declared.stop.Stop.TheVariants as stop
-use Rattle.ants.specs.Files.{File, FileKind, Content, AreAccepted, AreBegun, IsAccepted, IsRefused, Refuses, StopsAt}
+use Rattle.ants.specs.Files.{File, Content, AreAccepted, AreBegun, IsRefused, Refuses, StopsAt}
 use Rattle.ants.specs.Inner.Reading.{CarriesOut, CarriesOutWords, ComesTo, Outcome, ReadingStops, ReadsFiles, ReadsText, TextStops, ending_of, fetch_reason, outcome_of}
 use Rattle.ants.specs.Inner.Reading.Outcome.{Contents, Stopped}
 use Rattle.ants.specs.Jobs.{files_of, IsJobText}

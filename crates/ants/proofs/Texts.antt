@@ -1,5 +1,5 @@
 -- The bytes of a file of each kind: they are read in one way or refused in one way, and never both.
-use Rattle.std.proofs.Common.{◌≡◌, ◌≢◌, ◌⊎◌, inl, inr, ℕ, List, Result, Ok, Err, refl, sym, ◌∙◌, ap}
+use Rattle.std.proofs.Common.{◌≡◌, ◌≢◌, ◌⊎◌, inl, inr, ℕ, List, Result, Ok, Err, refl, ap}
 use Rattle.brain_read.proofs.Whole as whole
 use Rattle.brain_read.specs.BrainText as brain_text
 use Rattle.brain_read.specs.declared.fault.BrainFault.{BrainFault}

@@ -21,7 +21,7 @@ use Rattle.ants.specs.Jobs.{HasRoom, IsJobText, LacksRoom, files_of, shape_named
 use Rattle.ants.specs.Judged.{IsJudged, IsRefusedAs, Judged, Verdict}
 use Rattle.ants.specs.Judged.Verdict.{AllAccepted, FirstRefused}
 use Rattle.ants.specs.Performing.{EndsBy, IsUnsure, StopsFor}
-use Rattle.ants.specs.Running.{Ends, IsComplete, IsJudgedCommand, IsNoCommand, IsOrderly, IsRead, IsRefusing, IsRun, ending_status, IsCrowding}
+use Rattle.ants.specs.Running.{Ends, IsComplete, IsJudgedCommand, IsNoCommand, IsOrderly, NeverUnread, IsRefusing, IsRun, ending_status, IsCrowding}
 use Rattle.ants.specs.Stopping.{Reason}
 use Rattle.ants.specs.Stopping.Reason.{AtWord, AtFile, AtOutput, AtInput, AtRoom, AtMemory}
 use Rattle.ants.proofs.Texts.{never_both, one_reading, one_refusal}
@@ -307,7 +307,7 @@ read_by at command shelf new_shelf fetches told out new_out verdict (Some (AtInp
 read_by at command shelf new_shelf fetches told out new_out verdict (Some (AtRoom element)) one two judged sure ends = λ same. cc
 read_by at command shelf new_shelf fetches told out new_out verdict (Some AtMemory) one two judged sure ends = λ same. cc
 
-pub read_run : (words : List (List ℕ)) (shelf new_shelf : ShelfState) (out new_out err new_err : SinkState) (ended : Status) → IsRun words shelf new_shelf out new_out err new_err ended → IsRead words shelf ended
+pub read_run : (words : List (List ℕ)) (shelf new_shelf : ShelfState) (out new_out err new_err : SinkState) (ended : Status) → IsRun words shelf new_shelf out new_out err new_err ended → NeverUnread words shelf ended
 read_run words shelf new_shelf out new_out err new_err ended run = λ verdict is sure same.
     read_by is.at is.command shelf new_shelf run.fetches is.judged.fetches out new_out verdict run.ending (told_of_run words shelf new_shelf out new_out err new_err ended is.at run is.told) is.judged.told is.judged.judged sure
     (as_command words is.command shelf new_shelf run.fetches out new_out run.ending is.is_command run.ends) (sym run.is_status ∙ same)

@@ -95,8 +95,8 @@ IsRefusing words shelf new_shelf ended =
     (name : List ℕ) (fault : FileFault) → IsJudgedCommand words shelf (FirstRefused name fault) → ¬ Rose shelf.faults new_shelf.faults → (ended ≡ status.Input) ⊎ (ended ≡ status.Memory)
 
 -- where the shelf is sure of the files up to the first that is refused, or of all where none is, no run ends at a file that was not read
-abbrev pub IsRead : List (List ℕ) → ShelfState → Status → Type 0
-IsRead words shelf ended = (verdict : Verdict) (is : IsJudgedCommand words shelf verdict) → AreSure shelf is.judged.fetches → ended ≢ status.Read
+abbrev pub NeverUnread : List (List ℕ) → ShelfState → Status → Type 0
+NeverUnread words shelf ended = (verdict : Verdict) (is : IsJudgedCommand words shelf verdict) → AreSure shelf is.judged.fetches → ended ≢ status.Read
 
 -- the words are no command
 abbrev pub IsNoCommand : List (List ℕ) → Type 0

@@ -5,7 +5,7 @@ ghost use Rattle.command_words.specs.Laws.{SetupWithin};
 ghost use Rattle.command_words.specs.Words.{plain_setup, texts};
 ghost use Rattle.ants.specs.Inner.Planning.{IsPlanned};
 ghost use Rattle.ants.specs.Inner.Reading.{CarriesOut, CarriesOutWords, ending_of};
-ghost use Rattle.ants.specs.Running.{IsComplete, IsCrowding, IsNoCommand, IsOrderly, IsRead, IsRefusing, IsRun, IsRunTo, Reports};
+ghost use Rattle.ants.specs.Running.{IsComplete, IsCrowding, IsNoCommand, IsOrderly, NeverUnread, IsRefusing, IsRun, IsRunTo, Reports};
 ghost use Rattle.ants.specs.Status.{number_of};
 ghost use Rattle.ants.specs.Stopping.{reason_of, status_of};
 ghost use Rattle.ants.specs.Stopping.Reason.{AtMemory};
@@ -95,8 +95,10 @@ fn carry_out<'w, S: Shelf, K: Sink>(
 /// - `Words`: exactly where the words are no command; nothing was fetched, and the output got nothing.
 /// - `Read`: the last fetch failed, of a file of which the shelf wasn't sure, and each file before it was accepted; the output got nothing.
 /// - `Write`: all files were fetched and accepted, the output failed, and got a front of the text.
-/// - `Input`: the last file that was fetched is too long or not in its grammar, and each before it was accepted; the output got nothing.
-/// - `Memory`: memory could not be had; no fetch failed, no file was refused, and the output got nothing.
+/// - `Input`: the last file that was fetched is too long or not in its grammar, and each before it was accepted; or an element of the world
+///   to be generated has no room; the output got nothing.
+/// - `Memory`: memory could not be had; no fetch failed or was too long, each file but perhaps the last was accepted, and the output got
+///   nothing.
 ///
 /// At each but `Done` the errors got one line, which names the word (from 1) or the file and the place in it; or a front of that line,
 /// where they failed. The shelf keeps its contents and all of which it is sure, its log grows by the fetches, and its count of faults rises
@@ -116,7 +118,7 @@ pub fn run_ants<R: Threads + Sync, S: Shelf, K: Sink, E: Sink, G: Gate>(
     ensures complete { IsComplete (texts words.now) (S.state shelf.old) (S.state shelf.new) (K.state out.old) (K.state out.new) result }
     ensures crowding { IsCrowding (texts words.now) result }
     ensures refusing { IsRefusing (texts words.now) (S.state shelf.old) (S.state shelf.new) result }
-    ensures read { IsRead (texts words.now) (S.state shelf.old) result }
+    ensures read { NeverUnread (texts words.now) (S.state shelf.old) result }
 {
     match carry_out(alloc, words, shelf, out) {
         Ok(()) => Status::Done,

@@ -95,9 +95,6 @@ pub(crate) fn kinds() -> &'static [CommandKind]
         CommandKind::Minimise,
         CommandKind::Run,
         CommandKind::Gen,
-        CommandKind::Cup,
-        CommandKind::View,
-        CommandKind::Workload,
     ]
 }
 
@@ -167,12 +164,9 @@ impl CommandKind {
                 Choice::Seed,
                 Choice::Rounds,
                 Choice::Dump,
-                Choice::Workers,
-                Choice::Window,
                 Choice::Surround,
                 Choice::Corpse,
                 Choice::Rest,
-                Choice::Stats,
             ],
             CommandKind::Gen => &[Choice::Width, Choice::Height, Choice::Rocks, Choice::Blobs],
             CommandKind::Cup => &[Choice::Seed, Choice::Rounds, Choice::Workers],

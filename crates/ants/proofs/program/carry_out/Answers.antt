@@ -13,8 +13,3 @@ carry_out_run-requires g c =
 
 pub gen_world-requires : goal.gen_world-requires
 gen_world-requires g c = (within_limits (texts c.args.words.now) (GenCommand c.in-Ok-Gen.seed c.in-Ok-Gen.shape) (rw c.in-Ok-Gen.field-0-is at c.in-Ok-Gen.ensures.command)).1
-
-pub returns-in-Ok : goal.returns-in-Ok
-returns-in-Ok g c =
-    carries_words (texts c.args.words.now) (plain c.in-Ok.field-0) (g.S.Shelf.state c.args.shelf.now) (g.S.Shelf.state c.args.shelf.now) (g.K.Sink.state c.args.out.now) (g.K.Sink.state c.args.out.now) (Some AtMemory)
-    c.in-Ok.ensures.command (carries_nothing (plain c.in-Ok.field-0) (g.S.Shelf.state c.args.shelf.now) (g.K.Sink.state c.args.out.now))
