@@ -2,5 +2,6 @@ pub mod Claims
 pub mod Guess
 pub mod Holds
 pub mod Look
+pub mod Patching
 pub mod Reads
 pub mod Writes

@@ -1,0 +1,119 @@
+-- Fields and books: a game's world, and a window of its turns that is being settled (this project's own).
+use Rattle.std.specs.Prelude.{◌≡◌, ◌≢◌, ◌⊎◌, ◌↔◌, ℕ, ◌+◌, ◌-◌, ◌<◌, Bool, true, false, List, ◌∷◌, [], ◌++◌, map, Option, Some, None}
+use Rattle.std.specs.List.{AllByRecursion, Contains}
+use Rattle.hex_geometry.specs.declared.position.Pos.{Pos}
+use Rattle.cell_world.specs.declared.part.Part.{Part}
+use Rattle.cell_world.specs.Cell.{one_if}
+use Rattle.cell_world.specs.Grid.{Grid, world_of}
+use Rattle.cell_world.specs.Parts.{Agree, Alike, has_part}
+use Rattle.cell_world.specs.World.{World, with_cells}
+use Rattle.ant_turn.specs.Minds.{Minds}
+use Rattle.ant_turn.specs.Rounds.{Moment, after_turn}
+use Rattle.spec_record.specs.Claims.{Sighting}
+use Rattle.spec_record.specs.Holds.{LookHolds}
+use Rattle.spec_record.specs.Look.{LookValue}
+use Rattle.spec_record.specs.Patching.{patched_cells}
+use Rattle.spec_record.specs.Writes.{writes}
+use Rattle.round_book.specs.declared.verdict.Cause.{Cause}
+use Rattle.round_book.specs.declared.verdict.Cause.TheVariants as cause
+use Rattle.round_book.specs.declared.verdict.Verdict.{Verdict}
+use Rattle.round_book.specs.declared.verdict.Verdict.TheVariants.{Taken, Redone}
+use Rattle.round_book.specs.Window.{Window, AreVerdicts, base_of, moment_before}
+
+-- what a contract sees of a field: a game's world, brains, seed and place in the stream, and whether it is whole or lent for a window
+pub record FieldValue : Type 0 where
+  pub world : Grid
+  pub minds : Minds
+  pub seed : ℕ
+  pub place : ℕ
+  pub whole : Bool
+
+-- what a contract sees of a book: the window's seed and turns, the next turn, the world and the place that the turns before it left, the
+-- positions that they wrote, and their verdicts in order
+pub record BookValue : Type 0 where
+  pub seed : ℕ
+  pub from : ℕ
+  pub to : ℕ
+  pub next : ℕ
+  pub world : Grid
+  pub place : ℕ
+  pub written : List Pos
+  pub verdicts : List Verdict
+
+-- the window of turns that begins on a field
+abbrev pub window_of : FieldValue → ℕ → ℕ → Window
+window_of field from to = record { minds = field.minds; seed = field.seed; base = field.world; place = field.place; from = from; to = to }
+
+-- where the turns before the next one led
+abbrev pub moment_of : BookValue → Moment
+moment_of book = record { world = world_of book.world; place = book.place }
+
+-- a book stands on a window: it has the window's seed and turns; world and place are those of the turns up to the next one, executed in
+-- order; it has their verdicts, each once; and its world is the base at every position that wasn't written
+pub record Stands (window : Window) (book : BookValue) : Type 0 where
+  pub seed : book.seed ≡ window.seed
+  pub from : book.from ≡ window.from
+  pub to : book.to ≡ window.to
+  pub now : moment_of book ≡ moment_before window book.next
+  pub verdicts : AreVerdicts window (book.next - window.from) book.verdicts
+  pub unwritten : (p : Pos) → ¬ Contains book.written p → (world_of book.world).cells p ≡ (base_of window).cells p
+
+-- the book with which a window begins
+abbrev pub is_begun : Window → BookValue → Type 0
+is_begun window book = book ≡ record { seed = window.seed; from = window.from; to = window.to; next = window.from; world = window.base; place = window.place; written = []; verdicts = [] }
+
+-- a look holds in a book
+abbrev pub HoldsInBook : BookValue → LookValue → Type 0
+HoldsInBook book look = LookHolds look (world_of book.world).cells book.place
+
+-- a part that the look read at a position and that differs there
+pub record IsChanged (look : LookValue) (w : World) (at : Pos) (k : Part) : Type 0 where
+  pub read : Sighting
+  pub is_read : Contains look.reads read
+  pub here : read.0 ≡ at
+  pub named : has_part read.1 k ≡ true
+  pub differs : ¬ Alike k read.2 (w.cells at)
+
+-- all that the look read is as it was, and its random number is another
+pub record IsMoved (look : LookValue) (now : Moment) (guessed actual : ℕ) : Type 0 where
+  pub unchanged : AllByRecursion (λ read. Agree read.1 read.2 (now.world.cells read.0)) look.reads
+  pub drew : look.drew ≡ true
+  pub is_guess : guessed ≡ look.guess
+  pub is_actual : actual ≡ now.place
+  pub differs : actual ≢ guessed
+
+-- why a look doesn't hold
+abbrev pub IsCause : LookValue → Moment → Cause → Type 0
+IsCause look now (cause.Part at k) = IsChanged look now.world at k
+IsCause look now (cause.Place guessed actual) = IsMoved look now guessed actual
+
+-- a book's written positions and these are another's
+abbrev pub Wrote : List Pos → List Pos → List Pos → Type 0
+Wrote written more new = (p : Pos) → Contains new p ↔ (Contains written p ⊎ Contains more p)
+
+-- a look that held was taken: the named parts of its writes are set and their positions written, the place rises by one if it drew, and the
+-- turn is settled
+pub record IsTaken (look : LookValue) (book new : BookValue) : Type 0 where
+  pub holds : HoldsInBook book look
+  pub now : moment_of new ≡ record { world = with_cells (world_of book.world) (patched_cells (world_of book.world).cells look.writes); place = book.place + one_if look.drew }
+  pub written : Wrote book.written (map (λ write. write.0) look.writes) new.written
+  pub next : new.next ≡ book.next + 1
+  pub verdicts : new.verdicts ≡ book.verdicts ++ Taken ∷ []
+
+-- a turn was executed anew, for a cause
+pub record IsRedone (minds : Minds) (cause : Cause) (book new : BookValue) : Type 0 where
+  pub now : moment_of new ≡ after_turn minds book.seed (moment_of book) book.next
+  pub written : Wrote book.written (map (λ write. write.at) (writes minds (world_of book.world) book.next)) new.written
+  pub next : new.next ≡ book.next + 1
+  pub verdicts : new.verdicts ≡ book.verdicts ++ Redone cause ∷ []
+
+-- what no step of a window changes
+pub record IsSameWindow (book new : BookValue) : Type 0 where
+  pub seed : new.seed ≡ book.seed
+  pub from : new.from ≡ book.from
+  pub to : new.to ≡ book.to
+
+-- what settling a look answers: nothing, and it was taken; or why it doesn't hold, and the book is as before
+abbrev pub Settles : LookValue → BookValue → BookValue → Option Cause → Type 0
+Settles look book new None = IsTaken look book new
+Settles look book new (Some cause) = (new ≡ book) × IsCause look (moment_of book) cause

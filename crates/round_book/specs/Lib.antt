@@ -1,0 +1,3 @@
+pub mod Book
+pub mod Machine
+pub mod Window
