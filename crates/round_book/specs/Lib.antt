@@ -1,3 +1,4 @@
 pub mod Book
 pub mod Machine
+pub mod MachineLaws
 pub mod Window

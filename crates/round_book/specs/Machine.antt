@@ -1,5 +1,5 @@
 -- Workers on one window, as events one after another (this project's own): tickets are drawn, looks are put, turns are settled in order.
-use Rattle.std.specs.Prelude.{◌≡◌, ◌≢◌, ◌⊎◌, ℕ, ◌+◌, ◌-◌, ◌<◌, ◌≤◌, Bool, ⊤, if◌then◌else◌, ◌==◌, List, [], ◌∷◌, ◌++◌}
+use Rattle.std.specs.Prelude.{◌≡◌, ◌≢◌, ◌⊎◌, ℕ, ◌+◌, ◌-◌, ◌<◌, ◌≤◌, Bool, ⊤, cond, nat_eq, List, [], ◌∷◌, ◌++◌}
 use Rattle.std.specs.List.{Contains}
 use Rattle.cell_world.specs.Cell.{one_if}
 use Rattle.cell_world.specs.World.{with_cells}
@@ -64,7 +64,7 @@ IsLawful window state (Settles verdict) = CanSettle window state verdict
 
 -- one more ticket in a hand
 abbrev pub dealt : (ℕ → List ℕ) → ℕ → ℕ → ℕ → List ℕ
-dealt hands hand ticket other = if other == hand then hands other ++ ticket ∷ [] else hands other
+dealt hands hand ticket other = cond (nat_eq other hand) (hands other ++ ticket ∷ []) (hands other)
 
 -- the moment in which a look's writes are patched, and its random number is used
 abbrev pub taken : Moment → LookValue → Moment
@@ -78,7 +78,7 @@ settled window now t (Redone cause) = after_turn window.minds window.seed now t
 -- what an event makes of a state
 abbrev pub happens : Window → State → Event → State
 happens window state (Draws hand) = record state { drawn = state.drawn + 1; hands = dealt state.hands hand state.drawn }
-happens window state (Puts hand ticket) = record state { put = record { hand = hand; ticket = ticket } ∷ state.put }
+happens window state (Puts hand ticket) = record state { put = state.put ++ record { hand = hand; ticket = ticket } ∷ [] }
 happens window state (Settles verdict) = record state {
   next = state.next + 1;
   now = settled window state.now state.next verdict;
@@ -98,7 +98,7 @@ AreLawful window state (event ∷ events) = IsLawful window state event × AreLa
 -- how often a number stands in a list
 abbrev pub times : ℕ → List ℕ → ℕ
 times x [] = 0
-times x (y ∷ ys) = one_if (y == x) + times x ys
+times x (y ∷ ys) = one_if (nat_eq y x) + times x ys
 
 -- each ticket below c is in one hand, once, and no other ticket is in any
 pub record AreDealt (c : ℕ) (hands : ℕ → List ℕ) : Type 0 where

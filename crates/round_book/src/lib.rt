@@ -5,6 +5,8 @@
 //! its turns do one after another, and how many looks were taken depends on the turns and the window alone. This is this project's own.
 #![tactic(auto)]
 
+mod laws;
 mod verdict;
 
+pub use laws::every_interleaving;
 pub use verdict::{Cause, Verdict};
