@@ -14,18 +14,18 @@ use Rattle.round_book.specs.declared.verdict.Verdict.TheVariants.{Taken, Redone}
 use Rattle.round_book.specs.Machine.{AreDealt, AreLawful, CanPut, CanSettle, Event, IsPut, IsReached, Put, State, dealt, first_state, happens, run, settled, taken, times}
 use Rattle.round_book.specs.Machine.Event.{Draws, Puts, Settles}
 use Rattle.round_book.specs.Machine.{IsLawful}
-use Rattle.round_book.specs.Window.{Window, AreVerdicts, HoldsIn, IsPlayable, IsVerdict, base_of, look_for, moment_before}
+use Rattle.round_book.specs.Window.{Window, AreVerdicts, HoldsIn, IsPlayable, IsVerdict, look_for, moment_before}
 
 -- a look that holds is worth its turn
 abbrev pub LookIsTurn : Window → Type 0
-LookIsTurn window = (now : Moment) (t : ℕ) → t < window.to → Keeps window.minds (base_of window) now.world → HoldsIn window now t → taken now (look_for window t) ≡ after_turn window.minds window.seed now t
+LookIsTurn window = (now : Moment) (t : ℕ) → t < window.to → Keeps window.minds window.base now.world → HoldsIn window now t → taken now (look_for window t) ≡ after_turn window.minds window.seed now t
 
 -- no turn yet
-pub moment_before-from : (window : Window) → moment_before window window.from ≡ record { world = base_of window; place = window.place }
+pub moment_before-from : (window : Window) → moment_before window window.from ≡ record { world = window.base; place = window.place }
 unfolding moment_before
 moment_before-from window =
     let none : window.from - window.from ≡ 0 = omega arith in
-    ap (λ n. after_turns window.minds window.seed (record { world = base_of window; place = window.place }) window.from n) none
+    ap (λ n. after_turns window.minds window.seed (record { world = window.base; place = window.place }) window.from n) none
 
 -- one turn more
 pub moment_before-suc : (window : Window) (t : ℕ) → window.from ≤ t → moment_before window (t + 1) ≡ after_turn window.minds window.seed (moment_before window t) t
@@ -33,14 +33,14 @@ unfolding moment_before
 moment_before-suc window t before =
     let more : t + 1 - window.from ≡ suc (t - window.from) = omega arith in
     let here : window.from + (t - window.from) ≡ t = omega arith in
-    ap (λ n. after_turns window.minds window.seed (record { world = base_of window; place = window.place }) window.from n) more
-    ∙ ap (λ u. after_turn window.minds window.seed (after_turns window.minds window.seed (record { world = base_of window; place = window.place }) window.from (t - window.from)) u) here
+    ap (λ n. after_turns window.minds window.seed (record { world = window.base; place = window.place }) window.from n) more
+    ∙ ap (λ u. after_turn window.minds window.seed (after_turns window.minds window.seed (record { world = window.base; place = window.place }) window.from (t - window.from)) u) here
 
 -- what the turns of a window keep of its base
-pub Keeps-moment_before : (window : Window) (t : ℕ) → IsPlayable window → Keeps window.minds (base_of window) (moment_before window t).world
+pub Keeps-moment_before : (window : Window) (t : ℕ) → IsPlayable window → Keeps window.minds window.base (moment_before window t).world
 unfolding moment_before
 Keeps-moment_before window t playable =
-    Keeps-after_turns window.minds window.seed (record { world = base_of window; place = window.place }) window.from (t - window.from) playable.sound playable.world.valid playable.fits
+    Keeps-after_turns window.minds window.seed (record { world = window.base; place = window.place }) window.from (t - window.from) playable.sound playable.valid playable.fits
 
 -- how often a number stands in a list with one more at its end
 times-append : (x : ℕ) (xs : List ℕ) (y : ℕ) → times x (xs ++ y ∷ []) ≡ times x xs + one_if (nat_eq y x)
@@ -93,7 +93,7 @@ AreDealt-more c hands hand before = record {
 -- the moment after the next turn, however it is settled
 settled-next : (window : Window) (state : State) (verdict : Verdict) → IsPlayable window → LookIsTurn window → IsReached window state → CanSettle window state verdict → settled window state.now state.next verdict ≡ after_turn window.minds window.seed state.now state.next
 settled-next window state Taken playable worth reached can =
-    worth state.now state.next can.in_window (subst (λ m. Keeps window.minds (base_of window) m.world) (sym reached.now) (Keeps-moment_before window state.next playable)) can.is_verdict
+    worth state.now state.next can.in_window (subst (λ m. Keeps window.minds window.base m.world) (sym reached.now) (Keeps-moment_before window state.next playable)) can.is_verdict
 settled-next window state (Redone cause) playable worth reached can = refl
 
 -- one event

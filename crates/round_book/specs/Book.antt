@@ -18,7 +18,7 @@ use Rattle.round_book.specs.declared.verdict.Cause.{Cause}
 use Rattle.round_book.specs.declared.verdict.Cause.TheVariants as cause
 use Rattle.round_book.specs.declared.verdict.Verdict.{Verdict}
 use Rattle.round_book.specs.declared.verdict.Verdict.TheVariants.{Taken, Redone}
-use Rattle.round_book.specs.Window.{Window, AreVerdicts, base_of, moment_before}
+use Rattle.round_book.specs.Window.{Window, AreVerdicts, moment_before}
 
 -- what a contract sees of a field: a game's world, brains, seed and place in the stream, and whether it is whole or lent for a window
 pub record FieldValue : Type 0 where
@@ -42,7 +42,7 @@ pub record BookValue : Type 0 where
 
 -- the window of turns that begins on a field
 abbrev pub window_of : FieldValue → ℕ → ℕ → Window
-window_of field from to = record { minds = field.minds; seed = field.seed; base = field.world; place = field.place; from = from; to = to }
+window_of field from to = record { minds = field.minds; seed = field.seed; base = world_of field.world; place = field.place; from = from; to = to }
 
 -- where the turns before the next one led
 abbrev pub moment_of : BookValue → Moment
@@ -56,11 +56,11 @@ pub record Stands (window : Window) (book : BookValue) : Type 0 where
   pub to : book.to ≡ window.to
   pub now : moment_of book ≡ moment_before window book.next
   pub verdicts : AreVerdicts window (book.next - window.from) book.verdicts
-  pub unwritten : (p : Pos) → ¬ Contains book.written p → (world_of book.world).cells p ≡ (base_of window).cells p
+  pub unwritten : (p : Pos) → ¬ Contains book.written p → (world_of book.world).cells p ≡ window.base.cells p
 
--- the book with which a window begins
-abbrev pub is_begun : Window → BookValue → Type 0
-is_begun window book = book ≡ record { seed = window.seed; from = window.from; to = window.to; next = window.from; world = window.base; place = window.place; written = []; verdicts = [] }
+-- the book with which a window of a field begins
+abbrev pub begun : FieldValue → ℕ → ℕ → BookValue
+begun field from to = record { seed = field.seed; from = from; to = to; next = from; world = field.world; place = field.place; written = []; verdicts = [] }
 
 -- a look holds in a book
 abbrev pub HoldsInBook : BookValue → LookValue → Type 0

@@ -8,7 +8,7 @@ use Rattle.spec_record.specs.Look.{LookValue}
 use Rattle.spec_record.specs.Patching.{patched_cells}
 use Rattle.round_book.specs.declared.verdict.Verdict.{Verdict}
 use Rattle.round_book.specs.declared.verdict.Verdict.TheVariants.{Taken, Redone}
-use Rattle.round_book.specs.Window.{Window, AreVerdicts, IsVerdict, base_of, look_for, moment_before}
+use Rattle.round_book.specs.Window.{Window, AreVerdicts, IsVerdict, look_for, moment_before}
 
 -- a turn's look that was put: by which hand, and the ticket of the turn, which is the turn's number in the window, from 0
 pub record Put : Type 0 where
@@ -31,7 +31,7 @@ first_state window = record {
   hands = λ hand. [];
   put = [];
   next = window.from;
-  now = record { world = base_of window; place = window.place };
+  now = record { world = window.base; place = window.place };
   verdicts = [];
 }
 

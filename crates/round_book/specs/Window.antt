@@ -3,8 +3,8 @@ use Rattle.std.specs.Prelude.{◌≡◌, ◌≢◌, ℕ, ◌+◌, ◌-◌, ◌<�
 use Rattle.std.specs.List.{AllByRecursion, Contains}
 use Rattle.hex_geometry.specs.declared.position.Pos.{Pos}
 use Rattle.cell_world.specs.declared.part.Part.{Part}
-use Rattle.cell_world.specs.Grid.{Grid, world_of, IsWorld}
 use Rattle.cell_world.specs.Parts.{Agree, Alike, has_part}
+use Rattle.cell_world.specs.Valid.{Valid}
 use Rattle.cell_world.specs.World.{World}
 use Rattle.ant_turn.specs.Minds.{Minds, Fits, AreSound}
 use Rattle.ant_turn.specs.Rounds.{Moment, after_turns}
@@ -23,52 +23,48 @@ use Rattle.round_book.specs.declared.verdict.Verdict.TheVariants.{Taken, Redone}
 pub record Window : Type 0 where
   pub minds : Minds
   pub seed : ℕ
-  pub base : Grid
+  pub base : World
   pub place : ℕ
   pub from : ℕ
   pub to : ℕ
 
--- the world with which it begins
-abbrev pub base_of : Window → World
-base_of window = world_of window.base
-
 -- a window that may be played: its brains are brains and fit its base, its turns are ids of it, and the stream lasts for them
 pub record IsPlayable (window : Window) : Type 0 where
-  pub world : IsWorld window.base
+  pub valid : Valid window.base
   pub sound : AreSound window.minds
-  pub fits : Fits (base_of window) window.minds
+  pub fits : Fits window.base window.minds
   pub forwards : window.from ≤ window.to
   pub ids : window.to ≤ window.base.ids
   pub lasting : window.place + (window.to - window.from) < 2 ^ 63
 
 -- the world and the place after the turns from `from` up to, and not including, turn t, one after another
 unfoldable pub moment_before : Window → ℕ → Moment
-moment_before window t = after_turns window.minds window.seed (record { world = base_of window; place = window.place }) window.from (t - window.from)
+moment_before window t = after_turns window.minds window.seed (record { world = window.base; place = window.place }) window.from (t - window.from)
 
 -- the guess for a turn of the window
 unfoldable pub guess_for : Window → ℕ → ℕ
-guess_for window t = guess window.minds (base_of window) window.place window.from t
+guess_for window t = guess window.minds window.base window.place window.from t
 
 -- the look at a turn of the window, on the base at the turn's guess
 unfoldable pub look_for : Window → ℕ → LookValue
-look_for window t = look_of window.minds window.seed (base_of window) (guess_for window t) t
+look_for window t = look_of window.minds window.seed window.base (guess_for window t) t
 
 -- the look at turn t holds in a world at a place
 abbrev pub HoldsIn : Window → Moment → ℕ → Type 0
-HoldsIn window now t = Holds window.minds (base_of window) (guess_for window t) now.world now.place t
+HoldsIn window now t = Holds window.minds window.base (guess_for window t) now.world now.place t
 
 -- a part of a position that turn t reads, in which the base and the world of now differ
 pub record IsOther (window : Window) (now : World) (t : ℕ) (at : Pos) (k : Part) : Type 0 where
   pub read : Claim
-  pub is_read : Contains (reads window.minds (base_of window) t) read
+  pub is_read : Contains (reads window.minds window.base t) read
   pub here : read.at ≡ at
   pub named : has_part read.parts k ≡ true
-  pub differs : ¬ Alike k ((base_of window).cells at) (now.cells at)
+  pub differs : ¬ Alike k (window.base.cells at) (now.cells at)
 
 -- every part that turn t reads is as in the base, and its random number is another than the guessed one
 pub record IsElsewhere (window : Window) (now : Moment) (t guessed actual : ℕ) : Type 0 where
-  pub unchanged : AllByRecursion (λ read. Agree read.parts ((base_of window).cells read.at) (now.world.cells read.at)) (reads window.minds (base_of window) t)
-  pub flips : flips window.minds (base_of window) t ≡ true
+  pub unchanged : AllByRecursion (λ read. Agree read.parts (window.base.cells read.at) (now.world.cells read.at)) (reads window.minds window.base t)
+  pub flips : flips window.minds window.base t ≡ true
   pub is_guess : guessed ≡ guess_for window t
   pub is_actual : actual ≡ now.place
   pub differs : actual ≢ guessed
