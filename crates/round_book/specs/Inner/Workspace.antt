@@ -10,4 +10,4 @@ pub record AreMarked (grid : Grid) (marked : List Bool) (written : List Pos) : T
   pub sized : length marked ≡ grid.width * grid.height
   pub inside : (p : Pos) → Contains written p → IsInside grid.width grid.height p
   pub listed : (p : Pos) → IsInside grid.width grid.height p → slice_index_or marked (index_of grid.width p) false ≡ true → Contains written p
-  pub marked : (p : Pos) → Contains written p → slice_index_or marked (index_of grid.width p) false ≡ true
+  pub bear : (p : Pos) → Contains written p → slice_index_or marked (index_of grid.width p) false ≡ true
