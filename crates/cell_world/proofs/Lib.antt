@@ -6,6 +6,8 @@ pub mod OpeningValid
 pub mod OpeningWeight
 pub mod OpeningWorked
 pub mod Openings
+pub mod PartAnswers
+pub mod Patches
 pub mod Placed
 pub mod Places
 pub mod Plans

@@ -8,6 +8,7 @@ pub mod Limits
 pub mod Marks
 pub mod Opening
 pub mod OpeningLaws
+pub mod PartLaws
 pub mod Parts
 pub mod Places
 pub mod Score

@@ -16,6 +16,8 @@ mod kind;
 mod marks;
 mod opening_laws;
 mod part;
+mod part_laws;
+mod patch;
 mod score;
 mod world;
 
@@ -29,5 +31,6 @@ pub use kind::Kind;
 pub use marks::Marks;
 pub use opening_laws::{hills_are_manned, plans_open};
 pub use part::{Part, Parts};
+pub use part_laws::{cells_are_parts, patches_change_nothing, patches_settle, patches_take_parts};
 pub use score::Score;
 pub use world::World;

@@ -1,0 +1,6 @@
+use Rattle.cell_world.specs.Parts.{patched}
+use Rattle.cell_world.proofs.cell.Cell.patched.Goals as goal
+
+pub returns : goal.returns
+unfolding patched
+returns c = rw (c.chosen.ensures, c.chosen-2.ensures, c.chosen-3.ensures, c.chosen-4.ensures, c.has.ensures, c.has-2.ensures, c.has-3.ensures, c.has-4.ensures, c.patched_ant.ensures)
