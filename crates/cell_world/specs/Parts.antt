@@ -90,6 +90,11 @@ Alike k c d = part k c ≡ part k d
 abbrev pub Agree : Parts → Cell → Cell → Type 0
 Agree parts c d = (k : Part) → has_part parts k ≡ true → Alike k c d
 
+-- a part of a set in which two cells differ, or that there is none
+abbrev pub IsDifference : Parts → Cell → Cell → Option Part → Type 0
+IsDifference parts c d None = Agree parts c d
+IsDifference parts c d (Some k) = (has_part parts k ≡ true) × (¬ Alike k c d)
+
 -- this ant with the named ones of another's posture and load
 abbrev pub patched_by : Parts → Ant → Ant → Ant
 patched_by parts ant other = record ant {

@@ -1,6 +1,6 @@
 // Cells compared and changed part by part.
 ghost use Rattle.std.specs.Prelude.{◌≡◌, ◌↔◌, if◌then◌else◌, true, option_map};
-ghost use Rattle.cell_world.specs.Parts.{Agree, Alike, CanPatch, identity_of, has_part, patched, patched_ant, patched_by, posture_of};
+ghost use Rattle.cell_world.specs.Parts.{Agree, Alike, CanPatch, IsDifference, identity_of, has_part, patched, patched_ant, patched_by, posture_of};
 
 use crate::ant::Ant;
 use crate::cell::Cell;
@@ -39,6 +39,31 @@ impl Cell {
             ),
             ..self
         }
+    }
+
+    /// The first of the parts in which the two cells differ, in the order of the variants; none where they agree in all of them.
+    pub fn difference(&self, other: &Cell, parts: Parts) -> Option<Part>
+        ensures { IsDifference parts self.now other.now result }
+    {
+        if !self.agrees_in(other, parts, Part::Who) {
+            return Some(Part::Who);
+        }
+        if !self.agrees_in(other, parts, Part::Mind) {
+            return Some(Part::Mind);
+        }
+        if !self.agrees_in(other, parts, Part::Load) {
+            return Some(Part::Load);
+        }
+        if !self.agrees_in(other, parts, Part::Food) {
+            return Some(Part::Food);
+        }
+        if !self.agrees_in(other, parts, Part::RedMarks) {
+            return Some(Part::RedMarks);
+        }
+        if !self.agrees_in(other, parts, Part::BlackMarks) {
+            return Some(Part::BlackMarks);
+        }
+        None
     }
 
     // whether the two cells are equal in the part, if it is one of these

@@ -83,7 +83,7 @@ AreDealt-more c hands hand before = record {
   each = λ x below. ⊎_elim
       (λ same. (hand, subst (λ y. times y (dealt hands hand c hand) ≡ 1) (sym same) own, λ other apart. ap (times x) (dealt-other hands hand c other apart) ∙ before.no_other x (let e : x ≡ c = same in omega arith) other))
       (λ differ. let old = before.each x (let e : x ≢ c = differ in let l : x < c + 1 = below in omega arith) in
-          (old.0, dealt-times hands hand c x old.0 (λ e. differ (sym e)) ∙ old.1, λ other apart. dealt-times hands hand c x other (λ e. differ (sym e)) ∙ old.2 other apart))
+      (old.0, dealt-times hands hand c x old.0 (λ e. differ (sym e)) ∙ old.1, λ other apart. dealt-times hands hand c x other (λ e. differ (sym e)) ∙ old.2 other apart))
       (cases_eq x c);
   no_other = λ x above other. dealt-times hands hand c x other (λ e. let l : c + 1 ≤ x = above in omega arith) ∙ before.no_other x (let l : c + 1 ≤ x = above in omega arith) other;
 } where

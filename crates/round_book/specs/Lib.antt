@@ -1,5 +1,4 @@
 pub mod Book
-pub mod Counts
 pub mod Inner
 pub mod Machine
 pub mod MachineLaws

@@ -7,6 +7,7 @@
 
 mod laws;
 mod verdict;
+mod workspace;
 
 pub use laws::every_interleaving;
 pub use verdict::{Cause, Verdict};
