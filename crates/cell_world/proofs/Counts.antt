@@ -1,14 +1,17 @@
 -- Sums over a world's positions are sums over its grid's list of cells.
-use Rattle.std.proofs.Common.{◌≡◌, ℕ, suc, zero, ◌+◌, ◌*◌, ◌<◌, ◌≤◌, Bool, true, false, cond, length, get_or, take, sum_by, count_by, refl, sym, ap, ap₂, ◌∙◌, arith, add-one, take_all}
-use Rattle.std.proofs.Math.Path.{fun_ext}
+use Rattle.std.proofs.Common.{◌≡◌, ℕ, suc, zero, ◌+◌, ◌*◌, ◌<◌, ◌≤◌, Bool, true, false, cond, List, length, map, get_or, take, sum, sum_by, refl, sym, ap, ap₂, ◌∙◌, arith, add-one, take_all}
 use Rattle.std.proofs.lemmas.Bool.{cond_both}
-use Rattle.std.proofs.lemmas.List.Sums.{sum_by_more, sum_by-le-sum_by}
+use Rattle.std.proofs.lemmas.List.Sums.{sum-map, sum_by_more, sum_by-le-sum_by}
+use Rattle.std.proofs.lemmas.Simd.{map-map}
 use Rattle.cell_world.specs.declared.ant.Colour.{Colour}
+use Rattle.cell_world.specs.declared.body.Body.{Body}
 use Rattle.cell_world.specs.declared.cell.Cell.{Cell}
-use Rattle.cell_world.specs.Cell.{rock, one_if, is_ant_of, is_hill_of, cell_weight, ant_weight}
+use Rattle.cell_world.specs.declared.tile.Tile.{Tile}
+use Rattle.cell_world.specs.Cell.{rock, one_if, is_hill_of, cell_weight, ant_weight}
 use Rattle.cell_world.specs.Grid.{Grid, IsWorld, cell_in, world_of}
-use Rattle.cell_world.specs.Score.{alive_in, alive_of, hill_food_in, hill_food_of}
+use Rattle.cell_world.specs.Score.{hill_food_in, hill_food_of}
 use Rattle.cell_world.specs.Limits.{most_weight}
+use Rattle.cell_world.specs.Stored.{cell_from, tile_food}
 use Rattle.cell_world.specs.World.{sum_over, pos_at, total, weight}
 use Rattle.cell_world.proofs.Grids.{cell_in-column, index_of-pos_at}
 use Rattle.cell_world.proofs.Places.{pos_at-inside}
@@ -40,16 +43,9 @@ unfolding weight
 weight-list g full = total-list g cell_weight full
 
 -- one or nothing, as a choice
-one_if-cond : (b : Bool) → one_if b ≡ cond b 1 0
+pub one_if-cond : (b : Bool) → one_if b ≡ cond b 1 0
 one_if-cond true = refl
 one_if-cond false = refl
-
--- the ants alive are counted over the list
-pub alive_of-list : (g : Grid) (colour : Colour) → length g.cells ≡ g.width * g.height → alive_of (world_of g) colour ≡ count_by (λ (cell : Cell). is_ant_of colour cell.ant) g.cells
-unfolding alive_of
-alive_of-list g colour full =
-    total-list g (alive_in colour) full
-    ∙ ap (λ (f : Cell → ℕ). sum_by f g.cells) (fun_ext λ cell. one_if-cond (is_ant_of colour cell.ant))
 
 -- the food on a hill is summed over the list
 pub hill_food_of-list : (g : Grid) (colour : Colour) → length g.cells ≡ g.width * g.height → hill_food_of (world_of g) colour ≡ sum_by (hill_food_in colour) g.cells
@@ -69,3 +65,10 @@ hill_food_in-light g colour world =
     let whole : weight (world_of g) ≡ sum_by cell_weight g.cells = weight-list g world.full in
     let light : weight (world_of g) ≤ most_weight = world.valid.light in
     omega arith
+
+-- the food of tiles is that of the cells for which they stand
+pub tile_food-cells : (colour : Colour) (bodies : List Body) (tiles : List Tile) → sum_by (tile_food colour) tiles ≡ sum_by (hill_food_in colour) (map (cell_from bodies) tiles)
+tile_food-cells colour bodies tiles =
+    sym (sum-map (tile_food colour) tiles)
+    ∙ ap sum (sym (map-map (hill_food_in colour) (cell_from bodies) tiles))
+    ∙ sum-map (hill_food_in colour) (map (cell_from bodies) tiles)

@@ -1,7 +1,12 @@
+pub mod Bodies
 pub mod Counts
+pub mod Fields
 pub mod Grids
+pub mod Living
+pub mod MarkBits
 pub mod OpeningLaws
 pub mod OpeningPlaces
+pub mod OpeningStores
 pub mod OpeningValid
 pub mod OpeningWeight
 pub mod OpeningWorked
@@ -13,6 +18,7 @@ pub mod Places
 pub mod Plans
 pub mod Puts
 pub mod Sets
+pub mod Stores
 pub mod Tallies
 pub mod Totals
 pub mod Valids

@@ -5,12 +5,11 @@ use Rattle.std.proofs.lemmas.List.{length-append}
 use Rattle.std.proofs.lemmas.Nat.{mod_below}
 use Rattle.std.specs.Option.{is_some}
 use Rattle.hex_geometry.specs.declared.position.Pos.{Pos}
-use Rattle.cell_world.specs.declared.cell.Cell.{Cell}
 use Rattle.cell_world.specs.declared.kind.Kind.{Kind}
 use Rattle.cell_world.specs.declared.kind.Kind.TheVariants.{BlackHill, Clear, Food, RedHill, Rock}
 use Rattle.cell_world.specs.Cell.{holds_id, one_if}
-use Rattle.cell_world.specs.Grid.{Grid, IsIndex, cell_in, index_of, world_of}
-use Rattle.cell_world.specs.Opening.{IsPlan, hill_count, hill_places, is_hill, opening, opening_cell, opening_cells, opening_places}
+use Rattle.cell_world.specs.Grid.{IsIndex, cell_in, index_of, world_of}
+use Rattle.cell_world.specs.Opening.{IsPlan, hill_count, hill_places, is_hill, opening, opening_cell, opening_places}
 use Rattle.cell_world.specs.World.{pos_at}
 use Rattle.cell_world.proofs.OpeningValid.{IsWorld-opening, cell_in-opening}
 use Rattle.cell_world.proofs.Openings.{opening_cell-holds_id}
@@ -105,10 +104,3 @@ IsIndex-opening width height kinds plan = record {
       ∙ ap (λ k. Some (pos_at width k)) from_zero
       ∙ sym (place_in-found (world_of (opening width height kinds)) t p (IsWorld-opening width height kinds plan).valid (ap (holds_id t) content ∙ opening_cell-holds_id t (get_or kinds (index_of width p) Rock) hill));
 }
-
--- the grid with an opening's cells and as many ids as it has places
-pub same_opening : (width height : ℕ) (kinds : List Kind) (cells : List Cell) (places : List (Option Pos)) → cells ≡ opening_cells 0 kinds → places ≡ opening_places width 0 kinds → record { width = width; height = height; ids = length places; cells = cells } ≡ opening width height kinds
-unfolding opening
-same_opening width height kinds cells places is_cells is_places =
-    let join : ℕ → List Cell → Grid = λ ids cells. record { width = width; height = height; ids = ids; cells = cells } in
-    ap₂ join (ap length is_places ∙ length-opening_places width 0 kinds) is_cells

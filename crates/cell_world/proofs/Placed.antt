@@ -18,12 +18,12 @@ use Rattle.cell_world.proofs.Places.{first_of-found}
 use Rattle.cell_world.proofs.Totals.{sum_over-both, sum_over-same}
 
 -- whether the ant, if there is one, has an id below this number
-abbrev is_below : ℕ → Option Ant → Bool
+abbrev pub is_below : ℕ → Option Ant → Bool
 is_below t None = false
 is_below t (Some ant) = ltb ant.id t
 
 -- one more id: the ants below it, and that one
-is_below-next : (t : ℕ) (o : Option Ant) → one_if (is_below (suc t) o) ≡ one_if (is_below t o) + one_if (is_ant t o)
+pub is_below-next : (t : ℕ) (o : Option Ant) → one_if (is_below (suc t) o) ≡ one_if (is_below t o) + one_if (is_ant t o)
 is_below-next t None = refl
 is_below-next t (Some ant) =
     elim (cases_lt ant.id t) [
@@ -52,22 +52,24 @@ sum_over-found width test (suc n) one =
         absurd (omega arith)
 
 -- the cells that hold an ant are as many as its places: one or none
-held_once : (w : World) (t : ℕ) → Valid w → total (λ cell. one_if (holds_id t cell)) w ≡ one_if (is_some (place_in w t))
+pub held_once : (w : World) (t : ℕ) → Valid w → total (λ cell. one_if (holds_id t cell)) w ≡ one_if (is_some (place_in w t))
 unfolding place_in
 held_once w t valid = sum_over-found w.width (λ p. holds_id t (w.cells p)) (area w) (valid.once t)
+
+-- no id is below zero
+pub is_below-zero : (o : Option Ant) → is_below 0 o ≡ false
+is_below-zero None = refl
+is_below-zero (Some ant) = le-ltb ant.id 0 (omega arith)
+
+-- nothing anywhere comes to nothing
+pub sum_over-zero : (width n : ℕ) → sum_over width (λ p. 0) n ≡ 0
+sum_over-zero width zero = refl
+sum_over-zero width (suc n) = let front = sum_over-zero width n in omega arith
 
 -- the ants whose ids are below a number are as many as the ids below it that have a place
 below-placed : (w : World) (t : ℕ) → Valid w → total (λ cell. one_if (is_below t cell.ant)) w ≡ placed_below w t
 below-placed w zero valid =
-    sum_over-same w.width (λ p. one_if (is_below 0 (w.cells p).ant)) (λ p. 0) (area w) (λ i _. none_below (w.cells (pos_at w.width i)).ant) ∙ nothing w.width (area w)
-  where
-    none_below : (o : Option Ant) → one_if (is_below 0 o) ≡ 0
-    none_below None = refl
-    none_below (Some ant) = ap one_if (le-ltb ant.id 0 (omega arith))
-
-    nothing : (width n : ℕ) → sum_over width (λ p. 0) n ≡ 0
-    nothing width zero = refl
-    nothing width (suc n) = let front = nothing width n in omega arith
+    sum_over-same w.width (λ p. one_if (is_below 0 (w.cells p).ant)) (λ p. 0) (area w) (λ i _. ap one_if (is_below-zero (w.cells (pos_at w.width i)).ant)) ∙ sum_over-zero w.width (area w)
 below-placed w (suc t) valid =
     sum_over-same w.width (λ p. one_if (is_below (suc t) (w.cells p).ant)) (λ p. one_if (is_below t (w.cells p).ant) + one_if (holds_id t (w.cells p))) (area w) (λ i _. is_below-next t (w.cells (pos_at w.width i)).ant)
     ∙ sum_over-both w.width (λ p. one_if (is_below t (w.cells p).ant)) (λ p. one_if (holds_id t (w.cells p))) (area w)

@@ -1,14 +1,15 @@
 -- A change of one cell keeps what every world keeps.
-use Rattle.std.proofs.Common.{◌≡◌, ◌≢◌, inl, inr, ℕ, ◌+◌, ◌<◌, ◌≤◌, Some, refl, sym, ap, ◌∙◌, arith, true, false, subst}
+use Rattle.std.proofs.Common.{◌≡◌, ◌≢◌, inl, inr, ℕ, ◌+◌, ◌<◌, ◌≤◌, nat_eq, Option, None, Some, refl, sym, ap, ◌∙◌, arith, true, false, subst}
 use Rattle.std.proofs.lemmas.Bool.{both_ways, false_from_ne_true}
+use Rattle.std.specs.Option.{IsSomeAnd}
 use Rattle.hex_geometry.specs.declared.position.Pos.{Pos}
 use Rattle.hex_geometry.specs.Position.{IsInner}
 use Rattle.cell_world.specs.declared.ant.Ant.{Ant}
 use Rattle.cell_world.specs.declared.cell.Cell.{Cell}
-use Rattle.cell_world.specs.Cell.{rock, holds_id, cell_weight}
+use Rattle.cell_world.specs.Cell.{rock, holds_id, is_ant, cell_weight, ant_weight, one_if}
 use Rattle.cell_world.specs.World.{World, put, put_cell, weight}
-use Rattle.cell_world.specs.Valid.{Valid, CanSet, Replaces}
-use Rattle.cell_world.proofs.Places.{Holder, is_ant-true, holds_id-own, clear_inside}
+use Rattle.cell_world.specs.Valid.{Valid, CanSet, CanThink, Replaces, SameBody}
+use Rattle.cell_world.proofs.Places.{Holder, ant-clear, is_ant-true, holds_id-own, clear_inside}
 use Rattle.cell_world.proofs.Puts.{put_cell-same, put_cell-other, cases_pos}
 use Rattle.cell_world.proofs.Weights.{weight-put}
 
@@ -80,3 +81,43 @@ weight-replaces w p cell valid clear replaces =
     let change : weight (put w p cell) + cell_weight (w.cells p) ≡ weight w + cell_weight cell = weight-put w p cell (clear_inside w p valid clear) in
     let less : cell_weight cell ≤ cell_weight (w.cells p) = replaces.no_heavier in
     omega arith
+
+-- a cell with the ant there in another state, rest and direction replaces the cell
+pub Replaces-mind : (cell : Cell) (ant : Ant) → IsSomeAnd cell.ant (SameBody ant) → Replaces cell (record cell { ant = Some ant })
+unfolding cell_weight
+Replaces-mind cell ant stands = record {
+  same_kind = refl;
+  same_hill = refl;
+  same_ant = λ t holds. same_id t cell.ant stands holds;
+  no_heavier = let same : ant_weight cell.ant ≡ 9 + one_if ant.laden = same_weight cell.ant stands in omega arith;
+}
+  where
+    same_id : (t : ℕ) (o : Option Ant) → IsSomeAnd o (SameBody ant) → nat_eq ant.id t ≡ true → is_ant t o ≡ true
+    same_id t None there holds = absurd there
+    same_id t (Some before) there holds = ap (λ i. nat_eq i t) (sym there.same_id) ∙ holds
+
+    same_weight : (o : Option Ant) → IsSomeAnd o (SameBody ant) → ant_weight o ≡ 9 + one_if ant.laden
+    same_weight None there = absurd there
+    same_weight (Some before) there = ap (λ l. 9 + one_if l) (sym there.same_load)
+
+-- what is known of the ant that stands where another of its body may be set
+pub record Thinker (ant : Ant) (o : Option Ant) : Type 0 where
+  pub before : Ant
+  pub is : o ≡ Some before
+  pub same : SameBody ant before
+
+pub thinker : (ant : Ant) (o : Option Ant) → IsSomeAnd o (SameBody ant) → Thinker ant o
+thinker ant None stands = absurd stands
+thinker ant (Some before) stands = record { before = before; is = refl; same = stands }
+
+-- where a state, a rest and a direction may be set, the cell with that ant may be set
+pub CanSet-mind : (w : World) (room : ℕ) (p : Pos) (ant : Ant) → Valid w → CanThink w room p ant → CanSet w room p (record (w.cells p) { ant = Some ant })
+CanSet-mind w room p ant valid can =
+    let it : Thinker ant (w.cells p).ant = thinker ant (w.cells p).ant can.stands in
+    CanSet-replaces w room p (record (w.cells p) { ant = Some ant }) valid can.room_left (ant-clear w p it.before valid it.is) (Replaces-mind (w.cells p) ant can.stands)
+
+-- likewise where the cell was read, and the world and the room stayed
+pub CanSet-mind_read : (old new : World) (room left : ℕ) (p : Pos) (cell : Cell) (ant : Ant) → cell ≡ old.cells p → new ≡ old → left ≡ room → Valid new → CanThink old room p ant → CanSet new left p (record cell { ant = Some ant })
+CanSet-mind_read old new room left p cell ant is same same_room valid can =
+    let may : CanThink new left p ant = subst (λ w. CanThink w left p ant) (sym same) (subst (λ n. CanThink old n p ant) (sym same_room) can) in
+    subst (λ (c : Cell). CanSet new left p (record c { ant = Some ant })) (ap (λ w. w.cells p) same ∙ sym is) (CanSet-mind new left p ant valid may)

@@ -6,11 +6,13 @@ pub mod GroundLaws
 pub mod Inside
 pub mod Limits
 pub mod Marks
+pub mod MarksLaws
 pub mod Opening
 pub mod OpeningLaws
 pub mod PartLaws
 pub mod Parts
 pub mod Places
 pub mod Score
+pub mod Stored
 pub mod Valid
 pub mod World

@@ -1,24 +1,25 @@
 -- Markers of one colour on a cell (the task's chemistry).
-use Rattle.std.specs.Prelude.{ℕ, Bool, true, false, replicate, slice_set, slice_index_or}
+use Rattle.std.specs.Prelude.{ℕ, ◌-◌, ◌^◌, Bool, ◌&&◌, nat_eq, nat_lt, [], ◌∷◌, bit_and, bit_or}
+use Rattle.std.specs.Int.{bit_at}
 use Rattle.std.specs.List.{list_any}
 use Rattle.cell_world.specs.declared.marks.Marks.{Marks}
 
 -- no marker is set
 abbrev pub no_marks : Marks
-no_marks = record { set = replicate 6 false }
+no_marks = record { set = 0 }
 
--- whether marker i is set
+-- whether marker i is set: it is one of the six, and its bit is 1
 abbrev pub has_mark : Marks → ℕ → Bool
-has_mark marks i = slice_index_or marks.set i false
+has_mark marks i = nat_lt i 6 && nat_eq (bit_at marks.set i) 1
 
 -- the same markers, and marker i
 abbrev pub with_mark : Marks → ℕ → Marks
-with_mark marks i = record { set = slice_set marks.set i true }
+with_mark marks i = record { set = bit_or marks.set (2 ^ i) }
 
 -- the same markers, but marker i
 abbrev pub without_mark : Marks → ℕ → Marks
-without_mark marks i = record { set = slice_set marks.set i false }
+without_mark marks i = record { set = bit_and marks.set (255 - 2 ^ i) }
 
 -- whether any marker is set
 abbrev pub has_any_mark : Marks → Bool
-has_any_mark marks = list_any (λ held. held) marks.set
+has_any_mark marks = list_any (has_mark marks) (0 ∷ 1 ∷ 2 ∷ 3 ∷ 4 ∷ 5 ∷ [])

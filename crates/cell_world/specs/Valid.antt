@@ -1,5 +1,6 @@
 -- What every world keeps (the task's geography and biology; the limits are this project's own).
 use Rattle.std.specs.Prelude.{◌≡◌, ◌≢◌, ℕ, ◌<◌, ◌≤◌, true, false, Some}
+use Rattle.std.specs.Option.{IsSomeAnd}
 use Rattle.hex_geometry.specs.declared.position.Pos.{Pos}
 use Rattle.hex_geometry.specs.Position.{IsInside, IsInner}
 use Rattle.cell_world.specs.declared.ant.Ant.{Ant}
@@ -45,3 +46,15 @@ pub record Replaces (old new : Cell) : Type 0 where
   pub same_hill : new.hill ≡ old.hill
   pub same_ant : (t : ℕ) → holds_id t new ≡ true → holds_id t old ≡ true
   pub no_heavier : cell_weight new ≤ cell_weight old
+
+-- two ants of one body: their id, their colour and their load are the same, whatever their state, their rest and their direction
+pub record SameBody (one other : Ant) : Type 0 where
+  pub same_id : one.id ≡ other.id
+  pub same_colour : one.colour ≡ other.colour
+  pub same_load : one.laden ≡ other.laden
+
+-- the state, the rest and the direction of this ant may be set at p: the ant there is of the same body
+pub record CanThink (w : World) (room : ℕ) (p : Pos) (ant : Ant) : Type 0 where
+  pub room_left : 1 ≤ room
+  pub inside : IsInside w.width w.height p
+  pub stands : IsSomeAnd (w.cells p).ant (SameBody ant)

@@ -1,8 +1,8 @@
-// An ant, and its colour.
+// An ant, its colour, and where it stands.
 ghost use Rattle.std.specs.Prelude.{◌≡◌};
 ghost use Rattle.cell_world.specs.Colour.{foe_of};
 
-use hex_geometry::Dir;
+use hex_geometry::{Dir, Pos};
 
 /// The two colours of ants and hills, each the other's foe (the task's biology).
 #[derive(Clone, Copy, Debug, PartialEq, Eq)]
@@ -41,4 +41,13 @@ pub struct Ant {
     pub facing: Dir,
     /// Whether it carries a food particle; it carries one at most.
     pub laden: bool,
+}
+
+/// An ant that is alive, and where (the task's biology).
+#[derive(Clone, Copy, Debug, PartialEq, Eq)]
+pub struct Standing {
+    /// The position of the cell on which it stands.
+    pub place: Pos,
+    /// The ant.
+    pub ant: Ant,
 }

@@ -1,35 +1,38 @@
-// The cells of a world at the start of a game, and where its ants stand.
+// What a world keeps of its cells and ants at the start of a game.
 ghost use Rattle.std.specs.Prelude.{◌≡◌, ◌+◌, ◌*◌, ◌++◌, ◌∷◌, [], ◌<◌, ◌≤◌, length, vec_len, IfOk, OnOk};
 ghost use Rattle.cell_world.specs.Limits.{most_ants};
 ghost use Rattle.cell_world.specs.World.{pos_at};
-ghost use Rattle.cell_world.specs.Opening.{floor, hill_cell, hill_count, hill_places, opening_cell, opening_cells, opening_places};
+ghost use Rattle.cell_world.specs.Opening.{floor, hill_cell, hill_count, opening_cell};
+ghost use Rattle.cell_world.specs.Stored.{hill_of, new_bodies, new_body, opening_bodies, opening_tiles, tile_of};
 
 use crate::ant::{Ant, Colour};
+use crate::body::Body;
 use crate::cell::Cell;
 use crate::kind::Kind;
 use crate::marks::Marks;
+use crate::tile::Tile;
 use hex_geometry::{Dir, OutOfMemory, Pos};
 use std::alloc::Global;
 
-// What a world is made of: its cells in row order, and where each ant stands, by id.
+// What a world is made of: its tiles in row order, and the bodies of its ants, by id.
 #[derive(Drop)]
 pub struct Parts {
-    pub cells: Vec<Cell>,
-    pub places: Vec<Option<Pos>>,
+    pub tiles: Vec<Tile>,
+    pub bodies: Vec<Body>,
 }
 
 impl Parts {
-    // The cells and the ants' places of these kinds, in row order.
+    // The tiles and the ants' bodies of these kinds, in row order.
     pub fn of_kinds(alloc: Global, width: u16, kinds: &[Kind]) -> Result<Parts, OutOfMemory>
         requires wide { 1 ≤ width }
         requires low { length kinds.now ≤ width * 65536 }
         requires few { hill_count kinds.now ≤ most_ants }
-        ensures cells { IfOk result (λ parts. parts.cells.items ≡ opening_cells 0 kinds.now) }
-        ensures places { IfOk result (λ parts. parts.places.items ≡ opening_places width 0 kinds.now) }
+        ensures tiles { IfOk result (λ parts. parts.tiles.items ≡ opening_tiles 0 kinds.now) }
+        ensures bodies { IfOk result (λ parts. parts.bodies.items ≡ opening_bodies width 0 kinds.now) }
     {
         let mut parts = Parts {
-            cells: Vec::with_capacity(alloc, kinds.len())?,
-            places: Vec::new(alloc),
+            tiles: Vec::with_capacity(alloc, kinds.len())?,
+            bodies: Vec::new(alloc),
         };
         for kind in kinds {
             parts.add(width, *kind)?;
@@ -37,21 +40,47 @@ impl Parts {
         Ok(parts)
     }
 
-    // Adds the next cell, of this kind, and where its ant begins, if it has one.
+    // Adds the next cell, of this kind, and its ant, if one begins there.
     fn add(&mut self, width: u16, kind: Kind) -> Result<(), OutOfMemory>
         requires wide { 1 ≤ width }
-        requires low { vec_len self.old.cells < width * 65536 }
-        requires few { vec_len self.old.places < 65536 }
-        ensures cells { OnOk result (self.new.cells.items ≡ self.old.cells.items ++ opening_cell (vec_len self.old.places) kind ∷ []) }
-        ensures places { OnOk result (self.new.places.items ≡ self.old.places.items ++ hill_places kind (pos_at width (vec_len self.old.cells))) }
+        requires low { vec_len self.old.tiles < width * 65536 }
+        requires few { vec_len self.old.bodies < 65536 }
+        ensures tiles { OnOk result (self.new.tiles.items ≡ self.old.tiles.items ++ tile_of (opening_cell (vec_len self.old.bodies) kind) ∷ []) }
+        ensures bodies { OnOk result (self.new.bodies.items ≡ self.old.bodies.items ++ new_bodies (hill_of kind) (pos_at width (vec_len self.old.tiles))) }
     {
-        let cell = opening_cell(kind, self.places.len() as u32);
-        if kind.is_hill() {
-            let place = place_at(width, self.cells.len());
-            self.places.push(Some(place))?;
+        let cell = opening_cell(kind, self.bodies.len() as u32);
+        let tile = Tile::of(&cell);
+        if let Some(colour) = hill_of(kind) {
+            let place = place_at(width, self.tiles.len());
+            self.bodies.push(new_body(colour, place))?;
         }
-        self.cells.push(cell)?;
+        self.tiles.push(tile)?;
         Ok(())
+    }
+}
+
+// The colour of the hill of which a cell of this kind is.
+fn hill_of(kind: Kind) -> Option<Colour>
+    ensures { result ≡ hill_of kind }
+{
+    match kind {
+        Kind::RedHill => Some(Colour::Red),
+        Kind::BlackHill => Some(Colour::Black),
+        Kind::Rock | Kind::Clear | Kind::Food(_) => None,
+    }
+}
+
+// The body of an ant that begins at `place`.
+fn new_body(colour: Colour, place: Pos) -> Body
+    ensures { result ≡ new_body colour place }
+{
+    Body {
+        place: Some(place),
+        state: 0,
+        resting: 0,
+        facing: Dir::East,
+        colour,
+        laden: false,
     }
 }
 

@@ -1,16 +1,18 @@
 // A world that can be read and changed cell by cell.
-ghost use Rattle.std.specs.Prelude.{◌≡◌, ℕ, ◌+◌, ◌≤◌};
+ghost use Rattle.std.specs.Prelude.{◌≡◌, ℕ, ◌+◌, ◌<◌, ◌≤◌, Some, option_map, IfSome};
 ghost use Rattle.hex_geometry.specs.Position.{IsInside};
 ghost use Rattle.cell_world.specs.World.{World, place_in, put};
-ghost use Rattle.cell_world.specs.Valid.{Valid, CanSet};
+ghost use Rattle.cell_world.specs.Valid.{Valid, CanSet, CanThink};
 
+use crate::ant::{Ant, Standing};
 use crate::cell::Cell;
 use hex_geometry::Pos;
 
 /// A world that can be read and changed cell by cell (this project's own). The rules of a turn are written once, over any ground.
 ///
 /// Its meanings are a world, which keeps what every world keeps, and its room, the number of calls of `set` that it can still take.
-/// No call is refused, and reading changes neither of the two.
+/// No call is refused, and reading changes neither of the two. A ground has to give `cell_at`, `place_of` and `set`: the other two
+/// calls follow from these, and a ground may have shorter ways for them.
 pub trait Ground {
     /// The world that it stands for.
     ghost world: { Self → World };
@@ -41,4 +43,36 @@ pub trait Ground {
         ensures set { world self.new ≡ put (world self.old) p cell }
         ensures room { room self.old ≤ room self.new + 1 }
         ensures valid { Valid (world self.new) };
+
+    /// The ant of this id, which was made, and where it stands; `None` exactly where no cell holds it (the task's biology).
+    fn ant_of(&mut self, id: u32) -> Option<Standing>
+        requires { id < (world self.old).ids }
+        ensures place { option_map (λ it. it.place) result ≡ place_in (world self.old) id }
+        ensures ant { IfSome result (λ it. ((world self.old).cells it.place).ant ≡ Some it.ant) }
+        ensures world { world self.new ≡ world self.old }
+        ensures room { room self.new ≡ room self.old }
+        ensures valid { Valid (world self.new) }
+    {
+        let place = self.place_of(id)?;
+        let ant = self.cell_at(place).ant?;
+        Some(Standing { place, ant })
+    }
+
+    /// Puts the state, the rest and the direction of this ant in place of those of the ant at `p`, and leaves all else as it is. The two
+    /// are of one id, one colour and one load. It takes one of the ground's room (the task's neurology and kinetics).
+    fn set_mind(&mut self, p: Pos, ant: Ant)
+        requires { CanThink (world self.old) (room self.old) p ant }
+        ensures set { world self.new ≡ put (world self.old) p (record ((world self.old).cells p) { ant = Some ant }) }
+        ensures room { room self.old ≤ room self.new + 1 }
+        ensures valid { Valid (world self.new) }
+    {
+        let cell = self.cell_at(p);
+        self.set(
+            p,
+            Cell {
+                ant: Some(ant),
+                ..cell
+            },
+        );
+    }
 }

@@ -7,6 +7,7 @@
 #![tactic(auto)]
 
 mod ant;
+mod body;
 mod build;
 mod cell;
 mod count_laws;
@@ -14,14 +15,16 @@ mod ground;
 mod ground_laws;
 mod kind;
 mod marks;
+mod marks_laws;
 mod opening_laws;
 mod part;
 mod part_laws;
 mod patch;
 mod score;
+mod tile;
 mod world;
 
-pub use ant::{Ant, Colour};
+pub use ant::{Ant, Colour, Standing};
 pub use cell::Cell;
 pub use count_laws::{alive_are_placed, set_counts};
 pub use ground::Ground;
@@ -29,6 +32,7 @@ pub use ground_laws::{place_is_cell, set_is_read, set_keeps, set_weighs, sets_se
 pub use hex_geometry::OutOfMemory;
 pub use kind::Kind;
 pub use marks::Marks;
+pub use marks_laws::marks_are_sets;
 pub use opening_laws::{hills_are_manned, plans_open};
 pub use part::{Part, Parts};
 pub use part_laws::{cells_are_parts, patches_change_nothing, patches_settle, patches_take_parts};

@@ -5,15 +5,17 @@ ghost use Rattle.cell_world.specs.Marks.{no_marks, has_mark, with_mark, without_
 /// A set of markers, which are numbered from 0 to 5: those of one colour that are set on one cell (the task's chemistry).
 #[derive(Clone, Copy, Debug, Default, PartialEq, Eq)]
 pub struct Marks {
-    set: [bool; 6],
+    // Bit i is marker i; no bit above the sixth is ever set.
+    set: u8,
 }
 
 impl Marks {
     /// The empty set (the task's chemistry).
+    #[inline]
     pub fn none() -> Marks
         ensures { result ≡ no_marks }
     {
-        Marks { set: [false; 6] }
+        Marks { set: 0 }
     }
 
     /// Whether marker `i`, which is from 0 to 5, is in the set (the task's chemistry).
@@ -22,7 +24,7 @@ impl Marks {
         requires { i < 6 }
         ensures { result ≡ has_mark self.now i }
     {
-        self.set[i as usize]
+        self.set >> i & 1 == 1
     }
 
     /// The same set, with marker `i`, which is from 0 to 5; the other markers are as they were (the task's chemistry).
@@ -31,9 +33,9 @@ impl Marks {
         requires { i < 6 }
         ensures { result ≡ with_mark self i }
     {
-        let mut set = self.set;
-        set[i as usize] = true;
-        Marks { set }
+        Marks {
+            set: self.set | 1 << i,
+        }
     }
 
     /// The same set, without marker `i`, which is from 0 to 5; the other markers are as they were (the task's chemistry).
@@ -42,9 +44,9 @@ impl Marks {
         requires { i < 6 }
         ensures { result ≡ without_mark self i }
     {
-        let mut set = self.set;
-        set[i as usize] = false;
-        Marks { set }
+        Marks {
+            set: self.set & !(1 << i),
+        }
     }
 
     /// Whether any of the six markers is in the set (the task's chemistry).
@@ -52,6 +54,6 @@ impl Marks {
     pub fn any(&self) -> bool
         ensures { result ≡ has_any_mark self.now }
     {
-        self.set.iter().any(|held| *held)
+        self.set & 63 != 0
     }
 }

@@ -1,13 +1,15 @@
-// The world: its cells in row order, and where each ant stands.
+// The world: what it keeps of its cells, in row order, and of its ants, by id.
 ghost use Rattle.std.specs.Prelude.{◌≡◌, IfOk};
 ghost use Rattle.cell_world.specs.Grid.{IsWorld, world_of};
 ghost use Rattle.cell_world.specs.Opening.{IsPlan, opening};
 ghost use Rattle.hex_geometry.specs.Position.{IsInside};
 ghost use Rattle.cell_world.specs.World.{place_in};
 
+use crate::body::Body;
 use crate::build::Parts;
 use crate::cell::Cell;
 use crate::kind::Kind;
+use crate::tile::{Tile, ant_named};
 use hex_geometry::{OutOfMemory, Pos};
 use std::alloc::Global;
 use std::marker::Model;
@@ -26,8 +28,8 @@ mod tests;
 pub struct World {
     width: u16,
     height: u16,
-    cells: Vec<Cell>,
-    places: Vec<Option<Pos>>,
+    tiles: Vec<Tile>,
+    bodies: Vec<Body>,
 }
 
 impl Model for World {
@@ -60,8 +62,22 @@ impl World {
         Ok(World {
             width,
             height,
-            cells: parts.cells,
-            places: parts.places,
+            tiles: parts.tiles,
+            bodies: parts.bodies,
+        })
+    }
+
+    /// An equal world of its own (this project's own). It is refused for want of memory alone.
+    pub fn copy(&self, alloc: Global) -> Result<World, OutOfMemory>
+        ensures { IfOk result (λ w. w ≡ self.now) }
+    {
+        let tiles = Vec::from_slice(alloc, &self.tiles)?;
+        let bodies = Vec::from_slice(alloc, &self.bodies)?;
+        Ok(World {
+            width: self.width,
+            height: self.height,
+            tiles,
+            bodies,
         })
     }
 
@@ -89,7 +105,7 @@ impl World {
         ensures ids { result ≡ self.now.ids }
         ensures world { IsWorld self.now }
     {
-        self.places.len() as u32
+        self.bodies.len() as u32
     }
 
     /// The content of the cell at `p`, which is inside: its column is below the width and its row below the height (the task's
@@ -100,7 +116,15 @@ impl World {
         ensures content { result ≡ (world_of self.now).cells p }
         ensures world { IsWorld self.now }
     {
-        self.cells[p.y as usize * self.width as usize + p.x as usize]
+        let tile = self.tiles[p.y as usize * self.width as usize + p.x as usize];
+        Cell {
+            rocky: tile.rocky,
+            hill: tile.hill,
+            food: tile.food,
+            red: tile.red,
+            black: tile.black,
+            ant: ant_named(&self.bodies, tile.ant),
+        }
     }
 
     /// The position whose cell holds the ant of this id, counted from 0, and `None` exactly where no cell holds it: it is dead, or was
@@ -110,8 +134,8 @@ impl World {
         ensures place { result ≡ place_in (world_of self.now) id }
         ensures world { IsWorld self.now }
     {
-        if (id as usize) < self.places.len() {
-            self.places[id as usize]
+        if (id as usize) < self.bodies.len() {
+            self.bodies[id as usize].place
         } else {
             None
         }

@@ -2,12 +2,13 @@
 ghost use Rattle.std.specs.Prelude.{◌≡◌, ◌<◌, ◌^◌};
 ghost use Rattle.std.specs.List.{count_by, sum_by};
 ghost use Rattle.cell_world.specs.Grid.{IsWorld, world_of};
-ghost use Rattle.cell_world.specs.Cell.{is_ant_of};
-ghost use Rattle.cell_world.specs.Score.{alive_of, hill_food_in, hill_food_of, score_of};
+ghost use Rattle.cell_world.specs.Score.{alive_of, hill_food_of, score_of};
+ghost use Rattle.cell_world.specs.Stored.{is_living, tile_food};
 
 use crate::ant::Colour;
-use crate::cell::Cell;
+use crate::body::Body;
 use crate::score::Score;
+use crate::tile::Tile;
 use crate::world::World;
 
 impl World {
@@ -16,7 +17,7 @@ impl World {
         ensures alive { result ≡ alive_of (world_of self.now) colour }
         ensures world { IsWorld self.now }
     {
-        ants_in(&self.cells, colour) as u32
+        living_in(&self.bodies, colour) as u32
     }
 
     /// The food particles on the cells of this colour's hill, at most 2,340,900; carried food isn't counted (the task's game play).
@@ -24,7 +25,7 @@ impl World {
         ensures food { result ≡ hill_food_of (world_of self.now) colour }
         ensures world { IsWorld self.now }
     {
-        food_in(&self.cells, colour)
+        food_in(&self.tiles, colour)
     }
 
     /// The food on the red hill and on the black hill (the task's game play).
@@ -40,28 +41,17 @@ impl World {
     }
 }
 
-// How many of these cells hold an ant of this colour.
-fn ants_in(cells: &[Cell], colour: Colour) -> usize
-    ensures { result ≡ count_by (λ cell. is_ant_of colour cell.ant) cells.now }
+// How many of these bodies are those of ants of this colour that are alive.
+fn living_in(bodies: &[Body], colour: Colour) -> usize
+    ensures { result ≡ count_by (is_living colour) bodies.now }
 {
-    cells.iter().filter(|cell| cell.has_ant_of(colour)).count()
+    bodies.iter().filter(|body| body.is_living(colour)).count()
 }
 
-// The food on those of these cells that are of this colour's hill.
-fn food_in(cells: &[Cell], colour: Colour) -> u32
-    requires { sum_by (hill_food_in colour) cells.now < 2 ^ 32 }
-    ensures { result ≡ sum_by (hill_food_in colour) cells.now }
+// The food on those of these tiles that are of this colour's hill.
+fn food_in(tiles: &[Tile], colour: Colour) -> u32
+    requires { sum_by (tile_food colour) tiles.now < 2 ^ 32 }
+    ensures { result ≡ sum_by (tile_food colour) tiles.now }
 {
-    cells.iter().map(|cell| food_on(cell, colour)).sum()
-}
-
-// The food on the cell, if it is of this colour's hill.
-fn food_on(cell: &Cell, colour: Colour) -> u32
-    ensures { result ≡ hill_food_in colour cell.now }
-{
-    if cell.is_hill_of(colour) {
-        cell.food
-    } else {
-        0
-    }
+    tiles.iter().map(|tile| tile.food_of(colour)).sum()
 }

@@ -1,11 +1,13 @@
-// A world as a ground: the cells in row order, changed together with the index of places.
+// A world as a ground: its tiles in row order, changed together with the bodies of its ants.
 ghost use Rattle.std.specs.Prelude.{◌≡◌, length};
 ghost use Rattle.cell_world.specs.Grid.{world_of};
-ghost use Rattle.cell_world.specs.Places.{IsKnown, IsAt, Moved};
+ghost use Rattle.cell_world.specs.Places.{IsKnown, IsMade, Moved};
 
-use crate::ant::Ant;
+use crate::ant::{Ant, Standing};
+use crate::body::Body;
 use crate::cell::Cell;
 use crate::ground::Ground;
+use crate::tile::id_of;
 use crate::world::World;
 use hex_geometry::Pos;
 
@@ -27,34 +29,46 @@ impl Ground for World {
 
     #[inline]
     fn set(&mut self, p: Pos, cell: Cell) {
-        let here = &mut self.cells[p.y as usize * self.width as usize + p.x as usize];
+        let here = &mut self.tiles[p.y as usize * self.width as usize + p.x as usize];
         let before = here.ant;
         here.food = cell.food;
         here.red = cell.red;
         here.black = cell.black;
-        here.ant = cell.ant;
-        note_change(&mut self.places, p, before, cell.ant);
+        here.ant = id_of(cell.ant);
+        note_change(&mut self.bodies, p, before, cell.ant);
+    }
+
+    #[inline]
+    fn ant_of(&mut self, id: u32) -> Option<Standing> {
+        let body = self.bodies[id as usize];
+        let place = body.place?;
+        Some(Standing {
+            place,
+            ant: body.ant(id),
+        })
+    }
+
+    #[inline]
+    fn set_mind(&mut self, p: Pos, ant: Ant) {
+        let body = &mut self.bodies[ant.id as usize];
+        body.state = ant.state;
+        body.resting = ant.resting;
+        body.facing = ant.facing;
     }
 }
 
-// Notes in the index that at `p` there was the one ant and is the other.
+// Notes in the bodies that at `p` there was the ant of the one id and is the other ant.
 #[inline]
-fn note_change(places: &mut [Option<Pos>], p: Pos, before: Option<Ant>, after: Option<Ant>)
-    requires before { IsKnown (length places.old) before }
-    requires after { IsKnown (length places.old) after }
-    requires at { IsAt places.old p before }
-    ensures { Moved places.old places.new p before after }
+fn note_change(bodies: &mut [Body], p: Pos, before: Option<u16>, after: Option<Ant>)
+    requires before { IsMade (length bodies.old) before }
+    requires after { IsKnown (length bodies.old) after }
+    ensures { Moved bodies.old bodies.new p before after }
 {
-    match (before, after) {
-        (None, None) => {}
-        (Some(gone), None) => places[gone.id as usize] = None,
-        (None, Some(come)) => places[come.id as usize] = Some(p),
-        (Some(gone), Some(come)) => {
-            if gone.id != come.id {
-                places[gone.id as usize] = None;
-                places[come.id as usize] = Some(p);
-            }
-        }
+    if let Some(id) = before {
+        bodies[id as usize].place = None;
+    }
+    if let Some(ant) = after {
+        bodies[ant.id as usize] = Body::at(p, ant);
     }
 }
 

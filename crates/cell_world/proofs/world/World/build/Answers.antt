@@ -1,7 +1,9 @@
--- the built world is the opening world, which is a world, and its places are an index
-use Rattle.std.proofs.Common.{sym, subst}
+-- the built world is the opening world, which is a world, and its bodies are where its ants are
+use Rattle.std.proofs.Common.{sym, subst, ◌∙◌, ap}
 use Rattle.cell_world.specs.Grid.{Grid, IsIndex, IsWorld}
-use Rattle.cell_world.proofs.OpeningPlaces.{IsIndex-opening, same_opening}
+use Rattle.cell_world.specs.Stored.{places_of}
+use Rattle.cell_world.proofs.OpeningPlaces.{IsIndex-opening}
+use Rattle.cell_world.proofs.OpeningStores.{places_of-opening, same_opening}
 use Rattle.cell_world.proofs.OpeningValid.{IsWorld-opening}
 use Rattle.cell_world.proofs.world.World.build.Goals as goal
 
@@ -10,13 +12,13 @@ invariant_of-result c =
     let w = c.args.width in
     let h = c.args.height in
     let kinds = c.args.kinds.now in
-    let cells = c.in_ok-parts.parts.cells.items in
-    let places = c.in_ok-parts.parts.places.items in
-    let same = same_opening w h kinds cells places c.in_ok-parts.ensures.cells c.in_ok-parts.ensures.places in
+    let tiles = c.in_ok-parts.parts.tiles.items in
+    let bodies = c.in_ok-parts.parts.bodies.items in
+    let same = same_opening w h kinds tiles bodies c.in_ok-parts.ensures.tiles c.in_ok-parts.ensures.bodies in
     record {
       world = subst IsWorld (sym same) (IsWorld-opening w h kinds c.requires);
-      index = subst (λ (g : Grid). IsIndex g places) (sym same) (subst (IsIndex _) (sym c.in_ok-parts.ensures.places) (IsIndex-opening w h kinds c.requires));
+      index = subst (λ (g : Grid). IsIndex g (places_of bodies)) (sym same) (subst (IsIndex _) (sym (ap places_of c.in_ok-parts.ensures.bodies ∙ places_of-opening w 0 kinds)) (IsIndex-opening w h kinds c.requires));
     }
 
 pub returns : goal.returns
-returns c = same_opening c.args.width c.args.height c.args.kinds.now c.in_ok-parts.parts.cells.items c.in_ok-parts.parts.places.items c.in_ok-parts.ensures.cells c.in_ok-parts.ensures.places
+returns c = same_opening c.args.width c.args.height c.args.kinds.now c.in_ok-parts.parts.tiles.items c.in_ok-parts.parts.bodies.items c.in_ok-parts.ensures.tiles c.in_ok-parts.ensures.bodies

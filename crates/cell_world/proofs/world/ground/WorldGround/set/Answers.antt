@@ -1,38 +1,33 @@
--- the cell that was put is in the grid, and the index follows its ant
+-- the cell that was put is read from its tile, and the bodies follow its ant
 use Rattle.std.proofs.Common.{◌≡◌, ◌∙◌, ap, length, subst, sym}
 use Rattle.hex_geometry.specs.declared.position.Pos.{Pos}
 use Rattle.cell_world.specs.declared.cell.Cell.{Cell}
-use Rattle.cell_world.specs.Grid.{Grid, cell_in, world_of}
+use Rattle.cell_world.specs.Grid.{Grid, world_of}
 use Rattle.cell_world.specs.Inside.{grid_of}
-use Rattle.cell_world.specs.Places.{IsKnown, IsAt}
+use Rattle.cell_world.specs.Places.{IsMade}
 use Rattle.cell_world.specs.Valid.{CanSet}
 use Rattle.cell_world.specs.World.{put}
-use Rattle.cell_world.proofs.Sets.{Changed, grid_set, IsAt-cell, IsKnown-cell, cell_in-item, fields_set-changed, world_of-set}
+use Rattle.cell_world.proofs.Fields.{FieldsChanged, fields_set, fields_set-changed, merged_tile}
+use Rattle.cell_world.proofs.Sets.{grid_set, world_of-set}
+use Rattle.cell_world.proofs.Stores.{tile-made}
 use Rattle.cell_world.proofs.world.ground.WorldGround.set.Goals as goal
-use Rattle.cell_world.proofs.world.ground.WorldGround.set.Goals.{After-deref_mut, After-note_change}
+use Rattle.cell_world.proofs.world.ground.WorldGround.set.Goals.{After-note_change}
 
 -- the change may be made of the fields
 can_set : (g now : Grid) (p : Pos) (cell : Cell) → g ≡ now → CanSet (world_of now) 9 p cell → CanSet (world_of g) 9 p cell
 can_set g now p cell same can = subst (λ (h : Grid). CanSet (world_of h) 9 p cell) (sym same) can
 
--- the cell that was there
-old_cell : (c : After-deref_mut) → cell_in (grid_of c.self.inside) c.args.p ≡ c.index_mut-here.result.now
-old_cell c = cell_in-item c.self.inside c.args.p c.index_mut-here.result.now c.self.invariant (can_set (grid_of c.self.inside) c.args.self.now c.args.p c.args.cell c.self.view_is c.requires).inside c.index_mut-here.ensures.value
-
 pub note_change-requires-clause-before : goal.note_change-requires-clause-before
 note_change-requires-clause-before c =
-    subst (λ places. IsKnown (length places) c.index_mut-here.result.now.ant) (sym c.deref_mut.ensures.value)
-    (subst (λ old. IsKnown (length c.self.inside.places.items) old.ant) (old_cell c) (IsKnown-cell (grid_of c.self.inside) c.args.p c.self.inside.places.items c.self.invariant.world c.self.invariant.index))
-
-pub note_change-requires-clause-at : goal.note_change-requires-clause-at
-note_change-requires-clause-at c =
-    subst (λ places. IsAt places c.args.p c.index_mut-here.result.now.ant) (sym c.deref_mut.ensures.value)
-    (subst (λ old. IsAt c.self.inside.places.items c.args.p old.ant) (old_cell c) (IsAt-cell (grid_of c.self.inside) c.args.p c.self.inside.places.items c.self.invariant.world c.self.invariant.index))
+    let fields = c.self.inside in
+    let old = c.index_mut-here.result.now in
+    subst (λ bodies. IsMade (length bodies) old.ant) (sym c.deref_mut.ensures.value)
+    (tile-made fields.width fields.height fields.tiles.items fields.bodies.items c.args.p old c.self.invariant.world (can_set (grid_of fields) c.args.self.now c.args.p c.args.cell c.self.view_is c.requires).inside c.index_mut-here.ensures.value)
 
 -- the change that was made of the fields
-changed : (c : After-note_change) → Changed c.self.inside c.args.p c.index_mut-here.result.now c.args.cell c.note_change.new.places
+changed : (c : After-note_change) → FieldsChanged c.self.inside (fields_set c.self.inside c.args.p (merged_tile c.index_mut-here.result.now c.args.cell c.id_of-here.result) c.note_change.new.bodies) c.args.p c.args.cell
 changed c =
-    fields_set-changed c.self.inside c.args.p c.index_mut-here.result.now c.args.cell 9 c.deref_mut.result.now c.note_change.new.places c.self.invariant (can_set (grid_of c.self.inside) c.args.self.now c.args.p c.args.cell c.self.view_is c.requires) c.index_mut-here.ensures.value c.deref_mut.ensures.value c.note_change.ensures
+    fields_set-changed c.self.inside c.args.p c.index_mut-here.result.now c.args.cell c.id_of-here.result 9 c.deref_mut.result.now c.note_change.new.bodies c.self.invariant (can_set (grid_of c.self.inside) c.args.self.now c.args.p c.args.cell c.self.view_is c.requires) c.index_mut-here.ensures.value c.id_of-here.ensures c.deref_mut.ensures.value c.note_change.ensures
 
 -- the cell that was put
 is_put : (c : After-note_change) → world_of (grid_set (grid_of c.self.inside) c.args.p c.args.cell) ≡ put (world_of c.args.self.now) c.args.p c.args.cell

@@ -1,0 +1,73 @@
+// What a world keeps of a cell.
+ghost use Rattle.std.specs.Prelude.{◌≡◌, ◌<◌, length};
+ghost use Rattle.cell_world.specs.Places.{IsKnown, IsMade};
+ghost use Rattle.cell_world.specs.Stored.{ant_named, id_of, tile_food, tile_of};
+
+use crate::ant::{Ant, Colour};
+use crate::body::Body;
+use crate::cell::Cell;
+use crate::marks::Marks;
+
+// What a world keeps of a cell: all of it, but of the ant that stands on it the id alone.
+#[derive(Clone, Copy)]
+pub struct Tile {
+    pub food: u32,
+    pub ant: Option<u16>,
+    pub rocky: bool,
+    pub hill: Option<Colour>,
+    pub red: Marks,
+    pub black: Marks,
+}
+
+impl Tile {
+    // What is kept of this cell.
+    pub fn of(cell: &Cell) -> Tile
+        requires { IsKnown 65536 cell.now.ant }
+        ensures { result ≡ tile_of cell.now }
+    {
+        Tile {
+            food: cell.food,
+            ant: id_of(cell.ant),
+            rocky: cell.rocky,
+            hill: cell.hill,
+            red: cell.red,
+            black: cell.black,
+        }
+    }
+
+    // The food on it, if it is of this colour's hill.
+    pub fn food_of(&self, colour: Colour) -> u32
+        ensures { result ≡ tile_food colour self.now }
+    {
+        if self.hill == Some(colour) {
+            self.food
+        } else {
+            0
+        }
+    }
+}
+
+// The id of the ant, if there is one.
+#[inline]
+pub fn id_of(ant: Option<Ant>) -> Option<u16>
+    requires { IsKnown 65536 ant }
+    ensures { result ≡ id_of ant }
+{
+    match ant {
+        Some(ant) => Some(ant.id as u16),
+        None => None,
+    }
+}
+
+// The ant of this id as its body has it, if there is an id.
+#[inline]
+#[tactic(auto, unfolding(crate::specs::Stored::ant_named))]
+pub fn ant_named(bodies: &[Body], id: Option<u16>) -> Option<Ant>
+    requires { IsMade (length bodies.now) id }
+    ensures { result ≡ ant_named bodies.now id }
+{
+    match id {
+        Some(id) => Some(bodies[id as usize].ant(id as u32)),
+        None => None,
+    }
+}
