@@ -29,9 +29,9 @@ Fits-opening width height kinds minds red black = record {
       omega arith;
 }
 
--- the brains of a game are sound under the contest's rules
+-- the brains of a game are sound under its sheet
 pub AreSound-minds_of : (brains : Brains) → IsBrain brains.red.now → IsBrain brains.black.now → AreSound (minds_of brains)
-AreSound-minds_of brains red black = record { red = red; black = black; corpse = omega arith }
+AreSound-minds_of brains red black = record { red = red; black = black; corpse = brains.sheet.light }
 
 -- who has no place gets none
 pub Keeps-place_in : (minds : Minds) (earlier now : World) (t : ℕ) → Valid earlier → Keeps minds earlier now → place_in earlier t ≡ None → place_in now t ≡ None

@@ -41,21 +41,21 @@ pub ants_among-drop : (cells : Cells) (colour : Colour) (places : List Pos) (k :
 ants_among-drop cells colour places k z below =
     ap (ants_among cells colour) (drop-cons places k z below) ∙ ants_among-cons cells colour (slice_index_or places k z) (drop (suc k) places) ∙ ap (λ n. one_if (is_ant_of colour (cells (slice_index_or places k z)).ant) + ants_among cells colour (drop n places)) (sym (add-one k))
 
--- so far one neighbour held none, and here is another: there are fewer than five
-pub ants_among-few : (cells : Cells) (colour : Colour) (p : Pos) (k : ℕ) (z : Pos) → k < 6
-    → ants_among cells colour (drop k (neighbours_of p)) + k ≡ ants_among cells colour (neighbours_of p) + 1
+-- so far as many neighbours held none as may, and here is another: there are too few
+pub ants_among-few : (surround : ℕ) (cells : Cells) (colour : Colour) (p : Pos) (k : ℕ) (z : Pos) → k < 6
+    → ants_among cells colour (drop k (neighbours_of p)) + k + surround ≡ ants_among cells colour (neighbours_of p) + 6
     → is_ant_of colour (cells (slice_index_or (neighbours_of p) k z)).ant ≡ false
-    → nat_le 5 (ants_among cells colour (neighbours_of p)) ≡ false
-ants_among-few cells colour p k z below count gap =
+    → nat_le surround (ants_among cells colour (neighbours_of p)) ≡ false
+ants_among-few surround cells colour p k z below count gap =
     let all : length (neighbours_of p) ≡ 6 = neighbours_of_length p in
     let here : k < length (neighbours_of p) = omega arith in
     let next = ants_among-drop cells colour (neighbours_of p) k z here in
     let none : one_if (is_ant_of colour (cells (slice_index_or (neighbours_of p) k z)).ant) ≡ 0 = ap one_if gap in
     let rest = ants_among-le cells colour (drop (k + 1) (neighbours_of p)) in
-    lt-leb 5 _ (omega (arith, next, none, rest, length-drop (k + 1) (neighbours_of p)))
+    lt-leb surround _ (omega (arith, next, none, rest, length-drop (k + 1) (neighbours_of p)))
 
--- at most one neighbour held none: there are five
-pub ants_among-enough : (cells : Cells) (colour : Colour) (p : Pos) (gaps : ℕ)
-    → ants_among cells colour (drop 6 (neighbours_of p)) + 6 ≡ ants_among cells colour (neighbours_of p) + gaps → gaps ≤ 1
-    → nat_le 5 (ants_among cells colour (neighbours_of p)) ≡ true
-ants_among-enough cells colour p gaps count few = le-leb 5 _ (omega arith)
+-- no more neighbours held none than may: there are enough
+pub ants_among-enough : (surround : ℕ) (cells : Cells) (colour : Colour) (p : Pos) (gaps : ℕ)
+    → ants_among cells colour (drop 6 (neighbours_of p)) + 6 + gaps + surround ≡ ants_among cells colour (neighbours_of p) + 6
+    → nat_le surround (ants_among cells colour (neighbours_of p)) ≡ true
+ants_among-enough surround cells colour p gaps count = le-leb surround _ (omega arith)

@@ -14,6 +14,7 @@ pub mod MarksKept
 pub mod OwnCells
 pub mod Parts
 pub mod Quiet
+pub mod SheetWorked
 pub mod Standing
 pub mod TurnWorked
 pub mod Turns

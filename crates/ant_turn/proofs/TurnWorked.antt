@@ -32,16 +32,16 @@ unfolding meets rock
 meets-rock condition colour = refl
 
 -- a position off the rim
-abbrev middle : Pos
+abbrev pub middle : Pos
 middle = record { x = 2; y = 2 }
 
 -- these cells, and black ants on so many neighbours of the middle
-with_foes : List Pos → Cells
+unfoldable pub with_foes : List Pos → Cells
 with_foes [] = λ q. floor
 with_foes (q ∷ places) = put_cell (with_foes places) q (hill_cell Black 1)
 
 -- a red ant in the middle, with foes on its first n neighbours
-abbrev beset : ℕ → Cells
+abbrev pub beset : ℕ → Cells
 beset n = put_cell (with_foes (take n (neighbours_of middle))) middle (hill_cell Red 0)
 
 -- five foes surround it, and four don't

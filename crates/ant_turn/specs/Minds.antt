@@ -8,7 +8,7 @@ use Rattle.cell_world.specs.World.{World}
 use Rattle.brain_read.specs.declared.instr.Instr.{Instr}
 use Rattle.brain_read.specs.Soundness.{IsBrain}
 use Rattle.ant_turn.specs.declared.brains.Brains.{Brains}
-use Rattle.ant_turn.specs.Sheet.{Sheet, contest}
+use Rattle.ant_turn.specs.Sheet.{Sheet, contest, sheet_of}
 
 -- the instructions of both colours by state, and the numbers of the rules
 pub record Minds : Type 0 where
@@ -20,9 +20,9 @@ pub record Minds : Type 0 where
 abbrev pub contest_minds : List Instr → List Instr → Minds
 contest_minds red black = record { red = red; black = black; sheet = contest }
 
--- the same, of brains that are lent
+-- two brains that are lent, under the rules of their sheet
 abbrev pub minds_of : Brains → Minds
-minds_of brains = contest_minds brains.red.now brains.black.now
+minds_of brains = record { red = brains.red.now; black = brains.black.now; sheet = sheet_of brains.sheet }
 
 -- the brain of a colour
 abbrev pub mind_of : Minds → Colour → List Instr

@@ -1,17 +1,21 @@
-// The two brains of a game.
+// The two brains of a game, and the numbers of its rules.
 ghost use Rattle.std.specs.Prelude.{◌≡◌};
 ghost use Rattle.ant_turn.specs.Minds.{minds_of, mind_of};
 
+use crate::sheet::Sheet;
 use brain_read::Brain;
 use cell_world::Colour;
 
-/// The brains of the two colours (the task's game play). They are lent: copies share them.
+/// The brains of the two colours, and the sheet of the rules by which both play (the task's game play). The brains are lent: copies share
+/// them.
 #[derive(Clone, Copy)]
 pub struct Brains<'b> {
     /// The brain of the red ants.
     pub red: &'b Brain,
     /// The brain of the black ants.
     pub black: &'b Brain,
+    /// The numbers of the rules.
+    pub sheet: Sheet,
 }
 
 impl<'b> Brains<'b> {

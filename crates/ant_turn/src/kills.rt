@@ -1,13 +1,16 @@
 // Surrounded ants, and what is left of them.
-ghost use Rattle.std.specs.Prelude.{◌≡◌, ◌+◌, ◌≤◌, ◌<◌, ◌++◌};
+ghost use Rattle.std.specs.Prelude.{◌≡◌, ◌+◌, ◌≤◌, ◌<◌, ◌++◌, nat_le};
+ghost use Rattle.hex_geometry.specs.Neighbourhood.{neighbours_of};
 ghost use Rattle.hex_geometry.specs.Position.{IsInside, IsInner};
+ghost use Rattle.cell_world.specs.Colour.{foe_of};
 ghost use Rattle.cell_world.specs.Limits.{most_weight};
 ghost use Rattle.cell_world.specs.Valid.{Valid};
 ghost use Rattle.cell_world.specs.World.{with_cells};
 ghost use Rattle.arrayvec.specs.ArrayVec.{array_vec_len};
 ghost use Rattle.ant_turn.specs.Kills as kill;
-ghost use Rattle.ant_turn.specs.Sheet.{contest};
+ghost use Rattle.ant_turn.specs.Sheet.{sheet_of};
 
+use crate::sheet::Sheet;
 use arrayvec::ArrayVec;
 use cell_world::{Ant, Cell, Ground};
 use hex_geometry::{Pos, neighbours};
@@ -15,18 +18,12 @@ use hex_geometry::{Pos, neighbours};
 #[cfg(test)]
 mod tests;
 
-// How many neighbours of a surrounded ant, at most, hold no foe.
-const GAPS: u8 = 1;
-
-// How much food a killed ant leaves, besides what it carried.
-const CORPSE: u32 = 3;
-
-/// Whether an ant is at `p` and at least 5 of the six neighbours hold foes of it (the task's martial arts).
+/// Whether an ant is at `p` and foes of it are on as many of the six neighbours as the sheet asks for, or more (the task's martial arts).
 ///
 /// The position is inside and not on the rim. The ground's world and room stay.
-pub fn surrounded<G: Ground>(ground: &mut G, p: Pos) -> bool
+pub fn surrounded<G: Ground>(ground: &mut G, sheet: Sheet, p: Pos) -> bool
     requires { IsInner (G.world ground.old).width (G.world ground.old).height p }
-    ensures surrounded { result ≡ kill.is_surrounded contest (G.world ground.old).cells p }
+    ensures surrounded { result ≡ kill.is_surrounded (sheet_of sheet) (G.world ground.old).cells p }
     ensures world { G.world ground.new ≡ G.world ground.old }
     ensures room { G.room ground.new ≡ G.room ground.old }
     ensures valid { Valid (G.world ground.new) }
@@ -35,39 +32,39 @@ pub fn surrounded<G: Ground>(ground: &mut G, p: Pos) -> bool
     let Some(ant) = cell.ant else {
         return false;
     };
-    is_surrounded(ground, p, &ant)
+    has_foes(ground, p, &ant, sheet.surround())
 }
 
 /// Checks `p` and then its six neighbours in the order of directions: an ant that is surrounded when its cell is checked is killed,
-/// and leaves 3 food particles there, and the one that it carried (the task's martial arts).
+/// and leaves the sheet's corpse of food there, and the particle that it carried (the task's martial arts).
 ///
 /// The position is inside and not on the rim, and the ground has room for 7 cells. Gives the ids of the killed, in the order of the
 /// checks. No other cell changes.
-pub fn check_around<G: Ground>(ground: &mut G, p: Pos) -> ArrayVec<u32, 7>
+pub fn check_around<G: Ground>(ground: &mut G, sheet: Sheet, p: Pos) -> ArrayVec<u32, 7>
     requires inner { IsInner (G.world ground.old).width (G.world ground.old).height p }
     requires room { 7 ≤ G.room ground.old }
-    ensures world { G.world ground.new ≡ with_cells (G.world ground.old) (kill.check_around_at contest (G.world ground.old).cells p) }
-    ensures killed { result.items ≡ kill.killed_around contest (G.world ground.old).cells p }
+    ensures world { G.world ground.new ≡ with_cells (G.world ground.old) (kill.check_around_at (sheet_of sheet) (G.world ground.old).cells p) }
+    ensures killed { result.items ≡ kill.killed_around (sheet_of sheet) (G.world ground.old).cells p }
     ensures room { G.room ground.old ≤ G.room ground.new + 7 }
     ensures valid { Valid (G.world ground.new) }
 {
     let mut killed = ArrayVec::new();
-    check(ground, p, &mut killed);
+    check(ground, sheet, p, &mut killed);
     let nearby = neighbours(p);
     for q in nearby {
-        check(ground, q, &mut killed);
+        check(ground, sheet, q, &mut killed);
     }
     killed
 }
 
 // The check of one cell: where its ant is surrounded, kills it and adds its id.
 #[inline(always)]
-fn check<G: Ground>(ground: &mut G, p: Pos, killed: &mut ArrayVec<u32, 7>)
+fn check<G: Ground>(ground: &mut G, sheet: Sheet, p: Pos, killed: &mut ArrayVec<u32, 7>)
     requires inside { IsInside (G.world ground.old).width (G.world ground.old).height p }
     requires room { 1 ≤ G.room ground.old }
     requires free { array_vec_len killed.old < 7 }
-    ensures world { G.world ground.new ≡ with_cells (G.world ground.old) (kill.check_at contest (G.world ground.old).cells p) }
-    ensures killed { killed.new.items ≡ killed.old.items ++ kill.killed_at contest (G.world ground.old).cells p }
+    ensures world { G.world ground.new ≡ with_cells (G.world ground.old) (kill.check_at (sheet_of sheet) (G.world ground.old).cells p) }
+    ensures killed { killed.new.items ≡ killed.old.items ++ kill.killed_at (sheet_of sheet) (G.world ground.old).cells p }
     ensures count { array_vec_len killed.new ≤ array_vec_len killed.old + 1 }
     ensures room { G.room ground.old ≤ G.room ground.new + 1 }
     ensures valid { Valid (G.world ground.new) }
@@ -76,31 +73,32 @@ fn check<G: Ground>(ground: &mut G, p: Pos, killed: &mut ArrayVec<u32, 7>)
     let Some(ant) = cell.ant else {
         return;
     };
-    if is_surrounded(ground, p, &ant) {
-        ground.set(p, after_kill(&cell, &ant));
+    if has_foes(ground, p, &ant, sheet.surround()) {
+        ground.set(p, after_kill(sheet, &cell, &ant));
         killed.push(ant.id);
     }
 }
 
-// Whether the ant at `p` has foes on at least 5 of the six neighbours.
+// Whether the ant at `p` has foes on at least so many of the six neighbours.
 #[inline(never)]
-fn is_surrounded<G: Ground>(ground: &mut G, p: Pos, ant: &Ant) -> bool
+fn has_foes<G: Ground>(ground: &mut G, p: Pos, ant: &Ant, surround: u8) -> bool
     requires valid { Valid (G.world ground.old) }
     requires here { ((G.world ground.old).cells p).ant ≡ Some ant.now }
-    ensures surrounded { result ≡ kill.is_surrounded contest (G.world ground.old).cells p }
+    requires at_most_all { surround ≤ 6 }
+    ensures foes { result ≡ nat_le surround (kill.ants_among (G.world ground.old).cells (foe_of ant.now.colour) (neighbours_of p)) }
     ensures world { G.world ground.new ≡ G.world ground.old }
     ensures room { G.room ground.new ≡ G.room ground.old }
 {
     let foe = ant.colour.foe();
     let around = neighbours(p);
-    let mut gaps = 0;
+    let mut gaps = 6 - surround;
     for q in around {
         let cell = ground.cell_at(q);
         if !cell.has_ant_of(foe) {
-            if gaps == GAPS {
+            if gaps == 0 {
                 return false;
             }
-            gaps += 1;
+            gaps -= 1;
         }
     }
     true
@@ -109,13 +107,13 @@ fn is_surrounded<G: Ground>(ground: &mut G, p: Pos, ant: &Ant) -> bool
 // The cell when its ant was killed.
 #[inline]
 #[tactic(auto, unfolding(cell_world::specs::Limits::most_weight))]
-fn after_kill(cell: &Cell, ant: &Ant) -> Cell
+fn after_kill(sheet: Sheet, cell: &Cell, ant: &Ant) -> Cell
     requires here { cell.now.ant ≡ Some ant.now }
     requires light { cell.now.food ≤ most_weight }
-    ensures { result ≡ kill.after_kill contest cell.now }
+    ensures { result ≡ kill.after_kill (sheet_of sheet) cell.now }
 {
     Cell {
-        food: cell.food + CORPSE + u32::from(ant.laden),
+        food: cell.food + u32::from(sheet.corpse()) + u32::from(ant.laden),
         ant: None,
         ..*cell
     }

@@ -4,6 +4,8 @@
 //! the ant of an id does in its turn. `take_turn` makes any `Ground`'s world what the definition of a turn says; `after_turns` and
 //! `after_rounds` of the definitions are such turns one after another, which a game folds. The laws say in the task's own words what
 //! turns do: food is kept but for corpses, the killed are gone and nobody else, a turn changes only what is near.
+//! Three numbers of the rules are this project's own to set, by a `Sheet` that goes with the brains: how many foes surround, how much food
+//! a killed ant leaves, and how long an ant rests. `Sheet::contest` has the task's; every law holds for every sheet.
 //! No call takes memory or is refused. This crate stands on `brain_read`, `cell_world` and `ant_random`.
 #![tactic(auto)]
 
@@ -11,12 +13,14 @@ mod brains;
 mod conditions;
 mod kills;
 mod own_cell;
+mod sheet;
 mod turn;
 mod turn_laws;
 
 pub use brains::Brains;
 pub use conditions::matches;
 pub use kills::{check_around, surrounded};
+pub use sheet::Sheet;
 pub use turn::{Deed, take_turn};
 pub use turn_laws::{
     idle_turns, openings_fit, rounds_keep, rounds_keep_food, turns_are_near, turns_draw,

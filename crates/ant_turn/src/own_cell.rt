@@ -3,14 +3,12 @@ ghost use Rattle.std.specs.Prelude.{◌≡◌, ◌<◌, ◌≤◌, ◌+◌, ◌-
 ghost use Rattle.hex_geometry.specs.Direction.{turned_by};
 ghost use Rattle.cell_world.specs.Cell.{one_if};
 ghost use Rattle.cell_world.specs.Limits.{most_weight};
-ghost use Rattle.ant_turn.specs.Sheet.{contest};
+ghost use Rattle.ant_turn.specs.Sheet.{sheet_of};
 ghost use Rattle.ant_turn.specs.Turn as turn;
 
+use crate::sheet::Sheet;
 use cell_world::{Ant, Cell, Colour};
 use hex_geometry::{Side, turned};
-
-// For how many turns an ant rests after a Move that went.
-const REST: u8 = 14;
 
 // The ant in this state.
 #[inline]
@@ -168,14 +166,14 @@ pub(crate) fn left_by_ant(cell: &Cell) -> Cell
 
 // The cell onto which an ant has stepped.
 #[inline]
-pub(crate) fn arrived(cell: &Cell, ant: Ant, next: u16) -> Cell
-    ensures { result ≡ turn.with_ant cell.now (turn.arrived contest ant next) }
+pub(crate) fn arrived(sheet: Sheet, cell: &Cell, ant: Ant, next: u16) -> Cell
+    ensures { result ≡ turn.with_ant cell.now (turn.arrived (sheet_of sheet) ant next) }
 {
     with_ant(
         cell,
         Ant {
             state: next,
-            resting: REST,
+            resting: sheet.rest(),
             ..ant
         },
     )

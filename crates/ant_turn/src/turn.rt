@@ -5,7 +5,7 @@ ghost use Rattle.cell_world.specs.Valid.{Valid, Replaces};
 ghost use Rattle.cell_world.specs.World.{put, with_cells};
 ghost use Rattle.brain_read.specs.Soundness.{IsSound};
 ghost use Rattle.ant_turn.specs.Minds.{Fits, minds_of};
-ghost use Rattle.ant_turn.specs.Sheet.{contest};
+ghost use Rattle.ant_turn.specs.Sheet.{sheet_of};
 ghost use Rattle.ant_turn.specs.Stands.{Stands};
 ghost use Rattle.ant_turn.specs.Turn as turn;
 
@@ -15,6 +15,7 @@ use crate::kills::check_around;
 use crate::own_cell::{
     arrived, branched, dropped, faced, is_blocked, left_by_ant, marked, picked_up, rested, unmarked,
 };
+use crate::sheet::Sheet;
 use ant_random::Stream;
 use arrayvec::ArrayVec;
 use brain_read::Instr;
@@ -64,6 +65,7 @@ fn stay<G: Ground>(ground: &mut G, p: Pos, cell: Cell) -> Deed
 #[inline]
 fn step<G: Ground>(
     ground: &mut G,
+    sheet: Sheet,
     p: Pos,
     cell: &Cell,
     ant: Ant,
@@ -76,29 +78,37 @@ fn step<G: Ground>(
     requires free { turn.is_blocked there.now ≡ false }
     requires room { 9 ≤ G.room ground.old }
     ensures world { G.world ground.new ≡ with_cells (G.world ground.old)
-        (turn.checked contest (turn.stepped contest (G.world ground.old).cells p ant q next) q).cells }
+        (turn.checked (sheet_of sheet) (turn.stepped (sheet_of sheet) (G.world ground.old).cells p ant q next) q).cells }
     ensures drew { result.drew ≡ false }
-    ensures killed { result.killed.items ≡ (turn.checked contest (turn.stepped contest (G.world ground.old).cells p ant q next) q).killed }
+    ensures killed { result.killed.items ≡ (turn.checked (sheet_of sheet) (turn.stepped (sheet_of sheet) (G.world ground.old).cells p ant q next) q).killed }
     ensures room { G.room ground.old ≤ G.room ground.new + 9 }
     ensures valid { Valid (G.world ground.new) }
 {
     ground.set(p, left_by_ant(cell));
-    ground.set(q, arrived(there, ant, next));
+    ground.set(q, arrived(sheet, there, ant, next));
     Deed {
         drew: false,
-        killed: check_around(ground, q),
+        killed: check_around(ground, sheet, q),
     }
 }
 
 // A Move of the ant of `p`.
 #[inline]
-fn go<G: Ground>(ground: &mut G, p: Pos, cell: &Cell, ant: Ant, met: u16, unmet: u16) -> Deed
+fn go<G: Ground>(
+    ground: &mut G,
+    sheet: Sheet,
+    p: Pos,
+    cell: &Cell,
+    ant: Ant,
+    met: u16,
+    unmet: u16,
+) -> Deed
     requires stands { Stands (G.world ground.old) p cell.now ant }
     requires room { 9 ≤ G.room ground.old }
     ensures world { (seed place : ℕ) → G.world ground.new ≡ with_cells (G.world ground.old)
-        (turn.execute contest seed (G.world ground.old).cells place p ant (Instr.Move met unmet)).cells }
+        (turn.execute (sheet_of sheet) seed (G.world ground.old).cells place p ant (Instr.Move met unmet)).cells }
     ensures drew { result.drew ≡ false }
-    ensures killed { (seed place : ℕ) → result.killed.items ≡ (turn.execute contest seed (G.world ground.old).cells place p ant (Instr.Move met unmet)).killed }
+    ensures killed { (seed place : ℕ) → result.killed.items ≡ (turn.execute (sheet_of sheet) seed (G.world ground.old).cells place p ant (Instr.Move met unmet)).killed }
     ensures room { G.room ground.old ≤ G.room ground.new + 9 }
     ensures valid { Valid (G.world ground.new) }
 {
@@ -107,13 +117,14 @@ fn go<G: Ground>(ground: &mut G, p: Pos, cell: &Cell, ant: Ant, met: u16, unmet:
     if is_blocked(&there) {
         return stay(ground, p, branched(cell, ant, false, met, unmet));
     }
-    step(ground, p, cell, ant, ahead, &there, met)
+    step(ground, sheet, p, cell, ant, ahead, &there, met)
 }
 
 // Executes the instruction of the ant of `p`.
 #[inline]
 fn execute<G: Ground>(
     ground: &mut G,
+    sheet: Sheet,
     stream: &mut Stream,
     p: Pos,
     cell: &Cell,
@@ -125,12 +136,12 @@ fn execute<G: Ground>(
     requires place { stream.old.place + 1 < 2 ^ 63 }
     requires room { 9 ≤ G.room ground.old }
     ensures world { G.world ground.new ≡ with_cells (G.world ground.old)
-        (turn.execute contest stream.old.seed (G.world ground.old).cells stream.old.place p ant instruction).cells }
+        (turn.execute (sheet_of sheet) stream.old.seed (G.world ground.old).cells stream.old.place p ant instruction).cells }
     ensures stream { stream.new ≡ record stream.old {
-      place = stream.old.place + one_if (turn.execute contest stream.old.seed (G.world ground.old).cells stream.old.place p ant instruction).drew;
+      place = stream.old.place + one_if (turn.execute (sheet_of sheet) stream.old.seed (G.world ground.old).cells stream.old.place p ant instruction).drew;
     } }
-    ensures drew { result.drew ≡ (turn.execute contest stream.old.seed (G.world ground.old).cells stream.old.place p ant instruction).drew }
-    ensures killed { result.killed.items ≡ (turn.execute contest stream.old.seed (G.world ground.old).cells stream.old.place p ant instruction).killed }
+    ensures drew { result.drew ≡ (turn.execute (sheet_of sheet) stream.old.seed (G.world ground.old).cells stream.old.place p ant instruction).drew }
+    ensures killed { result.killed.items ≡ (turn.execute (sheet_of sheet) stream.old.seed (G.world ground.old).cells stream.old.place p ant instruction).killed }
     ensures room { G.room ground.old ≤ G.room ground.new + 9 }
     ensures valid { Valid (G.world ground.new) }
 {
@@ -150,7 +161,7 @@ fn execute<G: Ground>(
         Instr::PickUp { yes, no } => stay(ground, p, picked_up(cell, ant, yes, no)),
         Instr::Drop { next } => stay(ground, p, dropped(cell, ant, next)),
         Instr::Turn { side, next } => stay(ground, p, faced(cell, ant, side, next)),
-        Instr::Move { yes, no } => go(ground, p, cell, ant, yes, no),
+        Instr::Move { yes, no } => go(ground, sheet, p, cell, ant, yes, no),
         Instr::Flip { bound, yes, no } => {
             let number = stream.draw(bound);
             Deed {
@@ -162,7 +173,7 @@ fn execute<G: Ground>(
 }
 
 /// Takes the turn of the ant of this id: nothing where it is dead; one turn less to rest where it rests; else the instruction at its
-/// state in its colour's brain (the task's kinetics).
+/// state in its colour's brain, by the rules with the numbers of the brains' sheet (the task's kinetics).
 ///
 /// The id is below the number of ids, each ant's state is below the length of its colour's brain, and stays so. The stream stands below
 /// 2^63 - 1 and goes on by one number exactly where a Flip was executed. The ground has room for 9 cells. Gives what was done besides.
@@ -199,7 +210,7 @@ pub fn take_turn<G: Ground>(
         return stay(ground, p, rested(&cell, ant));
     }
     let instruction = brains.of(ant.colour).at(ant.state);
-    execute(ground, stream, p, &cell, ant, instruction)
+    execute(ground, brains.sheet, stream, p, &cell, ant, instruction)
 }
 
 #[cfg(test)]

@@ -28,14 +28,15 @@ pub fn turns_draw()
     ensures { TurnsDraw }
 {}
 
-/// A turn makes no food and loses none, lying and carried, but that each killed ant leaves the rules' 3 particles (the task's martial
-/// arts). The call does nothing: its clause is the law.
+/// A turn makes no food and loses none, lying and carried, but that each killed ant leaves the sheet's corpse (the task's martial arts).
+/// The call does nothing: its clause is the law.
 pub fn turns_keep_food()
     ensures { TurnsKeepFood }
 {}
 
-/// A turn changes a world's weight by its kills alone: each killed ant weighed 9 and leaves 3, so that each takes 6 away (the task's
-/// martial arts; the weight is this project's own). The call does nothing: its clause is the law.
+/// A turn changes a world's weight by its kills alone: each killed ant weighed 9 and leaves the sheet's corpse, at most 9, so that each
+/// takes the difference away, which is 6 under the contest's sheet (the task's martial arts; the weight is this project's own). The call
+/// does nothing: its clause is the law.
 pub fn turns_keep_weight()
     ensures { TurnsKeepWeight }
 {}
@@ -45,8 +46,8 @@ pub fn turns_keep_ants()
     ensures { TurnsKeepAnts }
 {}
 
-/// Over any number of rounds the food of a world, and 3 particles for each ant that is alive, together stay the same (the task's
-/// martial arts). The call does nothing: its clause is the law.
+/// Over any number of rounds the food of a world, and a corpse of the sheet for each ant that is alive, together stay the same (the
+/// task's martial arts). The call does nothing: its clause is the law.
 pub fn rounds_keep_food()
     ensures { RoundsKeepFood }
 {}

@@ -13,7 +13,7 @@ ghost use Rattle.ants.specs.Steps.{EndsAs, LeavesShelf, ReadsSetting};
 use crate::fetching::{brain_of_file, world_of_file};
 use crate::stop::Stop;
 use ant_base::{Failed, Shelf, Sink};
-use ant_turn::Brains;
+use ant_turn::{Brains, Sheet};
 use brain_read::Brain;
 use cell_world::World;
 use command_words::{DumpWord, Numbers};
@@ -83,6 +83,7 @@ fn play<K: Sink>(setting: Setting, plan: &Plan, out: &mut K) -> Result<(), Faile
     let brains = Brains {
         red: &red,
         black: &black,
+        sheet: Sheet::contest(),
     };
     match play_alone(world, brains, plan, out) {
         Ok(_) => Ok(()),

@@ -31,12 +31,16 @@ fn six_foes_kill_no_ant_before_a_check(rt: HostRuntime) {
     for (x, y, expected) in [(2, 2, true), (1, 1, false), (3, 2, false), (3, 1, false)] {
         let p = Pos { x, y };
         assert!(rt; is_inner(&world, p));
-        assert_eq!(rt; surrounded(&mut world, p), expected, "at ({x}, {y})");
+        assert_eq!(rt;
+            surrounded(&mut world, Sheet::contest(), p),
+            expected,
+            "at ({x}, {y})"
+        );
     }
     let p = Pos { x: 2, y: 2 };
     assert!(rt; is_inner(&world, p));
     assert_eq!(rt; world.ant_place(3), Some(p));
-    let killed = check_around(&mut world, p);
+    let killed = check_around(&mut world, Sheet::contest(), p);
     assert_eq!(rt; killed.as_slice(), [3].as_slice());
     assert_eq!(rt; world.ant_place(3), None);
     assert_eq!(rt; world.cell_at(p).food, 3);
@@ -52,7 +56,7 @@ fn an_ant_that_steps_up_kills(rt: HostRuntime) {
     let mut world = World::build(rt.alloc(), 7, 6, &kinds).expect(&rt, "there is memory");
     let p = Pos { x: 2, y: 3 };
     assert!(rt; is_inner(&world, p));
-    let killed = check_around(&mut world, p);
+    let killed = check_around(&mut world, Sheet::contest(), p);
     assert_eq!(rt; killed.as_slice(), [2].as_slice());
     assert_eq!(rt; world.cell_at(Pos { x: 3, y: 3 }).food, 3);
     assert_eq!(rt; world.alive(Colour::Red), 1);
@@ -70,8 +74,8 @@ fn a_killed_ant_surrounds_no_other(rt: HostRuntime) {
     let (p, lives) = (Pos { x: 2, y: 2 }, Pos { x: 2, y: 3 });
     assert!(rt; is_inner(&world, p));
     assert!(rt; is_inner(&world, lives));
-    assert_eq!(rt; surrounded(&mut world, lives), true);
-    let killed = check_around(&mut world, p);
+    assert_eq!(rt; surrounded(&mut world, Sheet::contest(), lives), true);
+    let killed = check_around(&mut world, Sheet::contest(), p);
     assert_eq!(rt; killed.as_slice(), [3].as_slice());
     assert_eq!(rt; world.ant_place(6), Some(lives));
 }

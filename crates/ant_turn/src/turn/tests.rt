@@ -41,6 +41,7 @@ fn each_of_seven_ants_takes_its_turn(rt: HostRuntime) {
     let brains = Brains {
         red: &red,
         black: &black,
+        sheet: Sheet::contest(),
     };
     let mut stream = Stream::from_seed(12345);
     for id in 0..7 {
@@ -70,6 +71,7 @@ fn brains_may_go_to_threads(rt: HostRuntime) {
     let brains = Brains {
         red: &brain,
         black: &brain,
+        sheet: Sheet::contest(),
     };
     assert_eq!(rt; shared(&brains).black.len(), 1);
 }

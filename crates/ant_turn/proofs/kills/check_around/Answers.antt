@@ -1,25 +1,20 @@
-use Rattle.std.proofs.Common.{◌≡◌, ℕ, List, ◌++◌, length, refl, sym, ap, ◌∙◌, arith}
-use Rattle.hex_geometry.specs.Neighbourhood.{neighbours_of}
-use Rattle.cell_world.specs.World.{World}
+use Rattle.std.proofs.Common.{◌≡◌, length, refl, sym, ap, arith}
+use Rattle.cell_world.specs.World.{with_cells}
 use Rattle.ant_turn.proofs.Checks.{check_around_at-first, killed_around-first}
 use Rattle.ant_turn.proofs.Foes.{neighbours_of-inside}
-use Rattle.ant_turn.specs.Kills.{check_all, killed_all, killed_at}
-use Rattle.ant_turn.specs.Sheet.{contest}
+use Rattle.ant_turn.specs.Kills.{check_at, killed_at}
+use Rattle.ant_turn.specs.Sheet.{sheet_of}
 use Rattle.ant_turn.proofs.kills.check_around.Goals as goal
 
 pub loop-q-init : goal.loop-q-init
 loop-q-init g c =
     let w = g.G.Ground.world c.args.ground.now in
-    let ns = neighbours_of c.args.p in
-    let mine : c.check.new.killed.items ≡ killed_at contest w.cells c.args.p =
-    c.check.ensures.killed ∙ ap (λ (ids : List ℕ). ids ++ killed_at contest w.cells c.args.p) c.new-killed.ensures in
+    let mine : c.check.new.killed.items ≡ killed_at (sheet_of c.args.sheet) w.cells c.args.p =
+    rw (c.check.ensures.killed, c.new-killed.ensures) refl in
     record {
-      same = rw c.check.ensures.world refl;
-      cells = ap (λ (v : World). check_all contest v.cells ns) c.check.ensures.world ∙ sym (check_around_at-first contest w.cells c.args.p);
-      killed =
-          ap (λ (ids : List ℕ). ids ++ killed_all contest (g.G.Ground.world c.check.new.ground).cells ns) mine
-          ∙ ap (λ (v : World). killed_at contest w.cells c.args.p ++ killed_all contest v.cells ns) c.check.ensures.world
-          ∙ sym (killed_around-first contest w.cells c.args.p);
+      same = rw c.check.ensures.world (refl {a = with_cells w (check_at (sheet_of c.args.sheet) w.cells c.args.p)});
+      cells = rw c.check.ensures.world (sym (check_around_at-first (sheet_of c.args.sheet) w.cells c.args.p));
+      killed = rw (mine, c.check.ensures.world) (sym (killed_around-first (sheet_of c.args.sheet) w.cells c.args.p));
       count = omega (arith, c.check.ensures.count, ap length c.new-killed.ensures);
       room = c.check.ensures.room;
       valid = c.check.ensures.valid;

@@ -4,7 +4,7 @@ use Rattle.arrayvec.specs.ArrayVec.{array_vec_len}
 use Rattle.cell_world.specs.Valid.{Valid}
 use Rattle.cell_world.specs.World.{with_cells}
 use Rattle.ant_turn.specs.Kills.{check_all, check_around_at, killed_all, killed_around}
-use Rattle.ant_turn.specs.Sheet.{contest}
+use Rattle.ant_turn.specs.Sheet.{sheet_of}
 use Rattle.ant_turn.proofs.kills.check_around.Given as goal
 
 abbrev pub invariant-loop-q : goal.invariant-loop-q
@@ -14,8 +14,8 @@ invariant-loop-q g l =
     let left = drop l.q-index (neighbours_of l.fn.p) in
     record {
       same : now ≡ with_cells before now.cells;
-      cells : check_all contest now.cells left ≡ check_around_at contest before.cells l.fn.p;
-      killed : l.killed.items ++ killed_all contest now.cells left ≡ killed_around contest before.cells l.fn.p;
+      cells : check_all (sheet_of l.fn.sheet) now.cells left ≡ check_around_at (sheet_of l.fn.sheet) before.cells l.fn.p;
+      killed : l.killed.items ++ killed_all (sheet_of l.fn.sheet) now.cells left ≡ killed_around (sheet_of l.fn.sheet) before.cells l.fn.p;
       count : array_vec_len l.killed ≤ l.q-index + 1;
       room : g.G.Ground.room l.fn.ground ≤ g.G.Ground.room l.ground + (l.q-index + 1);
       valid : Valid now;

@@ -7,7 +7,7 @@ use Rattle.cell_world.proofs.Places.{place_in-inside}
 use Rattle.ant_random.specs.Stream.{SeedAndPlace}
 use Rattle.brain_read.specs.declared.instr.Instr.TheVariants.{Drop}
 use Rattle.ant_turn.specs.Minds.{minds_of, mind_of}
-use Rattle.ant_turn.specs.Sheet.{contest}
+use Rattle.ant_turn.specs.Sheet.{sheet_of}
 use Rattle.ant_turn.specs.Turn.{ant_becomes, execute, with_ant}
 use Rattle.ant_turn.proofs.KeptByTurns.{Keeps-stays, Keeps-execute}
 use Rattle.ant_turn.proofs.OwnCells.{rest_stays}
@@ -105,9 +105,9 @@ returns g c =
     let ready : ant.resting ≡ 0 = omega (arith, c.if-ant-gt0.false) in
     let at : slice_get (mind_of (minds_of c.args.brains) ant.colour) ant.state ≡ Some c.at-instruction.result = rw (← c.of.ensures) c.at-instruction.ensures.instruction in
     let does = turn-executes (minds_of c.args.brains) s.seed w s.place c.args.id p ant c.at-instruction.result (sym c.place_of.ensures.place ∙ c.in-Some.is) holds ready at in
-    let now : g.G.Ground.world c.execute.new.ground ≡ with_cells w (execute contest s.seed w.cells s.place p ant c.at-instruction.result).cells =
+    let now : g.G.Ground.world c.execute.new.ground ≡ with_cells w (execute (sheet_of c.args.brains.sheet) s.seed w.cells s.place p ant c.at-instruction.result).cells =
     rw (← same) c.execute.ensures.world in
-    let kept = Keeps-execute (minds_of c.args.brains) s.seed w s.place p ant c.at-instruction.result (omega arith) (subst Valid same c.cell_at-cell.ensures.valid) c.requires.fit holds (rw (← c.of.ensures) c.at-instruction.ensures.sound) in
+    let kept = Keeps-execute (minds_of c.args.brains) s.seed w s.place p ant c.at-instruction.result c.args.brains.sheet.light (subst Valid same c.cell_at-cell.ensures.valid) c.requires.fit holds (rw (← c.of.ensures) c.at-instruction.ensures.sound) in
     record {
       world = rw does now;
       stream = rw (does, ← same) c.execute.ensures.stream;
