@@ -30,7 +30,7 @@ use Rattle.ant_turn.proofs.OwnCells.{Stays, stays_replaces}
 use Rattle.ant_turn.proofs.Parts.{Does, execute_parts, turn_parts}
 
 -- neither of two tests holds where not one of them does
-neither : (a b : Bool) → (a || b) ≡ false → (a ≡ false) × (b ≡ false)
+pub neither : (a b : Bool) → (a || b) ≡ false → (a ≡ false) × (b ≡ false)
 neither true b e = absurd (cc)
 neither false b e = (refl, e)
 

@@ -12,13 +12,13 @@ use Rattle.cell_world.specs.Parts.{Agree, Alike, CanPatch, Identity, IsSameAnt, 
 use Rattle.cell_world.specs.PartLaws.{AreApart, HasParts}
 
 -- ants of one identity, posture and load are one
-same_parts_ant : (a b : Ant) → identity_of a ≡ identity_of b → posture_of a ≡ posture_of b → a.laden ≡ b.laden → a ≡ b
+pub same_parts_ant : (a b : Ant) → identity_of a ≡ identity_of b → posture_of a ≡ posture_of b → a.laden ≡ b.laden → a ≡ b
 same_parts_ant a b who mind load =
     let made : Identity → Posture → Bool → Ant = λ i m l. record { id = i.id; colour = i.colour; state = m.state; resting = m.resting; facing = m.facing; laden = l } in
     ap (λ i. made i (posture_of a) a.laden) who ∙ ap (λ m. made (identity_of b) m a.laden) mind ∙ ap (made (identity_of b) (posture_of b)) load
 
 -- what two options hold is one where they are
-some_one : {A : Type 0} {a b : A} → Some a ≡ Some b → a ≡ b
+pub some_one : {A : Type 0} {a b : A} → Some a ≡ Some b → a ≡ b
 some_one {A} {a} {b} e = cc
 
 -- ants that may not be there, of one identity, posture and load, are one

@@ -1,6 +1,7 @@
 pub mod Claims
 pub mod Guess
 pub mod Holds
+pub mod Locality
 pub mod Look
 pub mod Patching
 pub mod Reads

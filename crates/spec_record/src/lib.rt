@@ -5,5 +5,7 @@
 #![tactic(auto)]
 
 mod look;
+mod look_laws;
 
 pub use look::Look;
+pub use look_laws::{looks_are_merged, turns_are_local, turns_are_local_alone, turns_are_patches};

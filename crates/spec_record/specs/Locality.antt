@@ -1,0 +1,75 @@
+-- On what the turn of an ant depends, and what it changes (this project's own).
+use Rattle.std.specs.Prelude.{◌≡◌, ◌≢◌, ℕ, true, false, AllPairs, List, map, Option, None}
+use Rattle.std.specs.List.{AllByRecursion}
+use Rattle.hex_geometry.specs.declared.position.Pos.{Pos}
+use Rattle.cell_world.specs.Cell.{holds_id}
+use Rattle.cell_world.specs.Parts.{Agree, Alike, has_part}
+use Rattle.cell_world.specs.Valid.{Valid}
+use Rattle.cell_world.specs.World.{Cells, World, place_in}
+use Rattle.cell_world.specs.declared.part.Part.{Part}
+use Rattle.ant_turn.specs.Minds.{Minds, Fits}
+use Rattle.ant_turn.specs.Turn.{Outcome, turn}
+use Rattle.spec_record.specs.Claims.{Claim, Sighting, merged}
+use Rattle.spec_record.specs.Holds.{Holds}
+use Rattle.spec_record.specs.Look.{LookValue, look_of}
+use Rattle.spec_record.specs.Patching.{parts_at, patched_cells}
+use Rattle.spec_record.specs.Writes.{writes}
+
+-- merged claims have each position once, with all parts that are claimed there
+abbrev pub LooksAreMerged : Type 0
+LooksAreMerged = (claims : List Claim) → AllPairs ◌≢◌ (map (λ c. c.at) (merged claims)) × ((p : Pos) → parts_at (merged claims) p ≡ parts_at claims p)
+
+-- the world `now` goes on from a base, as far as the turn of id t depends on it: it has the same sizes, rocks and hills, the ant is dead
+-- in it if it was dead in the base, and it is on no two cells
+pub record GoesOn (base now : World) (t : ℕ) : Type 0 where
+  pub width : now.width ≡ base.width
+  pub height : now.height ≡ base.height
+  pub rocks : (p : Pos) → (now.cells p).rocky ≡ (base.cells p).rocky
+  pub hills : (p : Pos) → (now.cells p).hill ≡ (base.cells p).hill
+  pub dead : place_in base t ≡ None → place_in now t ≡ None
+  pub once : (p q : Pos) → holds_id t (now.cells p) ≡ true → holds_id t (now.cells q) ≡ true → p ≡ q
+
+-- both are worlds that the brains fit, of the same sizes, number of ids, rocks and hills, and who is dead in the base is dead in `now`
+pub record IsLater (minds : Minds) (base now : World) : Type 0 where
+  pub valid_base : Valid base
+  pub valid : Valid now
+  pub fits_base : Fits base minds
+  pub fits : Fits now minds
+  pub width : now.width ≡ base.width
+  pub height : now.height ≡ base.height
+  pub ids : now.ids ≡ base.ids
+  pub rocks : (p : Pos) → (now.cells p).rocky ≡ (base.cells p).rocky
+  pub hills : (p : Pos) → (now.cells p).hill ≡ (base.cells p).hill
+  pub dead : (t : ℕ) → place_in base t ≡ None → place_in now t ≡ None
+
+-- what the turn that was looked at comes to in these cells, in which this is its outcome
+pub record IsLookedAt (look : LookValue) (cells : Cells) (outcome : Outcome) : Type 0 where
+  -- it draws and kills as in the look
+  pub drew : outcome.drew ≡ look.drew
+  pub killed : outcome.killed ≡ look.killed
+  -- each part that it writes is as in the look
+  pub written : AllByRecursion (λ write. Agree write.1 (outcome.cells write.0) write.2) look.writes
+  -- every part that it doesn't write stays, with the ground and the hill of each cell
+  pub others : (p : Pos) (k : Part) → AllByRecursion (λ write. write.0 ≡ p → has_part write.1 k ≡ false) look.writes → Alike k (outcome.cells p) (cells p)
+  pub rocks : (p : Pos) → (outcome.cells p).rocky ≡ (cells p).rocky
+  pub hills : (p : Pos) → (outcome.cells p).hill ≡ (cells p).hill
+
+-- a turn depends on no more than what a look at it in a base reads: where that is the same, and the random number too if it draws one, the
+-- turn is what was looked at
+abbrev pub TurnsAreLocal : Type 0
+TurnsAreLocal = (minds : Minds) (seed : ℕ) (base : World) (guess : ℕ) (now : World) (place t : ℕ) → IsLater minds base now → Holds minds base guess now place t →
+    IsLookedAt (look_of minds seed base guess t) now.cells (turn minds seed now place t)
+
+-- the same, from no more premises than are needed
+abbrev pub TurnsAreLocalAlone : Type 0
+TurnsAreLocalAlone = (minds : Minds) (seed : ℕ) (base : World) (guess : ℕ) (now : World) (place t : ℕ) → GoesOn base now t → Holds minds base guess now place t →
+    IsLookedAt (look_of minds seed base guess t) now.cells (turn minds seed now place t)
+
+-- the outcome that a look gives in these cells: its writes are set, and it draws and kills as it did
+abbrev pub outcome_by : LookValue → Cells → Outcome
+outcome_by look cells = record { cells = patched_cells cells look.writes; drew = look.drew; killed = look.killed }
+
+-- such a turn is made by setting the writes of the look
+abbrev pub TurnsArePatches : Type 0
+TurnsArePatches = (minds : Minds) (seed : ℕ) (base : World) (guess : ℕ) (now : World) (place t : ℕ) → GoesOn base now t → Holds minds base guess now place t →
+    turn minds seed now place t ≡ outcome_by (look_of minds seed base guess t) now.cells
