@@ -1,18 +1,19 @@
 -- Fields and books: a game's world, and a window of its turns that is being settled (this project's own).
-use Rattle.std.specs.Prelude.{◌≡◌, ◌≢◌, ◌⊎◌, ◌↔◌, ℕ, ◌+◌, ◌-◌, ◌<◌, Bool, true, false, List, ◌∷◌, [], ◌++◌, map, Option, Some, None}
+use Rattle.std.specs.Prelude.{◌≡◌, ◌≢◌, ◌⊎◌, ◌↔◌, ℕ, ◌+◌, ◌-◌, ◌<◌, Bool, true, false, ⊤, List, ◌∷◌, [], ◌++◌, map, Option, Some, None}
 use Rattle.std.specs.List.{AllByRecursion, Contains}
 use Rattle.hex_geometry.specs.declared.position.Pos.{Pos}
+use Rattle.hex_geometry.specs.Position.{IsInside}
 use Rattle.cell_world.specs.declared.part.Part.{Part}
 use Rattle.cell_world.specs.Cell.{one_if}
 use Rattle.cell_world.specs.Grid.{Grid, world_of}
-use Rattle.cell_world.specs.Parts.{Agree, Alike, has_part}
-use Rattle.cell_world.specs.World.{World, with_cells}
+use Rattle.cell_world.specs.Parts.{Agree, Alike, CanPatch, has_part}
+use Rattle.cell_world.specs.World.{Cells, World, with_cells}
 use Rattle.ant_turn.specs.Minds.{Minds}
 use Rattle.ant_turn.specs.Rounds.{Moment, after_turn}
 use Rattle.spec_record.specs.Claims.{Sighting}
 use Rattle.spec_record.specs.Holds.{LookHolds}
 use Rattle.spec_record.specs.Look.{LookValue}
-use Rattle.spec_record.specs.Patching.{patched_cells}
+use Rattle.spec_record.specs.Patching.{CanSetWrites, patched_cells}
 use Rattle.spec_record.specs.Writes.{writes}
 use Rattle.round_book.specs.declared.verdict.Cause.{Cause}
 use Rattle.round_book.specs.declared.verdict.Cause.TheVariants as cause
@@ -66,13 +67,13 @@ begun field from to = record { seed = field.seed; from = from; to = to; next = f
 abbrev pub HoldsInBook : BookValue → LookValue → Type 0
 HoldsInBook book look = LookHolds look (world_of book.world).cells book.place
 
--- a part that the look read at a position and that differs there
-pub record IsChanged (look : LookValue) (w : World) (at : Pos) (k : Part) : Type 0 where
+-- a part that was read at a position and that differs among these cells
+pub record IsChanged (reads : List Sighting) (cells : Cells) (at : Pos) (k : Part) : Type 0 where
   pub read : Sighting
-  pub is_read : Contains look.reads read
+  pub is_read : Contains reads read
   pub here : read.0 ≡ at
   pub named : has_part read.1 k ≡ true
-  pub differs : ¬ Alike k read.2 (w.cells at)
+  pub differs : ¬ Alike k read.2 (cells at)
 
 -- all that the look read is as it was, and its random number is another
 pub record IsMoved (look : LookValue) (now : Moment) (guessed actual : ℕ) : Type 0 where
@@ -84,8 +85,28 @@ pub record IsMoved (look : LookValue) (now : Moment) (guessed actual : ℕ) : Ty
 
 -- why a look doesn't hold
 abbrev pub IsCause : LookValue → Moment → Cause → Type 0
-IsCause look now (cause.Part at k) = IsChanged look now.world at k
+IsCause look now (cause.Part at k) = IsChanged look.reads now.world.cells at k
 IsCause look now (cause.Place guessed actual) = IsMoved look now guessed actual
+
+-- where a read position wasn't written, its cell agrees in the parts that were read
+abbrev pub AgreesUnwritten : BookValue → Sighting → Type 0
+AgreesUnwritten book read = ¬ Contains book.written read.0 → Agree read.1 read.2 ((world_of book.world).cells read.0)
+
+-- no two writes name one position
+abbrev pub EachOnce : List Sighting → Type 0
+EachOnce [] = ⊤
+EachOnce (write ∷ writes) = AllByRecursion (λ other. other.0 ≢ write.0) writes × EachOnce writes
+
+-- a write can be patched into the cell of its position, which is inside
+abbrev pub CanPatchIn : World → Sighting → Type 0
+CanPatchIn w write = IsInside w.width w.height write.0 × CanPatch (w.cells write.0) write.2 write.1
+
+-- writes may be set in a world: each at a position of its own, where it can be patched; and the patched cells may be set one after another,
+-- first those that don't raise the weight of their cell, then the others
+pub record CanTake (w : World) (writes : List Sighting) : Type 0 where
+  pub once : EachOnce writes
+  pub each : AllByRecursion (CanPatchIn w) writes
+  pub in_order : CanSetWrites w 9 writes
 
 -- a book's written positions and these are another's
 abbrev pub Wrote : List Pos → List Pos → List Pos → Type 0

@@ -6,6 +6,7 @@
 #![tactic(auto)]
 
 mod laws;
+mod passes;
 mod verdict;
 mod workspace;
 
