@@ -1,11 +1,13 @@
 -- The writes of a look, set in a world (this project's own).
-use Rattle.std.specs.Prelude.{if◌then◌else◌, List, [], ◌∷◌}
+use Rattle.std.specs.Prelude.{◌≡◌, ℕ, Bool, true, false, ⊤, if◌then◌else◌, nat_lt, List, [], ◌∷◌}
 use Rattle.hex_geometry.specs.declared.position.Pos.{Pos}
 use Rattle.hex_geometry.specs.Position.{same_pos}
 use Rattle.cell_world.specs.declared.cell.Cell.{Cell}
 use Rattle.cell_world.specs.declared.part.Parts.{Parts}
-use Rattle.cell_world.specs.Parts.{no_parts, patched, union}
-use Rattle.cell_world.specs.World.{Cells, put_cell}
+use Rattle.cell_world.specs.Cell.{cell_weight}
+use Rattle.cell_world.specs.Parts.{CanPatch, no_parts, patched, union}
+use Rattle.cell_world.specs.Valid.{CanSet}
+use Rattle.cell_world.specs.World.{Cells, World, put, put_cell}
 use Rattle.spec_record.specs.Claims.{Claim, Sighting}
 
 -- the parts of a claim, at its position
@@ -29,3 +31,45 @@ with_write cells write = put_cell cells write.0 (patched_by_write cells write)
 abbrev pub patched_cells : Cells → List Sighting → Cells
 patched_cells cells [] = cells
 patched_cells cells (write ∷ writes) = patched_cells (with_write cells write) writes
+
+-- whether a write raises the weight of its cell
+abbrev pub raises : Cells → Sighting → Bool
+raises cells write = nat_lt (cell_weight (cells write.0)) (cell_weight (patched_by_write cells write))
+
+-- a write may be set in a world: its cell can be patched, and the patched cell may be set
+pub record CanWrite (w : World) (room : ℕ) (write : Sighting) : Type 0 where
+  pub can_patch : CanPatch (w.cells write.0) write.2 write.1
+  pub can_set : CanSet w room write.0 (patched_by_write w.cells write)
+
+-- the world with a write set, if it doesn't raise its cell's weight
+abbrev pub with_lighter : World → Sighting → World
+with_lighter w write = if raises w.cells write then w else put w write.0 (patched_by_write w.cells write)
+
+-- and if it does
+abbrev pub with_heavier : World → Sighting → World
+with_heavier w write = if raises w.cells write then put w write.0 (patched_by_write w.cells write) else w
+
+-- the world with those writes set that don't raise their cell's weight
+abbrev pub after_lighter : World → List Sighting → World
+after_lighter w [] = w
+after_lighter w (write ∷ writes) = after_lighter (with_lighter w write) writes
+
+-- and with those set that do
+abbrev pub after_heavier : World → List Sighting → World
+after_heavier w [] = w
+after_heavier w (write ∷ writes) = after_heavier (with_heavier w write) writes
+
+-- those writes that don't raise their cell's weight may be set, one after another
+abbrev pub CanSetLighter : World → ℕ → List Sighting → Type 0
+CanSetLighter w room [] = ⊤
+CanSetLighter w room (write ∷ writes) = (raises w.cells write ≡ false → CanWrite w room write) × CanSetLighter (with_lighter w write) room writes
+
+-- and those that do
+abbrev pub CanSetHeavier : World → ℕ → List Sighting → Type 0
+CanSetHeavier w room [] = ⊤
+CanSetHeavier w room (write ∷ writes) = (raises w.cells write ≡ true → CanWrite w room write) × CanSetHeavier (with_heavier w write) room writes
+
+-- all writes may be set: first those that don't raise their cell's weight, then the others
+pub record CanSetWrites (w : World) (room : ℕ) (writes : List Sighting) : Type 0 where
+  pub lighter : CanSetLighter w room writes
+  pub heavier : CanSetHeavier (after_lighter w writes) room writes
