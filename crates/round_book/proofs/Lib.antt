@@ -1,3 +1,5 @@
 pub mod MachineLemmas
+pub mod MarkLemmas
+pub mod PassLemmas
 pub mod WindowLemmas
 pub mod WorkspaceLemmas

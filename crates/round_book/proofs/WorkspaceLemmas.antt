@@ -12,7 +12,7 @@ use Rattle.cell_world.proofs.Grids.{index_of-inside, pos_at-index_of}
 use Rattle.round_book.specs.Inner.Workspace.{AreMarked}
 
 -- two positions of a world with one number in row order are one
-index_of-same : (width : ℕ) (p q : Pos) → p.x < width → q.x < width → index_of width p ≡ index_of width q → p ≡ q
+pub index_of-same : (width : ℕ) (p q : Pos) → p.x < width → q.x < width → index_of width p ≡ index_of width q → p ≡ q
 index_of-same width p q left right same = sym (pos_at-index_of width p left) ∙ ap (pos_at width) same ∙ pos_at-index_of width q right
 
 -- a list with one more at its end has what it had, and that one

@@ -1,5 +1,5 @@
 -- Fields and books: a game's world, and a window of its turns that is being settled (this project's own).
-use Rattle.std.specs.Prelude.{◌≡◌, ◌≢◌, ◌⊎◌, ◌↔◌, ℕ, ◌+◌, ◌-◌, ◌<◌, Bool, true, false, ⊤, List, ◌∷◌, [], ◌++◌, map, Option, Some, None}
+use Rattle.std.specs.Prelude.{◌≡◌, ◌≢◌, ◌⊎◌, ◌↔◌, ℕ, ◌+◌, ◌-◌, ◌<◌, ◌≤◌, ◌^◌, Bool, true, false, ⊤, List, ◌∷◌, [], ◌++◌, map, Option, Some, None}
 use Rattle.std.specs.List.{AllByRecursion, Contains}
 use Rattle.hex_geometry.specs.declared.position.Pos.{Pos}
 use Rattle.hex_geometry.specs.Position.{IsInside}
@@ -19,7 +19,7 @@ use Rattle.round_book.specs.declared.verdict.Cause.{Cause}
 use Rattle.round_book.specs.declared.verdict.Cause.TheVariants as cause
 use Rattle.round_book.specs.declared.verdict.Verdict.{Verdict}
 use Rattle.round_book.specs.declared.verdict.Verdict.TheVariants.{Taken, Redone}
-use Rattle.round_book.specs.Window.{Window, AreVerdicts, moment_before}
+use Rattle.round_book.specs.Window.{Window, AreVerdicts, IsPlayable, moment_before}
 
 -- what a contract sees of a field: a game's world, brains, seed and place in the stream, and whether it is whole or lent for a window
 pub record FieldValue : Type 0 where
@@ -40,6 +40,10 @@ pub record BookValue : Type 0 where
   pub place : ℕ
   pub written : List Pos
   pub verdicts : List Verdict
+
+-- where a game stands
+abbrev pub field_moment : FieldValue → Moment
+field_moment field = record { world = world_of field.world; place = field.place }
 
 -- the window of turns that begins on a field
 abbrev pub window_of : FieldValue → ℕ → ℕ → Window
@@ -112,14 +116,18 @@ pub record CanTake (w : World) (writes : List Sighting) : Type 0 where
 abbrev pub Wrote : List Pos → List Pos → List Pos → Type 0
 Wrote written more new = (p : Pos) → Contains new p ↔ (Contains written p ⊎ Contains more p)
 
--- a look that held was taken: the named parts of its writes are set and their positions written, the place rises by one if it drew, and the
--- turn is settled
-pub record IsTaken (look : LookValue) (book new : BookValue) : Type 0 where
-  pub holds : HoldsInBook book look
+-- a turn that does what a look says is settled with a verdict: the named parts of the look's writes are set and their positions written, the
+-- place rises by one if it drew, and the verdict is added last
+pub record IsEnded (look : LookValue) (verdict : Verdict) (book new : BookValue) : Type 0 where
   pub now : moment_of new ≡ record { world = with_cells (world_of book.world) (patched_cells (world_of book.world).cells look.writes); place = book.place + one_if look.drew }
   pub written : Wrote book.written (map (λ write. write.0) look.writes) new.written
   pub next : new.next ≡ book.next + 1
-  pub verdicts : new.verdicts ≡ book.verdicts ++ Taken ∷ []
+  pub verdicts : new.verdicts ≡ book.verdicts ++ verdict ∷ []
+
+-- a look that held was taken
+pub record IsTaken (look : LookValue) (book new : BookValue) : Type 0 where
+  pub holds : HoldsInBook book look
+  pub ended : IsEnded look Taken book new
 
 -- a turn was executed anew, for a cause
 pub record IsRedone (minds : Minds) (cause : Cause) (book new : BookValue) : Type 0 where
@@ -138,3 +146,24 @@ pub record IsSameWindow (book new : BookValue) : Type 0 where
 abbrev pub Settles : LookValue → BookValue → BookValue → Option Cause → Type 0
 Settles look book new None = IsTaken look book new
 Settles look book new (Some cause) = (new ≡ book) × IsCause look (moment_of book) cause
+
+-- a window of these turns may begin on a field: it is whole, and its stream lasts for them
+pub record CanBegin (field : FieldValue) (from to : ℕ) : Type 0 where
+  pub whole : field.whole ≡ true
+  pub forwards : from ≤ to
+  pub ids : to ≤ field.world.ids
+  pub lasting : field.place + (to - from) < 2 ^ 63
+
+-- a book stands on a field that is lent for its window
+pub record StandsOn (field : FieldValue) (book : BookValue) : Type 0 where
+  pub lent : field.whole ≡ false
+  pub playable : IsPlayable (window_of field book.from book.to)
+  pub stands : Stands (window_of field book.from book.to) book
+
+-- a field after the turns of a window: it is whole, and stands where they lead to
+pub record IsPlayed (old : FieldValue) (from to : ℕ) (new : FieldValue) : Type 0 where
+  pub now : field_moment new ≡ moment_before (window_of old from to) to
+  pub minds : new.minds ≡ old.minds
+  pub seed : new.seed ≡ old.seed
+  pub ids : new.world.ids ≡ old.world.ids
+  pub whole : new.whole ≡ true

@@ -5,10 +5,12 @@
 //! its turns do one after another, and how many looks were taken depends on the turns and the window alone. This is this project's own.
 #![tactic(auto)]
 
+mod book;
 mod laws;
 mod passes;
 mod verdict;
 mod workspace;
 
+pub use book::Book;
 pub use laws::every_interleaving;
 pub use verdict::{Cause, Verdict};

@@ -1,0 +1,147 @@
+// A book: a window of turns that is being settled.
+ghost use Rattle.std.specs.Prelude.{◌≡◌, ◌+◌, ◌-◌, ◌*◌, ◌<◌, ◌≤◌, ◌^◌, [], ◌∷◌, ◌++◌, map, Option, Some, None, MatchOption};
+ghost use Rattle.std.specs.List.{AllByRecursion};
+ghost use Rattle.std.specs.Vec.{vec_capacity, vec_len};
+ghost use Rattle.cell_world.specs.Cell.{one_if};
+ghost use Rattle.cell_world.specs.Grid.{world_of};
+ghost use Rattle.cell_world.specs.World.{with_cells};
+ghost use Rattle.ant_turn.specs.Minds.{Fits, minds_of};
+ghost use Rattle.spec_record.specs.Patching.{patched_cells};
+ghost use Rattle.round_book.specs.Book.{AgreesUnwritten, BookValue, CanTake, HoldsInBook, IsCause, IsEnded, IsRedone, IsSameWindow, Settles, Wrote, moment_of};
+ghost use Rattle.round_book.specs.Inner.Kept.{IsReady};
+
+use crate::verdict::{Cause, Verdict};
+use crate::workspace::Workspace;
+use spec_record::Look;
+use std::marker::Model;
+
+/// A window of turns that is being settled, one after another (this project's own). It has a world of its own, which is that after the turns
+/// so far, the place in the stream that they left, the positions that they wrote, and what came of the look at each. Only a field's `begin`
+/// makes one, and it has no copy.
+#[derive(Drop)]
+pub struct Book {
+    seed: u32,
+    from: u32,
+    to: u32,
+    next: u32,
+    place: u64,
+    work: Workspace,
+}
+
+impl Model for Book {
+    ghost use Rattle.round_book.specs.Book.{BookValue};
+    ghost use Rattle.round_book.specs.Inner.Kept.{IsBookKept};
+
+    ghost Value = { BookValue };
+
+    ghost view = { λ book. record {
+      seed = book.seed;
+      from = book.from;
+      to = book.to;
+      next = book.next;
+      world = book.work.world;
+      place = book.place;
+      written = book.work.written.items;
+      verdicts = book.work.verdicts.items;
+    } };
+
+    ghost invariant = { λ book. IsBookKept book.from book.to book.next book.place book.work };
+}
+
+impl Book {
+    // A book of these turns, in a workspace that is ready and has room for them.
+    pub(crate) fn over(work: Workspace, seed: u32, place: u64, from: u32, to: u32) -> Book
+        requires ready { IsReady work.world work }
+        requires forwards { from ≤ to }
+        requires ids { to ≤ work.world.ids }
+        requires lasting { place + (to - from) < 2 ^ 63 }
+        requires write_room { vec_len work.written + 7 * (to - from) ≤ vec_capacity work.written }
+        requires verdict_room { vec_len work.verdicts + (to - from) ≤ vec_capacity work.verdicts }
+        ensures { result ≡ record { seed = seed; from = from; to = to; next = from; world = work.world; place = place; written = []; verdicts = [] } }
+    {
+        Book {
+            seed,
+            from,
+            to,
+            next: from,
+            place,
+            work,
+        }
+    }
+
+    /// The next turn to be settled: at most the end of the window, and equal to it once all are settled.
+    #[inline]
+    pub fn next(&self) -> u32
+        ensures { result ≡ self.now.next }
+    {
+        self.next
+    }
+
+    /// Settles the next turn by a look at it, where the look holds: where the book's world agrees with each cell that the look read in the
+    /// parts that it read, and the book's place is the look's guess, if the turn draws a random number. The named parts of its writes are set
+    /// then, the place rises by one if it drew, and it is noted that the look was taken. Else the answer says why it doesn't hold, and the
+    /// book is as before. It takes no memory (this project's own).
+    ///
+    /// The next turn is one of the window, and the look's. Where a read position wasn't written, the look's cell agrees with the book's
+    /// world. Where the look holds, its writes can be patched and set, first those that don't raise the weight of their cell, then the others.
+    #[inline]
+    pub fn settle(&mut self, look: Look) -> Option<Cause>
+        requires in_window { self.old.next < self.old.to }
+        requires turn { look.turn ≡ self.old.next }
+        requires unwritten { AllByRecursion (AgreesUnwritten self.old) look.reads }
+        requires writes { HoldsInBook self.old look → CanTake (world_of self.old.world) look.writes }
+        ensures settled { Settles look self.old self.new result }
+        ensures same { IsSameWindow self.old self.new }
+    {
+        self.settle_by(&look)
+    }
+
+    // The same by a look that stays with the caller.
+    #[inline]
+    pub(crate) fn settle_by(&mut self, look: &Look) -> Option<Cause>
+        requires in_window { self.old.next < self.old.to }
+        requires turn { look.now.turn ≡ self.old.next }
+        requires unwritten { AllByRecursion (AgreesUnwritten self.old) look.now.reads }
+        requires writes { HoldsInBook self.old look.now → CanTake (world_of self.old.world) look.now.writes }
+        ensures settled { Settles look.now self.old self.new result }
+        ensures same { IsSameWindow self.old self.new }
+    {
+        let cause = self.cause_against(look);
+        if cause.is_none() {
+            self.end_turn(look, Verdict::Taken);
+        }
+        cause
+    }
+
+    // Why a look doesn't hold, if it doesn't.
+    #[inline]
+    fn cause_against(&self, look: &Look) -> Option<Cause>
+        requires { AllByRecursion (AgreesUnwritten self.now) look.now.reads }
+        ensures { MatchOption result (HoldsInBook self.now look.now) (λ cause. IsCause look.now (moment_of self.now) cause) }
+    {
+        let change = self.work.first_change(look.reads().as_slice());
+        if change.is_some() {
+            return change;
+        }
+        if look.drew() && look.guess() != self.place {
+            return Some(Cause::Place {
+                guessed: look.guess(),
+                actual: self.place,
+            });
+        }
+        None
+    }
+
+    // Ends the next turn, which does what the look says, with a verdict.
+    pub(crate) fn end_turn(&mut self, look: &Look, verdict: Verdict)
+        requires in_window { self.old.next < self.old.to }
+        requires writes { CanTake (world_of self.old.world) look.now.writes }
+        ensures ended { IsEnded look.now verdict self.old self.new }
+        ensures same { IsSameWindow self.old self.new }
+    {
+        self.work.write(look.writes().as_slice());
+        self.work.verdicts.push_reserved(verdict);
+        self.place += u64::from(look.drew());
+        self.next += 1;
+    }
+}
