@@ -133,7 +133,7 @@ check_step sheet v w x sees leaves =
     ]
 
 -- after a check no ant is where none was
-no_new : (sheet : Sheet) (v : Cells) (x q : Pos) → has_ant (check_at sheet v x q).ant ≡ true → has_ant (v q).ant ≡ true
+pub no_new : (sheet : Sheet) (v : Cells) (x q : Pos) → has_ant (check_at sheet v x q).ant ≡ true → has_ant (v q).ant ≡ true
 no_new sheet v x q has = go (check_at sheet v x q).ant refl has where
   go : (o : Option Ant) → (check_at sheet v x q).ant ≡ o → has_ant o ≡ true → has_ant (v q).ant ≡ true
   go None is has = absurd (cc)

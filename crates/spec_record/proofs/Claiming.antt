@@ -227,3 +227,31 @@ EachOnce-AllPairs (p ∷ places) once =
 
 pub AllPairs-positions : (claims : List Claim) → AllPairs ◌≢◌ (positions (merged claims))
 AllPairs-positions claims = EachOnce-AllPairs (positions (merged claims)) (EachOnce-merged claims)
+
+-- what holds of the position of each claim holds of those of merged claims
+positions-joined : (P : Pos → Type 0) (claims : List Claim) (new : Claim) → AllByRecursion P (positions claims) → P new.at → AllByRecursion P (positions (joined claims new))
+positions-joined P [] new all one = (one, tt)
+positions-joined P (old ∷ claims) new all one =
+    elim (cases_Bool (same_pos old.at new.at)) [
+      | inl same ↦ subst (λ l. AllByRecursion P (positions l)) (sym (cond-true _ (claim old.at (union old.parts new.parts) ∷ claims) (old ∷ joined claims new) same)) all
+      | inr two ↦ subst (λ l. AllByRecursion P (positions l)) (sym (cond-false _ (claim old.at (union old.parts new.parts) ∷ claims) (old ∷ joined claims new) two)) (all.0, positions-joined P claims new all.1 one)
+    ]
+
+positions-merged_onto : (P : Pos → Type 0) (more claims : List Claim) → AllByRecursion P (positions claims) → AllByRecursion P (positions more) → AllByRecursion P (positions (merged_onto claims more))
+positions-merged_onto P [] claims first second = first
+positions-merged_onto P (new ∷ more) claims first second = positions-merged_onto P more (joined claims new) (positions-joined P claims new first second.0) second.1
+
+pub positions-merged : (P : Pos → Type 0) (claims : List Claim) → AllByRecursion P (positions claims) → AllByRecursion P (positions (merged claims))
+unfolding merged
+positions-merged P claims all = positions-merged_onto P claims [] tt all
+
+-- where each position is claimed once, what is claimed there is that claim's
+pub own_parts : (claims : List Claim) → EachOnce (positions claims) → AllByRecursion (λ c. parts_at claims c.at ≡ c.parts) claims
+own_parts [] once = tt
+own_parts (c ∷ claims) once = (
+  ap (λ a. union a (parts_at claims c.at)) (parts_there-here c c.at refl) ∙ ap (union c.parts) (parts_at-fresh claims c.at once.0) ∙ union-none c.parts,
+  go claims once.0 (own_parts claims once.1),
+) where
+  go : (more : List Claim) → AllByRecursion (λ q. q ≢ c.at) (positions more) → AllByRecursion (λ d. parts_at claims d.at ≡ d.parts) more → AllByRecursion (λ d. parts_at (c ∷ claims) d.at ≡ d.parts) more
+  go [] fresh all = tt
+  go (d ∷ more) fresh all = (ap (λ a. union a (parts_at claims d.at)) (parts_there-elsewhere c d.at (λ e. fresh.0 (sym e))) ∙ all.0, go more fresh.1 all.1)

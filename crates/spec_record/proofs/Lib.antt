@@ -1,7 +1,14 @@
 pub mod CheckSteps
 pub mod Claiming
+pub mod Flips
 pub mod OwnSteps
 pub mod Patched
+pub mod Raising
 pub mod Settling
+pub mod Sizes
+pub mod SettlingTurns
 pub mod Steps
 pub mod TurnSteps
+pub mod WorkedLooks
+pub mod WritesAlone
+pub mod WritesClear

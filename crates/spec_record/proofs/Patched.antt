@@ -59,16 +59,16 @@ InStep-patched {claims} {v} {w} {v'} {w'} step once = fun_ext λ r.
     patched-only (w r) (v' r) (parts_at claims r) at.can (w' r) (record { named = λ k named. sym (at.named k named); others = at.now_others; same_kind = at.same_kind; same_hill = at.same_hill })
     ∙ sym (patched_cells-at claims w v' r once)
 
+-- each position is written once
+pub written_once : (minds : Minds) (base : World) (t : ℕ) → EachOnce (positions (writes minds base t))
+unfolding writes
+written_once minds base t = EachOnce-merged (writes_from minds base.cells (place_in base t))
+
 module _ (minds : Minds) (seed : ℕ) (base : World) (guess : ℕ) (now : World) (place t : ℕ) (goes : GoesOn base now t) (holds : Holds minds base guess now place t) where
   -- the step of a look that holds, by what the look writes
   pub look_step : InStep (writes minds base t) base.cells now.cells (turn minds seed base guess t).cells (turn minds seed now place t).cells
   unfolding writes
   look_step = InStep-same (λ r. sym (parts_at-merged (writes_from minds base.cells (place_in base t)) r)) (turn_both minds seed base guess now place t goes holds).step
-
-  -- each position is written once
-  written_once : EachOnce (positions (writes minds base t))
-  unfolding writes
-  written_once = EachOnce-merged (writes_from minds base.cells (place_in base t))
 
   -- so the turn sets the writes of the look, and draws and kills as it did
   pub turn-patched : turn minds seed now place t ≡ outcome_by (look_of minds seed base guess t) now.cells
@@ -77,11 +77,11 @@ module _ (minds : Minds) (seed : ℕ) (base : World) (guess : ℕ) (now : World)
       let both = turn_both minds seed base guess now place t goes holds in
       let made : Cells → Bool → List ℕ → Outcome = λ cells drew killed. record { cells = cells; drew = drew; killed = killed } in
       let it : Outcome = turn minds seed now place t in
-      ap (λ cells. made cells it.drew it.killed) (InStep-patched look_step written_once)
+      ap (λ cells. made cells it.drew it.killed) (InStep-patched look_step (written_once minds base t))
       ∙ ap₂ (made (patched_cells now.cells (with_cells_at (turn minds seed base guess t).cells (writes minds base t)))) (sym both.drew) (sym both.killed)
 
 -- the parts that no claim of a position has
-unclaimed : (claims : List Claim) (after : Cells) (p : Pos) (k : Part) → AllByRecursion (λ write. write.0 ≡ p → has_part write.1 k ≡ false) (with_cells_at after claims) → has_part (parts_at claims p) k ≡ false
+pub unclaimed : (claims : List Claim) (after : Cells) (p : Pos) (k : Part) → AllByRecursion (λ write. write.0 ≡ p → has_part write.1 k ≡ false) (with_cells_at after claims) → has_part (parts_at claims p) k ≡ false
 unclaimed [] after p k none = has_part-none k
 unclaimed (c ∷ claims) after p k none =
     has_part-union (parts_there c p) (parts_at claims p) k

@@ -123,14 +123,15 @@ lighter_all room wanted (write ∷ writes) w left valid once eases =
       | inl heavy ↦
           let rest : CanSetLighter w room writes × Eased w wanted writes (after_lighter w writes) = lighter_all room wanted writes w left valid once.1 eases.1 in
           let skip : w ≡ with_lighter w write = sym (with_lighter-raises w write heavy) in
-          let it : Eased w wanted writes (after_lighter w writes) = rest.1 in
-          ((λ light. absurd (both_ways (raises w.cells write) light heavy), subst (λ (u : World). CanSetLighter u room writes) skip rest.0),
-          subst (Eased w wanted (write ∷ writes)) (ap (λ (u : World). after_lighter u writes) skip) (record {
-            valid = it.valid;
-            sizes = it.sizes;
-            others = λ p apart. it.others p apart.1;
-            each = ((λ light. absurd (both_ways (raises w.cells write) light heavy), λ _. it.others write.0 once.0), it.each);
-          }))
+          let it : Eased w wanted writes (after_lighter w writes) = rest.1 in (
+            (λ light. absurd (both_ways (raises w.cells write) light heavy), subst (λ (u : World). CanSetLighter u room writes) skip rest.0),
+            subst (Eased w wanted (write ∷ writes)) (ap (λ (u : World). after_lighter u writes) skip) (record {
+              valid = it.valid;
+              sizes = it.sizes;
+              others = λ p apart. it.others p apart.1;
+              each = ((λ light. absurd (both_ways (raises w.cells write) light heavy), λ _. it.others write.0 once.0), it.each);
+            }),
+          )
       | inr light ↦
           let can : CanWrite w room write = lighter_can w room wanted write left valid eases.0 light in
           let next : World = put w write.0 (patched_by_write w.cells write) in
@@ -141,20 +142,25 @@ lighter_all room wanted (write ∷ writes) w left valid once eases =
           let rest : CanSetLighter next room writes × Eased next wanted writes (after_lighter next writes) = lighter_all room wanted writes next left still once.1 later in
           let it : Eased next wanted writes (after_lighter next writes) = rest.1 in
           let Now : Sighting → Type 0 = λ other. (raises w.cells other ≡ false → (after_lighter next writes).cells other.0 ≡ wanted other.0) × (raises w.cells other ≡ true → (after_lighter next writes).cells other.0 ≡ w.cells other.0) in
-          let Then : Sighting → Type 0 = λ other. (raises next.cells other ≡ false → (after_lighter next writes).cells other.0 ≡ wanted other.0) × (raises next.cells other ≡ true → (after_lighter next writes).cells other.0 ≡ next.cells other.0) in
-          ((λ _. can, subst (λ (u : World). CanSetLighter u room writes) sets rest.0),
-          subst (Eased w wanted (write ∷ writes)) (ap (λ (u : World). after_lighter u writes) sets) (record {
-            valid = it.valid;
-            sizes = ap (λ (u : World). with_cells u w.cells) it.sizes;
-            others = λ p apart. it.others p apart.1 ∙ put_cell-other w.cells write.0 (patched_by_write w.cells write) p apart.0;
-            each = (
-              (λ _. it.others write.0 once.0 ∙ put_cell-same w.cells write.0 (patched_by_write w.cells write) ∙ eases.0.makes.makes,
-              λ heavy. absurd (both_ways (raises w.cells write) light heavy)),
-              all_apart Then Now writes write.0 once.0
-              (λ other apart each. (
-                λ easy. each.0 (raises-same w.cells next.cells other (same other apart) ∙ easy),
-                λ heavy. each.1 (raises-same w.cells next.cells other (same other apart) ∙ heavy) ∙ same other apart)) it.each);
-          }))
+          let Then : Sighting → Type 0 = λ other. (raises next.cells other ≡ false → (after_lighter next writes).cells other.0 ≡ wanted other.0) × (raises next.cells other ≡ true → (after_lighter next writes).cells other.0 ≡ next.cells other.0) in (
+            (λ _. can, subst (λ (u : World). CanSetLighter u room writes) sets rest.0),
+            subst (Eased w wanted (write ∷ writes)) (ap (λ (u : World). after_lighter u writes) sets) (record {
+              valid = it.valid;
+              sizes = ap (λ (u : World). with_cells u w.cells) it.sizes;
+              others = λ p apart. it.others p apart.1 ∙ put_cell-other w.cells write.0 (patched_by_write w.cells write) p apart.0;
+              each = (
+                (
+                  λ _. it.others write.0 once.0 ∙ put_cell-same w.cells write.0 (patched_by_write w.cells write) ∙ eases.0.makes.makes,
+                  λ heavy. absurd (both_ways (raises w.cells write) light heavy),
+                ),
+                all_apart Then Now writes write.0 once.0
+                    (λ other apart each. (
+                      λ easy. each.0 (raises-same w.cells next.cells other (same other apart) ∙ easy),
+                      λ heavy. each.1 (raises-same w.cells next.cells other (same other apart) ∙ heavy) ∙ same other apart,
+                    )) it.each,
+              );
+            }),
+          )
     ]
 
 -- a write that is set doesn't raise its cell's weight again
@@ -165,42 +171,213 @@ settled-light cells now wanted write made is =
     ap (λ c. nat_lt (cell_weight (now write.0)) (cell_weight c)) same ∙ le-ltb (cell_weight (now write.0)) (cell_weight (now write.0)) (omega arith)
 
 -- writes of which none raises its cell's weight
-heavier_none : (room : ℕ) (writes : List Sighting) (w : World) → AllByRecursion (λ write. raises w.cells write ≡ false) writes → CanSetHeavier w room writes × (after_heavier w writes ≡ w)
-heavier_none room [] w light = (tt, refl)
-heavier_none room (write ∷ writes) w light =
-    let rest : CanSetHeavier w room writes × (after_heavier w writes ≡ w) = heavier_none room writes w light.1 in
-    let skip : w ≡ with_heavier w write = sym (with_heavier-light w write light.0) in
-    ((λ heavy. absurd (both_ways (raises w.cells write) light.0 heavy), subst (λ (u : World). CanSetHeavier u room writes) skip rest.0),
-    ap (λ (u : World). after_heavier u writes) (sym skip) ∙ rest.1)
+heavier_none : (room : ℕ) (writes : List Sighting) (w : World) → AllByRecursion (λ write. raises w.cells write ≡ false) writes → CanSetHeavier w room writes
+heavier_none room [] w light = tt
+heavier_none room (write ∷ writes) w light = (
+  (λ heavy. absurd (both_ways (raises w.cells write) light.0 heavy)),
+  subst (λ (u : World). CanSetHeavier u room writes) (sym (with_heavier-light w write light.0)) (heavier_none room writes w light.1),
+)
 
--- writes of which one at most raises its cell's weight, and may be set: the world with that one set, where there is one
-pub heavier_one : (room : ℕ) (wanted : Cells) (q : Pos) (writes : List Sighting) (w : World) → EachOnce (places_of writes) → AllByRecursion (λ write. write.0 ≢ q → raises w.cells write ≡ false) writes → AllByRecursion (Makes w.cells wanted) writes →
-    ((write : Sighting) → write.0 ≡ q → raises w.cells write ≡ true → patched_by_write w.cells write ≡ wanted q → CanSet w room q (wanted q)) →
-    CanSetHeavier w room writes × ((p : Pos) → p ≢ q → (after_heavier w writes).cells p ≡ w.cells p)
-heavier_one room wanted q [] w once light made can = (tt, λ p _. refl)
-heavier_one room wanted q (write ∷ writes) w once light made can =
+-- writes of which one at most raises its cell's weight, and may be set
+heavier_one : (room : ℕ) (q : Pos) (writes : List Sighting) (w : World) → EachOnce (places_of writes) → AllByRecursion (λ write. write.0 ≢ q → raises w.cells write ≡ false) writes →
+    AllByRecursion (λ write. write.0 ≡ q → raises w.cells write ≡ true → CanWrite w room write) writes → CanSetHeavier w room writes
+heavier_one room q [] w once light can = tt
+heavier_one room q (write ∷ writes) w once light can =
     elim (cases_Bool (raises w.cells write)) [
       | inl heavy ↦
           elim (cases_pos write.0 q) [
             | inl here ↦
-                let makes : patched_by_write w.cells write ≡ wanted q = made.0.makes ∙ ap wanted here in
-                let it : CanWrite w room write = record {
-                  can_patch = made.0.can_patch;
-                  can_set = subst (λ p. CanSet w room p (patched_by_write w.cells write)) (sym here) (subst (CanSet w room q) (sym makes) (can write here heavy makes));
-                } in
                 let next : World = put w write.0 (patched_by_write w.cells write) in
-                let sets : next ≡ with_heavier w write = sym (with_heavier-sets w write heavy) in
                 let easy : AllByRecursion (λ other. raises next.cells other ≡ false) writes =
                 all_apart (λ other. other.0 ≢ q → raises w.cells other ≡ false) (λ other. raises next.cells other ≡ false) writes write.0 once.0
                 (λ other apart it. raises-same w.cells next.cells other (put_cell-other w.cells write.0 (patched_by_write w.cells write) other.0 (λ e. apart (sym e))) ∙ it (λ at. apart (at ∙ sym here))) light.1 in
-                let rest : CanSetHeavier next room writes × (after_heavier next writes ≡ next) = heavier_none room writes next easy in
-                ((λ _. it, subst (λ (u : World). CanSetHeavier u room writes) sets rest.0),
-                λ p apart. ap (λ (u : World). (after_heavier u writes).cells p) (sym sets) ∙ ap (λ (u : World). u.cells p) rest.1 ∙ put_cell-other w.cells write.0 (patched_by_write w.cells write) p (λ e. apart (sym e ∙ here)))
+                (can.0 here, subst (λ (u : World). CanSetHeavier u room writes) (sym (with_heavier-sets w write heavy)) (heavier_none room writes next easy))
             | inr other ↦ absurd (both_ways (raises w.cells write) (light.0 other) heavy)
           ]
-      | inr easy ↦
-          let rest : CanSetHeavier w room writes × ((p : Pos) → p ≢ q → (after_heavier w writes).cells p ≡ w.cells p) = heavier_one room wanted q writes w once.1 light.1 made.1 can in
-          let skip : w ≡ with_heavier w write = sym (with_heavier-light w write easy) in
-          ((λ heavy. absurd (both_ways (raises w.cells write) easy heavy), subst (λ (u : World). CanSetHeavier u room writes) skip rest.0),
-          λ p apart. ap (λ (u : World). (after_heavier u writes).cells p) (sym skip) ∙ rest.1 p apart)
+      | inr easy ↦ (
+        (λ heavy. absurd (both_ways (raises w.cells write) easy heavy)),
+        subst (λ (u : World). CanSetHeavier u room writes) (sym (with_heavier-light w write easy)) (heavier_one room q writes w once.1 light.1 can.1),
+      )
     ]
+
+-- what comes of the writes that raise their cell's weight: each of these cells is as wanted, and all others are as they were
+record Raised (w : World) (wanted : Cells) (writes : List Sighting) (now : World) : Type 0 where
+  sizes : with_cells now w.cells ≡ w
+  others : (p : Pos) → AllByRecursion (λ q. q ≢ p) (places_of writes) → now.cells p ≡ w.cells p
+  each : AllByRecursion (λ write. (raises w.cells write ≡ true → now.cells write.0 ≡ wanted write.0) × (raises w.cells write ≡ false → now.cells write.0 ≡ w.cells write.0)) writes
+
+heavier_all : (wanted : Cells) (writes : List Sighting) (w : World) → EachOnce (places_of writes) → AllByRecursion (Makes w.cells wanted) writes → Raised w wanted writes (after_heavier w writes)
+heavier_all wanted [] w once made = record { sizes = refl; others = λ p _. refl; each = tt }
+heavier_all wanted (write ∷ writes) w once made =
+    elim (cases_Bool (raises w.cells write)) [
+      | inr light ↦
+          let it : Raised w wanted writes (after_heavier w writes) = heavier_all wanted writes w once.1 made.1 in
+          subst (Raised w wanted (write ∷ writes)) (ap (λ (u : World). after_heavier u writes) (sym (with_heavier-light w write light))) (record {
+            sizes = it.sizes;
+            others = λ p apart. it.others p apart.1;
+            each = ((λ heavy. absurd (both_ways (raises w.cells write) light heavy), λ _. it.others write.0 once.0), it.each);
+          })
+      | inl heavy ↦
+          let next : World = put w write.0 (patched_by_write w.cells write) in
+          let same : (other : Sighting) → other.0 ≢ write.0 → next.cells other.0 ≡ w.cells other.0 = λ other apart. put_cell-other w.cells write.0 (patched_by_write w.cells write) other.0 (λ e. apart (sym e)) in
+          let later : AllByRecursion (Makes next.cells wanted) writes = all_apart (Makes w.cells wanted) (Makes next.cells wanted) writes write.0 once.0 (λ other apart it. Makes-same w.cells next.cells wanted other (same other apart) it) made.1 in
+          let it : Raised next wanted writes (after_heavier next writes) = heavier_all wanted writes next once.1 later in
+          let now : World = after_heavier next writes in
+          let Now : Sighting → Type 0 = λ other. (raises w.cells other ≡ true → now.cells other.0 ≡ wanted other.0) × (raises w.cells other ≡ false → now.cells other.0 ≡ w.cells other.0) in
+          let Then : Sighting → Type 0 = λ other. (raises next.cells other ≡ true → now.cells other.0 ≡ wanted other.0) × (raises next.cells other ≡ false → now.cells other.0 ≡ next.cells other.0) in
+          subst (Raised w wanted (write ∷ writes)) (ap (λ (u : World). after_heavier u writes) (sym (with_heavier-sets w write heavy))) (record {
+            sizes = ap (λ (u : World). with_cells u w.cells) it.sizes;
+            others = λ p apart. it.others p apart.1 ∙ put_cell-other w.cells write.0 (patched_by_write w.cells write) p apart.0;
+            each = (
+              (
+                λ _. it.others write.0 once.0 ∙ put_cell-same w.cells write.0 (patched_by_write w.cells write) ∙ made.0.makes,
+                λ light. absurd (both_ways (raises w.cells write) light heavy),
+              ),
+              all_apart Then Now writes write.0 once.0
+                  (λ other apart each. (
+                    λ more. each.0 (raises-same w.cells next.cells other (same other apart) ∙ more),
+                    λ easy. each.1 (raises-same w.cells next.cells other (same other apart) ∙ easy) ∙ same other apart,
+                  )) it.each,
+            );
+          })
+    ]
+
+-- what holds at each write, and at each other position, holds everywhere
+everywhere : (P : Pos → Type 0) (writes : List Sighting) (p : Pos) → (AllByRecursion (λ q. q ≢ p) (places_of writes) → P p) → AllByRecursion (λ write. P write.0) writes → P p
+everywhere P [] p outside each = outside tt
+everywhere P (write ∷ writes) p outside each =
+    elim (cases_pos write.0 p) [
+      | inl here ↦ subst P here each.0
+      | inr apart ↦ everywhere P writes p (λ fresh. outside (apart, fresh)) each.1
+    ]
+
+-- what holds of each write by two other things
+zip_all : (P Q R : Sighting → Type 0) (writes : List Sighting) → ((write : Sighting) → P write → Q write → R write) → AllByRecursion P writes → AllByRecursion Q writes → AllByRecursion R writes
+zip_all P Q R [] f first second = tt
+zip_all P Q R (write ∷ writes) f first second = (f write first.0 second.0, zip_all P Q R writes f first.1 second.1)
+
+-- writes that make wanted cells of a world, by a turn that raises the weight of one cell at most
+pub record Settles (w : World) (wanted : Cells) (writes : List Sighting) (q : Pos) : Type 0 where
+  pub valid : Valid w
+  pub still : Valid (with_cells w wanted)
+  pub once : EachOnce (places_of writes)
+  pub made : AllByRecursion (Makes w.cells wanted) writes
+  pub clear : AllByRecursion (λ write. (w.cells write.0).rocky ≡ false) writes
+  pub rocks : (p : Pos) → (wanted p).rocky ≡ (w.cells p).rocky
+  pub hills : (p : Pos) → (wanted p).hill ≡ (w.cells p).hill
+  pub others : (p : Pos) → AllByRecursion (λ r. r ≢ p) (places_of writes) → wanted p ≡ w.cells p
+  pub replaced : (p : Pos) → p ≢ q → Replaces (w.cells p) (wanted p)
+  pub raised : cell_weight (wanted q) ≤ cell_weight (w.cells q) → Replaces (w.cells q) (wanted q)
+
+module _ {w : World} {wanted : Cells} {writes : List Sighting} {q : Pos} (settles : Settles w wanted writes q) (room : ℕ) (left : 1 ≤ room) where
+  -- each write that doesn't raise its cell's weight may be set
+  eased : AllByRecursion (Eases w.cells wanted) writes
+  eased = zip_all (Makes w.cells wanted) (λ write. (w.cells write.0).rocky ≡ false) (Eases w.cells wanted) writes
+      (λ write makes clear. record {
+        makes = makes;
+        clear = clear;
+        replaces = λ light. elim (cases_pos write.0 q) [
+          | inl here ↦ subst (λ p. Replaces (w.cells p) (wanted p)) (sym here) (settles.raised (subst (λ p. cell_weight (wanted p) ≤ cell_weight (w.cells p)) here light))
+          | inr other ↦ settles.replaced write.0 other
+        ];
+      }) settles.made settles.clear
+
+  -- the world between
+  between : World
+  between = after_lighter w writes
+
+  first : CanSetLighter w room writes × Eased w wanted writes between
+  unfolding between
+  first = lighter_all room wanted writes w left settles.valid settles.once eased
+
+  -- there each write makes what is wanted
+  made_between : AllByRecursion (Makes between.cells wanted) writes
+  unfolding between
+  made_between = zip_all (Makes w.cells wanted) (λ write. (raises w.cells write ≡ false → between.cells write.0 ≡ wanted write.0) × (raises w.cells write ≡ true → between.cells write.0 ≡ w.cells write.0)) (Makes between.cells wanted) writes
+      (λ write makes each. elim (cases_Bool (raises w.cells write)) [
+        | inl heavy ↦ Makes-same w.cells between.cells wanted write (each.1 heavy) makes
+        | inr light ↦ Makes-again w.cells between.cells wanted write makes (each.0 light)
+      ]) settles.made first.1.each
+
+  -- away from the one, all is as wanted
+  write_light : (write : Sighting) → write.0 ≢ q → Makes w.cells wanted write → raises w.cells write ≡ false
+  write_light write other makes =
+      ap (λ c. nat_lt (cell_weight (w.cells write.0)) (cell_weight c)) makes.makes ∙ le-ltb (cell_weight (w.cells write.0)) (cell_weight (wanted write.0)) (settles.replaced write.0 other).no_heavier
+
+  wanted_between : (p : Pos) → p ≢ q → between.cells p ≡ wanted p
+  unfolding between
+  wanted_between p apart =
+      everywhere (λ r. r ≢ q → between.cells r ≡ wanted r) writes p (λ fresh _. first.1.others p fresh ∙ sym (settles.others p fresh))
+      (zip_all (Makes w.cells wanted) (λ write. (raises w.cells write ≡ false → between.cells write.0 ≡ wanted write.0) × (raises w.cells write ≡ true → between.cells write.0 ≡ w.cells write.0)) (λ write. write.0 ≢ q → between.cells write.0 ≡ wanted write.0) writes
+      (λ write makes each other. each.0 (write_light write other makes)) settles.made first.1.each) apart
+
+  -- with the one set too, it is the wanted world
+  whole : put between q (wanted q) ≡ with_cells w wanted
+  whole =
+      let cells : put_cell between.cells q (wanted q) ≡ wanted = fun_ext λ p. elim (cases_pos q p) [
+        | inl here ↦ ap (put_cell between.cells q (wanted q)) (sym here) ∙ put_cell-same between.cells q (wanted q) ∙ ap wanted here
+        | inr apart ↦ put_cell-other between.cells q (wanted q) p apart ∙ wanted_between p (λ e. apart (sym e))
+      ] in
+      ap (with_cells between) cells ∙ ap (λ (u : World). with_cells u wanted) first.1.sizes
+
+  -- so the one may be set
+  CanSet-last : (write : Sighting) → write.0 ≡ q → raises between.cells write ≡ true → Makes w.cells wanted write → (w.cells write.0).rocky ≡ false → (raises w.cells write ≡ false → between.cells write.0 ≡ wanted write.0) × (raises w.cells write ≡ true → between.cells write.0 ≡ w.cells write.0) → CanSet between room q (wanted q)
+  CanSet-last write here heavy makes clear each =
+      let as_it_was : between.cells q ≡ w.cells q = elim (cases_Bool (raises w.cells write)) [
+        | inl more ↦ subst (λ p. between.cells p ≡ w.cells p) here (each.1 more)
+        | inr light ↦ absurd (both_ways (raises between.cells write) (settled-light w.cells between.cells wanted write makes (each.0 light)) heavy)
+      ] in
+      let was : (between.cells q).rocky ≡ false = ap (λ (c : Cell). c.rocky) as_it_was ∙ subst (λ p. (w.cells p).rocky ≡ false) here clear in
+      let all : Valid (put between q (wanted q)) = subst Valid (sym whole) settles.still in
+      record {
+        room_left = left;
+        inside = clear_inside between q first.1.valid was;
+        was_clear = was;
+        is_clear = settles.rocks q ∙ subst (λ p. (w.cells p).rocky ≡ false) here clear;
+        same_hill = settles.hills q ∙ ap (λ (c : Cell). c.hill) (sym as_it_was);
+        ant_known = λ ant is. all.known q ant (ap (λ (c : Cell). c.ant) (put_cell-same between.cells q (wanted q)) ∙ is);
+        ant_nowhere_else = λ ant is p apart. false_from_ne_true (holds_id ant.id (between.cells p)) λ there.
+            apart (all.once ant.id p q (ap (holds_id ant.id) (put_cell-other between.cells q (wanted q) p (λ e. apart (sym e))) ∙ there) (ap (holds_id ant.id) (put_cell-same between.cells q (wanted q)) ∙ holds_id-own (wanted q) ant is));
+        light_enough = all.light;
+      }
+
+  -- all writes may be set
+  pub CanSetWrites-all : CanSetWrites w room writes
+  unfolding between
+  CanSetWrites-all =
+      let Each : Sighting → Type 0 = λ write. (raises w.cells write ≡ false → between.cells write.0 ≡ wanted write.0) × (raises w.cells write ≡ true → between.cells write.0 ≡ w.cells write.0) in
+      let light : AllByRecursion (λ write. write.0 ≢ q → raises between.cells write ≡ false) writes =
+      zip_all (Makes w.cells wanted) Each (λ write. write.0 ≢ q → raises between.cells write ≡ false) writes
+      (λ write makes each other. settled-light w.cells between.cells wanted write makes (each.0 (write_light write other makes))) settles.made first.1.each in
+      let Fits : Sighting → Type 0 = λ write. Makes w.cells wanted write × ((w.cells write.0).rocky ≡ false) in
+      let both : AllByRecursion Fits writes = zip_all (Makes w.cells wanted) (λ write. (w.cells write.0).rocky ≡ false) Fits writes (λ write makes clear. (makes, clear)) settles.made settles.clear in
+      let can : AllByRecursion (λ write. write.0 ≡ q → raises between.cells write ≡ true → CanSet between room q (wanted q)) writes =
+      zip_all Fits Each (λ write. write.0 ≡ q → raises between.cells write ≡ true → CanSet between room q (wanted q)) writes
+      (λ write fits each here heavy. CanSet-last write here heavy fits.0 fits.1 each) both first.1.each in
+      let writable : AllByRecursion (λ write. write.0 ≡ q → raises between.cells write ≡ true → CanWrite between room write) writes =
+      zip_all (Makes between.cells wanted) (λ write. write.0 ≡ q → raises between.cells write ≡ true → CanSet between room q (wanted q)) (λ write. write.0 ≡ q → raises between.cells write ≡ true → CanWrite between room write) writes
+      (λ write makes may here heavy. record {
+        can_patch = makes.can_patch;
+        can_set = subst (λ c. CanSet between room write.0 c) (sym (makes.makes ∙ ap wanted here)) (subst (λ p. CanSet between room p (wanted q)) (sym here) (may here heavy));
+      }) made_between can in
+      record { lighter = first.0; heavier = heavier_one room q writes between settles.once light writable }
+
+  -- and then the world is the wanted one
+  pub after_all : after_heavier (after_lighter w writes) writes ≡ with_cells w wanted
+  unfolding between
+  after_all =
+      let now : World = after_heavier between writes in
+      let second : Raised between wanted writes now = heavier_all wanted writes between settles.once made_between in
+      let cells : now.cells ≡ wanted = fun_ext λ p.
+      everywhere (λ r. now.cells r ≡ wanted r) writes p
+      (λ fresh. second.others p fresh ∙ first.1.others p fresh ∙ sym (settles.others p fresh))
+      (zip_all (λ write. (raises w.cells write ≡ false → between.cells write.0 ≡ wanted write.0) × (raises w.cells write ≡ true → between.cells write.0 ≡ w.cells write.0))
+      (λ write. (raises between.cells write ≡ true → now.cells write.0 ≡ wanted write.0) × (raises between.cells write ≡ false → now.cells write.0 ≡ between.cells write.0)) (λ write. now.cells write.0 ≡ wanted write.0) writes
+      (λ write before each. elim (cases_Bool (raises between.cells write)) [
+        | inl heavy ↦ each.0 heavy
+        | inr light ↦ each.1 light ∙ elim (cases_Bool (raises w.cells write)) [
+          | inl more ↦ absurd (both_ways (raises between.cells write) light (raises-same w.cells between.cells write (before.1 more) ∙ more))
+          | inr easy ↦ before.0 easy
+        ]
+      ]) first.1.each second.each) in
+      ap (with_cells now) cells ∙ ap (λ (u : World). with_cells (with_cells u w.cells) wanted) second.sizes ∙ ap (λ (u : World). with_cells u wanted) first.1.sizes

@@ -1,18 +1,20 @@
 -- On what the turn of an ant depends, and what it changes (this project's own).
-use Rattle.std.specs.Prelude.{◌≡◌, ◌≢◌, ℕ, true, false, AllPairs, List, map, Option, None}
+use Rattle.std.specs.Prelude.{◌≡◌, ◌≢◌, ℕ, ◌≤◌, false, true, AllPairs, List, length, map, None}
 use Rattle.std.specs.List.{AllByRecursion}
 use Rattle.hex_geometry.specs.declared.position.Pos.{Pos}
 use Rattle.cell_world.specs.Cell.{holds_id}
 use Rattle.cell_world.specs.Parts.{Agree, Alike, has_part}
 use Rattle.cell_world.specs.Valid.{Valid}
-use Rattle.cell_world.specs.World.{Cells, World, place_in}
+use Rattle.cell_world.specs.World.{Cells, World, place_in, with_cells}
 use Rattle.cell_world.specs.declared.part.Part.{Part}
-use Rattle.ant_turn.specs.Minds.{Minds, Fits}
+use Rattle.ant_turn.specs.Minds.{AreSound, Fits, Minds}
 use Rattle.ant_turn.specs.Turn.{Outcome, turn}
-use Rattle.spec_record.specs.Claims.{Claim, Sighting, merged}
-use Rattle.spec_record.specs.Holds.{Holds}
+use Rattle.spec_record.specs.Claims.{Claim, merged}
+use Rattle.spec_record.specs.Guess.{flips}
+use Rattle.spec_record.specs.Holds.{Holds, LookHolds}
 use Rattle.spec_record.specs.Look.{LookValue, look_of}
-use Rattle.spec_record.specs.Patching.{parts_at, patched_cells}
+use Rattle.spec_record.specs.Patching.{CanSetWrites, after_heavier, after_lighter, parts_at, patched_cells}
+use Rattle.spec_record.specs.Reads.{reads}
 use Rattle.spec_record.specs.Writes.{writes}
 
 -- merged claims have each position once, with all parts that are claimed there
@@ -73,3 +75,32 @@ outcome_by look cells = record { cells = patched_cells cells look.writes; drew =
 abbrev pub TurnsArePatches : Type 0
 TurnsArePatches = (minds : Minds) (seed : ℕ) (base : World) (guess : ℕ) (now : World) (place t : ℕ) → GoesOn base now t → Holds minds base guess now place t →
     turn minds seed now place t ≡ outcome_by (look_of minds seed base guess t) now.cells
+
+-- a look in hand that holds tells what its turn does
+abbrev pub LooksTell : Type 0
+LooksTell = (minds : Minds) (seed : ℕ) (base : World) (guess : ℕ) (now : World) (place t : ℕ) → GoesOn base now t → LookHolds (look_of minds seed base guess t) now.cells place →
+    turn minds seed now place t ≡ outcome_by (look_of minds seed base guess t) now.cells
+
+-- a turn changes no part but those that it writes, and no ground or hill
+pub record WritesAlone (minds : Minds) (seed : ℕ) (w : World) (place t : ℕ) : Type 0 where
+  pub parts : (p : Pos) (k : Part) → AllByRecursion (λ c. c.at ≡ p → has_part c.parts k ≡ false) (writes minds w t) → Alike k ((turn minds seed w place t).cells p) (w.cells p)
+  pub rocks : (p : Pos) → ((turn minds seed w place t).cells p).rocky ≡ (w.cells p).rocky
+  pub hills : (p : Pos) → ((turn minds seed w place t).cells p).hill ≡ (w.cells p).hill
+
+abbrev pub TurnsWriteAlone : Type 0
+TurnsWriteAlone = (minds : Minds) (seed : ℕ) (w : World) (place t : ℕ) → Valid w → WritesAlone minds seed w place t
+
+-- a turn reads at most 19 positions and writes at most 7
+abbrev pub TurnsAreSmall : Type 0
+TurnsAreSmall = (minds : Minds) (w : World) (t : ℕ) → Valid w → (length (reads minds w t) ≤ 19) × (length (writes minds w t) ≤ 7)
+
+-- a turn draws a random number exactly where its ant is alive, not resting and at a Flip
+abbrev pub TurnsDrawAtFlips : Type 0
+TurnsDrawAtFlips = (minds : Minds) (seed : ℕ) (w : World) (place t : ℕ) → (turn minds seed w place t).drew ≡ flips minds w t
+
+-- the writes of a look that holds may be set in `now`, first those that don't raise the weight of their cell and then the others, and that
+-- makes the turn
+abbrev pub LooksSettle : Type 0
+LooksSettle = (minds : Minds) (seed : ℕ) (base : World) (guess : ℕ) (now : World) (place t room : ℕ) → AreSound minds → IsLater minds base now → Holds minds base guess now place t → 1 ≤ room →
+    let written = (look_of minds seed base guess t).writes in
+    CanSetWrites now room written × (after_heavier (after_lighter now written) written ≡ with_cells now (turn minds seed now place t).cells)

@@ -8,4 +8,7 @@ mod look;
 mod look_laws;
 
 pub use look::Look;
-pub use look_laws::{looks_are_merged, turns_are_local, turns_are_local_alone, turns_are_patches};
+pub use look_laws::{
+    looks_are_merged, looks_settle, looks_tell, turns_are_local, turns_are_local_alone,
+    turns_are_patches, turns_are_small, turns_draw_at_flips, turns_write_alone,
+};

@@ -1,5 +1,15 @@
 // What holds of looks and the turns that they were made of.
-ghost use Rattle.spec_record.specs.Locality.{LooksAreMerged, TurnsAreLocal, TurnsAreLocalAlone, TurnsArePatches};
+ghost use Rattle.spec_record.specs.Locality.{
+  LooksAreMerged,
+  LooksSettle,
+  LooksTell,
+  TurnsAreLocal,
+  TurnsAreLocalAlone,
+  TurnsArePatches,
+  TurnsAreSmall,
+  TurnsDrawAtFlips,
+  TurnsWriteAlone,
+};
 
 /// A look names each position once, with all parts that the turn reads or writes there (this project's own). The call does nothing: its
 /// clause is the law.
@@ -27,4 +37,35 @@ pub fn turns_are_local_alone()
 /// law.
 pub fn turns_are_patches()
     ensures { TurnsArePatches }
+{}
+
+/// A look in hand that holds tells what its turn does: where each read cell is the same in the parts that were read and, if the turn draws,
+/// the random number is at the guess, the turn's outcome is made of the look alone (this project's own). The call does nothing: its clause
+/// is the law.
+pub fn looks_tell()
+    ensures { LooksTell }
+{}
+
+/// The writes of a look that holds may be set one after another, first those that don't raise the weight of their cell and then the others,
+/// and that makes the turn (this project's own). The call does nothing: its clause is the law.
+pub fn looks_settle()
+    ensures { LooksSettle }
+{}
+
+/// A turn changes no part of a cell but those that it writes, and no ground or hill (the parts are this project's own; the task's
+/// kinetics). The call does nothing: its clause is the law.
+pub fn turns_write_alone()
+    ensures { TurnsWriteAlone }
+{}
+
+/// A turn reads at most 19 positions and writes at most 7 (the task's martial arts: the six around the cell that is entered, and the six
+/// around each of them). The call does nothing: its clause is the law.
+pub fn turns_are_small()
+    ensures { TurnsAreSmall }
+{}
+
+/// A turn draws a random number exactly where its ant is alive, doesn't rest and is at a Flip (the task's kinetics). The call does nothing:
+/// its clause is the law.
+pub fn turns_draw_at_flips()
+    ensures { TurnsDrawAtFlips }
 {}
