@@ -3,8 +3,8 @@ pub mod Corpses
 pub mod Counting
 pub mod Deaths
 pub mod Fitting
-pub mod FoodByRounds
 pub mod Foes
+pub mod FoodByRounds
 pub mod Keeping
 pub mod Kept
 pub mod KeptByRounds
@@ -14,6 +14,8 @@ pub mod MarksKept
 pub mod OwnCells
 pub mod Parts
 pub mod Quiet
+pub mod RenumberLemmas
+pub mod RenumberedTurns
 pub mod SheetWorked
 pub mod Standing
 pub mod TurnWorked

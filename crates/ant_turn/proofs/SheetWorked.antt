@@ -11,9 +11,10 @@ use Rattle.cell_world.specs.Opening.{floor, new_ant, opening}
 use Rattle.cell_world.specs.Score.{hill_food_of, score_of}
 use Rattle.cell_world.specs.World.{Cells, World, place_in, put_cell}
 use Rattle.brain_read.specs.declared.instr.Instr.TheVariants.{Drop, Move}
+use Rattle.ant_turn.specs.declared.brains.Brains.{Brains}
 use Rattle.ant_turn.specs.FoodLaws.{killed_in, world_after}
 use Rattle.ant_turn.specs.Kills.{check_around_at, check_at, is_surrounded, killed_around, killed_at, places_around}
-use Rattle.ant_turn.specs.Minds.{Minds}
+use Rattle.ant_turn.specs.Minds.{Minds, minds_of}
 use Rattle.ant_turn.specs.Sheet.{Sheet}
 use Rattle.ant_turn.specs.Turn.{stepped, turn}
 use Rattle.ant_turn.proofs.TurnWorked.{beset, middle, with_foes}
@@ -21,6 +22,10 @@ use Rattle.ant_turn.proofs.TurnWorked.{beset, middle, with_foes}
 -- a sheet by its numbers
 abbrev sheet : ℕ → ℕ → ℕ → Sheet
 sheet surround corpse rest = record { surround = surround; corpse = corpse; rest = rest }
+
+-- lent brains play by the numbers of their own sheet
+own_sheet : (brains : Brains) → (minds_of brains).sheet ≡ sheet brains.sheet.surround brains.sheet.corpse brains.sheet.rest
+own_sheet brains = refl
 
 -- four foes surround where the sheet asks for four, and three don't
 four_surround : (is_surrounded (sheet 4 3 14) (beset 4) middle ≡ true) × (is_surrounded (sheet 4 3 14) (beset 3) middle ≡ false)

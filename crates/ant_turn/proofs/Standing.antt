@@ -1,11 +1,13 @@
 -- What holds where an ant stands at its place.
-use Rattle.std.proofs.Common.{◌≡◌, ℕ, ◌+◌, ◌≤◌, false, Some, sym, ◌∙◌, ap, ap₂, subst, arith}
+use Rattle.std.proofs.Common.{◌≡◌, ℕ, ◌+◌, ◌≤◌, false, Some, refl, sym, ◌∙◌, ap, ap₂, subst, arith}
+use Rattle.std.specs.Option.{IsSomeAnd}
 use Rattle.hex_geometry.specs.declared.position.Pos.{Pos}
+use Rattle.hex_geometry.proofs.Places.{inner_inside}
 use Rattle.cell_world.specs.declared.ant.Ant.{Ant}
 use Rattle.cell_world.specs.declared.cell.Cell.{Cell}
 use Rattle.cell_world.specs.Cell.{ant_weight, cell_weight}
 use Rattle.cell_world.specs.Limits.{most_weight}
-use Rattle.cell_world.specs.Valid.{Valid, CanSet, Replaces}
+use Rattle.cell_world.specs.Valid.{Valid, CanSet, CanThink, Replaces, SameBody}
 use Rattle.cell_world.specs.World.{World, with_cells, put}
 use Rattle.cell_world.proofs.Places.{ant-clear, clear_has_neighbours}
 use Rattle.cell_world.proofs.Valids.{CanSet-replaces}
@@ -38,6 +40,14 @@ Stands-there w p cell ant valid here holds =
       light = subst (λ (c : Cell). c.food ≤ most_weight) (sym here) (food_is_light w p valid);
     }
 
+-- likewise on the world's own cell
+pub Stands-at : (w : World) (p : Pos) (ant : Ant) → Valid w → (w.cells p).ant ≡ Some ant → Stands w p (w.cells p) ant
+Stands-at w p ant valid holds = Stands-there w p (w.cells p) ant valid refl holds
+
+-- it stands on the cell that was read
+pub own_read : {w : World} {p : Pos} {ant : Ant} {cell : Cell} → Stands w p (w.cells p) ant → cell ≡ w.cells p → Stands w p cell ant
+own_read {w} {p} {ant} stands is = subst (λ c. Stands w p c ant) (sym is) stands
+
 module _ {w : World} {p : Pos} {cell : Cell} {ant : Ant} (stands : Stands w p cell ant) where
   -- the cell of an ant that stays may replace the one there
   pub own_replaces : {instruction : Instr} {kept : Cell} (new : Cell) → new ≡ kept → Stays instruction cell ant kept → Replaces (w.cells p) new
@@ -51,6 +61,14 @@ module _ {w : World} {p : Pos} {cell : Cell} {ant : Ant} (stands : Stands w p ce
   -- the ant is on the world's cell
   pub stands_on : (w.cells p).ant ≡ Some ant
   stands_on = ap (λ (c : Cell). c.ant) (sym stands.here) ∙ stands.holds
+
+  -- another state, rest and direction may be set
+  pub own_thinks : (room : ℕ) (after : Ant) → 1 ≤ room → after.id ≡ ant.id → after.colour ≡ ant.colour → after.laden ≡ ant.laden → CanThink w room p after
+  own_thinks room after left id colour load = record {
+    room_left = left;
+    inside = inner_inside stands.inner;
+    stands = subst (λ o. IsSomeAnd o (SameBody after)) (sym stands_on) (record { same_id = id; same_colour = colour; same_load = load });
+  }
 
   -- the cell may be set to what the ant leaves
   pub CanSet-left : (room : ℕ) → 1 ≤ room → CanSet w room p (left_by_ant cell)

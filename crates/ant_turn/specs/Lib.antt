@@ -5,6 +5,8 @@ pub mod KillLaws
 pub mod Kills
 pub mod Minds
 pub mod QuietLaws
+pub mod Renumber
+pub mod RenumberLaws
 pub mod Rounds
 pub mod Sheet
 pub mod Stands

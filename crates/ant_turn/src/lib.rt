@@ -14,6 +14,7 @@ mod conditions;
 mod kills;
 mod own_cell;
 mod sheet;
+mod renumber_laws;
 mod turn;
 mod turn_laws;
 
@@ -21,6 +22,7 @@ pub use brains::Brains;
 pub use conditions::matches;
 pub use kills::{check_around, surrounded};
 pub use sheet::Sheet;
+pub use renumber_laws::{rounds_renumber, turns_renumber};
 pub use turn::{Deed, take_turn};
 pub use turn_laws::{
     idle_turns, openings_fit, rounds_keep, rounds_keep_food, turns_are_near, turns_draw,

@@ -1,4 +1,4 @@
-// Cells as an ant leaves them in its turn.
+// Ants and cells as a turn leaves them.
 ghost use Rattle.std.specs.Prelude.{◌≡◌, ◌<◌, ◌≤◌, ◌+◌, ◌-◌, ◌||◌, ◌==◌, if◌then◌else◌, Some, true, false};
 ghost use Rattle.hex_geometry.specs.Direction.{turned_by};
 ghost use Rattle.cell_world.specs.Cell.{one_if};
@@ -12,10 +12,42 @@ use hex_geometry::{Side, turned};
 
 // The ant in this state.
 #[inline]
-fn in_state(ant: Ant, state: u16) -> Ant
+pub(crate) fn in_state(ant: Ant, state: u16) -> Ant
     ensures { result ≡ turn.in_state ant state }
 {
     Ant { state, ..ant }
+}
+
+// The ant when it has rested for a turn.
+#[inline]
+pub(crate) fn rested(ant: Ant) -> Ant
+    requires { 1 ≤ ant.resting }
+    ensures { result ≡ record ant { resting = ant.resting - 1 } }
+{
+    Ant {
+        resting: ant.resting - 1,
+        ..ant
+    }
+}
+
+// The ant after a Sense or a Flip: it goes on in one of two states.
+#[inline]
+pub(crate) fn branched(ant: Ant, first: bool, met: u16, unmet: u16) -> Ant
+    ensures { result ≡ turn.in_state ant (if first then met else unmet) }
+{
+    in_state(ant, if first { met } else { unmet })
+}
+
+// The ant after a Turn.
+#[inline]
+pub(crate) fn faced(ant: Ant, side: Side, next: u16) -> Ant
+    ensures { result ≡ record ant { facing = turned_by ant.facing side; state = next } }
+{
+    Ant {
+        state: next,
+        facing: turned(ant.facing, side),
+        ..ant
+    }
 }
 
 // The cell with this ant.
@@ -27,29 +59,6 @@ fn with_ant(cell: &Cell, ant: Ant) -> Cell
         ant: Some(ant),
         ..*cell
     }
-}
-
-// The own cell when the ant has rested for a turn.
-#[inline]
-pub(crate) fn rested(cell: &Cell, ant: Ant) -> Cell
-    requires { 1 ≤ ant.resting }
-    ensures { result ≡ turn.with_ant cell.now (record ant { resting = ant.resting - 1 }) }
-{
-    with_ant(
-        cell,
-        Ant {
-            resting: ant.resting - 1,
-            ..ant
-        },
-    )
-}
-
-// The own cell after a Sense, a Flip or a blocked Move: the ant goes on in one of two states.
-#[inline]
-pub(crate) fn branched(cell: &Cell, ant: Ant, first: bool, met: u16, unmet: u16) -> Cell
-    ensures { result ≡ turn.with_ant cell.now (turn.in_state ant (if first then met else unmet)) }
-{
-    with_ant(cell, in_state(ant, if first { met } else { unmet }))
 }
 
 // The own cell after a Mark.
@@ -131,21 +140,6 @@ pub(crate) fn dropped(cell: &Cell, ant: Ant, next: u16) -> Cell
         }),
         ..*cell
     }
-}
-
-// The own cell after a Turn.
-#[inline]
-pub(crate) fn faced(cell: &Cell, ant: Ant, side: Side, next: u16) -> Cell
-    ensures { result ≡ turn.with_ant cell.now (record ant { facing = turned_by ant.facing side; state = next }) }
-{
-    with_ant(
-        cell,
-        Ant {
-            state: next,
-            facing: turned(ant.facing, side),
-            ..ant
-        },
-    )
 }
 
 // Whether no ant can move onto the cell: it is rocky or holds an ant.

@@ -1,7 +1,7 @@
 // One turn of an ant.
 ghost use Rattle.std.specs.Prelude.{◌≡◌, ◌+◌, ◌<◌, ◌≤◌, ◌^◌, ℕ, [], false};
 ghost use Rattle.cell_world.specs.Cell.{one_if};
-ghost use Rattle.cell_world.specs.Valid.{Valid, Replaces};
+ghost use Rattle.cell_world.specs.Valid.{Valid, CanThink, Replaces};
 ghost use Rattle.cell_world.specs.World.{put, with_cells};
 ghost use Rattle.brain_read.specs.Soundness.{IsSound};
 ghost use Rattle.ant_turn.specs.Minds.{Fits, minds_of};
@@ -13,7 +13,8 @@ use crate::brains::Brains;
 use crate::conditions::meets;
 use crate::kills::check_around;
 use crate::own_cell::{
-    arrived, branched, dropped, faced, is_blocked, left_by_ant, marked, picked_up, rested, unmarked,
+    arrived, branched, dropped, faced, in_state, is_blocked, left_by_ant, marked, picked_up,
+    rested, unmarked,
 };
 use crate::sheet::Sheet;
 use ant_random::Stream;
@@ -61,19 +62,32 @@ fn stay<G: Ground>(ground: &mut G, p: Pos, cell: Cell) -> Deed
     idle()
 }
 
+// Gives the ant of `p` the state, the rest and the direction of this one.
+#[inline]
+fn think<G: Ground>(ground: &mut G, p: Pos, ant: Ant) -> Deed
+    requires { CanThink (G.world ground.old) (G.room ground.old) p ant }
+    ensures world { G.world ground.new ≡ put (G.world ground.old) p (turn.with_ant ((G.world ground.old).cells p) ant) }
+    ensures drew { result.drew ≡ false }
+    ensures killed { result.killed.items ≡ [] }
+    ensures room { G.room ground.old ≤ G.room ground.new + 1 }
+    ensures valid { Valid (G.world ground.new) }
+{
+    ground.set_mind(p, ant);
+    idle()
+}
+
 // The ant of `p` steps onto `q`, and surrounded ants are checked around `q`.
 #[inline]
 fn step<G: Ground>(
     ground: &mut G,
     sheet: Sheet,
     p: Pos,
-    cell: &Cell,
     ant: Ant,
     q: Pos,
     there: &Cell,
     next: u16,
 ) -> Deed
-    requires stands { Stands (G.world ground.old) p cell.now ant }
+    requires stands { Stands (G.world ground.old) p ((G.world ground.old).cells p) ant }
     requires there { there.now ≡ (G.world ground.old).cells q }
     requires free { turn.is_blocked there.now ≡ false }
     requires room { 9 ≤ G.room ground.old }
@@ -84,7 +98,8 @@ fn step<G: Ground>(
     ensures room { G.room ground.old ≤ G.room ground.new + 9 }
     ensures valid { Valid (G.world ground.new) }
 {
-    ground.set(p, left_by_ant(cell));
+    let cell = ground.cell_at(p);
+    ground.set(p, left_by_ant(&cell));
     ground.set(q, arrived(sheet, there, ant, next));
     Deed {
         drew: false,
@@ -94,16 +109,8 @@ fn step<G: Ground>(
 
 // A Move of the ant of `p`.
 #[inline]
-fn go<G: Ground>(
-    ground: &mut G,
-    sheet: Sheet,
-    p: Pos,
-    cell: &Cell,
-    ant: Ant,
-    met: u16,
-    unmet: u16,
-) -> Deed
-    requires stands { Stands (G.world ground.old) p cell.now ant }
+fn go<G: Ground>(ground: &mut G, sheet: Sheet, p: Pos, ant: Ant, met: u16, unmet: u16) -> Deed
+    requires stands { Stands (G.world ground.old) p ((G.world ground.old).cells p) ant }
     requires room { 9 ≤ G.room ground.old }
     ensures world { (seed place : ℕ) → G.world ground.new ≡ with_cells (G.world ground.old)
         (turn.execute (sheet_of sheet) seed (G.world ground.old).cells place p ant (Instr.Move met unmet)).cells }
@@ -115,9 +122,9 @@ fn go<G: Ground>(
     let ahead = adjacent(p, ant.facing);
     let there = ground.cell_at(ahead);
     if is_blocked(&there) {
-        return stay(ground, p, branched(cell, ant, false, met, unmet));
+        return think(ground, p, in_state(ant, unmet));
     }
-    step(ground, sheet, p, cell, ant, ahead, &there, met)
+    step(ground, sheet, p, ant, ahead, &there, met)
 }
 
 // Executes the instruction of the ant of `p`.
@@ -127,11 +134,10 @@ fn execute<G: Ground>(
     sheet: Sheet,
     stream: &mut Stream,
     p: Pos,
-    cell: &Cell,
     ant: Ant,
     instruction: Instr,
 ) -> Deed
-    requires stands { Stands (G.world ground.old) p cell.now ant }
+    requires stands { Stands (G.world ground.old) p ((G.world ground.old).cells p) ant }
     requires sound { (states : ℕ) × IsSound states instruction }
     requires place { stream.old.place + 1 < 2 ^ 63 }
     requires room { 9 ≤ G.room ground.old }
@@ -154,19 +160,31 @@ fn execute<G: Ground>(
         } => {
             let sensed_cell = ground.cell_at(sensed(p, ant.facing, sight));
             let saw = meets(&sensed_cell, cond, ant.colour);
-            stay(ground, p, branched(cell, ant, saw, yes, no))
+            think(ground, p, branched(ant, saw, yes, no))
         }
-        Instr::Mark { mark, next } => stay(ground, p, marked(cell, ant, mark, next)),
-        Instr::Unmark { mark, next } => stay(ground, p, unmarked(cell, ant, mark, next)),
-        Instr::PickUp { yes, no } => stay(ground, p, picked_up(cell, ant, yes, no)),
-        Instr::Drop { next } => stay(ground, p, dropped(cell, ant, next)),
-        Instr::Turn { side, next } => stay(ground, p, faced(cell, ant, side, next)),
-        Instr::Move { yes, no } => go(ground, sheet, p, cell, ant, yes, no),
+        Instr::Mark { mark, next } => {
+            let cell = ground.cell_at(p);
+            stay(ground, p, marked(&cell, ant, mark, next))
+        }
+        Instr::Unmark { mark, next } => {
+            let cell = ground.cell_at(p);
+            stay(ground, p, unmarked(&cell, ant, mark, next))
+        }
+        Instr::PickUp { yes, no } => {
+            let cell = ground.cell_at(p);
+            stay(ground, p, picked_up(&cell, ant, yes, no))
+        }
+        Instr::Drop { next } => {
+            let cell = ground.cell_at(p);
+            stay(ground, p, dropped(&cell, ant, next))
+        }
+        Instr::Turn { side, next } => think(ground, p, faced(ant, side, next)),
+        Instr::Move { yes, no } => go(ground, sheet, p, ant, yes, no),
         Instr::Flip { bound, yes, no } => {
             let number = stream.draw(bound);
             Deed {
                 drew: true,
-                ..stay(ground, p, branched(cell, ant, number == 0, yes, no))
+                ..think(ground, p, branched(ant, number == 0, yes, no))
             }
         }
     }
@@ -199,18 +217,15 @@ pub fn take_turn<G: Ground>(
     ensures valid { Valid (G.world ground.new) }
     ensures fit { Fits (G.world ground.new) (minds_of brains.entry) }
 {
-    let Some(p) = ground.place_of(id) else {
+    let Some(standing) = ground.ant_of(id) else {
         return idle();
     };
-    let cell = ground.cell_at(p);
-    let Some(ant) = cell.ant else {
-        return idle();
-    };
+    let (p, ant) = (standing.place, standing.ant);
     if ant.resting > 0 {
-        return stay(ground, p, rested(&cell, ant));
+        return think(ground, p, rested(ant));
     }
     let instruction = brains.of(ant.colour).at(ant.state);
-    execute(ground, brains.sheet, stream, p, &cell, ant, instruction)
+    execute(ground, brains.sheet, stream, p, ant, instruction)
 }
 
 #[cfg(test)]

@@ -1,13 +1,23 @@
 -- Ants read from their bodies, before and after the ant of one cell changes.
-use Rattle.std.proofs.Common.{◌≡◌, ℕ, ◌<◌, Bool, true, false, cond, nat_eq, List, length, get_or, Option, Some, None, refl, sym, ap, ◌∙◌, subst}
+use Rattle.std.proofs.Common.{◌≡◌, ℕ, ◌<◌, Bool, true, false, cond, nat_eq, List, length, get_or, Option, Some, None, refl, sym, ap, ◌∙◌, subst, arith}
 use Rattle.std.proofs.lemmas.Bool.{cond-true, cond-false, cond_both, eq-eqb, eqb-false, eqb-true, false≢true, ne_eqb}
 use Rattle.std.proofs.lemmas.List.{get_or_default, get_or-map}
 use Rattle.hex_geometry.specs.declared.position.Pos.{Pos}
 use Rattle.cell_world.specs.declared.ant.Ant.{Ant}
 use Rattle.cell_world.specs.declared.body.Body.{Body}
 use Rattle.cell_world.specs.Cell.{is_ant}
-use Rattle.cell_world.specs.Places.{IsMade, Moved, came, gone}
-use Rattle.cell_world.specs.Stored.{ant_from, ant_named, body_at, id_of, no_body, places_of}
+use Rattle.cell_world.specs.Places.{IsKnown, IsMade, Moved, came, gone}
+use Rattle.cell_world.specs.Stored.{ant_from, ant_named, body_at, id_of, no_body, nobody, occupant_id, occupant_of, places_of}
+
+-- the number that stands for nobody is no id
+pub occupant_id-of : (o : Option Ant) → IsKnown nobody o → occupant_id (occupant_of o) ≡ id_of o
+occupant_id-of None known = refl
+occupant_id-of (Some ant) known = cond-false _ _ _ (ne_eqb ant.id nobody (λ e. omega arith))
+
+-- what holds of the ant, if there is one, holds of who is known
+pub IsKnown-from : (ids : ℕ) (o : Option Ant) → ((ant : Ant) → o ≡ Some ant → ant.id < ids) → IsKnown ids o
+IsKnown-from ids None known = tt
+IsKnown-from ids (Some ant) known = known ant refl
 
 -- whether the id, if there is one, is this
 abbrev pub is_id : ℕ → Option ℕ → Bool

@@ -1,5 +1,5 @@
 -- The fields of a world after each of its two changes.
-use Rattle.std.proofs.Common.{◌≡◌, inl, inr, ℕ, ◌<◌, Bool, true, List, ◌++◌, length, get_or, set, take, drop, Option, Some, None, refl, sym, ap, ap₂, ◌∙◌, subst}
+use Rattle.std.proofs.Common.{◌≡◌, inl, inr, ℕ, ◌<◌, Bool, true, List, ◌++◌, length, get_or, set, take, drop, Option, Some, None, refl, sym, ap, ap₂, ◌∙◌, subst, arith}
 use Rattle.std.proofs.Math.Seq.{take-append_seam}
 use Rattle.std.proofs.lemmas.Bool.{cases_eq, cond-false, ne_eqb}
 use Rattle.std.proofs.lemmas.List.{get_or-map, get_or-set_other, get_or-set_same, length-set, set-get_or}
@@ -9,30 +9,31 @@ use Rattle.cell_world.specs.declared.ant.Ant.{Ant}
 use Rattle.cell_world.specs.declared.ant.Colour.{Colour}
 use Rattle.cell_world.specs.declared.body.Body.{Body}
 use Rattle.cell_world.specs.declared.cell.Cell.{Cell}
+use Rattle.cell_world.specs.declared.occupant.Occupant.{Occupant}
 use Rattle.cell_world.specs.declared.tile.Tile.{Tile}
 use Rattle.cell_world.specs.declared.world.World.TheInside.{Inside}
 use Rattle.cell_world.specs.Cell.{holds_id, rock}
 use Rattle.cell_world.specs.Grid.{Grid, IsIndex, IsWorld, cell_in, index_of, world_of}
 use Rattle.cell_world.specs.Inside.{IsKept, grid_of}
-use Rattle.cell_world.specs.Places.{Moved, came, gone}
-use Rattle.cell_world.specs.Stored.{ant_from, ant_named, body_at, cell_from, grid_from, id_of, places_of, tile_of}
+use Rattle.cell_world.specs.Places.{IsKnown, Moved, came, gone}
+use Rattle.cell_world.specs.Stored.{ant_from, ant_named, body_at, cell_from, grid_from, nobody, occupant_id, occupant_of, places_of, tile_of}
 use Rattle.cell_world.specs.Valid.{CanSet, CanThink}
 use Rattle.cell_world.specs.World.{place_in, put}
-use Rattle.cell_world.proofs.Bodies.{ant_named-body, ant_named-came, came-other, came-same}
+use Rattle.cell_world.proofs.Bodies.{IsKnown-from, occupant_id-of, ant_named-body, ant_named-came, came-other, came-same}
 use Rattle.cell_world.proofs.Places.{holds_id-own, place_in-found}
 use Rattle.cell_world.proofs.Sets.{grid_set, world_of-set}
 use Rattle.cell_world.proofs.Stores.{Changed, ant-read, cell_in-tile_at, cell_in-tile_is, stored-set}
 use Rattle.cell_world.proofs.Valids.{CanSet-mind, Thinker, thinker}
 
--- the old tile's kind and hill, and all else of the new cell, whose ant's id is this
-abbrev pub merged_tile : Tile → Cell → Option ℕ → Tile
-merged_tile old cell id = record old { food = cell.food; ant = id; red = cell.red; black = cell.black }
+-- the old tile's kind and hill, and all else of the new cell, with this occupant
+abbrev pub merged_tile : Tile → Cell → Occupant → Tile
+merged_tile old cell occupant = record old { food = cell.food; ant = occupant; red = cell.red; black = cell.black }
 
 -- which reads as the new cell, where its kind and hill are the old one's and its ant is read
-merged : (new : List Body) (old : Tile) (cell : Cell) (id : Option ℕ) → old.rocky ≡ cell.rocky → old.hill ≡ cell.hill → ant_named new id ≡ cell.ant → cell_from new (merged_tile old cell id) ≡ cell
-merged new old cell id kind hill ant =
+merged : (new : List Body) (old : Tile) (cell : Cell) (occupant : Occupant) → old.rocky ≡ cell.rocky → old.hill ≡ cell.hill → ant_named new (occupant_id occupant) ≡ cell.ant → cell_from new (merged_tile old cell occupant) ≡ cell
+merged new old cell occupant kind hill ant =
     let with : Bool → Option Colour → Option Ant → Cell = λ r h o. record { rocky = r; hill = h; food = cell.food; red = cell.red; black = cell.black; ant = o } in
-    ap₂ (λ r h. with r h (ant_named new id)) kind hill ∙ ap (with cell.rocky cell.hill) ant
+    ap₂ (λ r h. with r h (ant_named new (occupant_id occupant))) kind hill ∙ ap (with cell.rocky cell.hill) ant
 
 -- a vector all of whose items were written anew holds the new ones
 refilled : {X : Type 0} (n : ℕ) (items new : List X) → n ≡ length items → length new ≡ length items → take n (new ++ drop (length new) items) ≡ new
@@ -54,22 +55,24 @@ pub record FieldsChanged (fields after : Inside) (p : Pos) (cell : Cell) : Type 
   pub kept : IsKept after
 
 -- the fields after a change that may be made, and after which the bodies were moved, are a world's
-pub fields_set-changed : (fields : Inside) (p : Pos) (old : Tile) (cell : Cell) (id : Option ℕ) (room : ℕ) (known new : List Body) → IsKept fields → CanSet (world_of (grid_of fields)) room p cell → old ≡ get_or fields.tiles.items (index_of fields.width p) old → id ≡ id_of cell.ant → known ≡ fields.bodies.items → Moved known new p old.ant cell.ant →
-    FieldsChanged fields (fields_set fields p (merged_tile old cell id) new) p cell
-fields_set-changed fields p old cell id room known new kept can item named is moved =
+pub fields_set-changed : (fields : Inside) (p : Pos) (old : Tile) (cell : Cell) (occupant : Occupant) (before : Option ℕ) (room : ℕ) (known new : List Body) → IsKept fields → CanSet (world_of (grid_of fields)) room p cell → old ≡ get_or fields.tiles.items (index_of fields.width p) old → occupant ≡ occupant_of cell.ant → before ≡ occupant_id old.ant → known ≡ fields.bodies.items → Moved known new p before cell.ant →
+    FieldsChanged fields (fields_set fields p (merged_tile old cell occupant) new) p cell
+fields_set-changed fields p old cell occupant before room known new kept can item named was is moved =
     let width : ℕ = fields.width in
     let height : ℕ = fields.height in
     let tiles : List Tile = fields.tiles.items in
     let bodies : List Body = fields.bodies.items in
-    let tile : Tile = merged_tile old cell id in
+    let tile : Tile = merged_tile old cell occupant in
     let after : List Tile = set tiles (index_of width p) tile in
     let there : cell_in (grid_of fields) p ≡ cell_from bodies old = cell_in-tile_is width height tiles bodies p old kept.world can.inside item in
     let long : length new ≡ length bodies = moved.all_ids ∙ ap length is in
     let whole : (fields_set fields p tile new).bodies.items ≡ new = refilled fields.bodies.len bodies new fields.bodies.ok.0 long in
-    let moved_there : Moved bodies new p old.ant cell.ant = subst (λ k. Moved k new p old.ant cell.ant) is moved in
+    let moved_there : Moved bodies new p (occupant_id old.ant) cell.ant = subst (λ o. Moved bodies new p o cell.ant) was (subst (λ k. Moved k new p before cell.ant) is moved) in
+    let few = kept.world.valid.few in
+    let known_here : IsKnown nobody cell.ant = IsKnown-from nobody cell.ant (λ ant there. let early : ant.id < length bodies = can.ant_known ant there in omega arith) in
     let reads : cell_from new tile ≡ cell =
-    merged new old cell id (ap (λ (c : Cell). c.rocky) (sym there) ∙ can.was_clear ∙ sym can.is_clear) (ap (λ (c : Cell). c.hill) (sym there) ∙ sym can.same_hill)
-    (ap (ant_named new) named ∙ ant_named-came moved_there cell.ant refl can.ant_known) in
+    merged new old cell occupant (ap (λ (c : Cell). c.rocky) (sym there) ∙ can.was_clear ∙ sym can.is_clear) (ap (λ (c : Cell). c.hill) (sym there) ∙ sym can.same_hill)
+    (ap (λ o. ant_named new (occupant_id o)) named ∙ ap (ant_named new) (occupant_id-of cell.ant known_here) ∙ ant_named-came moved_there cell.ant refl can.ant_known) in
     let changed : Changed width height tiles bodies p tile new cell = stored-set width height tiles bodies kept.world can moved_there tile kept.index (ap (λ (c : Cell). c.ant) there) reads in
     record {
       grid = ap (grid_from width height after) whole ∙ changed.grid;

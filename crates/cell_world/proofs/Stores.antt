@@ -11,7 +11,7 @@ use Rattle.cell_world.specs.declared.tile.Tile.{Tile}
 use Rattle.cell_world.specs.Cell.{rock, holds_id, is_ant}
 use Rattle.cell_world.specs.Grid.{Grid, IsIndex, IsWorld, cell_in, index_of, world_of}
 use Rattle.cell_world.specs.Places.{IsMade, Moved}
-use Rattle.cell_world.specs.Stored.{ant_named, cell_from, grid_from, places_of}
+use Rattle.cell_world.specs.Stored.{ant_named, cell_from, grid_from, occupant_id, places_of}
 use Rattle.cell_world.specs.Valid.{CanSet}
 use Rattle.cell_world.specs.World.{pos_at}
 use Rattle.cell_world.proofs.Bodies.{IsMade-named, ant_named-stays, is_ant-named, is_id, is_id-true, places_of-moved}
@@ -37,18 +37,18 @@ module _ (width height : ℕ) (tiles : List Tile) (bodies : List Body) where
   cell_in-tile_is p tile world inside is = cell_in-tile_at p tile world inside ∙ ap (cell_from bodies) (sym is)
 
   -- its id was made
-  pub tile-made : (p : Pos) (tile : Tile) → IsWorld (grid_from width height tiles bodies) → IsInside width height p → tile ≡ get_or tiles (index_of width p) tile → IsMade (length bodies) tile.ant
+  pub tile-made : (p : Pos) (tile : Tile) → IsWorld (grid_from width height tiles bodies) → IsInside width height p → tile ≡ get_or tiles (index_of width p) tile → IsMade (length bodies) (occupant_id tile.ant)
   tile-made p tile world inside is =
-      IsMade-named (length bodies) bodies tile.ant (λ ant has. world.valid.known p ant (ap (λ (c : Cell). c.ant) (cell_in-tile_is p tile world inside is) ∙ has))
+      IsMade-named (length bodies) bodies (occupant_id tile.ant) (λ ant has. world.valid.known p ant (ap (λ (c : Cell). c.ant) (cell_in-tile_is p tile world inside is) ∙ has))
 
   -- an ant that a cell holds is read from its body
   pub ant-read : (t : ℕ) (p : Pos) (d : Tile) → IsWorld (grid_from width height tiles bodies) → holds_id t (cell_in (grid_from width height tiles bodies) p) ≡ true →
-      (get_or tiles (index_of width p) d).ant ≡ Some t × ((cell_in (grid_from width height tiles bodies) p).ant ≡ ant_named bodies (Some t))
+      occupant_id (get_or tiles (index_of width p) d).ant ≡ Some t × ((cell_in (grid_from width height tiles bodies) p).ant ≡ ant_named bodies (Some t))
   ant-read t p d world holds =
       let inside : IsInside width height p = holds_id-inside (world_of (grid_from width height tiles bodies)) t p world.valid holds in
       let content = cell_in-tile_at p d world inside in
-      let named : (get_or tiles (index_of width p) d).ant ≡ Some t =
-      is_id-true t (get_or tiles (index_of width p) d).ant (sym (is_ant-named t bodies (get_or tiles (index_of width p) d).ant) ∙ ap (holds_id t) (sym content) ∙ holds) in
+      let named : occupant_id (get_or tiles (index_of width p) d).ant ≡ Some t =
+      is_id-true t (occupant_id (get_or tiles (index_of width p) d).ant) (sym (is_ant-named t bodies (occupant_id (get_or tiles (index_of width p) d).ant)) ∙ ap (holds_id t) (sym content) ∙ holds) in
       (named, ap (λ (c : Cell). c.ant) content ∙ ap (ant_named bodies) named)
 
   -- what a change of one tile comes to
@@ -69,14 +69,14 @@ module _ (width height : ℕ) (tiles : List Tile) (bodies : List Body) where
     tile-stays : (k : ℕ) (d : Tile) → k < length tiles → k ≢ index_of width p → cell_from new (get_or tiles k d) ≡ cell_from bodies (get_or tiles k d)
     tile-stays k d early apart =
         let content = cell_in-tile k d full early in
-        let made : IsMade (length bodies) (get_or tiles k d).ant =
-        IsMade-named (length bodies) bodies (get_or tiles k d).ant (λ ant is. world.valid.known (pos_at width k) ant (ap (λ (c : Cell). c.ant) content ∙ is)) in
-        let other : (ant : Ant) → cell.ant ≡ Some ant → is_id ant.id (get_or tiles k d).ant ≡ false = λ ant is.
-        sym (is_ant-named ant.id bodies (get_or tiles k d).ant)
+        let made : IsMade (length bodies) (occupant_id (get_or tiles k d).ant) =
+        IsMade-named (length bodies) bodies (occupant_id (get_or tiles k d).ant) (λ ant is. world.valid.known (pos_at width k) ant (ap (λ (c : Cell). c.ant) content ∙ is)) in
+        let other : (ant : Ant) → cell.ant ≡ Some ant → is_id ant.id (occupant_id (get_or tiles k d).ant) ≡ false = λ ant is.
+        sym (is_ant-named ant.id bodies (occupant_id (get_or tiles k d).ant))
         ∙ ap (holds_id ant.id) (sym content)
         ∙ can.ant_nowhere_else ant is (pos_at width k) (λ e. apart (sym (index_of-pos_at width k) ∙ ap (index_of width) e)) in
         let with : Option Ant → Cell = λ o. record (cell_from bodies (get_or tiles k d)) { ant = o } in
-        ap with (ant_named-stays moved (get_or tiles k d).ant made other)
+        ap with (ant_named-stays moved (occupant_id (get_or tiles k d).ant) made other)
 
     -- all cells are as before, but the one
     cells-set : (tile : Tile) → cell_from new tile ≡ cell → map (cell_from new) (set tiles (index_of width p) tile) ≡ set (map (cell_from bodies) tiles) (index_of width p) cell

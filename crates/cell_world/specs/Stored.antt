@@ -1,5 +1,5 @@
 -- What a world keeps of cells and ants, and how it reads (this project's own). No public clause speaks of it.
-use Rattle.std.specs.Prelude.{ℕ, ◌+◌, Bool, false, ◌&&◌, cond, List, [], ◌∷◌, ◌++◌, length, map, slice_index_or, Option, Some, None}
+use Rattle.std.specs.Prelude.{ℕ, ◌+◌, Bool, false, ◌&&◌, cond, nat_eq, List, [], ◌∷◌, ◌++◌, length, map, slice_index_or, Option, Some, None}
 use Rattle.std.specs.Option.{is_some, option_map}
 use Rattle.hex_geometry.specs.declared.direction.Dir.TheVariants.{East}
 use Rattle.hex_geometry.specs.declared.position.Pos.{Pos}
@@ -10,6 +10,7 @@ use Rattle.cell_world.specs.declared.body.Body.{Body}
 use Rattle.cell_world.specs.declared.cell.Cell.{Cell}
 use Rattle.cell_world.specs.declared.kind.Kind.{Kind}
 use Rattle.cell_world.specs.declared.kind.Kind.TheVariants.{Rock, Clear, RedHill, BlackHill, Food}
+use Rattle.cell_world.specs.declared.occupant.Occupant.{Occupant}
 use Rattle.cell_world.specs.declared.tile.Tile.{Tile}
 use Rattle.cell_world.specs.Cell.{is_hill_of, one_if}
 use Rattle.cell_world.specs.Colour.{same_colour}
@@ -34,9 +35,22 @@ unfoldable pub ant_named : List Body → Option ℕ → Option Ant
 ant_named bodies None = None
 ant_named bodies (Some t) = Some (ant_from t (slice_index_or bodies t no_body))
 
+-- the number of an occupant that stands for nobody
+abbrev pub nobody : ℕ
+nobody = 65535
+
+-- the id of an occupant, where there is somebody
+abbrev pub occupant_id : Occupant → Option ℕ
+occupant_id occupant = cond (nat_eq occupant.number nobody) None (Some occupant.number)
+
+-- who is on a cell with this ant, or without one
+abbrev pub occupant_of : Option Ant → Occupant
+occupant_of None = record { number = nobody }
+occupant_of (Some ant) = record { number = ant.id }
+
 -- the cell that a tile stands for
 abbrev pub cell_from : List Body → Tile → Cell
-cell_from bodies tile = record { rocky = tile.rocky; hill = tile.hill; food = tile.food; red = tile.red; black = tile.black; ant = ant_named bodies tile.ant }
+cell_from bodies tile = record { rocky = tile.rocky; hill = tile.hill; food = tile.food; red = tile.red; black = tile.black; ant = ant_named bodies (occupant_id tile.ant) }
 
 -- the id of the ant, where there is one
 abbrev pub id_of : Option Ant → Option ℕ
@@ -44,7 +58,7 @@ id_of ant = option_map (λ (it : Ant). it.id) ant
 
 -- what is kept of a cell
 abbrev pub tile_of : Cell → Tile
-tile_of cell = record { food = cell.food; ant = id_of cell.ant; rocky = cell.rocky; hill = cell.hill; red = cell.red; black = cell.black }
+tile_of cell = record { food = cell.food; ant = occupant_of cell.ant; rocky = cell.rocky; hill = cell.hill; red = cell.red; black = cell.black }
 
 -- the grid that tiles and bodies stand for: there are as many ids as bodies
 abbrev pub grid_from : ℕ → ℕ → List Tile → List Body → Grid

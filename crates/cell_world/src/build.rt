@@ -44,7 +44,7 @@ impl Parts {
     fn add(&mut self, width: u16, kind: Kind) -> Result<(), OutOfMemory>
         requires wide { 1 ≤ width }
         requires low { vec_len self.old.tiles < width * 65536 }
-        requires few { vec_len self.old.bodies < 65536 }
+        requires few { vec_len self.old.bodies < 65535 }
         ensures tiles { OnOk result (self.new.tiles.items ≡ self.old.tiles.items ++ tile_of (opening_cell (vec_len self.old.bodies) kind) ∷ []) }
         ensures bodies { OnOk result (self.new.bodies.items ≡ self.old.bodies.items ++ new_bodies (hill_of kind) (pos_at width (vec_len self.old.tiles))) }
     {

@@ -16,6 +16,7 @@ mod ground_laws;
 mod kind;
 mod marks;
 mod marks_laws;
+mod occupant;
 mod opening_laws;
 mod part;
 mod part_laws;

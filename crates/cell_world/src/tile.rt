@@ -1,18 +1,19 @@
 // What a world keeps of a cell.
 ghost use Rattle.std.specs.Prelude.{◌≡◌, ◌<◌, length};
 ghost use Rattle.cell_world.specs.Places.{IsKnown, IsMade};
-ghost use Rattle.cell_world.specs.Stored.{ant_named, id_of, tile_food, tile_of};
+ghost use Rattle.cell_world.specs.Stored.{ant_named, tile_food, tile_of};
 
 use crate::ant::{Ant, Colour};
 use crate::body::Body;
 use crate::cell::Cell;
 use crate::marks::Marks;
+use crate::occupant::Occupant;
 
 // What a world keeps of a cell: all of it, but of the ant that stands on it the id alone.
 #[derive(Clone, Copy)]
 pub struct Tile {
     pub food: u32,
-    pub ant: Option<u16>,
+    pub ant: Occupant,
     pub rocky: bool,
     pub hill: Option<Colour>,
     pub red: Marks,
@@ -22,12 +23,12 @@ pub struct Tile {
 impl Tile {
     // What is kept of this cell.
     pub fn of(cell: &Cell) -> Tile
-        requires { IsKnown 65536 cell.now.ant }
+        requires { IsKnown 65535 cell.now.ant }
         ensures { result ≡ tile_of cell.now }
     {
         Tile {
             food: cell.food,
-            ant: id_of(cell.ant),
+            ant: Occupant::of(cell.ant),
             rocky: cell.rocky,
             hill: cell.hill,
             red: cell.red,
@@ -44,18 +45,6 @@ impl Tile {
         } else {
             0
         }
-    }
-}
-
-// The id of the ant, if there is one.
-#[inline]
-pub fn id_of(ant: Option<Ant>) -> Option<u16>
-    requires { IsKnown 65536 ant }
-    ensures { result ≡ id_of ant }
-{
-    match ant {
-        Some(ant) => Some(ant.id as u16),
-        None => None,
     }
 }
 

@@ -123,7 +123,7 @@ impl World {
             food: tile.food,
             red: tile.red,
             black: tile.black,
-            ant: ant_named(&self.bodies, tile.ant),
+            ant: ant_named(&self.bodies, tile.ant.id()),
         }
     }
 

@@ -3,18 +3,26 @@
 //! The task's geometry: rows of six-sided cells, every odd row shifted half a cell to the right.
 //!
 //! To the crates above it promises that a neighbour is the one of the task's table, which is stated over all pairs of whole numbers, that a
-//! turn is a sum modulo six, and that a sensed position and the list of neighbours follow from these two. Nothing here takes memory.
+//! turn is a sum modulo six, and that a sensed position and the list of neighbours follow from these two; that a distance is the least number
+//! of steps of a walk over all pairs of whole numbers, and that a ball lists each position within its radius once, in row order. Nothing
+//! here but the list of a ball takes memory.
 //!
 //! It stands on no other crate.
 #![tactic(auto)]
 
+mod balls;
 mod direction;
+mod distance_laws;
+mod distances;
 mod laws;
 mod memory;
 mod neighbourhood;
 mod position;
 
+pub use balls::ball;
 pub use direction::{Dir, Side, turned};
+pub use distance_laws::{balls_are_counted, distance_is_metric, steps_change_by_one};
+pub use distances::distance;
 pub use laws::{neighbours_are_mutual, neighbours_are_the_tables, turns_go_round};
 pub use memory::OutOfMemory;
 pub use neighbourhood::{Sight, adjacent, neighbours, sensed};

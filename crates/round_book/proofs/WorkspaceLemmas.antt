@@ -1,13 +1,13 @@
 -- Positions marked one after another.
-use Rattle.std.proofs.Common.{◌≡◌, ◌≢◌, ◌⊎◌, inl, inr, ⊎_elim, ◌↔◌, ℕ, ◌+◌, ◌*◌, ◌<◌, Bool, true, false, List, [], ◌∷◌, ◌++◌, length, slice_index_or, slice_set, refl, sym, ◌∙◌, ap, subst, arith}
+use Rattle.std.proofs.Common.{◌≡◌, ◌≢◌, ◌⊎◌, inl, inr, ⊎_elim, ◌↔◌, ℕ, ◌+◌, ◌*◌, ◌<◌, Bool, true, false, List, [], ◌∷◌, ◌++◌, length, slice_index_or, slice_set, refl, sym, ◌∙◌, ap, ap₂, subst, arith}
 use Rattle.std.proofs.lemmas.Bool.{cases_eq}
 use Rattle.std.proofs.lemmas.List.{get_or-set_other, get_or-set_same, length-set}
 use Rattle.std.proofs.lemmas.List.Elements.{Contains-append_left, Contains-append_right, Contains-push_cases}
 use Rattle.std.specs.List.{Contains}
 use Rattle.hex_geometry.specs.declared.position.Pos.{Pos}
 use Rattle.hex_geometry.specs.Position.{IsInside}
-use Rattle.cell_world.specs.Grid.{Grid, index_of}
-use Rattle.cell_world.specs.World.{pos_at}
+use Rattle.cell_world.specs.Grid.{Grid, index_of, world_of}
+use Rattle.cell_world.specs.World.{Cells, World, pos_at, with_cells}
 use Rattle.cell_world.proofs.Grids.{index_of-inside, pos_at-index_of}
 use Rattle.round_book.specs.Inner.Workspace.{AreMarked}
 
@@ -42,3 +42,16 @@ AreMarked-more grid marked written p before inside = record {
 } where
   early : index_of grid.width p < length marked
   early = subst (λ n. index_of grid.width p < n) (sym before.sized) (index_of-inside grid.width grid.height p.x p.y inside.column inside.row)
+
+-- marks are the same in a world of the same sizes
+pub AreMarked-same : (grid new : Grid) (marked : List Bool) (written : List Pos) (cells : Cells) → world_of new ≡ with_cells (world_of grid) cells → AreMarked grid marked written → AreMarked new marked written
+AreMarked-same grid new marked written cells same before = record {
+  sized = before.sized ∙ ap₂ (λ (x y : ℕ). x * y) (sym width) (sym height);
+  inside = λ p held. let here = before.inside p held in record { column = subst (λ n. p.x < n) (sym width) here.column; row = subst (λ n. p.y < n) (sym height) here.row };
+  listed = λ p within bit. before.listed p (record { column = subst (λ n. p.x < n) width within.column; row = subst (λ n. p.y < n) height within.row }) (ap (λ n. slice_index_or marked (p.y * n + p.x) false) (sym width) ∙ bit);
+  bear = λ p held. ap (λ n. slice_index_or marked (p.y * n + p.x) false) width ∙ before.bear p held;
+} where
+  width : new.width ≡ grid.width
+  width = ap (λ (w : World). w.width) same
+  height : new.height ≡ grid.height
+  height = ap (λ (w : World). w.height) same

@@ -4,15 +4,17 @@ ghost use Rattle.std.specs.List.{AllByRecursion};
 ghost use Rattle.std.specs.Vec.{vec_capacity, vec_len};
 ghost use Rattle.cell_world.specs.Cell.{one_if};
 ghost use Rattle.cell_world.specs.Grid.{world_of};
+ghost use Rattle.cell_world.specs.Parts.{Agree};
 ghost use Rattle.cell_world.specs.World.{with_cells};
-ghost use Rattle.ant_turn.specs.Minds.{Fits, minds_of};
+ghost use Rattle.ant_turn.specs.Minds.{AreSound, Fits, minds_of};
 ghost use Rattle.spec_record.specs.Patching.{patched_cells};
 ghost use Rattle.round_book.specs.Book.{AgreesUnwritten, BookValue, CanTake, HoldsInBook, IsCause, IsEnded, IsRedone, IsSameWindow, Settles, Wrote, moment_of};
 ghost use Rattle.round_book.specs.Inner.Kept.{IsReady};
 
 use crate::verdict::{Cause, Verdict};
 use crate::workspace::Workspace;
-use spec_record::Look;
+use ant_turn::Brains;
+use spec_record::{Look, look};
 use std::marker::Model;
 
 /// A window of turns that is being settled, one after another (this project's own). It has a world of its own, which is that after the turns
@@ -119,10 +121,18 @@ impl Book {
         requires { AllByRecursion (AgreesUnwritten self.now) look.now.reads }
         ensures { MatchOption result (HoldsInBook self.now look.now) (λ cause. IsCause look.now (moment_of self.now) cause) }
     {
-        let change = self.work.first_change(look.reads().as_slice());
-        if change.is_some() {
-            return change;
+        match self.work.first_change(look.reads().as_slice()) {
+            Some(change) => Some(change),
+            None => self.move_against(look),
         }
+    }
+
+    // Why a look doesn't hold, if it doesn't, where all that it read is as it was.
+    #[inline]
+    fn move_against(&self, look: &Look) -> Option<Cause>
+        requires { AllByRecursion (λ read. Agree read.1 read.2 ((world_of self.now.world).cells read.0)) look.now.reads }
+        ensures { MatchOption result (HoldsInBook self.now look.now) (λ cause. IsCause look.now (moment_of self.now) cause) }
+    {
         if look.drew() && look.guess() != self.place {
             return Some(Cause::Place {
                 guessed: look.guess(),
@@ -130,6 +140,23 @@ impl Book {
             });
         }
         None
+    }
+
+    /// Executes the next turn, by these brains, on the book's world at its place, and notes for which cause: world and place become those of
+    /// the turn, and the positions that it writes are written. It takes no memory (this project's own).
+    ///
+    /// The next turn is one of the window, and the brains fit the book's world. A book in which a turn was executed anew although its look
+    /// holds, or for another cause than the look's, doesn't stand.
+    pub fn redo(&mut self, brains: Brains<'_>, cause: Cause)
+        requires in_window { self.old.next < self.old.to }
+        requires fit { Fits (world_of self.old.world) (minds_of brains) }
+        ensures redone { IsRedone (minds_of brains.entry) cause self.old self.new }
+        ensures same { IsSameWindow self.old self.new }
+    {
+        vouch(brains);
+        // the look at a turn in the very world in which it is taken says what the turn does
+        let look = look(&self.work.world, brains, self.seed, self.place, self.next);
+        self.end_turn(&look, Verdict::Redone(cause));
     }
 
     // Ends the next turn, which does what the look says, with a verdict.
@@ -141,7 +168,25 @@ impl Book {
     {
         self.work.write(look.writes().as_slice());
         self.work.verdicts.push_reserved(verdict);
-        self.place += u64::from(look.drew());
+        self.place += one_if(look.drew());
         self.next += 1;
     }
+}
+
+// Brains are brains, and their sheet is light.
+#[inline]
+pub(crate) fn vouch(brains: Brains<'_>)
+    ensures { AreSound (minds_of brains.entry) }
+{
+    let _red = brains.red.len();
+    let _black = brains.black.len();
+    let _corpse = brains.sheet.corpse();
+}
+
+// One where it is so, and nothing where it isn't.
+#[inline]
+fn one_if(is: bool) -> u64
+    ensures { result ≡ one_if is }
+{
+    u64::from(is)
 }

@@ -163,7 +163,7 @@ impl Workspace {
         requires { AreMarked self.old.world self.old.marked.items self.old.written.items }
         ensures { IsReady self.old.world self.new }
     {
-        unmark(&mut self.marked, self.world.width(), &self.written);
+        unmark(&mut self.marked, &self.world, &self.written);
         self.written.clear();
         self.verdicts.clear();
     }
@@ -179,13 +179,11 @@ fn is_inside(world: &World, p: Pos) -> bool
 }
 
 // Takes the marks of these positions off.
-fn unmark(marked: &mut [bool], width: u16, places: &[Pos])
-    ghost grid: { Grid }
-    requires wide { width ≡ grid.width }
-    requires marks { AreMarked grid marked.old places.now }
-    ensures { AreMarked grid marked.new [] }
+fn unmark(marked: &mut [bool], world: &World, places: &[Pos])
+    requires { AreMarked world.now marked.old places.now }
+    ensures { AreMarked world.now marked.new [] }
 {
     for p in places {
-        marked[p.y as usize * width as usize + p.x as usize] = false;
+        marked[p.y as usize * world.width() as usize + p.x as usize] = false;
     }
 }

@@ -1,8 +1,10 @@
 pub mod Claims
 pub mod Guess
 pub mod Holds
+pub mod Inner
 pub mod Locality
 pub mod Look
 pub mod Patching
 pub mod Reads
+pub mod Trail
 pub mod Writes

@@ -4,11 +4,20 @@
 //! other turns have changed meanwhile: where nothing that it read is different, the turn is what was looked at. This is this project's own.
 #![tactic(auto)]
 
-mod look;
+mod going;
+mod guess;
 mod look_laws;
+mod record;
+mod sightings;
+mod staying;
+mod trail;
+mod working;
 
-pub use look::Look;
+pub use guess::{at_flip, guesses};
 pub use look_laws::{
     looks_are_merged, looks_settle, looks_tell, turns_are_local, turns_are_local_alone,
     turns_are_patches, turns_are_small, turns_draw_at_flips, turns_write_alone,
 };
+pub use record::Look;
+pub use trail::Trail;
+pub use working::look;

@@ -7,7 +7,7 @@ use crate::ant::{Ant, Standing};
 use crate::body::Body;
 use crate::cell::Cell;
 use crate::ground::Ground;
-use crate::tile::id_of;
+use crate::occupant::Occupant;
 use crate::world::World;
 use hex_geometry::Pos;
 
@@ -30,11 +30,11 @@ impl Ground for World {
     #[inline]
     fn set(&mut self, p: Pos, cell: Cell) {
         let here = &mut self.tiles[p.y as usize * self.width as usize + p.x as usize];
-        let before = here.ant;
+        let before = here.ant.id();
         here.food = cell.food;
         here.red = cell.red;
         here.black = cell.black;
-        here.ant = id_of(cell.ant);
+        here.ant = Occupant::of(cell.ant);
         note_change(&mut self.bodies, p, before, cell.ant);
     }
 

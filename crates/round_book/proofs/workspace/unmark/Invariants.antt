@@ -4,4 +4,4 @@ use Rattle.round_book.proofs.MarkLemmas.{Unmarking}
 use Rattle.round_book.proofs.workspace.unmark.Given as goal
 
 abbrev pub invariant-loop-p : goal.invariant-loop-p
-invariant-loop-p g l = Unmarking g.grid l.marked (drop l.p-index l.places)
+invariant-loop-p l = Unmarking l.world l.marked (drop l.p-index l.places)

@@ -7,4 +7,4 @@ use Rattle.cell_world.proofs.build.Parts.add.Goals as goal
 
 pub of-tile-requires : goal.of-tile-requires
 of-tile-requires c =
-    subst (λ (cell : Cell). IsKnown 65536 cell.ant) (sym c.opening_cell-cell.ensures) (IsKnown-opening_cell 65536 _ c.args.kind (omega arith))
+    subst (λ (cell : Cell). IsKnown 65535 cell.ant) (sym c.opening_cell-cell.ensures) (IsKnown-opening_cell 65535 _ c.args.kind (omega arith))

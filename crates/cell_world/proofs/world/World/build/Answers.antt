@@ -14,11 +14,11 @@ invariant_of-result c =
     let kinds = c.args.kinds.now in
     let tiles = c.in_ok-parts.parts.tiles.items in
     let bodies = c.in_ok-parts.parts.bodies.items in
-    let same = same_opening w h kinds tiles bodies c.in_ok-parts.ensures.tiles c.in_ok-parts.ensures.bodies in
+    let same = same_opening w h kinds tiles bodies c.requires.few c.in_ok-parts.ensures.tiles c.in_ok-parts.ensures.bodies in
     record {
       world = subst IsWorld (sym same) (IsWorld-opening w h kinds c.requires);
       index = subst (λ (g : Grid). IsIndex g (places_of bodies)) (sym same) (subst (IsIndex _) (sym (ap places_of c.in_ok-parts.ensures.bodies ∙ places_of-opening w 0 kinds)) (IsIndex-opening w h kinds c.requires));
     }
 
 pub returns : goal.returns
-returns c = same_opening c.args.width c.args.height c.args.kinds.now c.in_ok-parts.parts.tiles.items c.in_ok-parts.parts.bodies.items c.in_ok-parts.ensures.tiles c.in_ok-parts.ensures.bodies
+returns c = same_opening c.args.width c.args.height c.args.kinds.now c.in_ok-parts.parts.tiles.items c.in_ok-parts.parts.bodies.items c.requires.few c.in_ok-parts.ensures.tiles c.in_ok-parts.ensures.bodies

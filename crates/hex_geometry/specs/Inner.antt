@@ -1,0 +1,2 @@
+pub mod BallRows
+pub mod Slant

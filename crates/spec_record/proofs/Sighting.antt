@@ -1,0 +1,260 @@
+-- Lists of sightings: each position once, and how many they are at most.
+use Rattle.std.proofs.Common.{◌≡◌, ◌≢◌, inl, inr, ℕ, zero, suc, ◌+◌, ◌≤◌, ◌<◌, Bool, true, false, cond, ◌||◌, List, [], ◌∷◌, ◌++◌, length, drop, take, map, subst, slice_index_or, slice_set, refl, sym, ◌∙◌, ap, add-one, arith}
+use Rattle.std.specs.List.{AllByRecursion, flat_map, refill}
+use Rattle.std.proofs.Math.Seq.{drop-cons, drop-length, take-length}
+use Rattle.std.proofs.lemmas.List.{append-nil, length-set}
+use Rattle.std.proofs.lemmas.Bool.{cases_Bool, cond-true, cond-false}
+use Rattle.hex_geometry.specs.declared.position.Pos.{Pos}
+use Rattle.hex_geometry.specs.Position.{same_pos}
+use Rattle.hex_geometry.proofs.Places.{same_pos_true, same_pos_self, same_pos_apart, same_pos_false}
+use Rattle.cell_world.specs.declared.part.Parts.{Parts}
+use Rattle.cell_world.specs.Parts.{union}
+use Rattle.cell_world.specs.World.{Cells}
+use Rattle.spec_record.specs.Claims.{Claim, Sighting, claim, joined, merged, merged_onto, with_cells_at}
+use Rattle.spec_record.specs.Inner.Sightings.{all_sighted, number_of, sighted, sights}
+
+-- the sighting of a claim
+abbrev pub sight : Cells → Claim → Sighting
+sight cells c = (c.at, c.parts, cells c.at)
+
+-- a claim more is a sighting more
+with_cells_at-joined : (cells : Cells) (claims : List Claim) (new : Claim) → with_cells_at cells (joined claims new) ≡ sighted (with_cells_at cells claims) (sight cells new)
+with_cells_at-joined cells [] new = refl
+with_cells_at-joined cells (old ∷ claims) new =
+    elim (cases_Bool (same_pos old.at new.at)) [
+      | inl same ↦ ap (with_cells_at cells) (cond-true _ _ _ same) ∙ sym (cond-true _ _ _ same)
+      | inr apart ↦ ap (with_cells_at cells) (cond-false _ _ _ apart) ∙ ap (λ more. sight cells old ∷ more) (with_cells_at-joined cells claims new) ∙ sym (cond-false _ _ _ apart)
+    ]
+
+-- so are many
+with_cells_at-merged_onto : (cells : Cells) (claims more : List Claim) → with_cells_at cells (merged_onto claims more) ≡ all_sighted (with_cells_at cells claims) (with_cells_at cells more)
+with_cells_at-merged_onto cells claims [] = refl
+with_cells_at-merged_onto cells claims (new ∷ more) =
+    with_cells_at-merged_onto cells (joined claims new) more ∙ ap (λ list. all_sighted list (with_cells_at cells more)) (with_cells_at-joined cells claims new)
+
+-- merged claims with their cells are the sightings of all claims, one after another
+pub with_cells_at-merged : (cells : Cells) (claims : List Claim) → with_cells_at cells (merged claims) ≡ all_sighted [] (with_cells_at cells claims)
+unfolding merged
+with_cells_at-merged cells claims = with_cells_at-merged_onto cells [] claims
+
+-- some and then more are all
+pub all_sighted-append : (list some more : List Sighting) → all_sighted list (some ++ more) ≡ all_sighted (all_sighted list some) more
+all_sighted-append list [] more = refl
+all_sighted-append list (new ∷ some) more = all_sighted-append (sighted list new) some more
+
+-- a list grows
+sighted-grows : (list : List Sighting) (new : Sighting) → length list ≤ length (sighted list new)
+sighted-grows [] new = omega arith
+sighted-grows (old ∷ list) new =
+    elim (cases_Bool (same_pos old.0 new.0)) [
+      | inl same ↦ let e = ap length (cond-true _ ((old.0, union old.1 new.1, old.2) ∷ list) (old ∷ sighted list new) same) in omega (arith, e)
+      | inr apart ↦ let e = ap length (cond-false _ ((old.0, union old.1 new.1, old.2) ∷ list) (old ∷ sighted list new) apart) in let more = sighted-grows list new in omega (arith, e, more)
+    ]
+
+pub all_sighted-grows : (list more : List Sighting) → length list ≤ length (all_sighted list more)
+all_sighted-grows list [] = omega arith
+all_sighted-grows list (new ∷ more) =
+    let first = sighted-grows list new in
+    let rest = all_sighted-grows (sighted list new) more in
+    omega arith
+
+-- a sighting in which the position of the one seen before gets more parts
+abbrev pub widened : Sighting → Sighting → Sighting
+widened old new = (old.0, union old.1 new.1, old.2)
+
+-- a position that is in the list: its parts are more
+pub sighted-again : (list : List Sighting) (new z : Sighting) → number_of new.0 list < length list →
+    sighted list new ≡ slice_set list (number_of new.0 list) (widened (slice_index_or list (number_of new.0 list) z) new)
+sighted-again [] new z below = absurd (omega arith)
+sighted-again (old ∷ list) new z below =
+    let At : ℕ → Type 0 = λ k. sighted (old ∷ list) new ≡ slice_set (old ∷ list) k (widened (slice_index_or (old ∷ list) k z) new) in
+    elim (cases_Bool (same_pos old.0 new.0)) [
+      | inl same ↦ subst At (sym (cond-true _ zero (suc (number_of new.0 list)) same)) (cond-true _ (widened old new ∷ list) (old ∷ sighted list new) same)
+      | inr apart ↦
+          let e = cond-false _ zero (suc (number_of new.0 list)) apart in
+          subst At (sym e) (cond-false _ (widened old new ∷ list) (old ∷ sighted list new) apart ∙ ap (λ more. old ∷ more) (sighted-again list new z (omega (arith, e))))
+    ]
+
+-- a list that is put whole into one of its length
+pub refill-whole : (list new : List Sighting) → length new ≡ length list → refill (length list) list new ≡ new
+refill-whole list new e =
+    ap (λ n. take (length list) (new ++ drop n list)) e
+    ∙ ap (λ rest. take (length list) (new ++ rest)) (drop-length list)
+    ∙ ap (take (length list)) (append-nil new)
+    ∙ ap (λ n. take n new) (sym e)
+    ∙ take-length new
+
+-- the list in which that sighting is written
+pub sighted-written : (items now other : List Sighting) (k : ℕ) (both : Parts) (new z : Sighting) → now ≡ items → other ≡ items → k ≡ number_of new.0 items → both ≡ union (slice_index_or other k z).1 new.1 → number_of new.0 items < length items →
+    refill (length items) items (slice_set now k ((slice_index_or other k z).0, both, (slice_index_or other k z).2)) ≡ sighted items new
+sighted-written items now other k both new z at_now at_other here joined below =
+    ap (λ list. refill (length items) items (slice_set list k ((slice_index_or other k z).0, both, (slice_index_or other k z).2))) at_now
+    ∙ ap (λ parts. refill (length items) items (slice_set items k ((slice_index_or other k z).0, parts, (slice_index_or other k z).2))) joined
+    ∙ ap (λ list. refill (length items) items (slice_set items k (widened (slice_index_or list k z) new))) at_other
+    ∙ ap (λ n. refill (length items) items (slice_set items n (widened (slice_index_or items n z) new))) here
+    ∙ refill-whole items (slice_set items (number_of new.0 items) (widened (slice_index_or items (number_of new.0 items) z) new)) (length-set items _ _)
+    ∙ sym (sighted-again items new z below)
+
+-- one that isn't comes last
+pub sighted-first : (list : List Sighting) (new : Sighting) → length list ≤ number_of new.0 list → sighted list new ≡ list ++ new ∷ []
+sighted-first [] new beyond = refl
+sighted-first (old ∷ list) new beyond =
+    elim (cases_Bool (same_pos old.0 new.0)) [
+      | inl same ↦ let e = cond-true _ zero (suc (number_of new.0 list)) same in absurd (omega (arith, e))
+      | inr apart ↦ let e = cond-false _ zero (suc (number_of new.0 list)) apart in cond-false _ _ _ apart ∙ ap (λ more. old ∷ more) (sighted-first list new (omega (arith, e)))
+    ]
+
+-- the number of a position from a place of the list on
+pub number_of-drop : (p : Pos) (list : List Sighting) (k : ℕ) (z : Sighting) → k < length list →
+    number_of p (drop k list) ≡ cond (same_pos (slice_index_or list k z).0 p) zero (suc (number_of p (drop (k + 1) list)))
+number_of-drop p list k z below =
+    ap (number_of p) (drop-cons list k z below)
+    ∙ ap (λ n. cond (same_pos (slice_index_or list k z).0 p) zero (suc (number_of p (drop n list)))) (sym (add-one k))
+
+-- what holds of the positions of a list and of a new one holds then
+pub sighted-all : (P : Pos → Type 0) (list : List Sighting) (new : Sighting) → AllByRecursion (λ s. P s.0) list → P new.0 → AllByRecursion (λ s. P s.0) (sighted list new)
+sighted-all P [] new all one = (one, tt)
+sighted-all P (old ∷ list) new all one =
+    elim (cases_Bool (same_pos old.0 new.0)) [
+      | inl same ↦ rw (cond-true _ _ _ same) all
+      | inr apart ↦ rw (cond-false _ _ _ apart) (all.0, sighted-all P list new all.1 one)
+    ]
+
+-- no position is twice in the list
+abbrev pub Apart : List Sighting → Type 0
+Apart [] = Unit {0}
+Apart (old ∷ list) = AllByRecursion (λ s. same_pos old.0 s.0 ≡ false) list × Apart list
+
+sighted-apart : (list : List Sighting) (new : Sighting) → Apart list → Apart (sighted list new)
+sighted-apart [] new apart = (tt, tt)
+sighted-apart (old ∷ list) new apart =
+    elim (cases_Bool (same_pos old.0 new.0)) [
+      | inl same ↦ rw (cond-true _ _ _ same) apart
+      | inr other ↦ rw (cond-false _ _ _ other) (sighted-all (λ p. same_pos old.0 p ≡ false) list new apart.0 other, sighted-apart list new apart.1)
+    ]
+
+pub all_sighted-apart : (list more : List Sighting) → Apart list → Apart (all_sighted list more)
+all_sighted-apart list [] apart = apart
+all_sighted-apart list (new ∷ more) apart = all_sighted-apart (sighted list new) more (sighted-apart list new apart)
+
+pub all_sighted-all : (P : Pos → Type 0) (list more : List Sighting) → AllByRecursion (λ s. P s.0) list → AllByRecursion (λ s. P s.0) more → AllByRecursion (λ s. P s.0) (all_sighted list more)
+all_sighted-all P list [] all rest = all
+all_sighted-all P list (new ∷ more) all rest = all_sighted-all P (sighted list new) more (sighted-all P list new all rest.0) rest.1
+
+-- whether a position is among these
+abbrev pub among : Pos → List Pos → Bool
+among p [] = false
+among p (q ∷ places) = same_pos q p || among p places
+
+-- these without the first that is p
+abbrev without : Pos → List Pos → List Pos
+without p [] = []
+without p (q ∷ places) = cond (same_pos q p) places (q ∷ without p places)
+
+or-false : (a b : Bool) → a ≡ false → (a || b) ≡ true → b ≡ true
+or-false true b wrong either = absurd (cc)
+or-false false b is either = either
+
+or-second : (a b : Bool) → b ≡ true → (a || b) ≡ true
+or-second true b second = refl
+or-second false b second = second
+
+or-first : (a b : Bool) → a ≡ true → (a || b) ≡ true
+or-first true b first = refl
+or-first false b first = absurd (cc)
+
+without-length : (p : Pos) (places : List Pos) → among p places ≡ true → length places ≡ suc (length (without p places))
+without-length p [] is = absurd (cc)
+without-length p (q ∷ places) is =
+    elim (cases_Bool (same_pos q p)) [
+      | inl same ↦ ap (λ list. suc (length list)) (sym (cond-true _ places (q ∷ without p places) same))
+      | inr apart ↦ ap suc (without-length p places (or-false _ _ apart is)) ∙ ap (λ list. suc (length list)) (sym (cond-false _ places (q ∷ without p places) apart))
+    ]
+
+without-among : (p r : Pos) (places : List Pos) → same_pos p r ≡ false → among r places ≡ true → among r (without p places) ≡ true
+without-among p r [] other is = is
+without-among p r (q ∷ places) other is =
+    elim (cases_Bool (same_pos q p)) [
+      | inl same ↦ rw (cond-true _ _ _ same) (or-false (same_pos q r) _ (ap (λ s. same_pos s r) (same_pos_true q p same) ∙ other) is)
+      | inr apart ↦ rw (cond-false _ _ _ apart) (elim (cases_Bool (same_pos q r)) [
+        | inl here ↦ or-first (same_pos q r) _ here
+        | inr there ↦ or-second (same_pos q r) _ (without-among p r places other (or-false _ _ there is))
+      ])
+    ]
+
+all_without : (p : Pos) (places : List Pos) (list : List Sighting) → AllByRecursion (λ s. same_pos p s.0 ≡ false) list → AllByRecursion (λ s. among s.0 places ≡ true) list → AllByRecursion (λ s. among s.0 (without p places) ≡ true) list
+all_without p places [] others all = tt
+all_without p places (s ∷ list) others all = (without-among p s.0 places others.0 all.0, all_without p places list others.1 all.1)
+
+-- positions that are pairwise two and among these are no more than these
+apart-fits : (list : List Sighting) (places : List Pos) → Apart list → AllByRecursion (λ s. among s.0 places ≡ true) list → length list ≤ length places
+apart-fits [] places apart all = omega arith
+apart-fits (s ∷ list) places apart all =
+    let rest = apart-fits list (without s.0 places) apart.1 (all_without s.0 places list apart.0 all.1) in
+    let one = without-length s.0 places all.0 in
+    omega (arith, rest, one)
+
+-- sightings at these positions are no more, however often each is made
+pub all_sighted-fits : (more : List Sighting) (places : List Pos) → AllByRecursion (λ s. among s.0 places ≡ true) more → length (all_sighted [] more) ≤ length places
+all_sighted-fits more places all =
+    apart-fits (all_sighted [] more) places (all_sighted-apart [] more tt) (all_sighted-all (λ p. among p places ≡ true) [] more tt all)
+
+-- the sightings at the positions from a place of a list on: the one there, and the rest
+pub sights-next : (list : List Sighting) (cells : Cells) (parts : Parts) (places : List Pos) (k : ℕ) (z : Pos) → k < length places →
+    all_sighted list (sights cells parts (drop k places)) ≡ all_sighted (sighted list (slice_index_or places k z, parts, cells (slice_index_or places k z))) (sights cells parts (drop (k + 1) places))
+sights-next list cells parts places k z below =
+    ap (λ rest. all_sighted list (sights cells parts rest)) (drop-cons places k z below)
+    ∙ ap (λ n. all_sighted (sighted list (slice_index_or places k z, parts, cells (slice_index_or places k z))) (sights cells parts (drop n places))) (sym (add-one k))
+
+-- the sightings at some positions and then at others
+pub sights-append : (list : List Sighting) (cells : Cells) (parts : Parts) (some more : List Pos) →
+    all_sighted list (sights cells parts (some ++ more)) ≡ all_sighted (all_sighted list (sights cells parts some)) (sights cells parts more)
+sights-append list cells parts [] more = refl
+sights-append list cells parts (r ∷ some) more = sights-append (sighted list (r, parts, cells r)) cells parts some more
+
+-- the same of positions that each bring some
+pub sights-flat_next : (list : List Sighting) (cells : Cells) (parts : Parts) (f : Pos → List Pos) (places : List Pos) (k : ℕ) (z : Pos) → k < length places →
+    all_sighted list (sights cells parts (flat_map f (drop k places))) ≡ all_sighted (all_sighted list (sights cells parts (f (slice_index_or places k z)))) (sights cells parts (flat_map f (drop (k + 1) places)))
+sights-flat_next list cells parts f places k z below =
+    ap (λ rest. all_sighted list (sights cells parts (flat_map f rest))) (drop-cons places k z below)
+    ∙ ap (λ n. all_sighted list (sights cells parts (f (slice_index_or places k z) ++ flat_map f (drop n places)))) (sym (add-one k))
+    ∙ sights-append list cells parts (f (slice_index_or places k z)) (flat_map f (drop (k + 1) places))
+
+-- nothing more than the sightings at all positions of a list
+pub sights-room : (list whole : List Sighting) (cells : Cells) (parts : Parts) (more : List Pos) (n : ℕ) → all_sighted list (sights cells parts more) ≡ whole → length whole ≤ n → length list ≤ n
+sights-room list whole cells parts more n is fits =
+    let grows = all_sighted-grows list (sights cells parts more) in
+    let same = ap length is in
+    omega (arith, grows, same)
+
+-- a property of positions is one of sightings there
+pub sights-all : (P : Pos → Type 0) (cells : Cells) (parts : Parts) (places : List Pos) → AllByRecursion P places → AllByRecursion (λ s. P s.0) (sights cells parts places)
+sights-all P cells parts [] all = tt
+sights-all P cells parts (r ∷ places) all = (all.0, sights-all P cells parts places all.1)
+
+-- of two lists together
+pub all-append : {X : Type 0} (P : X → Type 0) (xs ys : List X) → AllByRecursion P xs → AllByRecursion P ys → AllByRecursion P (xs ++ ys)
+all-append P [] ys first second = second
+all-append P (x ∷ xs) ys first second = (first.0, all-append P xs ys first.1 second)
+
+-- claims of the same parts at some positions
+pub claims-sights : (cells : Cells) (parts : Parts) (places : List Pos) → with_cells_at cells (map (λ r. claim r parts) places) ≡ sights cells parts places
+claims-sights cells parts [] = refl
+claims-sights cells parts (r ∷ places) = ap (λ more. (r, parts, cells r) ∷ more) (claims-sights cells parts places)
+
+-- claims and more claims
+pub claims-append : (cells : Cells) (some more : List Claim) → with_cells_at cells (some ++ more) ≡ with_cells_at cells some ++ with_cells_at cells more
+claims-append cells [] more = refl
+claims-append cells (c ∷ some) more = ap (λ rest. sight cells c ∷ rest) (claims-append cells some more)
+
+-- there is room for the next sighting where there is room for all
+pub sights-step_room : (list whole : List Sighting) (cells : Cells) (parts : Parts) (places : List Pos) (k : ℕ) (z : Pos) (n : ℕ) → k < length places →
+    all_sighted list (sights cells parts (drop k places)) ≡ whole → length whole ≤ n → length (sighted list (slice_index_or places k z, parts, cells (slice_index_or places k z))) ≤ n
+sights-step_room list whole cells parts places k z n below is fits =
+    sights-room (sighted list (slice_index_or places k z, parts, cells (slice_index_or places k z))) whole cells parts (drop (k + 1) places) n (sym (sights-next list cells parts places k z below) ∙ is) fits
+
+-- and for those that the next position brings
+pub sights-flat_room : (list whole : List Sighting) (cells : Cells) (parts : Parts) (f : Pos → List Pos) (places : List Pos) (k : ℕ) (z : Pos) (n : ℕ) → k < length places →
+    all_sighted list (sights cells parts (flat_map f (drop k places))) ≡ whole → length whole ≤ n → length (all_sighted list (sights cells parts (f (slice_index_or places k z)))) ≤ n
+sights-flat_room list whole cells parts f places k z n below is fits =
+    sights-room (all_sighted list (sights cells parts (f (slice_index_or places k z)))) whole cells parts (flat_map f (drop (k + 1) places)) n (sym (sights-flat_next list cells parts f places k z below) ∙ is) fits

@@ -1,0 +1,58 @@
+-- the killed on the position and on its neighbours, one by one
+use Rattle.std.proofs.Common.{◌≡◌, ◌≤◌, ◌<◌, length, subst, ◌+◌, ℕ, drop, sym, ◌∙◌, ap}
+use Rattle.std.specs.List.{flat_map}
+use Rattle.hex_geometry.specs.Neighbourhood.{neighbours_of}
+use Rattle.hex_geometry.proofs.Beside.{neighbours_of_length}
+use Rattle.hex_geometry.proofs.Places.{inner_inside}
+use Rattle.cell_world.specs.Grid.{world_of}
+use Rattle.ant_turn.proofs.Foes.{neighbours_of-inside}
+use Rattle.spec_record.specs.Inner.Going.{fallen_at}
+use Rattle.spec_record.specs.Reads.{ant_and_food, load_and_food}
+use Rattle.spec_record.specs.Trail.{trail_world}
+use Rattle.spec_record.proofs.Noting.{fallen-own_room, fallen-parts}
+use Rattle.spec_record.proofs.Sighting.{sights-flat_next, sights-flat_room}
+use Rattle.spec_record.proofs.going.note_fallen.Goals as goal
+
+pub note_if_fallen-requires-clause-reads : goal.note_if_fallen-requires-clause-reads
+note_if_fallen-requires-clause-reads c =
+    let cells = (world_of c.args.base.now).cells in
+    fallen-own_room c.args.reads.now.items cells cells (trail_world c.args.trail.now).cells load_and_food c.args.p c.args.q 19 c.requires.reads
+
+pub note_if_fallen-requires-clause-writes : goal.note_if_fallen-requires-clause-writes
+note_if_fallen-requires-clause-writes c =
+    let last = (trail_world c.args.trail.now).cells in
+    fallen-own_room c.args.writes.now.items last (world_of c.args.base.now).cells last ant_and_food c.args.p c.args.q 7 c.requires.writes
+
+pub loop-r-init : goal.loop-r-init
+loop-r-init c =
+    let cells = (world_of c.args.base.now).cells in
+    let last = (trail_world c.args.trail.now).cells in
+    record {
+      reads = rw c.note_if_fallen.ensures.reads (sym (fallen-parts c.args.reads.now.items cells cells last load_and_food c.args.p c.args.q));
+      writes = rw c.note_if_fallen.ensures.writes (sym (fallen-parts c.args.writes.now.items last cells last ant_and_food c.args.p c.args.q));
+    }
+
+pub note_if_fallen-requires-in-loop-r-clause-inside : goal.note_if_fallen-requires-in-loop-r-clause-inside
+note_if_fallen-requires-in-loop-r-clause-inside c = rw c.neighbours-around.ensures (neighbours_of-inside c.loop-r.r-index _ c.requires.inner c.loop-r-test.true)
+
+pub note_if_fallen-requires-in-loop-r-clause-reads : goal.note_if_fallen-requires-in-loop-r-clause-reads
+note_if_fallen-requires-in-loop-r-clause-reads c =
+    let cells = (world_of c.args.base.now).cells in
+    rw c.neighbours-around.ensures
+    (sights-flat_room c.loop-r.reads.items _ cells load_and_food (fallen_at cells (trail_world c.args.trail.now).cells c.args.p c.args.q) (neighbours_of c.args.q) c.loop-r.r-index _ 19 (subst (λ n. c.loop-r.r-index < n) (sym (neighbours_of_length c.args.q)) c.loop-r-test.true) c.loop-r.invariant.reads c.requires.reads)
+
+pub note_if_fallen-requires-in-loop-r-clause-writes : goal.note_if_fallen-requires-in-loop-r-clause-writes
+note_if_fallen-requires-in-loop-r-clause-writes c =
+    let last = (trail_world c.args.trail.now).cells in
+    rw c.neighbours-around.ensures
+    (sights-flat_room c.loop-r.writes.items _ last ant_and_food (fallen_at (world_of c.args.base.now).cells last c.args.p c.args.q) (neighbours_of c.args.q) c.loop-r.r-index _ 7 (subst (λ n. c.loop-r.r-index < n) (sym (neighbours_of_length c.args.q)) c.loop-r-test.true) c.loop-r.invariant.writes c.requires.writes)
+
+pub loop-r-preserved : goal.loop-r-preserved
+loop-r-preserved c =
+    let cells = (world_of c.args.base.now).cells in
+    let last = (trail_world c.args.trail.now).cells in
+    let f = fallen_at cells last c.args.p c.args.q in
+    record {
+      reads = rw (c.note_if_fallen-in-loop-r.ensures.reads, c.neighbours-around.ensures) (sym (sights-flat_next c.loop-r.reads.items cells load_and_food f (neighbours_of c.args.q) c.loop-r.r-index _ (subst (λ n. c.loop-r.r-index < n) (sym (neighbours_of_length c.args.q)) c.loop-r-test.true)) ∙ c.loop-r.invariant.reads);
+      writes = rw (c.note_if_fallen-in-loop-r.ensures.writes, c.neighbours-around.ensures) (sym (sights-flat_next c.loop-r.writes.items last ant_and_food f (neighbours_of c.args.q) c.loop-r.r-index _ (subst (λ n. c.loop-r.r-index < n) (sym (neighbours_of_length c.args.q)) c.loop-r-test.true)) ∙ c.loop-r.invariant.writes);
+    }

@@ -1,0 +1,4 @@
+pub mod Going
+pub mod Laid
+pub mod Sightings
+pub mod Standing

@@ -1,0 +1,60 @@
+-- A Move that goes, as a look finds what it reads.
+use Rattle.std.specs.Prelude.{Bool, true, false, not, ◌&&◌, ◌||◌, if◌then◌else◌, List, [], ◌∷◌, ◌++◌, Option, Some, None}
+use Rattle.std.specs.List.{flat_map}
+use Rattle.hex_geometry.specs.declared.position.Pos.{Pos}
+use Rattle.hex_geometry.specs.Neighbourhood.{adjacent_pos, neighbours_of}
+use Rattle.hex_geometry.specs.Position.{same_pos}
+use Rattle.cell_world.specs.declared.ant.Ant.{Ant}
+use Rattle.cell_world.specs.declared.part.Part.TheVariants as part
+use Rattle.cell_world.specs.Parts.{only}
+use Rattle.cell_world.specs.World.{Cells}
+use Rattle.brain_read.specs.declared.instr.Instr.{Instr}
+use Rattle.brain_read.specs.declared.instr.Instr.TheVariants.{Sense, Mark, Unmark, PickUp, Drop, Turn, Move, Flip}
+use Rattle.ant_turn.specs.Kills.{places_around}
+use Rattle.ant_turn.specs.Turn.{has_ant, is_blocked}
+use Rattle.spec_record.specs.Claims.{Sighting}
+use Rattle.spec_record.specs.Reads.{ant_and_food, load_and_food, whole_ant}
+use Rattle.spec_record.specs.Inner.Sightings.{all_sighted, sights}
+
+-- onto which cell an ant goes by an instruction, if it goes
+abbrev pub destination : Cells → Pos → Ant → Instr → Option Pos
+destination cells p ant (Sense sight met unmet condition) = None
+destination cells p ant (Mark i next) = None
+destination cells p ant (Unmark i next) = None
+destination cells p ant (PickUp met unmet) = None
+destination cells p ant (Drop next) = None
+destination cells p ant (Turn side next) = None
+destination cells p ant (Move met unmet) = if is_blocked (cells (adjacent_pos p ant.facing)) then None else Some (adjacent_pos p ant.facing)
+destination cells p ant (Flip bound met unmet) = None
+
+-- whether an ant that didn't go from p is on r
+abbrev pub is_manned : Cells → Pos → Pos → Bool
+is_manned cells p r = not (same_pos r p) && has_ant (cells r).ant
+
+-- the neighbours of a cell with such an ant; of another none
+abbrev pub beyond : Cells → Pos → Pos → List Pos
+beyond cells p r = if is_manned cells p r then neighbours_of r else []
+
+-- whose ants decide the checks around q when the ant of p went there
+abbrev pub seen_from : Cells → Pos → Pos → List Pos
+seen_from cells p q = places_around q ++ flat_map (beyond cells p) (neighbours_of q)
+
+-- whether an ant was on r when the ant of p had gone to q, and none is at last
+abbrev pub has_fallen : Cells → Cells → Pos → Pos → Pos → Bool
+has_fallen cells last p q r = (same_pos r q || is_manned cells p r) && not (has_ant (last r).ant)
+
+-- that position, where it holds of it
+abbrev pub fallen_at : Cells → Cells → Pos → Pos → Pos → List Pos
+fallen_at cells last p q r = if has_fallen cells last p q r then r ∷ [] else []
+
+-- the positions around q of which it holds
+abbrev pub fallen : Cells → Cells → Pos → Pos → List Pos
+fallen cells last p q = flat_map (fallen_at cells last p q) (places_around q)
+
+-- the reads of an ant that goes to q
+abbrev pub going_reads : Cells → Cells → Pos → Pos → List Sighting
+going_reads cells last p q = all_sighted (all_sighted ((p, whole_ant, cells p) ∷ []) (sights cells (only part.Who) (seen_from cells p q))) (sights cells load_and_food (fallen cells last p q))
+
+-- and its writes
+abbrev pub going_writes : Cells → Cells → Pos → Pos → List Sighting
+going_writes cells last p q = all_sighted ((p, whole_ant, last p) ∷ (q, whole_ant, last q) ∷ []) (sights last ant_and_food (fallen cells last p q))

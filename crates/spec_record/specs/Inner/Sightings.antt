@@ -1,0 +1,27 @@
+-- Sightings, joined one by one as a look makes them.
+use Rattle.std.specs.Prelude.{ℕ, zero, suc, if◌then◌else◌, List, [], ◌∷◌, map}
+use Rattle.hex_geometry.specs.declared.position.Pos.{Pos}
+use Rattle.hex_geometry.specs.Position.{same_pos}
+use Rattle.cell_world.specs.declared.part.Parts.{Parts}
+use Rattle.cell_world.specs.Parts.{union}
+use Rattle.cell_world.specs.World.{Cells}
+use Rattle.spec_record.specs.Claims.{Sighting}
+
+-- one sighting more: where the position is in the list the parts go there, else it comes last
+abbrev pub sighted : List Sighting → Sighting → List Sighting
+sighted [] new = new ∷ []
+sighted (old ∷ sightings) new = if same_pos old.0 new.0 then (old.0, union old.1 new.1, old.2) ∷ sightings else old ∷ sighted sightings new
+
+-- these sightings, and then more
+abbrev pub all_sighted : List Sighting → List Sighting → List Sighting
+all_sighted sightings [] = sightings
+all_sighted sightings (new ∷ more) = all_sighted (sighted sightings new) more
+
+-- the same parts of the cells at these positions
+abbrev pub sights : Cells → Parts → List Pos → List Sighting
+sights cells parts places = map (λ r. (r, parts, cells r)) places
+
+-- at which number a position is in the list, or how long the list is
+abbrev pub number_of : Pos → List Sighting → ℕ
+number_of p [] = zero
+number_of p (old ∷ sightings) = if same_pos old.0 p then zero else suc (number_of p sightings)

@@ -1,0 +1,183 @@
+// What a Move that goes reads and writes, as its look finds it.
+ghost use Rattle.std.specs.Prelude.{◌≡◌, ◌≤◌, ◌||◌, length};
+ghost use Rattle.hex_geometry.specs.Neighbourhood.{neighbours_of};
+ghost use Rattle.hex_geometry.specs.Position.{HasNeighbours, IsInner, IsInside, same_pos};
+ghost use Rattle.cell_world.specs.Grid.{world_of};
+ghost use Rattle.cell_world.specs.Parts.{only};
+ghost use Rattle.cell_world.specs.Valid.{Valid};
+ghost use Rattle.ant_turn.specs.Turn.{has_ant};
+ghost use Rattle.spec_record.specs.Inner.Going as going;
+ghost use Rattle.spec_record.specs.Inner.Sightings.{all_sighted, sights};
+ghost use Rattle.spec_record.specs.Reads.{ant_and_food, load_and_food, whole_ant};
+ghost use Rattle.spec_record.specs.Trail.{trail_world};
+
+use crate::sightings::{is_same, note_read, note_write};
+use crate::trail::Trail;
+use arrayvec::ArrayVec;
+use cell_world::{Cell, Part, Parts, World};
+use hex_geometry::{Pos, neighbours};
+
+// Notes that it is read whose ants decide the checks around `q`, when the ant of `p` went there.
+#[inline]
+pub(crate) fn note_checks(list: &mut ArrayVec<(Pos, Parts, Cell), 19>, base: &World, p: Pos, q: Pos)
+    requires inner { IsInner base.now.width base.now.height q }
+    requires near { HasNeighbours q }
+    requires room { length (all_sighted list.old.items (sights (world_of base.now).cells (only Part.Who) (going.seen_from (world_of base.now).cells p q))) ≤ 19 }
+    ensures { list.new.items ≡ all_sighted list.old.items (sights (world_of base.now).cells (only Part.Who) (going.seen_from (world_of base.now).cells p q)) }
+{
+    note_read(list, q, who(), base.cell(q));
+    note_neighbours(list, base, q);
+    let around = neighbours(q);
+    for r in around {
+        note_beyond(list, base, p, r);
+    }
+}
+
+// Where an ant other than that of `p` is on `r`, notes that it is read who is on the neighbours.
+#[inline]
+fn note_beyond(list: &mut ArrayVec<(Pos, Parts, Cell), 19>, base: &World, p: Pos, r: Pos)
+    requires inside { IsInside base.now.width base.now.height r }
+    requires room { length (all_sighted list.old.items (sights (world_of base.now).cells (only Part.Who) (going.beyond (world_of base.now).cells p r))) ≤ 19 }
+    ensures { list.new.items ≡ all_sighted list.old.items (sights (world_of base.now).cells (only Part.Who) (going.beyond (world_of base.now).cells p r)) }
+{
+    if is_manned(base, p, r) {
+        note_neighbours(list, base, r);
+    }
+}
+
+// Notes that it is read who is on the neighbours of `r`.
+fn note_neighbours(list: &mut ArrayVec<(Pos, Parts, Cell), 19>, base: &World, r: Pos)
+    requires inner { IsInner base.now.width base.now.height r }
+    requires near { HasNeighbours r }
+    requires room { length (all_sighted list.old.items (sights (world_of base.now).cells (only Part.Who) (neighbours_of r))) ≤ 19 }
+    ensures { list.new.items ≡ all_sighted list.old.items (sights (world_of base.now).cells (only Part.Who) (neighbours_of r)) }
+{
+    let around = neighbours(r);
+    for q in around {
+        note_read(list, q, who(), base.cell(q));
+    }
+}
+
+// Who is there.
+#[inline]
+pub(crate) fn who() -> Parts
+    ensures { result ≡ only Part.Who }
+{
+    Parts::none().with(Part::Who)
+}
+
+// Whether an ant other than that of `p` is on `r`.
+#[inline]
+fn is_manned(base: &World, p: Pos, r: Pos) -> bool
+    requires { IsInside base.now.width base.now.height r }
+    ensures manned { result ≡ going.is_manned (world_of base.now).cells p r }
+    ensures valid { Valid (world_of base.now) }
+{
+    let cell = base.cell(r);
+    !is_same(r, p) && has_ant(&cell)
+}
+
+// Whether an ant is on the cell.
+#[inline]
+fn has_ant(cell: &Cell) -> bool
+    ensures { result ≡ has_ant cell.now.ant }
+{
+    cell.ant.is_some()
+}
+
+// Notes what is read and written of the killed around `q`, when the turn of the ant of `p`, which went there, was executed on the trail.
+pub(crate) fn note_fallen(
+    reads: &mut ArrayVec<(Pos, Parts, Cell), 19>,
+    writes: &mut ArrayVec<(Pos, Parts, Cell), 7>,
+    base: &World,
+    trail: &Trail<'_>,
+    p: Pos,
+    q: Pos,
+)
+    requires inner { IsInner base.now.width base.now.height q }
+    requires near { HasNeighbours q }
+    requires wide { (trail_world trail.now).width ≡ base.now.width }
+    requires high { (trail_world trail.now).height ≡ base.now.height }
+    requires reads { length (all_sighted reads.old.items (sights (world_of base.now).cells load_and_food (going.fallen (world_of base.now).cells (trail_world trail.now).cells p q))) ≤ 19 }
+    requires writes { length (all_sighted writes.old.items (sights (trail_world trail.now).cells ant_and_food (going.fallen (world_of base.now).cells (trail_world trail.now).cells p q))) ≤ 7 }
+    ensures reads { reads.new.items ≡ all_sighted reads.old.items (sights (world_of base.now).cells load_and_food (going.fallen (world_of base.now).cells (trail_world trail.now).cells p q)) }
+    ensures writes { writes.new.items ≡ all_sighted writes.old.items (sights (trail_world trail.now).cells ant_and_food (going.fallen (world_of base.now).cells (trail_world trail.now).cells p q)) }
+{
+    note_if_fallen(reads, writes, base, trail, p, q, q);
+    let around = neighbours(q);
+    for r in around {
+        note_if_fallen(reads, writes, base, trail, p, q, r);
+    }
+}
+
+// The same of one cell.
+#[inline]
+fn note_if_fallen(
+    reads: &mut ArrayVec<(Pos, Parts, Cell), 19>,
+    writes: &mut ArrayVec<(Pos, Parts, Cell), 7>,
+    base: &World,
+    trail: &Trail<'_>,
+    p: Pos,
+    q: Pos,
+    r: Pos,
+)
+    requires inside { IsInside base.now.width base.now.height r }
+    requires wide { (trail_world trail.now).width ≡ base.now.width }
+    requires high { (trail_world trail.now).height ≡ base.now.height }
+    requires reads { length (all_sighted reads.old.items (sights (world_of base.now).cells load_and_food (going.fallen_at (world_of base.now).cells (trail_world trail.now).cells p q r))) ≤ 19 }
+    requires writes { length (all_sighted writes.old.items (sights (trail_world trail.now).cells ant_and_food (going.fallen_at (world_of base.now).cells (trail_world trail.now).cells p q r))) ≤ 7 }
+    ensures reads { reads.new.items ≡ all_sighted reads.old.items (sights (world_of base.now).cells load_and_food (going.fallen_at (world_of base.now).cells (trail_world trail.now).cells p q r)) }
+    ensures writes { writes.new.items ≡ all_sighted writes.old.items (sights (trail_world trail.now).cells ant_and_food (going.fallen_at (world_of base.now).cells (trail_world trail.now).cells p q r)) }
+{
+    if has_fallen(base, trail, p, q, r) {
+        note_read(reads, r, load_and_food(), base.cell(r));
+        note_write(writes, r, ant_and_food(), trail.cell(r));
+    }
+}
+
+// Whether an ant was on `r` when the ant of `p` had gone to `q`, and none is at last.
+#[inline]
+fn has_fallen(base: &World, trail: &Trail<'_>, p: Pos, q: Pos, r: Pos) -> bool
+    requires inside { IsInside base.now.width base.now.height r }
+    requires wide { (trail_world trail.now).width ≡ base.now.width }
+    requires high { (trail_world trail.now).height ≡ base.now.height }
+    ensures { result ≡ going.has_fallen (world_of base.now).cells (trail_world trail.now).cells p q r }
+{
+    was_manned(base, p, q, r) && !has_ant(&trail.cell(r))
+}
+
+// Whether an ant was on `r` when the ant of `p` had gone to `q`.
+#[inline]
+fn was_manned(base: &World, p: Pos, q: Pos, r: Pos) -> bool
+    requires { IsInside base.now.width base.now.height r }
+    ensures { result ≡ (same_pos r q || going.is_manned (world_of base.now).cells p r) }
+{
+    is_same(r, q) || is_manned(base, p, r)
+}
+
+// What an ant carries and what lies there.
+#[inline]
+pub(crate) fn load_and_food() -> Parts
+    ensures { result ≡ load_and_food }
+{
+    Parts::none().with(Part::Load).with(Part::Food)
+}
+
+// All of an ant.
+#[inline]
+pub(crate) fn whole_ant() -> Parts
+    ensures { result ≡ whole_ant }
+{
+    Parts::none()
+        .with(Part::Who)
+        .with(Part::Mind)
+        .with(Part::Load)
+}
+
+// All of an ant, and what lies there.
+#[inline]
+fn ant_and_food() -> Parts
+    ensures { result ≡ ant_and_food }
+{
+    whole_ant().with(Part::Food)
+}

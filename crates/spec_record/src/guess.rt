@@ -1,0 +1,78 @@
+// At which random number each turn of a window is guessed to stand.
+ghost use Rattle.std.specs.Prelude.{◌≡◌, ◌+◌, ◌-◌, ◌≤◌, ◌<◌, ◌^◌, IfOk, length};
+ghost use Rattle.cell_world.specs.Grid.{world_of};
+ghost use Rattle.brain_read.specs.Soundness.{IsSound};
+ghost use Rattle.ant_turn.specs.Minds.{Fits, minds_of, mind_of};
+ghost use Rattle.ant_turn.specs.Turn.{instruction_at};
+ghost use Rattle.spec_record.specs.Guess.{ant_flips, flips, guesses_of, is_flip};
+
+use ant_turn::Brains;
+use brain_read::Instr;
+use cell_world::{Ant, Colour, OutOfMemory, World};
+use std::alloc::Global;
+
+/// Whether the ant of this id is alive, not resting and at a Flip, so that its turn draws a random number (this project's own).
+///
+/// Each ant's state is below the length of its colour's brain.
+#[inline]
+pub fn at_flip(base: &World, brains: Brains<'_>, id: u32) -> bool
+    requires { Fits (world_of base.now) (minds_of brains) }
+    ensures { result ≡ flips (minds_of brains.entry) (world_of base.now) id }
+{
+    let Some(p) = base.ant_place(id) else {
+        return false;
+    };
+    let cell = base.cell(p);
+    let Some(ant) = cell.ant else {
+        return false;
+    };
+    ant.resting == 0 && is_flip(instruction(brains, &ant))
+}
+
+/// The guess of each turn from `from` to `to - 1`, in order: at which random number the turn stands if each turn before it draws as it would
+/// in the base (this project's own).
+///
+/// Each ant's state is below the length of its colour's brain, `from` is at most `to`, `to` at most the number of ids, and place + to - from
+/// is below 2^63. It is refused for want of memory alone.
+pub fn guesses(
+    alloc: Global,
+    base: &World,
+    brains: Brains<'_>,
+    place: u64,
+    from: u32,
+    to: u32,
+) -> Result<Vec<u64>, OutOfMemory>
+    requires fit { Fits (world_of base.now) (minds_of brains) }
+    requires order { from ≤ to }
+    requires ids { to ≤ base.now.ids }
+    requires room { place + (to - from) < 2 ^ 63 }
+    ensures { IfOk result (λ all. all.items ≡ guesses_of (minds_of brains.entry) (world_of base.now) place from from (to - from)) }
+{
+    let mut all = Vec::with_capacity(alloc, (to - from) as usize)?;
+    let mut next = place;
+    for id in from..to {
+        all.push(next)?;
+        next += u64::from(at_flip(base, brains, id));
+    }
+    Ok(all)
+}
+
+// The instruction at which an ant is.
+#[inline]
+pub(crate) fn instruction(brains: Brains<'_>, ant: &Ant) -> Instr
+    requires { ant.now.state < length (mind_of (minds_of brains) ant.now.colour) }
+    ensures { result ≡ instruction_at (mind_of (minds_of brains.entry) ant.now.colour) ant.now.state }
+{
+    match ant.colour {
+        Colour::Red => brains.red.at(ant.state),
+        Colour::Black => brains.black.at(ant.state),
+    }
+}
+
+// Whether it is a Flip.
+#[inline]
+fn is_flip(instruction: Instr) -> bool
+    ensures { result ≡ is_flip instruction }
+{
+    matches!(instruction, Instr::Flip { .. })
+}

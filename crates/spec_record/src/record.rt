@@ -1,0 +1,85 @@
+// A look at a turn.
+ghost use Rattle.std.specs.Prelude.{◌≡◌};
+
+use arrayvec::ArrayVec;
+use cell_world::{Cell, Parts};
+use hex_geometry::Pos;
+use std::marker::Model;
+
+mod filling;
+
+/// A look at the turn of one ant.
+#[derive(Drop)]
+pub struct Look {
+    turn: u32,
+    guess: u64,
+    drew: bool,
+    reads: ArrayVec<(Pos, Parts, Cell), 19>,
+    writes: ArrayVec<(Pos, Parts, Cell), 7>,
+    killed: ArrayVec<u32, 7>,
+}
+
+impl Model for Look {
+    ghost use Rattle.spec_record.specs.Look.{LookValue};
+
+    ghost Value = { LookValue };
+
+    ghost view = { λ look. record {
+      turn = look.turn;
+      guess = look.guess;
+      drew = look.drew;
+      reads = look.reads.items;
+      writes = look.writes.items;
+      killed = look.killed.items;
+    } };
+}
+
+impl Look {
+    /// The id whose turn it is.
+    #[inline]
+    pub fn turn(&self) -> u32
+        ensures { result ≡ self.now.turn }
+    {
+        self.turn
+    }
+
+    /// The place of the random number, if the turn draws one, at which the look was made.
+    #[inline]
+    pub fn guess(&self) -> u64
+        ensures { result ≡ self.now.guess }
+    {
+        self.guess
+    }
+
+    /// Whether the turn draws a random number.
+    #[inline]
+    pub fn drew(&self) -> bool
+        ensures { result ≡ self.now.drew }
+    {
+        self.drew
+    }
+
+    /// The positions that the turn reads, each once, with the parts that it reads there and the cell of the base.
+    #[inline]
+    pub fn reads(&self) -> &ArrayVec<(Pos, Parts, Cell), 19>
+        ensures { result.now.items ≡ self.now.reads }
+    {
+        &self.reads
+    }
+
+    /// The positions that the turn writes, each once, with the parts that it writes there and the cell after the turn.
+    #[inline]
+    pub fn writes(&self) -> &ArrayVec<(Pos, Parts, Cell), 7>
+        ensures { result.now.items ≡ self.now.writes }
+    {
+        &self.writes
+    }
+
+    /// The ids of the ants that the turn kills, in the order of the checks.
+    #[inline]
+    pub fn killed(&self) -> &ArrayVec<u32, 7>
+        ensures { result.now.items ≡ self.now.killed }
+    {
+        &self.killed
+    }
+}

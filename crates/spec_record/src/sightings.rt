@@ -1,0 +1,99 @@
+// Sightings, joined one by one.
+ghost use Rattle.std.specs.Prelude.{◌≡◌, ◌≤◌, if◌then◌else◌, length};
+ghost use Rattle.hex_geometry.specs.Position.{same_pos};
+ghost use Rattle.cell_world.specs.Parts.{union, with_part, has_part};
+ghost use Rattle.spec_record.specs.Inner.Sightings as sighting;
+
+use arrayvec::ArrayVec;
+use cell_world::{Cell, Part, Parts};
+use hex_geometry::Pos;
+
+// Notes that these parts of the cell at `p` are read: where the position is in the list the parts go there, else it comes last.
+#[inline]
+pub(crate) fn note_read(
+    list: &mut ArrayVec<(Pos, Parts, Cell), 19>,
+    p: Pos,
+    parts: Parts,
+    cell: Cell,
+)
+    requires { length (sighting.sighted list.old.items (p, parts, cell)) ≤ 19 }
+    ensures { list.new.items ≡ sighting.sighted list.old.items (p, parts, cell) }
+{
+    let number = number_of(list.as_slice(), p);
+    if number < list.len() {
+        let (q, old, there) = list[number];
+        list[number] = (q, union(old, parts), there);
+    } else {
+        list.push((p, parts, cell));
+    }
+}
+
+// The same of parts that are written.
+#[inline]
+pub(crate) fn note_write(
+    list: &mut ArrayVec<(Pos, Parts, Cell), 7>,
+    p: Pos,
+    parts: Parts,
+    cell: Cell,
+)
+    requires { length (sighting.sighted list.old.items (p, parts, cell)) ≤ 7 }
+    ensures { list.new.items ≡ sighting.sighted list.old.items (p, parts, cell) }
+{
+    let number = number_of(list.as_slice(), p);
+    if number < list.len() {
+        let (q, old, there) = list[number];
+        list[number] = (q, union(old, parts), there);
+    } else {
+        list.push((p, parts, cell));
+    }
+}
+
+// At which number a position is in the list, or how long the list is.
+#[inline]
+fn number_of(list: &[(Pos, Parts, Cell)], p: Pos) -> usize
+    ensures { result ≡ sighting.number_of p list.now }
+{
+    let mut number = 0;
+    for (q, _, _) in list {
+        if is_same(*q, p) {
+            return number;
+        }
+        number += 1;
+    }
+    number
+}
+
+// The parts of either set.
+#[inline]
+pub(crate) fn union(a: Parts, b: Parts) -> Parts
+    ensures { result ≡ union a b }
+{
+    let mut all = a;
+    all = with_if(all, b, Part::Who);
+    all = with_if(all, b, Part::Mind);
+    all = with_if(all, b, Part::Load);
+    all = with_if(all, b, Part::Food);
+    all = with_if(all, b, Part::RedMarks);
+    with_if(all, b, Part::BlackMarks)
+}
+
+// The same set with this part where the other set has it.
+#[inline]
+fn with_if(parts: Parts, other: Parts, part: Part) -> Parts
+    ensures { result ≡ (if has_part other part then with_part parts part else parts) }
+{
+    if other.has(part) {
+        parts.with(part)
+    } else {
+        parts
+    }
+}
+
+// Whether two positions are one.
+#[inline]
+#[tactic(auto, unfolding(hex_geometry::specs::Position::same_pos))]
+pub(crate) fn is_same(p: Pos, q: Pos) -> bool
+    ensures { result ≡ same_pos p q }
+{
+    p == q
+}

@@ -1,0 +1,47 @@
+// A look at a turn of its own.
+ghost use Rattle.std.specs.Prelude.{◌≡◌, ◌+◌, ◌<◌, ◌≤◌, ◌^◌, true};
+ghost use Rattle.cell_world.specs.Grid.{world_of};
+ghost use Rattle.ant_turn.specs.Minds.{Fits, minds_of};
+ghost use Rattle.spec_record.specs.Guess.{flips};
+ghost use Rattle.spec_record.specs.Look.{look_of};
+
+use crate::guess::at_flip;
+use crate::record::Look;
+use ant_random::Stream;
+use ant_turn::Brains;
+use cell_world::World;
+
+/// The look at the turn of the ant of this id in `base`, its random number guessed at a place of the seed's stream (this project's own):
+/// the positions that the turn reads, each once, with their parts and their cells in `base`; those that it writes, each once, with their
+/// parts and their cells after the turn; whether it draws; and whom it kills. The base stays as it is. It takes no memory.
+///
+/// Each ant's state is below the length of its colour's brain, the id is below the number of ids, and the guess is below 2^63 - 1.
+pub fn look(base: &World, brains: Brains<'_>, seed: u32, guess: u64, id: u32) -> Look
+    requires fit { Fits (world_of base.now) (minds_of brains) }
+    requires id { id < base.now.ids }
+    requires guess { guess + 1 < 2 ^ 63 }
+    ensures { result ≡ look_of (minds_of brains.entry) seed (world_of base.now) guess id }
+{
+    let mut stream = stream_for(base, brains, seed, guess, id);
+    let mut look = Look::blank(id, guess);
+    look.renew(base, brains, &mut stream, id);
+    look.set_guess(guess);
+    look
+}
+
+// A stream of the seed on which the turn of this id draws what it draws at the guess. It stands there only where the turn draws, since
+// the way there is long.
+#[inline]
+fn stream_for(base: &World, brains: Brains<'_>, seed: u32, guess: u64, id: u32) -> Stream
+    requires fit { Fits (world_of base.now) (minds_of brains) }
+    requires guess { guess + 1 < 2 ^ 63 }
+    ensures seed { result.seed ≡ seed }
+    ensures place { flips (minds_of brains.entry) (world_of base.now) id ≡ true → result.place ≡ guess }
+    ensures small { result.place ≤ guess }
+{
+    if at_flip(base, brains, id) {
+        Stream::at_place_uncounted(seed, guess)
+    } else {
+        Stream::from_seed(seed)
+    }
+}
