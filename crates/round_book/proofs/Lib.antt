@@ -1,3 +1,5 @@
+pub mod BookLemmas
+pub mod CountLemmas
 pub mod MachineLemmas
 pub mod MarkLemmas
 pub mod PassLemmas

@@ -19,11 +19,11 @@ use Rattle.round_book.specs.Inner.Workspace.{AreMarked}
 use Rattle.round_book.proofs.WorkspaceLemmas.{index_of-same}
 
 -- nothing is in the empty list
-none_contained : {A : Type 0} {B : Type 0} (x : A) → Contains [] x → B
+pub none_contained : {A : Type 0} {B : Type 0} (x : A) → Contains [] x → B
 none_contained x held = absurd (let l : held.0 < 0 = held.1 in omega arith)
 
 -- what is in a list is its first, or in the rest
-Contains-cons : {A : Type 0} (y : A) (xs : List A) (x : A) → Contains (y ∷ xs) x → (y ≡ x) ⊎ Contains xs x
+pub Contains-cons : {A : Type 0} (y : A) (xs : List A) (x : A) → Contains (y ∷ xs) x → (y ≡ x) ⊎ Contains xs x
 Contains-cons y xs x held = ⊎_elim
     (λ first. ⊎_elim (λ none. none_contained x none) inl (Contains-push_cases [] y x first))
     inr
@@ -134,7 +134,7 @@ Comparing-step written cells reads i d early agrees before = record {
 
 pub Comparing-end : (written : List Pos) (cells : Cells) (reads : List Sighting) (i : ℕ) → length reads ≤ i → Comparing written cells reads (drop i reads) → Changes reads cells None
 Comparing-end written cells reads i late before =
-    before.rest (subst (λ T. T) (sym (at_drop_all (AllByRecursion (λ read. Agree read.1 read.2 (cells read.0))) reads i late)) tt)
+    before.rest (subst (AllByRecursion (λ read. Agree read.1 read.2 (cells read.0))) (sym (at_drop_all (λ (rs : List Sighting). rs) reads i late)) tt)
 
 -- a change of one read is one of all
 pub Changes-among : (reads : List Sighting) (cells : Cells) (i : ℕ) (d : Sighting) (found : Cause) → i < length reads → Changes (slice_index_or reads i d ∷ []) cells (Some found) → Changes reads cells (Some found)

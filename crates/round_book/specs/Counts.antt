@@ -12,6 +12,8 @@ use Rattle.cell_world.specs.Parts.{has_part}
 use Rattle.cell_world.specs.World.{Cells}
 use Rattle.spec_record.specs.Claims.{Sighting}
 use Rattle.spec_record.specs.Look.{LookValue}
+use Rattle.round_book.specs.declared.verdict.Verdict.{Verdict}
+use Rattle.round_book.specs.declared.verdict.Verdict.TheVariants.{Taken, Redone}
 use Rattle.round_book.specs.Window.{Window, look_for, moment_before}
 
 -- whether both are there and alike, or neither is there
@@ -65,6 +67,11 @@ look_holds look cells place = is_unchanged look.reads cells && (not look.drew ||
 -- whether the look at turn t of a window holds when its turn comes: it is taken
 unfoldable pub is_taken : Window → ℕ → Bool
 is_taken window t = look_holds (look_for window t) (moment_before window t).world.cells (moment_before window t).place
+
+-- whether a verdict is that the look was taken
+abbrev pub is_taken_verdict : Verdict → Bool
+is_taken_verdict Taken = true
+is_taken_verdict (Redone cause) = false
 
 -- how many of the first n turns of a window are taken
 abbrev pub taken_among : Window → ℕ → ℕ

@@ -3,17 +3,19 @@ ghost use Rattle.std.specs.Prelude.{◌≡◌, ◌+◌, ◌-◌, ◌*◌, ◌<�
 ghost use Rattle.std.specs.List.{AllByRecursion};
 ghost use Rattle.std.specs.Vec.{vec_capacity, vec_len};
 ghost use Rattle.cell_world.specs.Cell.{one_if};
-ghost use Rattle.cell_world.specs.Grid.{world_of};
+ghost use Rattle.cell_world.specs.Grid.{IsWorld, world_of};
 ghost use Rattle.cell_world.specs.Parts.{Agree};
 ghost use Rattle.cell_world.specs.World.{with_cells};
 ghost use Rattle.ant_turn.specs.Minds.{AreSound, Fits, minds_of};
 ghost use Rattle.spec_record.specs.Patching.{patched_cells};
 ghost use Rattle.round_book.specs.Book.{AgreesUnwritten, BookValue, CanTake, HoldsInBook, IsCause, IsEnded, IsRedone, IsSameWindow, Settles, Wrote, moment_of};
 ghost use Rattle.round_book.specs.Inner.Kept.{IsReady};
+ghost use Rattle.round_book.specs.Inner.Workspace.{AreMarked};
 
 use crate::verdict::{Cause, Verdict};
 use crate::workspace::Workspace;
 use ant_turn::Brains;
+use cell_world::World;
 use spec_record::{Look, look};
 use std::marker::Model;
 
@@ -77,6 +79,33 @@ impl Book {
         ensures { result ≡ self.now.next }
     {
         self.next
+    }
+
+    // How many turns the window has.
+    #[inline]
+    pub(crate) fn turns(&self) -> u32
+        ensures { result ≡ self.now.to - self.now.from }
+    {
+        self.to - self.from
+    }
+
+    // What came of the turns so far, in order.
+    #[inline]
+    pub(crate) fn verdicts(&self) -> &[Verdict]
+        ensures { result.now ≡ self.now.verdicts }
+    {
+        &self.work.verdicts
+    }
+
+    // Gives the workspace back, and the place to which the turns led.
+    #[inline]
+    pub(crate) fn close(self) -> (Workspace, u64)
+        ensures world { result.0.world ≡ self.world }
+        ensures written { result.0.written.items ≡ self.written }
+        ensures marks { AreMarked self.world result.0.marked.items self.written }
+        ensures place { result.1 ≡ self.place }
+    {
+        (self.work, self.place)
     }
 
     /// Settles the next turn by a look at it, where the look holds: where the book's world agrees with each cell that the look read in the
@@ -153,7 +182,7 @@ impl Book {
         ensures redone { IsRedone (minds_of brains.entry) cause self.old self.new }
         ensures same { IsSameWindow self.old self.new }
     {
-        vouch(brains);
+        vouch(brains, &self.work.world);
         // the look at a turn in the very world in which it is taken says what the turn does
         let look = look(&self.work.world, brains, self.seed, self.place, self.next);
         self.end_turn(&look, Verdict::Redone(cause));
@@ -173,14 +202,16 @@ impl Book {
     }
 }
 
-// Brains are brains, and their sheet is light.
+// Brains are brains, their sheet is light, and a world is one.
 #[inline]
-pub(crate) fn vouch(brains: Brains<'_>)
-    ensures { AreSound (minds_of brains.entry) }
+pub(crate) fn vouch(brains: Brains<'_>, world: &World)
+    ensures sound { AreSound (minds_of brains.entry) }
+    ensures world { IsWorld world.now }
 {
     let _red = brains.red.len();
     let _black = brains.black.len();
     let _corpse = brains.sheet.corpse();
+    let _width = world.width();
 }
 
 // One where it is so, and nothing where it isn't.

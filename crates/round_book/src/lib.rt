@@ -5,12 +5,22 @@
 //! its turns do one after another, and how many looks were taken depends on the turns and the window alone. This is this project's own.
 #![tactic(auto)]
 
+mod advance;
 mod book;
+mod counts;
+mod crew;
+mod field;
 mod laws;
 mod passes;
+mod solo;
 mod verdict;
 mod workspace;
 
+pub use advance::advance;
 pub use book::Book;
+pub use counts::Counts;
+pub use crew::Crew;
+pub use field::Field;
 pub use laws::every_interleaving;
+pub use solo::SoloCrew;
 pub use verdict::{Cause, Verdict};

@@ -63,7 +63,7 @@ module _ (minds : Minds) (seed : ℕ) (base : World) (guess : ℕ) (now : World)
   raised : RaisesOne now.cells (turn minds seed now place t).cells
   raised = turn-raises minds seed now place t sound.corpse
 
-  settles : Settles now (turn minds seed now place t).cells (look_of minds seed base guess t).writes raised.q
+  pub settles : Settles now (turn minds seed now place t).cells (look_of minds seed base guess t).writes raised.q
   unfolding look_of
   settles =
       let claims : List Claim = writes minds base t in
