@@ -112,7 +112,7 @@ IsRedone-ended minds found look book new valid is ended = record {
 
 -- where a book stands
 module _ (window : Window) (book : BookValue) (playable : IsPlayable window) (stands : Stands window book) where
-  keeps : Keeps window.minds window.base (world_of book.world)
+  pub keeps : Keeps window.minds window.base (world_of book.world)
   keeps = subst (λ (m : Moment). Keeps window.minds window.base m.world) (sym stands.now) (Keeps-moment_before window book.next playable)
 
   -- what a look read that wasn't written is there

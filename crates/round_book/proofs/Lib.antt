@@ -1,7 +1,9 @@
 pub mod BookLemmas
 pub mod CountLemmas
+pub mod FieldLemmas
 pub mod MachineLemmas
 pub mod MarkLemmas
 pub mod PassLemmas
+pub mod SoloLemmas
 pub mod WindowLemmas
 pub mod WorkspaceLemmas

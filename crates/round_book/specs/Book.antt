@@ -158,6 +158,7 @@ pub record CanBegin (field : FieldValue) (from to : ℕ) : Type 0 where
 pub record StandsOn (field : FieldValue) (book : BookValue) : Type 0 where
   pub lent : field.whole ≡ false
   pub playable : IsPlayable (window_of field book.from book.to)
+  pub begun : book.from ≤ book.next
   pub stands : Stands (window_of field book.from book.to) book
 
 -- a field after the turns of a window: it is whole, and stands where they lead to

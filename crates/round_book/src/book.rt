@@ -216,7 +216,7 @@ pub(crate) fn vouch(brains: Brains<'_>, world: &World)
 
 // One where it is so, and nothing where it isn't.
 #[inline]
-fn one_if(is: bool) -> u64
+pub(crate) fn one_if(is: bool) -> u64
     ensures { result ≡ one_if is }
 {
     u64::from(is)

@@ -4,7 +4,7 @@ ghost use Rattle.round_book.specs.Book.{IsSameWindow, StandsOn};
 ghost use Rattle.round_book.specs.Window.{guess_for};
 
 use crate::advance::advance;
-use crate::book::Book;
+use crate::book::{Book, one_if};
 use crate::counts::Counts;
 use crate::crew::Crew;
 use crate::field::Field;
@@ -62,8 +62,6 @@ fn settle_all(book: &mut Book, field: &Field<'_>, from: u32, to: u32)
     for id in from..to {
         let look = look(field.world(), field.brains(), field.seed(), guess, id);
         advance(book, field, &look);
-        if look.drew() {
-            guess += 1;
-        }
+        guess += one_if(look.drew());
     }
 }
