@@ -5,7 +5,7 @@
 //! its turns do one after another, and how many looks were taken depends on the turns and the window alone. This is this project's own.
 #![tactic(auto)]
 
-mod advance;
+mod advancing;
 mod book;
 mod counts;
 mod crew;
@@ -16,7 +16,7 @@ mod solo;
 mod verdict;
 mod workspace;
 
-pub use advance::advance;
+pub use advancing::advance;
 pub use book::Book;
 pub use counts::Counts;
 pub use crew::Crew;

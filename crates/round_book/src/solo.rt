@@ -3,7 +3,7 @@ ghost use Rattle.std.specs.Prelude.{◌≡◌, ◌+◌, ◌<◌, ◌≤◌, ◌^
 ghost use Rattle.round_book.specs.Book.{IsSameWindow, StandsOn};
 ghost use Rattle.round_book.specs.Window.{guess_for};
 
-use crate::advance::advance;
+use crate::advancing::advance;
 use crate::book::{Book, one_if};
 use crate::counts::Counts;
 use crate::crew::Crew;
