@@ -1,5 +1,6 @@
 -- Books on fields: where one begins, goes on, and ends.
 use Rattle.std.proofs.Common.{◌≡◌, ◌≢◌, ℕ, ◌+◌, ◌-◌, ◌<◌, ◌≤◌, ◌^◌, Bool, true, false, List, [], length, Option, Some, None, refl, sym, ◌∙◌, ap, ap₂, subst, arith}
+use Rattle.std.specs.Prelude.{IfOk, OnOk, Result, Ok, Err}
 use Rattle.std.specs.List.{AllByRecursion, Contains, count_by}
 use Rattle.hex_geometry.specs.declared.position.Pos.{Pos}
 use Rattle.cell_world.specs.Grid.{Grid, IsWorld, world_of}
@@ -98,3 +99,8 @@ on-begun field from to can world sound fits = record {
     unwritten = λ p none. refl;
   };
 }
+
+-- what follows of what is true where it went well
+pub ok_both : {A E : Type 0} {P R : A → Type 0} {Q : Type 0} (r : Result A E) → ((x : A) → P x → Q → R x) → IfOk r P → OnOk r Q → IfOk r R
+ok_both (Ok x) f one other = f x one other
+ok_both (Err e) f one other = one

@@ -10,7 +10,7 @@ use Rattle.spec_record.proofs.Flips.{look-drew}
 use Rattle.round_book.specs.Book.{BookValue, FieldValue, IsSameWindow, StandsOn, window_of}
 use Rattle.round_book.specs.Window.{Window, guess_for, look_for}
 
-one_if-le : (b : Bool) → one_if b ≤ 1
+pub one_if-le : (b : Bool) → one_if b ≤ 1
 one_if-le true = omega arith
 one_if-le false = omega arith
 

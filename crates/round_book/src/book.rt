@@ -84,7 +84,8 @@ impl Book {
     // How many turns the window has.
     #[inline]
     pub(crate) fn turns(&self) -> u32
-        ensures { result ≡ self.now.to - self.now.from }
+        ensures turns { result ≡ self.now.to - self.now.from }
+        ensures few { self.now.to - self.now.from < 2 ^ 32 }
     {
         self.to - self.from
     }

@@ -114,6 +114,21 @@ impl<'b> Field<'b> {
         ensures stands { IfOk result (λ book. StandsOn self.new book) }
         ensures unchanged { OnErr result (self.new ≡ self.old) }
     {
+        self.lend(from, to)
+    }
+
+    // Lends the workspace, once it has room for the window.
+    fn lend(&mut self, from: u32, to: u32) -> Result<Book, OutOfMemory>
+        requires { CanBegin self.old from to }
+        ensures lent { OnOk result (self.new ≡ record self.old { whole = false }) }
+        ensures book { IfOk result (λ book. book ≡ begun self.old from to) }
+        ensures unchanged { OnErr result (self.new ≡ self.old) }
+        ensures world { IsWorld self.old.world }
+        ensures sound { AreSound self.old.minds }
+        ensures fit { Fits (world_of self.old.world) self.old.minds }
+    {
+        let ids = self.world.ant_count();
+        prove!(to <= ids);
         let Some(mut work) = self.workspace.take() else {
             unreachable!()
         };
@@ -121,8 +136,6 @@ impl<'b> Field<'b> {
             self.workspace = Some(work);
             return Err(OutOfMemory);
         }
-        let ids = self.world.ant_count();
-        prove!(to <= ids);
         Ok(Book::over(work, self.seed, self.place, from, to))
     }
 

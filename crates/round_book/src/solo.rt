@@ -21,7 +21,7 @@ pub struct SoloCrew {
 impl SoloCrew {
     /// A crew that has played no turn yet (this project's own).
     pub fn new() -> SoloCrew
-        ensures { Crew.played result ≡ 0 }
+        ensures { result.turns ≡ 0 }
     {
         SoloCrew { turns: 0 }
     }

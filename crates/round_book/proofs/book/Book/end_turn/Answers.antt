@@ -14,7 +14,17 @@ returns-clause-ended c =
     let writes : c.as_slice.result.now ≡ c.args.look.now.writes = c.as_slice.ensures.value ∙ c.writes.ensures in
     let join : World → ℕ → Moment = λ w n. record { world = w; place = n } in
     let w : World = world_of fields.work.world in
-    subst (λ (book : BookValue). IsEnded c.args.look.now c.args.verdict book _) c.self.view_is (record {
+    let new : BookValue = record {
+      seed = fields.seed;
+      from = fields.from;
+      to = fields.to;
+      next = fields.next + 1;
+      world = c.write.new.self.world;
+      place = fields.place + c.one_if.result;
+      written = c.write.new.self.written.items;
+      verdicts = c.push_reserved.new.self.items;
+    } in
+    subst (λ (book : BookValue). IsEnded c.args.look.now c.args.verdict book new) c.self.view_is (record {
       now = ap₂ join
           (c.write.ensures.world ∙ ap (λ (list : List Sighting). with_cells w (patched_cells w.cells list)) writes)
           (ap (λ n. fields.place + n) (c.one_if.ensures ∙ ap one_if c.drew.ensures));
