@@ -73,9 +73,9 @@ module _ (width : ℕ) (was tiles others : List Tile) (old bodies middle new oth
   caught_here : IsCaught was (set tiles (index_of width p) tile) others new other_bodies (index_of width p)
   caught_here = ⊎_elim
       (λ same. record {
-          tile = tile_here;
-          before = λ t made names. had t (subst (λ n. t < n) same_ids made) (is_before tile ∙ ap (λ (o : Tile). occupant_id o.ant) (same tile) ∙ names tile);
-          after = λ t made names. has t (subst (λ n. t < n) same_ids made) (ap (λ (o : Tile). occupant_id o.ant) (is_tile tile) ∙ names tile);
+        tile = tile_here;
+        before = λ t made names. had t (subst (λ n. t < n) same_ids made) (is_before tile ∙ ap (λ (o : Tile). occupant_id o.ant) (same tile) ∙ names tile);
+        after = λ t made names. has t (subst (λ n. t < n) same_ids made) (ap (λ (o : Tile). occupant_id o.ant) (is_tile tile) ∙ names tile);
       })
       (λ caught. caught_stays (index_of width p) caught)
       (catching.each (index_of width p) early)
@@ -86,9 +86,9 @@ module _ (width : ℕ) (was tiles others : List Tile) (old bodies middle new oth
     all_ids = same_ids ∙ catching.all_ids;
     either = λ t made. ⊎_elim
         (λ e. ⊎_elim
-            (λ f. ⊎_elim (λ g. inl (e ∙ f ∙ g)) (λ g. inr (e ∙ f ∙ g)) (catching.either t made))
-            (λ f. inr (e ∙ f))
-            (first.either t (subst (λ n. t < n) (sym catching.all_ids) made)))
+        (λ f. ⊎_elim (λ g. inl (e ∙ f ∙ g)) (λ g. inr (e ∙ f ∙ g)) (catching.either t made))
+        (λ f. inr (e ∙ f))
+        (first.either t (subst (λ n. t < n) (sym catching.all_ids) made)))
         inr
         (second.either t (subst (λ n. t < n) (sym first.all_ids) (subst (λ n. t < n) (sym catching.all_ids) made)));
     each = λ i within. ⊎_elim
@@ -98,9 +98,9 @@ module _ (width : ℕ) (was tiles others : List Tile) (old bodies middle new oth
     done = λ i within none. ⊎_elim
         (λ same. subst (IsCaught was (set tiles (index_of width p) tile) others new other_bodies) (sym same) caught_here)
         (λ apart. caught_stays i (catching.done i within (λ q held. ⊎_elim
-            (λ first_is. λ e. apart (sym e ∙ ap (index_of width) (sym first_is)))
-            (λ later. none q later)
-            (Contains-head p rest q held))))
+        (λ first_is. λ e. apart (sym e ∙ ap (index_of width) (sym first_is)))
+        (λ later. none q later)
+        (Contains-head p rest q held))))
         (cases_eq i (index_of width p));
   } where
     Contains-head : (y : Pos) (xs : List Pos) (x : Pos) → Contains (y ∷ xs) x → (y ≡ x) ⊎ Contains xs x
@@ -114,6 +114,7 @@ occupant-same : (a b : Occupant) → occupant_id a ≡ occupant_id b → a ≡ b
 occupant-same a b same = go (nat_eq a.number nobody) refl (nat_eq b.number nobody) refl where
   made : ℕ → Occupant
   made n = record { number = n }
+
   go : (x : Bool) → nat_eq a.number nobody ≡ x → (y : Bool) → nat_eq b.number nobody ≡ y → a ≡ b
   go true is_a true is_b = ap (λ n. record { number = n }) (eqb-true a.number nobody is_a ∙ sym (eqb-true b.number nobody is_b))
   go true is_a false is_b =
@@ -336,8 +337,8 @@ pub Pair-of : (fields others : Inside) (now other : Grid) → IsKept fields → 
 Pair-of fields others now other kept other_kept is other_is width height ids =
     let same : grid_from fields.width fields.height others.tiles.items others.bodies.items ≡ grid_of others =
     ap₂ (λ (x y : ℕ). grid_from x y others.tiles.items others.bodies.items)
-        (ap (λ (g : Grid). g.width) is ∙ width ∙ sym (ap (λ (g : Grid). g.width) other_is))
-        (ap (λ (g : Grid). g.height) is ∙ height ∙ sym (ap (λ (g : Grid). g.height) other_is)) in
+    (ap (λ (g : Grid). g.width) is ∙ width ∙ sym (ap (λ (g : Grid). g.width) other_is))
+    (ap (λ (g : Grid). g.height) is ∙ height ∙ sym (ap (λ (g : Grid). g.height) other_is)) in
     record {
       world = kept.world;
       index = kept.index;

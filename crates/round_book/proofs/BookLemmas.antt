@@ -142,9 +142,10 @@ module _ (window : Window) (book : BookValue) (playable : IsPlayable window) (st
 -- what isn't contained is apart
 apart_from : (writes : List Sighting) (p : Pos) → ¬ Contains (places_of writes) p → AllByRecursion (λ write. write.0 ≢ p) writes
 apart_from [] p none = tt
-apart_from (write ∷ writes) p none =
-    (λ same. none (subst (λ q. Contains (write.0 ∷ places_of writes) q) same (0, omega arith, refl)),
-    apart_from writes p (λ held. none (Contains-append_right (write.0 ∷ []) (places_of writes) p held)))
+apart_from (write ∷ writes) p none = (
+  λ same. none (subst (λ q. Contains (write.0 ∷ places_of writes) q) same (0, omega arith, refl)),
+  apart_from writes p (λ held. none (Contains-append_right (write.0 ∷ []) (places_of writes) p held)),
+)
 
 -- a sighting among claims with their cells is one of them
 record Claimed (cells : Cells) (claims : List Claim) (read : Sighting) : Type 0 where
@@ -192,7 +193,7 @@ turn-unwritten : (minds : Minds) (seed : ℕ) (w : World) (place t : ℕ) (p : P
 turn-unwritten minds seed w place t p valid none =
     ap (λ (m : Moment). m.world.cells p) (sym (own-turn minds seed w place t valid))
     ∙ patched_cells-other (look_of minds seed w place t).writes w.cells p
-        (apart_from (look_of minds seed w place t).writes p (subst (λ (places : List Pos). ¬ Contains places p) (sym (look-places minds seed w place t)) none))
+    (apart_from (look_of minds seed w place t).writes p (subst (λ (places : List Pos). ¬ Contains places p) (sym (look-places minds seed w place t)) none))
 
 module _ (window : Window) (book new : BookValue) (playable : IsPlayable window) (stands : Stands window book) (same : IsSameWindow book new) where
   -- one verdict more

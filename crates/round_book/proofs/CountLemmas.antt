@@ -64,9 +64,9 @@ one_if-same false false same = refl
 identity-test : (a b : Ant) → (same_identity a b ≡ true) ↔ (identity_of a ≡ identity_of b)
 identity-test a b = (
   λ same.
-  let both = and_both (nat_eq a.id b.id) (same_colour a.colour b.colour) same in
-  let made : ℕ → Colour → Identity = λ t c. record { id = t; colour = c } in
-  ap₂ made (eqb-true a.id b.id both.0) (same_colour-true a.colour b.colour both.1),
+      let both = and_both (nat_eq a.id b.id) (same_colour a.colour b.colour) same in
+      let made : ℕ → Colour → Identity = λ t c. record { id = t; colour = c } in
+      ap₂ made (eqb-true a.id b.id both.0) (same_colour-true a.colour b.colour both.1),
   λ same. and_from (nat_eq a.id b.id) (same_colour a.colour b.colour) (eq-eqb a.id b.id (ap (λ (i : Identity). i.id) same))
       (ap (λ (i : Identity). same_colour a.colour i.colour) (sym same) ∙ same_colour-self a.colour),
 )
@@ -74,11 +74,11 @@ identity-test a b = (
 posture-test : (a b : Ant) → (same_posture a b ≡ true) ↔ (posture_of a ≡ posture_of b)
 posture-test a b = (
   λ same.
-  let one = and_both (nat_eq a.state b.state) (nat_eq a.resting b.resting && nat_eq (number_of a.facing) (number_of b.facing)) same in
-  let two = and_both (nat_eq a.resting b.resting) (nat_eq (number_of a.facing) (number_of b.facing)) one.1 in
-  let made : ℕ → ℕ → Dir → Posture = λ s r f. record { state = s; resting = r; facing = f } in
-  let facing : a.facing ≡ b.facing = sym (dir_of_number_of a.facing) ∙ ap dir_of (eqb-true (number_of a.facing) (number_of b.facing) two.1) ∙ dir_of_number_of b.facing in
-  ap (λ s. made s a.resting a.facing) (eqb-true a.state b.state one.0) ∙ ap (λ r. made b.state r a.facing) (eqb-true a.resting b.resting two.0) ∙ ap (λ f. made b.state b.resting f) facing,
+      let one = and_both (nat_eq a.state b.state) (nat_eq a.resting b.resting && nat_eq (number_of a.facing) (number_of b.facing)) same in
+      let two = and_both (nat_eq a.resting b.resting) (nat_eq (number_of a.facing) (number_of b.facing)) one.1 in
+      let made : ℕ → ℕ → Dir → Posture = λ s r f. record { state = s; resting = r; facing = f } in
+      let facing : a.facing ≡ b.facing = sym (dir_of_number_of a.facing) ∙ ap dir_of (eqb-true (number_of a.facing) (number_of b.facing) two.1) ∙ dir_of_number_of b.facing in
+      ap (λ s. made s a.resting a.facing) (eqb-true a.state b.state one.0) ∙ ap (λ r. made b.state r a.facing) (eqb-true a.resting b.resting two.0) ∙ ap (λ f. made b.state b.resting f) facing,
   λ same. and_from (nat_eq a.state b.state) (nat_eq a.resting b.resting && nat_eq (number_of a.facing) (number_of b.facing)) (eq-eqb a.state b.state (ap (λ (p : Posture). p.state) same))
       (and_from (nat_eq a.resting b.resting) (nat_eq (number_of a.facing) (number_of b.facing)) (eq-eqb a.resting b.resting (ap (λ (p : Posture). p.resting) same))
       (eq-eqb (number_of a.facing) (number_of b.facing) (ap (λ (p : Posture). number_of p.facing) same))),
@@ -118,11 +118,14 @@ part_if-test false k c d = (λ e. λ is. absurd (false≢true is), λ f. refl)
 
 -- of a set of parts
 parts-test : (parts : Parts) (c d : Cell) → (do_agree parts c d ≡ true) ↔ Agree parts c d
-parts-test parts c d = (λ e. each e, λ agree. and_from _ _ ((part_if-test parts.who Who c d).1 (agree Who))
-    (and_from _ _ ((part_if-test parts.mind Mind c d).1 (agree Mind))
-    (and_from _ _ ((part_if-test parts.load Load c d).1 (agree Load))
-    (and_from _ _ ((part_if-test parts.food Food c d).1 (agree Food))
-    (and_from _ _ ((part_if-test parts.red_marks RedMarks c d).1 (agree RedMarks)) ((part_if-test parts.black_marks BlackMarks c d).1 (agree BlackMarks))))))) where
+parts-test parts c d = (
+  λ e. each e,
+  λ agree. and_from _ _ ((part_if-test parts.who Who c d).1 (agree Who))
+      (and_from _ _ ((part_if-test parts.mind Mind c d).1 (agree Mind))
+      (and_from _ _ ((part_if-test parts.load Load c d).1 (agree Load))
+      (and_from _ _ ((part_if-test parts.food Food c d).1 (agree Food))
+      (and_from _ _ ((part_if-test parts.red_marks RedMarks c d).1 (agree RedMarks)) ((part_if-test parts.black_marks BlackMarks c d).1 (agree BlackMarks)))))),
+) where
   each : do_agree parts c d ≡ true → (k : Part) → has_part parts k ≡ true → Alike k c d
   each e k =
       let a = and_both (is_alike_if parts.who Who c d) _ e in
@@ -144,7 +147,7 @@ reads-test : (list : List Sighting) (cells : Cells) → (is_unchanged list cells
 reads-test [] cells = (λ e. tt, λ all. refl)
 reads-test (read ∷ list) cells = (
   λ e. let both = and_both (do_agree read.1 read.2 (cells read.0)) (is_unchanged list cells) e in
-  ((parts-test read.1 read.2 (cells read.0)).0 both.0, (reads-test list cells).0 both.1),
+      ((parts-test read.1 read.2 (cells read.0)).0 both.0, (reads-test list cells).0 both.1),
   λ all. and_from (do_agree read.1 read.2 (cells read.0)) (is_unchanged list cells) ((parts-test read.1 read.2 (cells read.0)).1 all.0) ((reads-test list cells).1 all.1),
 )
 
@@ -165,8 +168,7 @@ look_holds-test look cells place = (
 pub is_taken-test : (window : Window) (t : ℕ) → (is_taken window t ≡ true) ↔ HoldsIn window (moment_before window t) t
 unfolding is_taken look_for
 is_taken-test window t =
-    let now : Moment = moment_before window t in
-    (
+    let now : Moment = moment_before window t in (
       λ e. LookHolds-Holds window.minds window.seed window.base (guess_for window t) now.world now.place t ((look_holds-test (look_for window t) now.world.cells now.place).0 e),
       λ holds. (look_holds-test (look_for window t) now.world.cells now.place).1 (Holds-LookHolds window.minds window.seed window.base (guess_for window t) now.world now.place t holds),
     )
@@ -175,7 +177,7 @@ is_taken-test window t =
 Redone-refutes : (window : Window) (now : Moment) (t : ℕ) (found : Cause) → IsVerdict window now t (Redone found) → ¬ HoldsIn window now t
 Redone-refutes window now t (cause.Part at k) other holds =
     let agree = All-contains (λ (read : Claim). Agree read.parts (window.base.cells read.at) (now.world.cells read.at)) (reads window.minds window.base t) other.read
-        (All-from_recursion (λ (read : Claim). Agree read.parts (window.base.cells read.at) (now.world.cells read.at)) (reads window.minds window.base t) holds.unchanged) other.is_read in
+    (All-from_recursion (λ (read : Claim). Agree read.parts (window.base.cells read.at) (now.world.cells read.at)) (reads window.minds window.base t) holds.unchanged) other.is_read in
     other.differs (subst (λ p. Alike k (window.base.cells p) (now.world.cells p)) other.here (agree k other.named))
 Redone-refutes window now t (cause.Place guessed actual) elsewhere holds =
     elsewhere.differs (elsewhere.is_actual ∙ holds.guessed elsewhere.flips ∙ sym elsewhere.is_guess)

@@ -1,6 +1,7 @@
 pub mod BookLemmas
 pub mod CountLemmas
 pub mod FieldLemmas
+pub mod LedLemmas
 pub mod MachineLemmas
 pub mod MarkLemmas
 pub mod PassLemmas

@@ -61,9 +61,9 @@ Marking-step start all now i d new early marks before = record {
   done = λ p held. ⊎_elim
       (λ old. inl ((marks p).1 (inl old)))
       (λ left. ⊎_elim
-          (λ same. inl ((marks p).1 (inr (sym same))))
-          inr
-          (Contains-cons (slice_index_or all i d).0 (places_of (drop (i + 1) all)) p (subst (λ left. Contains (places_of left) p) (drop_more all i d early) left)))
+      (λ same. inl ((marks p).1 (inr (sym same))))
+      inr
+      (Contains-cons (slice_index_or all i d).0 (places_of (drop (i + 1) all)) p (subst (λ left. Contains (places_of left) p) (drop_more all i d early) left)))
       (before.done p held);
 }
 
@@ -100,12 +100,12 @@ Unmarking-step grid marked places i d early before =
       inside = λ p held. before.inside p (subst (λ ps. Contains ps p) (sym open_left) (Contains-later here (drop (i + 1) places) p held));
       listed = λ p within bit. ⊎_elim
           (λ same. absurd (false≢true (sym (get_or-set_same marked at false false (subst (λ n. at < n) (sym before.sized) (index_of-inside grid.width grid.height here.x here.y in_grid.column in_grid.row)))
-              ∙ ap (λ k. slice_index_or (slice_set marked at false) k false) (sym same) ∙ bit)))
+          ∙ ap (λ k. slice_index_or (slice_set marked at false) k false) (sym same) ∙ bit)))
           (λ apart. ⊎_elim
-              (λ first. absurd (apart (ap (index_of grid.width) (sym first))))
-              (λ later. later)
-              (Contains-cons here (drop (i + 1) places) p (subst (λ ps. Contains ps p) open_left
-                  (before.listed p within (sym (get_or-set_other marked at (index_of grid.width p) false false apart) ∙ bit)))))
+          (λ first. absurd (apart (ap (index_of grid.width) (sym first))))
+          (λ later. later)
+          (Contains-cons here (drop (i + 1) places) p (subst (λ ps. Contains ps p) open_left
+          (before.listed p within (sym (get_or-set_other marked at (index_of grid.width p) false false apart) ∙ bit)))))
           (cases_eq (index_of grid.width p) at);
     }
 

@@ -167,9 +167,9 @@ find_writer [] p once = inl tt
 find_writer (write ∷ writes) p once = ⊎_elim
     (λ same. inr (record { write = write; has = inl (refl, once.0); here = same }))
     (λ apart. ⊎_elim
-        (λ none. inl (apart, none))
-        (λ found. inr (record { write = found.write; has = inr ((λ e. apart (e ∙ found.here)), found.has); here = found.here }))
-        (find_writer writes p once.1))
+    (λ none. inl (apart, none))
+    (λ found. inr (record { write = found.write; has = inr ((λ e. apart (e ∙ found.here)), found.has); here = found.here }))
+    (find_writer writes p once.1))
     (cases_pos write.0 p)
 
 -- what a pass makes of a written cell
@@ -177,7 +177,7 @@ after_pass-at : (heavier : Bool) (writes : List Sighting) (w : World) (x : Sight
 after_pass-at heavier [] w x has = absurd has
 after_pass-at heavier (write ∷ writes) w x has = ⊎_elim
     (λ here. after_pass-other heavier writes (with_pass heavier w write) x.0 here.1
-        ∙ subst (λ y. (with_pass heavier w y).cells x.0 ≡ cell_after heavier (w.cells x.0) x) (sym here.0) (with_pass-own heavier w x))
+    ∙ subst (λ y. (with_pass heavier w y).cells x.0 ≡ cell_after heavier (w.cells x.0) x) (sym here.0) (with_pass-own heavier w x))
     (λ later. after_pass-at heavier writes (with_pass heavier w write) x later.1 ∙ ap (λ c. cell_after heavier c x) (with_pass-other heavier w write x.0 later.0))
     has
 
@@ -185,7 +185,7 @@ patched_cells-at : (writes : List Sighting) (cells : Cells) (x : Sighting) → H
 patched_cells-at [] cells x has = absurd has
 patched_cells-at (write ∷ writes) cells x has = ⊎_elim
     (λ here. patched_cells-other writes (with_write cells write) x.0 here.1
-        ∙ subst (λ (y : Sighting). put_cell cells y.0 (patched_by_write cells y) x.0 ≡ patched (cells x.0) x.2 x.1) (sym here.0) (put_cell-same cells x.0 (patched_by_write cells x)))
+    ∙ subst (λ (y : Sighting). put_cell cells y.0 (patched_by_write cells y) x.0 ≡ patched (cells x.0) x.2 x.1) (sym here.0) (put_cell-same cells x.0 (patched_by_write cells x)))
     (λ later. patched_cells-at writes (with_write cells write) x later.1 ∙ ap (λ c. patched c x.2 x.1) (put_cell-other cells write.0 (patched_by_write cells write) x.0 later.0))
     has
 
@@ -199,9 +199,11 @@ passes_patch : (cell : Cell) (x : Sighting) → CanPatch cell x.2 x.1 → cell_a
 passes_patch cell x can = go (nat_lt (cell_weight cell) (cell_weight (patched cell x.2 x.1))) refl where
   new : Cell
   new = patched cell x.2 x.1
+
   either : (b : Bool) → cond b (patched (patched cell x.2 x.1) x.2 x.1) (patched cell x.2 x.1) ≡ patched cell x.2 x.1
   either true = patched-again cell x.2 x.1 can
   either false = refl
+
   go : (b : Bool) → nat_lt (cell_weight cell) (cell_weight (patched cell x.2 x.1)) ≡ b → cell_after true (cell_after false cell x) x ≡ patched cell x.2 x.1
   go true heavy =
       ap (λ c. cell_after true c x) (cond-false (not (nat_lt (cell_weight cell) (cell_weight (patched cell x.2 x.1)))) (patched cell x.2 x.1) cell (ap not heavy))
@@ -215,10 +217,10 @@ passes_cells : (w : World) (writes : List Sighting) → CanTake w writes → (p 
 passes_cells w writes can p = ⊎_elim
     (λ none. after_pass-other true writes (after_pass false w writes) p none ∙ after_pass-other false writes w p none ∙ sym (patched_cells-other writes w.cells p none))
     (λ found. subst (λ q. (after_pass true (after_pass false w writes) writes).cells q ≡ patched_cells w.cells writes q) found.here
-        (after_pass-at true writes (after_pass false w writes) found.write found.has
-        ∙ ap (λ c. cell_after true c found.write) (after_pass-at false writes w found.write found.has)
-        ∙ passes_patch (w.cells found.write.0) found.write (Has-all (CanPatchIn w) writes found.write found.has can.each).1
-        ∙ sym (patched_cells-at writes w.cells found.write found.has)))
+    (after_pass-at true writes (after_pass false w writes) found.write found.has
+    ∙ ap (λ c. cell_after true c found.write) (after_pass-at false writes w found.write found.has)
+    ∙ passes_patch (w.cells found.write.0) found.write (Has-all (CanPatchIn w) writes found.write found.has can.each).1
+    ∙ sym (patched_cells-at writes w.cells found.write found.has)))
     (find_writer writes p can.once)
 
 pub passes-set : (w first second : World) (writes : List Sighting) → CanTake w writes → first ≡ after_pass false w writes → second ≡ after_pass true first writes → second ≡ with_cells w (patched_cells w.cells writes)
@@ -233,9 +235,10 @@ each_after : (heavier : Bool) (writes : List Sighting) (w : World) → EachOnce 
 each_after heavier [] w once each = tt
 each_after heavier (write ∷ writes) w once each =
     let own : CanPatchIn (with_pass heavier w write) write = CanPatchIn-own heavier w write each.0 in
-    let stays = after_pass-other heavier writes (with_pass heavier w write) write.0 once.0 in
-    (CanPatchIn-same (with_pass heavier w write) (after_pass heavier (with_pass heavier w write) writes) write (after_pass-sizes heavier writes (with_pass heavier w write)) stays own,
-    each_after heavier writes (with_pass heavier w write) once.1 (each-next heavier w write writes once.0 each.1))
+    let stays = after_pass-other heavier writes (with_pass heavier w write) write.0 once.0 in (
+      CanPatchIn-same (with_pass heavier w write) (after_pass heavier (with_pass heavier w write) writes) write (after_pass-sizes heavier writes (with_pass heavier w write)) stays own,
+      each_after heavier writes (with_pass heavier w write) once.1 (each-next heavier w write writes once.0 each.1),
+    )
   where
     CanPatchIn-same : (v u : World) (x : Sighting) → u ≡ with_cells v u.cells → u.cells x.0 ≡ v.cells x.0 → CanPatchIn v x → CanPatchIn u x
     CanPatchIn-same v u x sizes same can =

@@ -35,9 +35,9 @@ AreMarked-more grid marked written p before inside = record {
   bear = λ q held. ⊎_elim
       (λ same. ap (λ i. slice_index_or (slice_set marked (index_of grid.width p) true) i false) same ∙ get_or-set_same marked (index_of grid.width p) true false early)
       (λ other. get_or-set_other marked (index_of grid.width p) (index_of grid.width q) true false other ∙ ⊎_elim
-          (λ old. before.bear q old)
-          (λ same. absurd (other (ap (index_of grid.width) same)))
-          ((Contains-more written p q).0 held))
+      (λ old. before.bear q old)
+      (λ same. absurd (other (ap (index_of grid.width) same)))
+      ((Contains-more written p q).0 held))
       (cases_eq (index_of grid.width q) (index_of grid.width p));
 } where
   early : index_of grid.width p < length marked
@@ -53,5 +53,6 @@ AreMarked-same grid new marked written cells same before = record {
 } where
   width : new.width ≡ grid.width
   width = ap (λ (w : World). w.width) same
+
   height : new.height ≡ grid.height
   height = ap (λ (w : World). w.height) same

@@ -1,6 +1,7 @@
 pub mod Book
 pub mod Counts
 pub mod Inner
+pub mod Led
 pub mod Machine
 pub mod MachineLaws
 pub mod Window

@@ -11,7 +11,7 @@ pub returns-then-not-is_inside : goal.returns-then-not-is_inside
 returns-then-not-is_inside c = (
   λ e. absurd (false≢true e),
   λ held.
-  let here = c.requires.inside c.args.p held in
-  let inside : c.is_inside.result ≡ true = c.is_inside.ensures.inside.1 (here.column, here.row) in
-  sym c.if-not-is_inside.true ∙ inside,
+      let here = c.requires.inside c.args.p held in
+      let inside : c.is_inside.result ≡ true = c.is_inside.ensures.inside.1 (here.column, here.row) in
+      sym c.if-not-is_inside.true ∙ inside,
 )
