@@ -73,7 +73,7 @@ agree_all : (cells : Cells) (claims : List Claim) → AllByRecursion (λ read. A
 agree_all cells [] = tt
 agree_all cells (c ∷ claims) = (λ k named. refl, agree_all cells claims)
 
-Holds-itself : (minds : Minds) (w : World) (place t : ℕ) → Holds minds w place w place t
+pub Holds-itself : (minds : Minds) (w : World) (place t : ℕ) → Holds minds w place w place t
 Holds-itself minds w place t = record { unchanged = agree_all w.cells (reads minds w t); guessed = λ flips. refl }
 
 -- the look at a turn in the very world where it is taken may be taken, and is worth the turn

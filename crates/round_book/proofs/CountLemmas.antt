@@ -174,7 +174,7 @@ is_taken-test window t =
     )
 
 -- a verdict that a turn was executed anew refutes that its look holds
-Redone-refutes : (window : Window) (now : Moment) (t : ℕ) (found : Cause) → IsVerdict window now t (Redone found) → ¬ HoldsIn window now t
+pub Redone-refutes : (window : Window) (now : Moment) (t : ℕ) (found : Cause) → IsVerdict window now t (Redone found) → ¬ HoldsIn window now t
 Redone-refutes window now t (cause.Part at k) other holds =
     let agree = All-contains (λ (read : Claim). Agree read.parts (window.base.cells read.at) (now.world.cells read.at)) (reads window.minds window.base t) other.read
     (All-from_recursion (λ (read : Claim). Agree read.parts (window.base.cells read.at) (now.world.cells read.at)) (reads window.minds window.base t) holds.unchanged) other.is_read in
@@ -203,3 +203,22 @@ pub verdicts-length : (window : Window) (n : ℕ) (verdicts : List Verdict) → 
 verdicts-length window zero verdicts are = ap length are
 verdicts-length window (suc n) verdicts (before, last, is, rest, said) =
     ap length is ∙ (let more : length (before ++ last ∷ []) ≡ length before + 1 = length-append before (last ∷ []) in let same : length before ≡ n = verdicts-length window n before rest in omega arith)
+
+-- no more looks are taken than there are turns
+taken_among-le : (window : Window) (n : ℕ) → taken_among window n ≤ n
+taken_among-le window zero = omega arith
+taken_among-le window (suc n) =
+    let rest : taken_among window n ≤ n = taken_among-le window n in
+    let one : one_if (is_taken window (window.from + n)) ≤ 1 = at_most (is_taken window (window.from + n)) in
+    omega arith
+  where
+    at_most : (b : Bool) → one_if b ≤ 1
+    at_most true = omega arith
+    at_most false = omega arith
+
+-- those that are taken and those that aren't are all
+pub counts-add_up : (window : Window) → (counts_of window).taken + (counts_of window).redone ≡ window.to - window.from
+unfolding counts_of
+counts-add_up window =
+    let few : taken_among window (window.to - window.from) ≤ window.to - window.from = taken_among-le window (window.to - window.from) in
+    omega arith

@@ -1,7 +1,9 @@
 pub mod BookLemmas
 pub mod CountLemmas
+pub mod CountsWorked
 pub mod FieldLemmas
 pub mod LedLemmas
+pub mod LoneTurns
 pub mod MachineLemmas
 pub mod MarkLemmas
 pub mod PassLemmas

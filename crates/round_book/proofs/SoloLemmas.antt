@@ -23,7 +23,7 @@ flips_among-le minds w from (suc n) =
     omega arith
 
 -- the first guess, and the next one
-guess_for-from : (window : Window) → guess_for window window.from ≡ window.place
+pub guess_for-from : (window : Window) → guess_for window window.from ≡ window.place
 unfolding guess_for guess
 guess_for-from window =
     let none : window.from - window.from ≡ 0 = omega arith in
@@ -93,3 +93,7 @@ module _ (field : FieldValue) (from to id : ℕ) (book : BookValue) (guess : ℕ
           ∙ ap₂ (λ x y. x + y) going.guessed (ap one_if (ap (λ (l : LookValue). l.drew) there ∙ look-drew field.minds field.seed (world_of field.world) guess id))
           ∙ sym (guess_for-next (window_of field from to) id going-first);
     }
+
+-- one window through two steps
+pub same-then : (first second third : BookValue) → IsSameWindow first second → IsSameWindow second third → IsSameWindow first third
+same-then first second third one two = record { seed = two.seed ∙ one.seed; from = two.from ∙ one.from; to = two.to ∙ one.to }

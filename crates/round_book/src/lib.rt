@@ -22,7 +22,9 @@ pub use book::Book;
 pub use counts::Counts;
 pub use crew::Crew;
 pub use field::Field;
-pub use laws::every_interleaving;
+pub use laws::{
+    causes_refute, counts_add_up, every_interleaving, lone_turns_are_taken, taken_where_it_holds,
+};
 pub use led::Led;
 pub use solo::SoloCrew;
 pub use verdict::{Cause, Verdict};

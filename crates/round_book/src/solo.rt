@@ -8,6 +8,7 @@ use crate::book::{Book, one_if};
 use crate::counts::Counts;
 use crate::crew::Crew;
 use crate::field::Field;
+use ant_random::Stream;
 use hex_geometry::OutOfMemory;
 use spec_record::look;
 use std::alloc::Global;
@@ -48,7 +49,7 @@ impl Crew for SoloCrew {
     }
 }
 
-// Settles the turns of a window by looks that are made one after another.
+// Settles the turns of a window by looks that are made one after another, in one room and off one stream.
 fn settle_all(book: &mut Book, field: &Field<'_>, from: u32, to: u32)
     requires stands { StandsOn field.now book.old }
     requires from { book.old.from ≡ from }
@@ -58,10 +59,15 @@ fn settle_all(book: &mut Book, field: &Field<'_>, from: u32, to: u32)
     ensures next { book.new.next ≡ to }
     ensures same { IsSameWindow book.old book.new }
 {
-    let mut guess = field.place();
-    for id in from..to {
-        let look = look(field.world(), field.brains(), field.seed(), guess, id);
+    let first = field.place();
+    if from >= to {
+        return;
+    }
+    let mut look = look(field.world(), field.brains(), field.seed(), first, from);
+    advance(book, field, &look);
+    let mut stream = Stream::at_place_uncounted(field.seed(), first + one_if(look.drew()));
+    for id in from + 1..to {
+        look.renew(field.world(), field.brains(), &mut stream, id);
         advance(book, field, &look);
-        guess += one_if(look.drew());
     }
 }
