@@ -23,7 +23,7 @@ struct OneWin;
 impl Referee for OneWin {
     ghost use Rattle.std.specs.Prelude.{◌==◌, if◌then◌else◌};
 
-    ghost score = { λ _ red _. if red == 1 then record { red = 3; black = 0 } else record { red = 0; black = 0 } };
+    ghost score = { λ _ _ red _. if red == 1 then record { red = 3; black = 0 } else record { red = 0; black = 0 } };
 
     fn game(&self, _: Global, _: u32, red: u32, _: u32) -> Result<Score, OutOfMemory> {
         if red == 1 {
@@ -39,7 +39,7 @@ struct OneLoser;
 impl Referee for OneLoser {
     ghost use Rattle.std.specs.Prelude.{◌==◌, if◌then◌else◌};
 
-    ghost score = { λ _ red black. if red == 0 then record { red = 0; black = 1 } else (if black == 0 then record { red = 1; black = 0 } else record { red = 2; black = 2 }) };
+    ghost score = { λ _ _ red black. if red == 0 then record { red = 0; black = 1 } else (if black == 0 then record { red = 1; black = 0 } else record { red = 2; black = 2 }) };
 
     fn game(&self, _: Global, _: u32, red: u32, black: u32) -> Result<Score, OutOfMemory> {
         if red == 0 {
@@ -56,7 +56,7 @@ impl Referee for OneLoser {
 struct Even;
 
 impl Referee for Even {
-    ghost score = { λ _ _ _. record { red = 5; black = 5 } };
+    ghost score = { λ _ _ _ _. record { red = 5; black = 5 } };
 
     fn game(&self, _: Global, _: u32, _: u32, _: u32) -> Result<Score, OutOfMemory> {
         Ok(Score { red: 5, black: 5 })
@@ -72,7 +72,7 @@ struct Meeting {
 }
 
 impl Referee for Meeting {
-    ghost score = { λ _ _ _. record { red = 0; black = 0 } };
+    ghost score = { λ _ _ _ _. record { red = 0; black = 0 } };
 
     fn game(&self, _: Global, _: u32, red: u32, _: u32) -> Result<Score, OutOfMemory> {
         let met = if red == 0 {
