@@ -1,0 +1,4 @@
+pub mod Faulted
+pub mod Progress
+pub mod Spelled
+pub mod Whole

@@ -1,0 +1,5 @@
+pub mod Answers
+pub mod Places
+pub mod Reading
+pub mod Steps
+pub mod Verdict

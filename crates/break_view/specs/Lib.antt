@@ -1,0 +1,5 @@
+pub mod BreakText
+pub mod Forms
+pub mod Inner
+pub mod Judging
+pub mod Reads

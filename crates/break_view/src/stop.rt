@@ -1,0 +1,82 @@
+// A game played to its first stop.
+ghost use Rattle.std.specs.Prelude.{◌≡◌, ◌+◌, ◌≤◌, length, IfNone};
+ghost use Rattle.ant_turn.specs.Minds.{Fits, minds_of};
+ghost use Rattle.cell_world.specs.Grid.{world_of};
+ghost use Rattle.cell_world.specs.Limits.{most_ants};
+ghost use Rattle.match_run.specs.Run.{LastsARound, moment_of, most_rounds};
+ghost use Rattle.break_view.specs.BreakText.{most_breaks};
+ghost use Rattle.break_view.specs.Stops.{EndsAt};
+ghost use Rattle.break_view.specs.Inner.Rounds.{RoundEnds};
+
+use crate::breaks::{Break, Breaks};
+use crate::met::first_met;
+use ant_random::Stream;
+use ant_turn::{Brains, take_turn};
+use cell_world::World;
+
+/// A stop of a game: the turn after which a break held, and which break (this project's own).
+#[derive(Clone, Copy, Debug, PartialEq, Eq)]
+pub struct Stop {
+    /// The round of the turn, counted from 1.
+    pub round: u32,
+    /// The id whose turn it was, counted from 0.
+    pub id: u32,
+    /// The number of the first break that held then, counted from 1 in the order of the list.
+    pub which: u32,
+}
+
+/// Plays a game until a break holds after a turn, and gives the first such stop; `None` exactly where no break holds after any turn of
+/// the rounds (this project's own; turns and rounds are the task's kinetics).
+///
+/// Each ant's state is below the length of its colour's brain, as in every opening world; the seed is any, and the rounds are at most
+/// 1,000,000. The turns are those of the ids in rising order, from 0, round after round, with the random numbers of the seed from place 0
+/// on; the turn of a dead id is a turn. The world is left as it is after the stop's turn, or after all rounds. A break that holds before
+/// the first turn counts only if it holds after it.
+///
+/// It takes no memory.
+pub fn find_stop(
+    world: &mut World,
+    brains: Brains<'_>,
+    seed: u32,
+    rounds: u32,
+    breaks: &Breaks,
+) -> Option<Stop>
+    requires fit { Fits (world_of world.old) (minds_of brains) }
+    requires few_rounds { rounds ≤ most_rounds }
+    ensures { EndsAt (minds_of brains.entry) seed rounds (world_of world.old) breaks.now result (world_of world.new) }
+{
+    let items = breaks.items();
+    let mut stream = Stream::from_seed(seed);
+    for round in 0..rounds {
+        let stop = stop_in_round(world, brains, &mut stream, round + 1, items);
+        if stop.is_some() {
+            return stop;
+        }
+    }
+    None
+}
+
+// Plays the round of this number, to its end or to the first stop.
+fn stop_in_round(
+    world: &mut World,
+    brains: Brains<'_>,
+    stream: &mut Stream,
+    round: u32,
+    items: &[Break],
+) -> Option<Stop>
+    requires fit { Fits (world_of world.old) (minds_of brains) }
+    requires place { LastsARound stream.old }
+    requires few { length items.now ≤ most_breaks }
+    ensures end { RoundEnds (minds_of brains.entry) stream.old.seed (moment_of world.old stream.old) items.now round result (moment_of world.new stream.new) }
+    ensures seed { stream.new.seed ≡ stream.old.seed }
+    ensures place { stream.new.place ≤ stream.old.place + most_ants }
+    ensures fit { Fits (world_of world.new) (minds_of brains.entry) }
+{
+    for id in 0..world.ant_count() {
+        let _deed = take_turn(world, brains, stream, id);
+        if let Some(which) = first_met(items, world, round, id) {
+            return Some(Stop { round, id, which });
+        }
+    }
+    None
+}
