@@ -1,4 +1,8 @@
 pub mod Faulted
+pub mod Meeting
 pub mod Progress
 pub mod Spelled
+pub mod Stopping
+pub mod ViewLaws
+pub mod Viewing
 pub mod Whole

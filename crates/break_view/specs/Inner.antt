@@ -1,5 +1,6 @@
 pub mod Answers
 pub mod Places
 pub mod Reading
+pub mod Rounds
 pub mod Steps
 pub mod Verdict

@@ -29,3 +29,8 @@ pub record StopsFollowTurns : Type 0 where
 abbrev pub LaterRoundsAddNothing : Type 0
 LaterRoundsAddNothing = (minds : Minds) (seed rounds more : ℕ) (w : World) (items : List Break) (stop : Stop) → rounds ≤ more
     → IsFirstStop minds seed rounds w items stop → IsFirstStop minds seed more w items stop
+
+-- a game has one first stop, or none
+pub record OneFirstStop : Type 0 where
+  pub one : (minds : Minds) (seed rounds : ℕ) (w : World) (items : List Break) (a b : Stop) → IsFirstStop minds seed rounds w items a → IsFirstStop minds seed rounds w items b → a ≡ b
+  pub never_both : (minds : Minds) (seed rounds : ℕ) (w : World) (items : List Break) (stop : Stop) → IsFirstStop minds seed rounds w items stop → HasNoStop minds seed rounds w items → ⊥
