@@ -1,4 +1,5 @@
 pub mod Faulted
+pub mod HillFood
 pub mod Meeting
 pub mod Progress
 pub mod Spelled

@@ -7,7 +7,9 @@ use Rattle.ant_turn.specs.Rounds.{Moment, after_round, after_rounds, after_turns
 use Rattle.ant_turn.proofs.KeptByRounds.{after_rounds-ids}
 use Rattle.cell_world.specs.Grid.{Grid, world_of}
 use Rattle.cell_world.specs.Limits.{most_ants}
+use Rattle.cell_world.specs.Score.{score_of}
 use Rattle.cell_world.specs.World.{World}
+use Rattle.cell_world.specs.declared.score.Score.{Score}
 use Rattle.match_run.specs.Run.{moment_of, world_after}
 use Rattle.match_run.proofs.Playing.{IsTaken, IsAfter, IsAfter-none, IsAfter-more, IsAfter-world}
 use Rattle.break_view.specs.declared.breaks.Break.{Break}
@@ -29,7 +31,8 @@ quiet-more minds seed m items r n quiet none = λ t below. go t below (nat_lt t 
     go t below false e = let same : n ≡ t = (let from = ltb-false t n e in omega (arith, from, below)) in subst (λ k. met_in_round minds seed m items r k ≡ None) same none
 
 -- the round so far: so many turns were taken, none of them with a stop
-pub record IsWatching (minds : Minds) (items : List Break) (r : ℕ) (first : Grid) (start : SeedAndPlace) (turns : ℕ) (grid : Grid) (stream : SeedAndPlace) : Type 0 where
+pub record IsWatching (minds : Minds) (items : List Break) (r : ℕ) (first : Grid) (start : SeedAndPlace) (turns : ℕ) (grid : Grid) (stream : SeedAndPlace) (score : Score) : Type 0 where
+  pub scored : score ≡ score_of (world_of grid)
   pub taken : IsTaken minds first start turns grid stream
   pub quiet : IsQuiet minds start.seed (moment_of first start) items r turns
 
@@ -40,18 +43,20 @@ unfolding world_in_round
 met-taken items r id taken = ap (λ (m : Moment). first_met 1 items m.world r id) (sym taken.moment)
 
 -- the game so far: so many rounds were played, none of them with a stop
-pub record IsWatched (minds : Minds) (seed : ℕ) (w : World) (items : List Break) (round : ℕ) (grid : Grid) (stream : SeedAndPlace) : Type 0 where
+pub record IsWatched (minds : Minds) (seed : ℕ) (w : World) (items : List Break) (round : ℕ) (grid : Grid) (stream : SeedAndPlace) (score : Score) : Type 0 where
+  pub scored : score ≡ score_of (world_of grid)
   pub after : IsAfter minds seed w round grid stream
   pub quiet : HasNoStop minds seed round w items
 
 -- no round is played yet
-pub watched-none : (minds : Minds) (seed : ℕ) (items : List Break) (grid : Grid) (stream : SeedAndPlace) → stream.seed ≡ seed → stream.place ≡ 0 → Fits (world_of grid) minds → IsWatched minds seed (world_of grid) items 0 grid stream
-watched-none minds seed items grid stream same begins fits = record {
+pub watched-none : (minds : Minds) (seed : ℕ) (items : List Break) (grid : Grid) (stream : SeedAndPlace) (score : Score) → stream.seed ≡ seed → stream.place ≡ 0 → Fits (world_of grid) minds → score ≡ score_of (world_of grid) → IsWatched minds seed (world_of grid) items 0 grid stream score
+watched-none minds seed items grid stream score same begins fits scored = record {
+  scored = scored;
   after = IsAfter-none minds seed grid stream same begins fits;
   quiet = λ r t turn. absurd (let begun = turn.begun in let played = turn.played in omega (arith, begun, played));
 }
 
-module _ {minds : Minds} {seed : ℕ} {w : World} {items : List Break} {round : ℕ} {grid : Grid} {stream : SeedAndPlace} (watched : IsWatched minds seed w items round grid stream) where
+module _ {minds : Minds} {seed : ℕ} {w : World} {items : List Break} {round : ℕ} {grid : Grid} {stream : SeedAndPlace} {score : Score} (watched : IsWatched minds seed w items round grid stream score) where
   -- rounds make no id
   ids_kept : grid.ids ≡ w.ids
   ids_kept = ap (λ (m : Moment). m.world.ids) watched.after.moment ∙ after_rounds-ids minds seed (start_of w) round
@@ -69,9 +74,10 @@ module _ {minds : Minds} {seed : ℕ} {w : World} {items : List Break} {round : 
   met_here r t now = ap (λ (k : ℕ). met_at minds seed w items k t) now ∙ ap (λ (v : World). first_met 1 items v (round + 1) t) (world_here t)
 
   -- one round more without a stop
-  pub watched-more : (next : Grid) (later : SeedAndPlace) → Passes minds stream.seed (moment_of grid stream) items (round + 1) (moment_of next later)
-      → later.seed ≡ stream.seed → later.place ≤ stream.place + most_ants → Fits (world_of next) minds → IsWatched minds seed w items (round + 1) next later
-  watched-more next later passes same few fits = record {
+  pub watched-more : (next : Grid) (later : SeedAndPlace) (now : Score) → Passes minds stream.seed (moment_of grid stream) items (round + 1) (moment_of next later)
+      → later.seed ≡ stream.seed → later.place ≤ stream.place + most_ants → Fits (world_of next) minds → now ≡ score_of (world_of next) → IsWatched minds seed w items (round + 1) next later now
+  watched-more next later now passes same few fits scored = record {
+    scored = scored;
     after = IsAfter-more watched.after next later passes.moment same few fits;
     quiet = λ r t turn. go r t turn (nat_lt r (round + 1)) refl;
   }

@@ -1,4 +1,5 @@
 pub mod Answers
+pub mod Feeding
 pub mod Places
 pub mod Reading
 pub mod Rounds

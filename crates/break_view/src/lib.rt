@@ -10,6 +10,7 @@
 
 mod breaks;
 mod fault;
+mod feeding;
 mod laws;
 mod line;
 mod met;

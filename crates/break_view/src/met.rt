@@ -2,22 +2,31 @@
 ghost use Rattle.std.specs.Prelude.{◌≡◌, ◌+◌, ◌≤◌, ◌&&◌, nat_lt, not, length};
 ghost use Rattle.std.specs.Option.{is_some};
 ghost use Rattle.cell_world.specs.Grid.{world_of};
+ghost use Rattle.cell_world.specs.Score.{hill_food_of, score_of};
 ghost use Rattle.cell_world.specs.World.{place_in};
+ghost use Rattle.cell_world.specs.World as worlds;
 ghost use Rattle.break_view.specs.BreakText.{most_breaks};
 ghost use Rattle.break_view.specs.Met as met;
 
 use crate::breaks::Break;
-use cell_world::{Cell, Colour, World};
+use cell_world::{Cell, Colour, Score, World};
 use hex_geometry::Pos;
 
 // The number, counted from 1, of the first of these breaks that holds in a world after the turn of an id in a round.
-pub(crate) fn first_met(items: &[Break], world: &World, round: u32, id: u32) -> Option<u32>
+pub(crate) fn first_met(
+    items: &[Break],
+    world: &World,
+    score: Score,
+    round: u32,
+    id: u32,
+) -> Option<u32>
     requires few { length items.now ≤ most_breaks }
+    requires score { score ≡ score_of (world_of world.now) }
     ensures { result ≡ met.first_met 1 items.now (world_of world.now) round id }
 {
     let mut number = 1;
     for item in items {
-        if meets(*item, world, round, id) {
+        if meets(*item, world, score, round, id) {
             return Some(number);
         }
         number += 1;
@@ -26,7 +35,8 @@ pub(crate) fn first_met(items: &[Break], world: &World, round: u32, id: u32) -> 
 }
 
 // Whether a break holds in a world after the turn of an id in a round.
-fn meets(item: Break, world: &World, round: u32, id: u32) -> bool
+fn meets(item: Break, world: &World, score: Score, round: u32, id: u32) -> bool
+    requires { score ≡ score_of (world_of world.now) }
     ensures { result ≡ met.meets item (world_of world.now) round id }
 {
     match item {
@@ -35,7 +45,18 @@ fn meets(item: Break, world: &World, round: u32, id: u32) -> bool
         Break::Stand { colour, x, y } => is_manned(world, colour, x, y),
         Break::Food { x, y, least } => is_fed(world, x, y, least),
         Break::Killed { id: wanted } => is_dead(world, wanted),
-        Break::Score { colour, least } => least <= world.hill_food(colour),
+        Break::Score { colour, least } => least <= food_of(score, colour),
+    }
+}
+
+// The food on a colour's hill, by a score.
+#[tactic(auto, unfolding(cell_world::specs::Score::score_of))]
+fn food_of(score: Score, colour: Colour) -> u32
+    ensures { (w : worlds.World) → score ≡ score_of w → result ≡ hill_food_of w colour }
+{
+    match colour {
+        Colour::Red => score.red,
+        Colour::Black => score.black,
     }
 }
 

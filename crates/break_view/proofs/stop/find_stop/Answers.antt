@@ -15,7 +15,7 @@ ended c =
     c.items-items.ensures.list c.stop_in_round-stop.ensures.end
 
 pub loop-round-init : goal.loop-round-init
-loop-round-init c = watched-none (minds_of c.args.brains) c.args.seed c.args.breaks.now c.args.world.now c.from_seed-stream.result c.from_seed-stream.ensures.seed c.from_seed-stream.ensures.place c.requires.fit
+loop-round-init c = watched-none (minds_of c.args.brains) c.args.seed c.args.breaks.now c.args.world.now c.from_seed-stream.result c.score-score.result c.from_seed-stream.ensures.seed c.from_seed-stream.ensures.place c.requires.fit c.score-score.ensures.score
 
 pub stop_in_round-stop-requires-clause-fit : goal.stop_in_round-stop-requires-clause-fit
 stop_in_round-stop-requires-clause-fit c = c.loop-round.invariant.after.fits
@@ -30,11 +30,14 @@ returns-then-is_some c =
 
 pub loop-round-preserved : goal.loop-round-preserved
 loop-round-preserved c =
-    watched-more c.loop-round.invariant c.stop_in_round-stop.new.world c.stop_in_round-stop.new.stream
+    watched-more c.loop-round.invariant c.stop_in_round-stop.new.world c.stop_in_round-stop.new.stream c.stop_in_round-stop.new.score
     (ends_passed c.loop-round.invariant c.stop_in_round-stop.result _ (sym c.is_some.ensures ∙ c.if-is_some.false) (ended (goal.at.loop-round-preserved c).After-is_some))
-    c.stop_in_round-stop.ensures.seed c.stop_in_round-stop.ensures.place c.stop_in_round-stop.ensures.fit
+    c.stop_in_round-stop.ensures.seed c.stop_in_round-stop.ensures.place c.stop_in_round-stop.ensures.fit c.stop_in_round-stop.ensures.score
 
 pub returns : goal.returns
 returns c =
     let all : c.loop-round.round ≡ c.args.rounds = omega (arith, c.loop-round-test.false, c.loop-round.auto.round-end) in
     ends_without c.loop-round.invariant c.args.rounds all
+
+pub stop_in_round-stop-requires-clause-score : goal.stop_in_round-stop-requires-clause-score
+stop_in_round-stop-requires-clause-score c = c.loop-round.invariant.scored

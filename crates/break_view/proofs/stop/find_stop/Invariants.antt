@@ -5,4 +5,4 @@ use Rattle.break_view.proofs.stop.find_stop.Given as goal
 
 -- so many rounds were played, and no break held after any of their turns
 abbrev pub invariant-loop-round : goal.invariant-loop-round
-invariant-loop-round l = IsWatched (minds_of l.brains) l.seed (world_of l.initial.world) l.breaks l.round l.world l.stream
+invariant-loop-round l = IsWatched (minds_of l.brains) l.seed (world_of l.initial.world) l.breaks l.round l.world l.stream l.score

@@ -8,23 +8,24 @@ use Rattle.break_view.proofs.stop.stop_in_round.Goals as goal
 use Rattle.break_view.proofs.stop.stop_in_round.Goals.{After-first_met}
 
 -- one turn more was taken
-taken : (c : After-first_met) → IsTaken (minds_of c.args.brains) c.args.world.now c.args.stream.now (c.loop-id.id + 1) c.take_turn-deed.new.ground c.take_turn-deed.new.stream
-taken c = IsTaken-more c.loop-id.invariant.taken _ _ c.take_turn-deed.ensures.world c.take_turn-deed.ensures.stream c.take_turn-deed.ensures.fit
+taken : (c : After-first_met) → IsTaken (minds_of c.args.brains) c.args.world.now c.args.stream.now (c.loop-id.id + 1) c.take_counted.new.world c.take_counted.new.stream
+taken c = IsTaken-more c.loop-id.invariant.taken _ _ c.take_counted.ensures.world c.take_counted.ensures.stream c.take_counted.ensures.fit
 
 pub loop-id-init : goal.loop-id-init
 loop-id-init c = record {
   taken = IsTaken-none (minds_of c.args.brains) c.args.world.now c.args.stream.now c.requires.fit;
+  scored = c.requires.score;
   quiet = quiet-none (minds_of c.args.brains) c.args.stream.now.seed (moment_of c.args.world.now c.args.stream.now) c.args.items.now c.args.round;
 }
 
-pub take_turn-deed-requires-clause-fit : goal.take_turn-deed-requires-clause-fit
-take_turn-deed-requires-clause-fit c = c.loop-id.invariant.taken.fits
+pub take_counted-requires-clause-fit : goal.take_counted-requires-clause-fit
+take_counted-requires-clause-fit c = c.loop-id.invariant.taken.fits
 
-pub take_turn-deed-requires-clause-id : goal.take_turn-deed-requires-clause-id
-take_turn-deed-requires-clause-id c = omega (arith, IsTaken-ids c.loop-id.invariant.taken, c.ant_count-id-end.ensures.ids, c.loop-id-test.true)
+pub take_counted-requires-clause-id : goal.take_counted-requires-clause-id
+take_counted-requires-clause-id c = omega (arith, IsTaken-ids c.loop-id.invariant.taken, c.ant_count-id-end.ensures.ids, c.loop-id-test.true)
 
-pub take_turn-deed-requires-clause-place : goal.take_turn-deed-requires-clause-place
-take_turn-deed-requires-clause-place c =
+pub take_counted-requires-clause-place : goal.take_counted-requires-clause-place
+take_counted-requires-clause-place c =
     omega (arith, IsTaken-place c.loop-id.invariant.taken, c.ant_count-id-end.ensures.ids, c.ant_count-id-end.ensures.world.valid.few, c.loop-id-test.true, c.requires.place)
 
 pub returns-in-Some-clause-end : goal.returns-in-Some-clause-end
@@ -51,6 +52,7 @@ loop-id-preserved c =
     let now = taken (goal.at.loop-id-preserved c).After-first_met in
     record {
       taken = now;
+      scored = c.take_counted.ensures.score;
       quiet = quiet-more (minds_of c.args.brains) c.args.stream.now.seed (moment_of c.args.world.now c.args.stream.now) c.args.items.now c.args.round c.loop-id.id
           c.loop-id.invariant.quiet (met-taken c.args.items.now c.args.round c.loop-id.id now ∙ sym c.first_met.ensures ∙ c.in_default.is);
     }
@@ -73,3 +75,9 @@ returns-clause-place c =
 
 pub returns-clause-fit : goal.returns-clause-fit
 returns-clause-fit c = c.loop-id.invariant.taken.fits
+
+pub take_counted-requires-clause-score : goal.take_counted-requires-clause-score
+take_counted-requires-clause-score c = c.loop-id.invariant.scored
+
+pub returns-clause-score : goal.returns-clause-score
+returns-clause-score c = c.loop-id.invariant.scored
