@@ -186,8 +186,7 @@ static void print_cell(int x, int y, const Cell *c) {
 int main(int count, char **words) {
     if (count < 6) return 2;
     read_world(words[1]);
-    read_brain(words[2], brains[0]);
-    read_brain(words[3], brains[1]);
+    for (int side = 0; side < 2; side++) read_brain(words[2 + side], brains[side]);
     unsigned long seed = strtoul(words[4], 0, 10), rounds = strtoul(words[5], 0, 10), score[3] = {0};
     stream = (uint32_t)seed;
     for (int i = 0; i < 3; i++) stream = stream * 22695477 + 1;

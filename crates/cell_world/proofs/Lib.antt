@@ -1,4 +1,5 @@
 pub mod Bodies
+pub mod Catches
 pub mod Counts
 pub mod Fields
 pub mod Grids

@@ -1,3 +1,4 @@
+pub mod Catching
 pub mod Cell
 pub mod Colour
 pub mod CountLaws

@@ -14,6 +14,7 @@ use hex_geometry::{OutOfMemory, Pos};
 use std::alloc::Global;
 use std::marker::Model;
 
+mod catch_up;
 mod counts;
 mod ground;
 #[cfg(test)]

@@ -21,5 +21,6 @@ pub mod Sizes
 pub mod Steps
 pub mod TurnSteps
 pub mod Unguessed
+pub mod WorkedLooks
 pub mod WritesAlone
 pub mod WritesClear

@@ -60,10 +60,10 @@ step-others claims v w v' w' step p fresh =
 
 module _ (minds : Minds) (seed : ℕ) (base : World) (guess : ℕ) (now : World) (place t : ℕ) (sound : AreSound minds) (valid_base : Valid base) (valid : Valid now) (fits : Fits now minds) (goes : GoesOn base now t) (holds : Holds minds base guess now place t) where
   -- the cell that may get heavier
-  raised : RaisesOne now.cells (turn minds seed now place t).cells
+  pub raised : RaisesOne now.cells (turn minds seed now place t).cells
   raised = turn-raises minds seed now place t sound.corpse
 
-  settles : Settles now (turn minds seed now place t).cells (look_of minds seed base guess t).writes raised.q
+  pub settles : Settles now (turn minds seed now place t).cells (look_of minds seed base guess t).writes raised.q
   unfolding look_of
   settles =
       let claims : List Claim = writes minds base t in

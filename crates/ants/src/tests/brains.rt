@@ -154,3 +154,26 @@ fn a_brain_has_up_to_10000_instructions_and_4194304_bytes(rt: HostRuntime) -> Re
         &refused,
     )
 }
+
+// Brains, and what is told of them minimised.
+const MINIMISED: [(&str, &str); 2] = [
+    (
+        "Sense Ahead 1 5 Food\nPickUp 3 7\nMove 0 4\nTurn Left 2\nFlip 2 6 8\nMark 0 2\nTurn Right 2\nTurn Left 2\nDrop 0\nMove 0 0\n",
+        "; 10 states, 8 kept\nSense Ahead 1 5 Food\nPickUp 3 3\nMove 0 4\nTurn Left 2\nFlip 2 6 7\nMark 0 2\nTurn Right 2\nDrop 0\n",
+    ),
+    (
+        "Flip 2 1 2\nMove 0 0\nMove 0 0\n",
+        "; 3 states, 2 kept\nFlip 2 1 1\nMove 0 0\n",
+    ),
+];
+
+#[test]
+fn a_brain_is_told_minimised(rt: HostRuntime) -> Result<(), Fail> {
+    let job = Job {
+        line: "minimise b",
+        ..NO_JOB
+    };
+    check_rows(&rt, rt.alloc(), job, Given::Black, Status::Done, &MINIMISED)?;
+    let faulty = [("Drop 1\n", "ants: b: line 1: no such state 1\n")];
+    check_rows(&rt, rt.alloc(), job, Given::Black, Status::Input, &faulty)
+}

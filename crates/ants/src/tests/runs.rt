@@ -160,7 +160,7 @@ struct Game {
     score: &'static str,
 }
 
-const GAMES: [Game; 7] = [
+const GAMES: [Game; 13] = [
     Game {
         line: "run w r b --seed 1 --rounds 16 --dump 1,15,16",
         world: OPEN,
@@ -244,10 +244,58 @@ const GAMES: [Game; 7] = [
                 cell (1, 1): red hill; red marks: 0; red ant of id 0, dir 0, food 0, state 2, resting 0\n",
         score: "\n\nscore: red 0 black 0\n",
     },
+    Game {
+        line: "run w r b --seed 1 --rounds 1 --surround 4",
+        world: NEIGHBOURS,
+        red: "Move 0 0\n",
+        black: "Drop 0\n",
+        lines: "",
+        score: "\n\nscore: red 3 black 3\n",
+    },
+    Game {
+        line: "run w r b --corpse 0 --seed 1 --rounds 1",
+        world: NEIGHBOURS,
+        red: "Move 0 0\n",
+        black: "Drop 0\n",
+        lines: "",
+        score: "\n\nscore: red 0 black 0\n",
+    },
+    Game {
+        line: "run w r b --seed 1 --corpse 9 --rounds 1",
+        world: NEIGHBOURS,
+        red: "Move 0 0\n",
+        black: "Drop 0\n",
+        lines: "",
+        score: "\n\nscore: red 0 black 9\n",
+    },
+    Game {
+        line: "run w r b --seed 12345 --rounds 1 --surround 6",
+        world: CLOSING,
+        red: "Flip 2 0 0\n",
+        black: "Move 0 0\n",
+        lines: "",
+        score: "\n\nscore: red 0 black 0\n",
+    },
+    Game {
+        line: "run w r b --seed 1 --rounds 1 --dump 1 --rest 0",
+        world: OPEN,
+        red: "Move 0 0\n",
+        black: "Move 0 0\n",
+        lines: "cell (2, 1): red ant of id 0, dir 0, food 0, state 0, resting 0\n",
+        score: "\n\nscore: red 0 black 0\n",
+    },
+    Game {
+        line: "run w r b --seed 1 --rounds 1 --dump 1 --rest 255",
+        world: OPEN,
+        red: "Move 0 0\n",
+        black: "Move 0 0\n",
+        lines: "cell (2, 1): red ant of id 0, dir 0, food 0, state 0, resting 255\n",
+        score: "\n\nscore: red 0 black 0\n",
+    },
 ];
 
 // Whether the lines of `wanted` are lines of `text`, in this order, others between them.
-fn has_lines(text: &str, wanted: &str) -> bool {
+pub fn has_lines(text: &str, wanted: &str) -> bool {
     let mut lines = text.split('\n');
     for line in wanted.split_terminator('\n') {
         if !lines.any(|other| other == line) {

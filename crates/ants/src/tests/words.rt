@@ -4,7 +4,7 @@ use crate::tests::{CLOSED, Given, Job, NO_JOB, check_rows};
 use std::test::Fail;
 
 // Words, and the line that names the first one with which no command begins.
-const REFUSED: [(&str, &str); 37] = [
+const REFUSED: [(&str, &str); 46] = [
     ("", "ants: word 1 refused\n"),
     ("jump", "ants: word 1 refused\n"),
     ("Show w 1", "ants: word 1 refused\n"),
@@ -48,6 +48,24 @@ const REFUSED: [(&str, &str); 37] = [
         "run w r b --seed 1 --rounds 2 --dump",
         "ants: word 10 refused\n",
     ),
+    (
+        "run w r b --seed 1 --rounds 1 --surround 7",
+        "ants: word 10 refused\n",
+    ),
+    (
+        "run w r b --seed 1 --rounds 1 --corpse 10",
+        "ants: word 10 refused\n",
+    ),
+    (
+        "run w r b --seed 1 --rounds 1 --rest 256",
+        "ants: word 10 refused\n",
+    ),
+    ("gen 1 --width 2", "ants: word 4 refused\n"),
+    ("gen 1 --height 513", "ants: word 4 refused\n"),
+    ("gen 1 --rocks 256", "ants: word 4 refused\n"),
+    ("gen", "ants: word 2 refused\n"),
+    ("minimise", "ants: word 2 refused\n"),
+    ("minimise b b", "ants: word 3 refused\n"),
 ];
 
 #[test]

@@ -1,0 +1,39 @@
+// The command `gen`.
+use crate::status::Status;
+use crate::tests::runs::has_lines;
+use crate::tests::{Given, Job, NO_JOB, answer, check_rows};
+use std::test::Fail;
+
+// Sizes and rows 1 and 7 of the world of 64 by 64 cells that the seed 12345 gives with no rock and one blob: the upper rows of the black
+// hill, which is the ball of radius 6 round (18, 7).
+const HILL: &str = "64\n64\n\
+    \u{20}# . . . . . . . . . . . . . . - - - - - - - . . . . . . . . . . . . . . . . . . . . . . . . . . . . . . . . . . . . . . . . . #\n\
+    \u{20}# . . . . . . . . . . . - - - - - - - - - - - - - . . . . . . . . . . . . . . . . . . . . . . . . . . . . . . . . . . . . . . #\n";
+
+#[test]
+fn a_world_is_generated_from_its_seed(rt: HostRuntime) -> Result<(), Fail> {
+    let job = Job {
+        line: "gen 12345 --width 64 --height 64 --rocks 0 --blobs 1",
+        ..NO_JOB
+    };
+    let outcome = answer(&rt, rt.alloc(), &job)?;
+    let out = str::from_utf8(outcome.out.held())?;
+    assert_eq!(rt; outcome.status, Status::Done);
+    assert!(rt; has_lines(out, HILL), "in {out:?}");
+    Ok(())
+}
+
+#[test]
+fn an_element_without_room_is_named(rt: HostRuntime) -> Result<(), Fail> {
+    let rows = [
+        (
+            "gen 1 --width 12 --height 12",
+            "ants: no room for element 0\n",
+        ),
+        (
+            "gen 1 --height 3 --width 3 --rocks 0 --blobs 0",
+            "ants: no room for element 0\n",
+        ),
+    ];
+    check_rows(&rt, rt.alloc(), NO_JOB, Given::Line, Status::Input, &rows)
+}

@@ -1,0 +1,43 @@
+use Rattle.std.proofs.Common.{◌≡◌, ◌+◌, List, sym, ap, ◌∙◌, subst, arith}
+use Rattle.std.specs.Option.{is_some}
+use Rattle.ant_turn.specs.Minds.{minds_of}
+use Rattle.match_run.specs.Run.{moment_of}
+use Rattle.break_view.specs.declared.breaks.Break.{Break}
+use Rattle.break_view.specs.Inner.Rounds.{RoundEnds}
+use Rattle.break_view.proofs.Stopping.{watched-none, watched-more, ends_stopped, ends_passed, ends_without}
+use Rattle.break_view.proofs.stop.find_stop.Goals as goal
+use Rattle.break_view.proofs.stop.find_stop.Goals.{After-is_some}
+
+-- how the round ended, in terms of the list of breaks
+ended : (c : After-is_some) → RoundEnds (minds_of c.args.brains) c.loop-round.stream.seed (moment_of c.loop-round.world c.loop-round.stream) c.args.breaks.now (c.loop-round.round + 1) c.stop_in_round-stop.result (moment_of c.stop_in_round-stop.new.world c.stop_in_round-stop.new.stream)
+ended c =
+    subst (λ (items : List Break). RoundEnds (minds_of c.args.brains) c.loop-round.stream.seed (moment_of c.loop-round.world c.loop-round.stream) items (c.loop-round.round + 1) c.stop_in_round-stop.result (moment_of c.stop_in_round-stop.new.world c.stop_in_round-stop.new.stream))
+    c.items-items.ensures.list c.stop_in_round-stop.ensures.end
+
+pub loop-round-init : goal.loop-round-init
+loop-round-init c = watched-none (minds_of c.args.brains) c.args.seed c.args.breaks.now c.args.world.now c.from_seed-stream.result c.score-score.result c.from_seed-stream.ensures.seed c.from_seed-stream.ensures.place c.requires.fit c.score-score.ensures.score
+
+pub stop_in_round-stop-requires-clause-fit : goal.stop_in_round-stop-requires-clause-fit
+stop_in_round-stop-requires-clause-fit c = c.loop-round.invariant.after.fits
+
+pub stop_in_round-stop-requires-clause-place : goal.stop_in_round-stop-requires-clause-place
+stop_in_round-stop-requires-clause-place c = omega (arith, c.loop-round.invariant.after.place, c.loop-round-test.true, c.requires.few_rounds)
+
+pub returns-then-is_some : goal.returns-then-is_some
+returns-then-is_some c =
+    ends_stopped c.loop-round.invariant c.args.rounds c.stop_in_round-stop.result _ (omega (arith, c.loop-round-test.true)) (sym c.is_some.ensures ∙ c.if-is_some.true)
+    (ended (goal.at.returns-then-is_some c).After-is_some)
+
+pub loop-round-preserved : goal.loop-round-preserved
+loop-round-preserved c =
+    watched-more c.loop-round.invariant c.stop_in_round-stop.new.world c.stop_in_round-stop.new.stream c.stop_in_round-stop.new.score
+    (ends_passed c.loop-round.invariant c.stop_in_round-stop.result _ (sym c.is_some.ensures ∙ c.if-is_some.false) (ended (goal.at.loop-round-preserved c).After-is_some))
+    c.stop_in_round-stop.ensures.seed c.stop_in_round-stop.ensures.place c.stop_in_round-stop.ensures.fit c.stop_in_round-stop.ensures.score
+
+pub returns : goal.returns
+returns c =
+    let all : c.loop-round.round ≡ c.args.rounds = omega (arith, c.loop-round-test.false, c.loop-round.auto.round-end) in
+    ends_without c.loop-round.invariant c.args.rounds all
+
+pub stop_in_round-stop-requires-clause-score : goal.stop_in_round-stop-requires-clause-score
+stop_in_round-stop-requires-clause-score c = c.loop-round.invariant.scored

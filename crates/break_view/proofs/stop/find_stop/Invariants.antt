@@ -1,0 +1,8 @@
+use Rattle.ant_turn.specs.Minds.{minds_of}
+use Rattle.cell_world.specs.Grid.{world_of}
+use Rattle.break_view.proofs.Stopping.{IsWatched}
+use Rattle.break_view.proofs.stop.find_stop.Given as goal
+
+-- so many rounds were played, and no break held after any of their turns
+abbrev pub invariant-loop-round : goal.invariant-loop-round
+invariant-loop-round l = IsWatched (minds_of l.brains) l.seed (world_of l.initial.world) l.breaks l.round l.world l.stream l.score

@@ -1,0 +1,7 @@
+pub mod Answers
+pub mod Feeding
+pub mod Places
+pub mod Reading
+pub mod Rounds
+pub mod Steps
+pub mod Verdict

@@ -1,0 +1,36 @@
+-- What holds of all games with breaks (this project's own).
+use Rattle.std.specs.Prelude.{◌≡◌, ℕ, ◌≤◌, List, []}
+use Rattle.std.specs.List.{Contains}
+use Rattle.cell_world.specs.World.{World}
+use Rattle.ant_turn.specs.Minds.{Minds}
+use Rattle.break_view.specs.declared.breaks.Break.{Break}
+use Rattle.break_view.specs.declared.stop.Stop.{Stop}
+use Rattle.break_view.specs.Stops.{IsBefore, IsFirstStop, HasNoStop}
+
+-- every break of one list stands in the other
+abbrev pub StandIn : List Break → List Break → Type 0
+StandIn few more = (item : Break) → Contains few item → Contains more item
+
+-- with fewer breaks a game doesn't stop earlier, and where it doesn't stop with more it doesn't with fewer
+pub record FewerStopLater : Type 0 where
+  pub later : (minds : Minds) (seed rounds : ℕ) (w : World) (few more : List Break) (stop earlier : Stop) → StandIn few more
+      → IsFirstStop minds seed rounds w few stop → IsFirstStop minds seed rounds w more earlier → IsBefore stop.round stop.id earlier.round earlier.id → ⊥
+  pub never : (minds : Minds) (seed rounds : ℕ) (w : World) (few more : List Break) → StandIn few more
+      → HasNoStop minds seed rounds w more → HasNoStop minds seed rounds w few
+
+-- a break counts only after a turn: there is no stop without rounds, without ants or without breaks, and none before round 1
+pub record StopsFollowTurns : Type 0 where
+  pub round : (minds : Minds) (seed rounds : ℕ) (w : World) (items : List Break) (stop : Stop) → IsFirstStop minds seed rounds w items stop → 1 ≤ stop.round
+  pub no_round : (minds : Minds) (seed : ℕ) (w : World) (items : List Break) → HasNoStop minds seed 0 w items
+  pub no_ant : (minds : Minds) (seed rounds : ℕ) (w : World) (items : List Break) → w.ids ≡ 0 → HasNoStop minds seed rounds w items
+  pub no_break : (minds : Minds) (seed rounds : ℕ) (w : World) → HasNoStop minds seed rounds w []
+
+-- rounds beyond a stop change nothing
+abbrev pub LaterRoundsAddNothing : Type 0
+LaterRoundsAddNothing = (minds : Minds) (seed rounds more : ℕ) (w : World) (items : List Break) (stop : Stop) → rounds ≤ more
+    → IsFirstStop minds seed rounds w items stop → IsFirstStop minds seed more w items stop
+
+-- a game has one first stop, or none
+pub record OneFirstStop : Type 0 where
+  pub one : (minds : Minds) (seed rounds : ℕ) (w : World) (items : List Break) (a b : Stop) → IsFirstStop minds seed rounds w items a → IsFirstStop minds seed rounds w items b → a ≡ b
+  pub never_both : (minds : Minds) (seed rounds : ℕ) (w : World) (items : List Break) (stop : Stop) → IsFirstStop minds seed rounds w items stop → HasNoStop minds seed rounds w items → ⊥

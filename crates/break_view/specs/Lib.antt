@@ -1,0 +1,9 @@
+pub mod BreakText
+pub mod Forms
+pub mod Inner
+pub mod Judging
+pub mod Laws
+pub mod Met
+pub mod Reads
+pub mod Stops
+pub mod Texts

@@ -1,0 +1,15 @@
+-- That a reading of a text answers nothing else than it should; the clauses of `read_breaks` rest on it (this project's own).
+use Rattle.std.specs.Prelude.{◌≡◌, ◌⊎◌, List, Result, Ok, Err}
+use Rattle.break_view.specs.declared.breaks.Break.{Break}
+use Rattle.break_view.specs.declared.fault.BreakFault.{BreakFault}
+use Rattle.break_view.specs.declared.fault.BreakFault.TheVariants.{OutOfMemory}
+
+-- the answer is this list, or want of memory
+abbrev pub AnswersBreaks : Result (List Break) BreakFault → List Break → Type 0
+AnswersBreaks (Ok answered) list = answered ≡ list
+AnswersBreaks (Err fault) list = fault ≡ OutOfMemory
+
+-- the answer is this fault, or want of memory
+abbrev pub AnswersFault : Result (List Break) BreakFault → BreakFault → Type 0
+AnswersFault (Ok answered) fault = ⊥
+AnswersFault (Err answered) fault = (answered ≡ fault) ⊎ (answered ≡ OutOfMemory)

@@ -1,0 +1,75 @@
+// Breaks, and lists of them.
+ghost use Rattle.std.specs.Prelude.{◌≡◌, ◌<◌, ◌≤◌, length, slice_get, Some};
+ghost use Rattle.break_view.specs.BreakText.{most_breaks};
+
+use cell_world::Colour;
+use std::marker::Model;
+
+/// A break: what is looked for after each turn of a game (this project's own). Every number is from 0 to 4,294,967,295.
+#[derive(Clone, Copy, Debug, PartialEq, Eq)]
+pub enum Break {
+    /// Holds after each turn of the round of this number, counted from 1.
+    Round(u32),
+    /// Holds after the turn of an ant that is alive then, of this colour and in this state.
+    State { colour: Colour, state: u32 },
+    /// Holds where an ant of this colour stands on the cell in column `x` of row `y`, both counted from 0.
+    Stand { colour: Colour, x: u32, y: u32 },
+    /// Holds where the cell in column `x` of row `y` is clear and has at least so many food particles.
+    Food { x: u32, y: u32, least: u32 },
+    /// Holds where the ant of this id, counted from 0, was made and is dead.
+    Killed { id: u32 },
+    /// Holds where the food on the cells of this colour's hill is at least so much.
+    Score { colour: Colour, least: u32 },
+}
+
+/// A list of at most 256 breaks, in the order of their text (this project's own). Contracts see it as the list of its breaks.
+#[derive(Drop)]
+pub struct Breaks {
+    list: Vec<Break>,
+}
+
+impl Model for Breaks {
+    ghost use Rattle.std.specs.Prelude.{List, ◌≤◌, length};
+    ghost use Rattle.break_view.specs.declared.breaks.Break.{Break};
+    ghost use Rattle.break_view.specs.BreakText.{most_breaks};
+
+    ghost Value = { List Break };
+
+    ghost view = { λ b. b.list.items };
+
+    ghost invariant = { λ b. length b.list.items ≤ most_breaks };
+}
+
+impl Breaks {
+    // The breaks of this list.
+    pub(crate) fn from_list(list: Vec<Break>) -> Breaks
+        requires { length list.items ≤ most_breaks }
+        ensures { result ≡ list.items }
+    {
+        Breaks { list }
+    }
+
+    /// How many breaks there are, from 0 to 256 (this project's own).
+    pub fn len(&self) -> usize
+        ensures length { result ≡ length self.now }
+        ensures few { length self.now ≤ most_breaks }
+    {
+        self.list.len()
+    }
+
+    /// The break at place `i`, counted from 0 and below the length; it is the break of number `i + 1` (this project's own).
+    pub fn item(&self, i: usize) -> Break
+        requires { i < length self.now }
+        ensures { slice_get self.now i ≡ Some result }
+    {
+        self.list[i]
+    }
+
+    // The breaks, in order.
+    pub(crate) fn items(&self) -> &[Break]
+        ensures list { result.now ≡ self.now }
+        ensures few { length self.now ≤ most_breaks }
+    {
+        self.list.as_slice()
+    }
+}

@@ -1,0 +1,58 @@
+// What can be wrong with a text of breaks.
+use brain_read::LineFault;
+use std::alloc::{AllocError, AllocFailed};
+
+ghost use Rattle.std.specs.Prelude.{◌≡◌};
+ghost use Rattle.break_view.specs.Inner.Verdict.{fault_at};
+
+/// The fault of a text that is no list of breaks: the first line at fault, with its first position at fault. Lines are counted from 1,
+/// lines without a token included (this project's own).
+#[derive(Clone, Copy, Debug, PartialEq, Eq)]
+pub enum BreakFault {
+    /// A token that should be a word is none of its position.
+    UnknownWord { line: u32 },
+    /// A position that the form needs has no token.
+    MissingToken { line: u32 },
+    /// A token that should be a number is none from 0 to 4,294,967,295.
+    BadNumber { line: u32 },
+    /// A token stands beyond the end of the form.
+    ExtraToken { line: u32 },
+    /// The line has a token, and 256 breaks were read before it.
+    TooMany { line: u32 },
+    /// Memory could not be had; it says nothing of the text.
+    OutOfMemory,
+}
+
+impl From<AllocError> for BreakFault {
+    ghost use Rattle.std.specs.Prelude.{◌≡◌};
+    ghost use Rattle.break_view.specs.declared.fault.BreakFault.TheVariants.{OutOfMemory};
+
+    ghost from_gives = { λ _ fault. fault ≡ OutOfMemory };
+
+    fn from(_: AllocError) -> Self {
+        BreakFault::OutOfMemory
+    }
+}
+
+impl<T: Drop> From<AllocFailed<T>> for BreakFault {
+    ghost use Rattle.std.specs.Prelude.{◌≡◌};
+    ghost use Rattle.break_view.specs.declared.fault.BreakFault.TheVariants.{OutOfMemory};
+
+    ghost from_gives = { λ _ fault. fault ≡ OutOfMemory };
+
+    fn from(_: AllocFailed<T>) -> Self {
+        BreakFault::OutOfMemory
+    }
+}
+
+// The fault of the line of this number, from 1, whose first position at fault has this fault.
+pub(crate) fn fault_at(line: u32, fault: LineFault) -> BreakFault
+    ensures { result ≡ fault_at line fault }
+{
+    match fault {
+        LineFault::UnknownWord => BreakFault::UnknownWord { line },
+        LineFault::MissingToken => BreakFault::MissingToken { line },
+        LineFault::BadNumber => BreakFault::BadNumber { line },
+        LineFault::ExtraToken => BreakFault::ExtraToken { line },
+    }
+}

@@ -1,0 +1,42 @@
+// What holds of all texts of breaks and of all games with breaks, as laws of their definitions.
+ghost use Rattle.std.specs.Prelude.{◌≡◌, ◌⊎◌, ℕ, List};
+ghost use Rattle.break_view.specs.declared.breaks.Break.{Break};
+ghost use Rattle.break_view.specs.declared.fault.BreakFault.{BreakFault};
+ghost use Rattle.break_view.specs.BreakText.{BreakText, BreakVerdict};
+ghost use Rattle.break_view.specs.Laws.{FewerStopLater, LaterRoundsAddNothing, OneFirstStop, StopsFollowTurns};
+
+/// Every text has exactly one list of breaks or exactly one fault, and never both (this project's own). The call does nothing: its clauses
+/// are the law.
+pub fn one_list_or_one_fault()
+    ensures some { (text : List ℕ) →
+        ((list : List Break) × BreakText text list) ⊎ ((fault : BreakFault) × BreakVerdict text fault) }
+    ensures one_list { (text : List ℕ) (a b : List Break) →
+        BreakText text a → BreakText text b → a ≡ b }
+    ensures one_fault { (text : List ℕ) (a b : BreakFault) →
+        BreakVerdict text a → BreakVerdict text b → a ≡ b }
+    ensures never_both { (text : List ℕ) (list : List Break) (fault : BreakFault) →
+        BreakText text list → BreakVerdict text fault → ⊥ }
+{}
+
+/// A game has one first stop, or none (this project's own). The call does nothing: its clause is the law.
+pub fn one_first_stop()
+    ensures { OneFirstStop }
+{}
+
+/// With fewer breaks a game doesn't stop earlier, and where it doesn't stop with more it doesn't with fewer (this project's own). The
+/// call does nothing: its clause is the law.
+pub fn fewer_stop_later()
+    ensures { FewerStopLater }
+{}
+
+/// A break counts only after a turn: a stop is in round 1 or later, and there is none without rounds, without ants or without breaks
+/// (this project's own). The call does nothing: its clause is the law.
+pub fn stops_follow_turns()
+    ensures { StopsFollowTurns }
+{}
+
+/// Rounds beyond a stop change nothing: it is the first stop of the longer game too (this project's own). The call does nothing: its
+/// clause is the law.
+pub fn later_rounds_add_nothing()
+    ensures { LaterRoundsAddNothing }
+{}

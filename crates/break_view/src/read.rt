@@ -1,0 +1,81 @@
+// A text of breaks, read line by line.
+ghost use Rattle.std.specs.Prelude.{◌≡◌, ℕ, List, ◌+◌, ◌<◌, ◌≤◌, ◌∷◌, length, vec_len, OnOk, IfOk, IfErr};
+ghost use Rattle.ant_base.specs.Shelf.{longest};
+ghost use Rattle.break_view.specs.declared.breaks.Break.{Break};
+ghost use Rattle.break_view.specs.declared.fault.BreakFault.{BreakFault};
+ghost use Rattle.break_view.specs.BreakText.{most_breaks, BreakText, BreakVerdict, IsFaultOf};
+ghost use Rattle.break_view.specs.Reads.{AnswersBreaks, AnswersFault};
+ghost use Rattle.break_view.specs.Inner.Verdict.{judged_line, read_text};
+ghost use Rattle.break_view.specs.Inner.Answers.{FailsAs, Gives, reading_from};
+
+use crate::breaks::{Break, Breaks};
+use crate::fault::{BreakFault, fault_at};
+use crate::line::break_of;
+use ant_base::Lines;
+use brain_read::Tokens;
+use std::alloc::Global;
+
+// The most breaks of a text.
+const MOST_BREAKS: usize = 256;
+
+/// The breaks of a text of at most 4,194,304 bytes, or the text's fault (this project's own). `OutOfMemory` may be answered at any text
+/// with a break; every other answer follows from the text alone, since every text has one list of breaks or one fault.
+pub fn read_breaks(alloc: Global, text: &[u8]) -> Result<Breaks, BreakFault>
+    requires { length text.now ≤ longest }
+    ensures breaks { IfOk result (λ list. BreakText text.now list) }
+    ensures fault { IfErr result (λ fault. IsFaultOf text.now fault) }
+    ensures every_list { (list : List Break) → BreakText text.now list → AnswersBreaks result list }
+    ensures every_fault { (fault : BreakFault) → BreakVerdict text.now fault → AnswersFault result fault }
+{
+    let list = read_list(alloc, text)?;
+    Ok(Breaks::from_list(list))
+}
+
+// The breaks of the lines, in order.
+fn read_list(alloc: Global, text: &[u8]) -> Result<Vec<Break>, BreakFault>
+    requires { length text.now ≤ longest }
+    ensures lines { IfOk result (λ list. Gives (Ok list.items) (read_text text.now)) }
+    ensures fault { IfErr result (λ fault. FailsAs fault (read_text text.now)) }
+    ensures few { IfOk result (λ list. vec_len list ≤ most_breaks) }
+{
+    let mut list = Vec::new(alloc);
+    let mut number = 1;
+    for line in Lines::new(text) {
+        read_line(line, number, &mut list)?;
+        number += 1;
+    }
+    Ok(list)
+}
+
+// Reads the line of this number: adds its break, where it has a token.
+fn read_line(line: &[u8], number: u32, list: &mut Vec<Break>) -> Result<(), BreakFault>
+    requires few { vec_len list.old ≤ most_breaks }
+    ensures few { OnOk result (vec_len list.new ≤ most_breaks) }
+    ensures on { (lines : List (List ℕ)) → OnOk result
+        (reading_from list.new.items (number + 1) lines ≡ reading_from list.old.items number (line.now ∷ lines)) }
+    ensures fault { (lines : List (List ℕ)) → IfErr result (λ fault.
+        FailsAs fault (reading_from list.old.items number (line.now ∷ lines))) }
+{
+    let mut tokens = Tokens::new(line);
+    if !tokens.has_next() {
+        return Ok(());
+    }
+    let item = item_of(&mut tokens, number, list.len())?;
+    list.push(item)?;
+    Ok(())
+}
+
+// The break of a line before which so many stand.
+#[tactic(auto, unfolding(crate::specs::Inner::Verdict::judged_line))]
+fn item_of(tokens: &mut Tokens, line: u32, before: usize) -> Result<Break, BreakFault>
+    ensures read { judged_line before line tokens.old ≡ result }
+    ensures few { IfOk result (λ item. before < most_breaks) }
+{
+    if before >= MOST_BREAKS {
+        return Err(BreakFault::TooMany { line });
+    }
+    match break_of(tokens) {
+        Ok(item) => Ok(item),
+        Err(refusal) => Err(fault_at(line, refusal.fault)),
+    }
+}

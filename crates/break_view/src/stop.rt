@@ -1,0 +1,119 @@
+// A game played to its first stop.
+ghost use Rattle.std.specs.Prelude.{◌≡◌, ◌+◌, ◌<◌, ◌≤◌, ◌^◌, length};
+ghost use Rattle.ant_turn.specs.Minds.{Fits, minds_of};
+ghost use Rattle.ant_turn.specs.Turn.{turn};
+ghost use Rattle.cell_world.specs.Cell.{one_if};
+ghost use Rattle.cell_world.specs.Grid.{world_of};
+ghost use Rattle.cell_world.specs.Limits.{most_ants};
+ghost use Rattle.cell_world.specs.Score.{score_of};
+ghost use Rattle.cell_world.specs.World.{with_cells};
+ghost use Rattle.match_run.specs.Run.{LastsARound, moment_of, most_rounds};
+ghost use Rattle.break_view.specs.BreakText.{most_breaks};
+ghost use Rattle.break_view.specs.Stops.{EndsAt};
+ghost use Rattle.break_view.specs.Inner.Rounds.{RoundEnds};
+
+use crate::breaks::{Break, Breaks};
+use crate::feeding::feeds;
+use crate::met::first_met;
+use ant_random::Stream;
+use ant_turn::{Brains, take_turn};
+use cell_world::{Score, World};
+
+/// A stop of a game: the turn after which a break held, and which break (this project's own).
+#[derive(Clone, Copy, Debug, PartialEq, Eq)]
+pub struct Stop {
+    /// The round of the turn, counted from 1.
+    pub round: u32,
+    /// The id whose turn it was, counted from 0.
+    pub id: u32,
+    /// The number of the first break that held then, counted from 1 in the order of the list.
+    pub which: u32,
+}
+
+/// Plays a game until a break holds after a turn, and gives the first such stop; `None` exactly where no break holds after any turn of
+/// the rounds (this project's own; turns and rounds are the task's kinetics).
+///
+/// Each ant's state is below the length of its colour's brain, as in every opening world; the seed is any, and the rounds are at most
+/// 1,000,000. The turns are those of the ids in rising order, from 0, round after round, with the random numbers of the seed from place 0
+/// on; the turn of a dead id is a turn. The world is left as it is after the stop's turn, or after all rounds. A break that holds before
+/// the first turn counts only if it holds after it.
+///
+/// It takes no memory. After a turn each break costs one look-up at most: of a cell, of the place of an ant, or of the food on the hills,
+/// which is kept from turn to turn. The hills are counted again only after a turn that killed, and after one of an ant that doesn't rest, on
+/// a hill and at a `PickUp` or `Drop`, since no other changes the food there: each time that costs a look at every cell.
+pub fn find_stop(
+    world: &mut World,
+    brains: Brains<'_>,
+    seed: u32,
+    rounds: u32,
+    breaks: &Breaks,
+) -> Option<Stop>
+    requires fit { Fits (world_of world.old) (minds_of brains) }
+    requires few_rounds { rounds ≤ most_rounds }
+    ensures { EndsAt (minds_of brains.entry) seed rounds (world_of world.old) breaks.now result (world_of world.new) }
+{
+    let items = breaks.items();
+    let mut stream = Stream::from_seed(seed);
+    let mut score = world.score();
+    for round in 0..rounds {
+        let stop = stop_in_round(world, brains, &mut stream, &mut score, round + 1, items);
+        if stop.is_some() {
+            return stop;
+        }
+    }
+    None
+}
+
+// Plays the round of this number, to its end or to the first stop.
+fn stop_in_round(
+    world: &mut World,
+    brains: Brains<'_>,
+    stream: &mut Stream,
+    score: &mut Score,
+    round: u32,
+    items: &[Break],
+) -> Option<Stop>
+    requires fit { Fits (world_of world.old) (minds_of brains) }
+    requires place { LastsARound stream.old }
+    requires few { length items.now ≤ most_breaks }
+    requires score { score.old ≡ score_of (world_of world.old) }
+    ensures end { RoundEnds (minds_of brains.entry) stream.old.seed (moment_of world.old stream.old) items.now round result (moment_of world.new stream.new) }
+    ensures seed { stream.new.seed ≡ stream.old.seed }
+    ensures place { stream.new.place ≤ stream.old.place + most_ants }
+    ensures fit { Fits (world_of world.new) (minds_of brains.entry) }
+    ensures score { score.new ≡ score_of (world_of world.new) }
+{
+    for id in 0..world.ant_count() {
+        take_counted(world, brains, stream, score, id);
+        if let Some(which) = first_met(items, world, *score, round, id) {
+            return Some(Stop { round, id, which });
+        }
+    }
+    None
+}
+
+// Takes the turn of an id, and counts the score again where the turn may have changed it.
+fn take_counted(
+    world: &mut World,
+    brains: Brains<'_>,
+    stream: &mut Stream,
+    score: &mut Score,
+    id: u32,
+)
+    requires fit { Fits (world_of world.old) (minds_of brains) }
+    requires id { id < world.old.ids }
+    requires place { stream.old.place + 1 < 2 ^ 63 }
+    requires score { score.old ≡ score_of (world_of world.old) }
+    ensures world { world_of world.new ≡ with_cells (world_of world.old) (turn (minds_of brains.entry) stream.old.seed (world_of world.old) stream.old.place id).cells }
+    ensures stream { stream.new ≡ record stream.old {
+      place = stream.old.place + one_if (turn (minds_of brains.entry) stream.old.seed (world_of world.old) stream.old.place id).drew;
+    } }
+    ensures fit { Fits (world_of world.new) (minds_of brains.entry) }
+    ensures score { score.new ≡ score_of (world_of world.new) }
+{
+    let may_feed = feeds(world, brains, id);
+    let deed = take_turn(world, brains, stream, id);
+    if may_feed || !deed.killed.is_empty() {
+        *score = world.score();
+    }
+}

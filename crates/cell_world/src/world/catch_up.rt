@@ -1,0 +1,74 @@
+// A world brought up to another.
+ghost use Rattle.std.specs.Prelude.{◌≡◌, ◌⊎◌, ◌*◌, ℕ, ◌<◌, [], length, slice_index_or};
+ghost use Rattle.std.specs.List.{Contains};
+ghost use Rattle.std.specs.Vec.{vec_len};
+ghost use Rattle.hex_geometry.specs.Position.{IsInside};
+ghost use Rattle.hex_geometry.specs.declared.position.Pos.{Pos};
+ghost use Rattle.cell_world.specs.Catching.{Catching, Followed, IsCaught};
+ghost use Rattle.cell_world.specs.Grid.{IsWorld, index_of, world_of};
+
+use crate::body::Body;
+use crate::tile::Tile;
+use crate::world::World;
+use hex_geometry::Pos;
+
+impl World {
+    /// Makes the world equal to `other`, from which it differs at none but these positions (this project's own). The two are of one size and
+    /// number of ids, and the positions are inside. The work is that of these positions alone.
+    pub fn catch_up(&mut self, other: &World, places: &[Pos])
+        requires width { self.old.width ≡ other.now.width }
+        requires height { self.old.height ≡ other.now.height }
+        requires ids { self.old.ids ≡ other.now.ids }
+        requires inside { (p : Pos) → Contains places.now p → IsInside self.old.width self.old.height p }
+        requires same { (p : Pos) → ¬ Contains places.now p → (world_of self.old).cells p ≡ (world_of other.now).cells p }
+        ensures { self.new ≡ other.now }
+    {
+        follow(
+            &mut self.tiles,
+            &mut self.bodies,
+            &other.tiles,
+            &other.bodies,
+            self.width,
+            places,
+        );
+    }
+}
+
+// Brings what is kept of these positions up to what another world keeps.
+fn follow(
+    tiles: &mut Vec<Tile>,
+    bodies: &mut Vec<Body>,
+    others: &Vec<Tile>,
+    other_bodies: &Vec<Body>,
+    width: u16,
+    places: &[Pos],
+)
+    requires all_tiles { length others.now.items ≡ length tiles.old.items }
+    requires all_ids { length other_bodies.now.items ≡ length bodies.old.items }
+    requires inside { (p : Pos) → Contains places.now p → index_of width p < length tiles.old.items }
+    requires start { Catching width tiles.old.items tiles.old.items others.now.items bodies.old.items bodies.old.items other_bodies.now.items places.now }
+    ensures { Catching width tiles.old.items tiles.new.items others.now.items bodies.old.items bodies.new.items other_bodies.now.items [] }
+{
+    for p in places {
+        let i = p.y as usize * width as usize + p.x as usize;
+        let before = tiles[i].ant.id();
+        let tile = others[i];
+        tiles[i] = tile;
+        follow_body(bodies, other_bodies, before);
+        follow_body(bodies, other_bodies, tile.ant.id());
+    }
+}
+
+// Makes the body of this id, if there is one, that of another world.
+#[inline]
+fn follow_body(bodies: &mut Vec<Body>, others: &Vec<Body>, id: Option<u16>)
+    requires { length others.now.items ≡ length bodies.old.items }
+    ensures { Followed bodies.old.items bodies.new.items others.now.items id }
+{
+    if let Some(id) = id {
+        let at = id as usize;
+        if at < others.len() {
+            bodies[at] = others[at];
+        }
+    }
+}

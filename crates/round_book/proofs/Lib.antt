@@ -1,0 +1,12 @@
+pub mod BookLemmas
+pub mod CountLemmas
+pub mod CountsWorked
+pub mod FieldLemmas
+pub mod LedLemmas
+pub mod LoneTurns
+pub mod MachineLemmas
+pub mod MarkLemmas
+pub mod PassLemmas
+pub mod SoloLemmas
+pub mod WindowLemmas
+pub mod WorkspaceLemmas

@@ -1,0 +1,148 @@
+-- Positions that are marked, or whose marks are taken off, one after another.
+use Rattle.std.proofs.Common.{◌≡◌, ◌≢◌, ◌⊎◌, inl, inr, ⊎_elim, ◌↔◌, ℕ, zero, suc, ◌+◌, ◌*◌, ◌<◌, ◌≤◌, Bool, true, false, List, [], ◌∷◌, ◌++◌, length, map, drop, slice_index_or, slice_set, refl, sym, ◌∙◌, ap, subst, arith, Option, Some, None}
+use Rattle.std.specs.List.{AllByRecursion, Contains}
+use Rattle.std.proofs.lemmas.Bool.{cases_eq, false≢true}
+use Rattle.std.proofs.lemmas.List.{at_drop_all, drop_more, get_or-set_other, get_or-set_same, length-set}
+use Rattle.std.proofs.lemmas.List.Elements.{Contains-append_cases, Contains-append_right, Contains-get_or, Contains-push_cases}
+use Rattle.hex_geometry.specs.declared.position.Pos.{Pos}
+use Rattle.hex_geometry.specs.Position.{IsInside}
+use Rattle.cell_world.specs.Grid.{Grid, index_of}
+use Rattle.cell_world.specs.Parts.{Agree}
+use Rattle.cell_world.specs.World.{Cells}
+use Rattle.cell_world.proofs.Grids.{index_of-inside}
+use Rattle.spec_record.specs.Claims.{Sighting}
+use Rattle.round_book.specs.declared.verdict.Cause.{Cause}
+use Rattle.round_book.specs.declared.verdict.Cause.TheVariants as cause
+use Rattle.round_book.specs.Book.{IsChanged, Wrote}
+use Rattle.round_book.specs.Inner.Changes.{AgreesIfUnwritten, Changes}
+use Rattle.round_book.specs.Inner.Workspace.{AreMarked}
+use Rattle.round_book.proofs.WorkspaceLemmas.{index_of-same}
+
+-- nothing is in the empty list
+pub none_contained : {A : Type 0} {B : Type 0} (x : A) → Contains [] x → B
+none_contained x held = absurd (let l : held.0 < 0 = held.1 in omega arith)
+
+-- what is in a list is its first, or in the rest
+pub Contains-cons : {A : Type 0} (y : A) (xs : List A) (x : A) → Contains (y ∷ xs) x → (y ≡ x) ⊎ Contains xs x
+Contains-cons y xs x held = ⊎_elim
+    (λ first. ⊎_elim (λ none. none_contained x none) inl (Contains-push_cases [] y x first))
+    inr
+    (Contains-append_cases (y ∷ []) xs x held)
+
+Contains-first : {A : Type 0} (y : A) (xs : List A) → Contains (y ∷ xs) y
+Contains-first y xs = (0, omega arith, refl)
+
+Contains-later : {A : Type 0} (y : A) (xs : List A) (x : A) → Contains xs x → Contains (y ∷ xs) x
+Contains-later y xs x held = Contains-append_right (y ∷ []) xs x held
+
+-- the positions of writes
+abbrev pub places_of : List Sighting → List Pos
+places_of writes = map (λ write. write.0) writes
+
+Contains-place : (writes : List Sighting) (i : ℕ) (d : Sighting) → i < length writes → Contains (places_of writes) (slice_index_or writes i d).0
+Contains-place [] i d early = absurd (omega arith)
+Contains-place (write ∷ writes) zero d early = Contains-first write.0 (places_of writes)
+Contains-place (write ∷ writes) (suc i) d early = Contains-later write.0 (places_of writes) (slice_index_or writes i d).0 (Contains-place writes i d (omega arith))
+
+-- some of the writes are marked: all that was is still, nothing else but their positions is, and each of them is or is among those that are left
+pub record Marking (start : List Pos) (all : List Sighting) (now : List Pos) (left : List Sighting) : Type 0 where
+  pub old : (p : Pos) → Contains start p → Contains now p
+  pub from : (p : Pos) → Contains now p → Contains start p ⊎ Contains (places_of all) p
+  pub done : (p : Pos) → Contains (places_of all) p → Contains now p ⊎ Contains (places_of left) p
+
+pub Marking-none : (start : List Pos) (all : List Sighting) → Marking start all start all
+Marking-none start all = record { old = λ p held. held; from = λ p held. inl held; done = λ p held. inr held }
+
+pub Marking-step : (start : List Pos) (all : List Sighting) (now : List Pos) (i : ℕ) (d : Sighting) (new : List Pos) → i < length all →
+    ((q : Pos) → Contains new q ↔ (Contains now q ⊎ (q ≡ (slice_index_or all i d).0))) → Marking start all now (drop i all) → Marking start all new (drop (i + 1) all)
+Marking-step start all now i d new early marks before = record {
+  old = λ p held. (marks p).1 (inl (before.old p held));
+  from = λ p held. ⊎_elim (λ old. before.from p old) (λ same. inr (subst (Contains (places_of all)) (sym same) (Contains-place all i d early))) ((marks p).0 held);
+  done = λ p held. ⊎_elim
+      (λ old. inl ((marks p).1 (inl old)))
+      (λ left. ⊎_elim
+      (λ same. inl ((marks p).1 (inr (sym same))))
+      inr
+      (Contains-cons (slice_index_or all i d).0 (places_of (drop (i + 1) all)) p (subst (λ left. Contains (places_of left) p) (drop_more all i d early) left)))
+      (before.done p held);
+}
+
+pub Marking-end : (start : List Pos) (all : List Sighting) (now : List Pos) (i : ℕ) → length all ≤ i → Marking start all now (drop i all) → Wrote start (places_of all) now
+Marking-end start all now i late marking = λ p. (
+  λ held. marking.from p held,
+  λ cases. ⊎_elim (λ old. marking.old p old)
+      (λ new. ⊎_elim (λ held. held) (λ left. none_contained p (subst (λ (ps : List Pos). Contains ps p) (at_drop_all places_of all i late) left)) (marking.done p new))
+      cases,
+)
+
+-- some of the marks are taken off: those that are left are at positions that are left
+pub record Unmarking (grid : Grid) (marked : List Bool) (left : List Pos) : Type 0 where
+  pub sized : length marked ≡ grid.width * grid.height
+  pub inside : (p : Pos) → Contains left p → IsInside grid.width grid.height p
+  pub listed : (p : Pos) → IsInside grid.width grid.height p → slice_index_or marked (index_of grid.width p) false ≡ true → Contains left p
+
+pub Unmarking-all : (grid : Grid) (marked : List Bool) (written : List Pos) → AreMarked grid marked written → Unmarking grid marked written
+Unmarking-all grid marked written marks = record { sized = marks.sized; inside = marks.inside; listed = marks.listed }
+
+pub Unmarking-here : (grid : Grid) (marked : List Bool) (places : List Pos) (i : ℕ) (d : Pos) → i < length places → Unmarking grid marked (drop i places) → IsInside grid.width grid.height (slice_index_or places i d)
+Unmarking-here grid marked places i d early before =
+    before.inside (slice_index_or places i d) (subst (λ ps. Contains ps (slice_index_or places i d)) (sym (drop_more places i d early)) (Contains-first (slice_index_or places i d) (drop (i + 1) places)))
+
+pub Unmarking-step : (grid : Grid) (marked : List Bool) (places : List Pos) (i : ℕ) (d : Pos) → i < length places → Unmarking grid marked (drop i places) →
+    Unmarking grid (slice_set marked (index_of grid.width (slice_index_or places i d)) false) (drop (i + 1) places)
+Unmarking-step grid marked places i d early before =
+    let here : Pos = slice_index_or places i d in
+    let at : ℕ = index_of grid.width here in
+    let open_left : drop i places ≡ here ∷ drop (i + 1) places = drop_more places i d early in
+    let in_grid : IsInside grid.width grid.height here = Unmarking-here grid marked places i d early before in
+    record {
+      sized = length-set marked at false ∙ before.sized;
+      inside = λ p held. before.inside p (subst (λ ps. Contains ps p) (sym open_left) (Contains-later here (drop (i + 1) places) p held));
+      listed = λ p within bit. ⊎_elim
+          (λ same. absurd (false≢true (sym (get_or-set_same marked at false false (subst (λ n. at < n) (sym before.sized) (index_of-inside grid.width grid.height here.x here.y in_grid.column in_grid.row)))
+          ∙ ap (λ k. slice_index_or (slice_set marked at false) k false) (sym same) ∙ bit)))
+          (λ apart. ⊎_elim
+          (λ first. absurd (apart (ap (index_of grid.width) (sym first))))
+          (λ later. later)
+          (Contains-cons here (drop (i + 1) places) p (subst (λ ps. Contains ps p) open_left
+          (before.listed p within (sym (get_or-set_other marked at (index_of grid.width p) false false apart) ∙ bit)))))
+          (cases_eq (index_of grid.width p) at);
+    }
+
+pub Unmarking-end : (grid : Grid) (marked : List Bool) (places : List Pos) (i : ℕ) → length places ≤ i → Unmarking grid marked (drop i places) → AreMarked grid marked []
+Unmarking-end grid marked places i late left = record {
+  sized = left.sized;
+  inside = λ p held. none_contained p held;
+  listed = λ p within bit. subst (λ (ps : List Pos). Contains ps p) (at_drop_all (λ (ps : List Pos). ps) places i late) (left.listed p within bit);
+  bear = λ p held. none_contained p held;
+}
+
+-- what was read and is left to compare
+pub record Comparing (written : List Pos) (cells : Cells) (reads left : List Sighting) : Type 0 where
+  pub unwritten : AllByRecursion (AgreesIfUnwritten written cells) left
+  pub rest : AllByRecursion (λ read. Agree read.1 read.2 (cells read.0)) left → AllByRecursion (λ read. Agree read.1 read.2 (cells read.0)) reads
+
+pub Comparing-item : (written : List Pos) (cells : Cells) (reads : List Sighting) (i : ℕ) (d : Sighting) → i < length reads → Comparing written cells reads (drop i reads) → AgreesIfUnwritten written cells (slice_index_or reads i d)
+Comparing-item written cells reads i d early before = (subst (AllByRecursion (AgreesIfUnwritten written cells)) (drop_more reads i d early) before.unwritten).0
+
+pub Comparing-step : (written : List Pos) (cells : Cells) (reads : List Sighting) (i : ℕ) (d : Sighting) → i < length reads → Agree (slice_index_or reads i d).1 (slice_index_or reads i d).2 (cells (slice_index_or reads i d).0) →
+    Comparing written cells reads (drop i reads) → Comparing written cells reads (drop (i + 1) reads)
+Comparing-step written cells reads i d early agrees before = record {
+  unwritten = (subst (AllByRecursion (AgreesIfUnwritten written cells)) (drop_more reads i d early) before.unwritten).1;
+  rest = λ all. before.rest (subst (AllByRecursion (λ read. Agree read.1 read.2 (cells read.0))) (sym (drop_more reads i d early)) (agrees, all));
+}
+
+pub Comparing-end : (written : List Pos) (cells : Cells) (reads : List Sighting) (i : ℕ) → length reads ≤ i → Comparing written cells reads (drop i reads) → Changes reads cells None
+Comparing-end written cells reads i late before =
+    before.rest (subst (AllByRecursion (λ read. Agree read.1 read.2 (cells read.0))) (sym (at_drop_all (λ (rs : List Sighting). rs) reads i late)) tt)
+
+-- a change of one read is one of all
+pub Changes-among : (reads : List Sighting) (cells : Cells) (i : ℕ) (d : Sighting) (found : Cause) → i < length reads → Changes (slice_index_or reads i d ∷ []) cells (Some found) → Changes reads cells (Some found)
+Changes-among reads cells i d (cause.Part at k) early change = record {
+  read = change.read;
+  is_read = ⊎_elim (λ same. subst (Contains reads) same (Contains-get_or reads i d early)) (λ none. none_contained change.read none) (Contains-cons (slice_index_or reads i d) [] change.read change.is_read);
+  here = change.here;
+  named = change.named;
+  differs = change.differs;
+}
+Changes-among reads cells i d (cause.Place guessed actual) early change = change

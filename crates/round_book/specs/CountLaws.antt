@@ -1,0 +1,27 @@
+-- What holds of the counts of every window (this project's own).
+use Rattle.std.specs.Prelude.{◌≡◌, ◌↔◌, ℕ, ◌+◌, ◌-◌, true}
+use Rattle.ant_turn.specs.Rounds.{Moment}
+use Rattle.spec_record.specs.Holds.{LookHolds}
+use Rattle.spec_record.specs.Look.{LookValue}
+use Rattle.cell_world.specs.World.{Cells}
+use Rattle.round_book.specs.declared.verdict.Cause.{Cause}
+use Rattle.round_book.specs.declared.verdict.Verdict.TheVariants.{Redone}
+use Rattle.round_book.specs.Counts.{counts_of, is_taken, look_holds}
+use Rattle.round_book.specs.Window.{HoldsIn, IsPlayable, IsVerdict, Window, moment_before}
+
+-- the looks that are taken and the turns that are executed anew are as many as the turns
+abbrev pub CountsAddUp : Type 0
+CountsAddUp = (window : Window) → (counts_of window).taken + (counts_of window).redone ≡ window.to - window.from
+
+-- in a window of one turn the look is taken
+abbrev pub LoneTurnsAreTaken : Type 0
+LoneTurnsAreTaken = (window : Window) → IsPlayable window → window.to ≡ window.from + 1 → counts_of window ≡ record { taken = 1; redone = 0 }
+
+-- the test of a look is true exactly where the look holds, and a turn counts as taken exactly where its look holds when its turn comes
+pub record TakenWhereItHolds : Type 0 where
+  pub look : (look : LookValue) (cells : Cells) (place : ℕ) → (look_holds look cells place ≡ true) ↔ LookHolds look cells place
+  pub turn : (window : Window) (t : ℕ) → (is_taken window t ≡ true) ↔ HoldsIn window (moment_before window t) t
+
+-- no turn may be said to be executed anew where its look holds
+abbrev pub CausesRefute : Type 0
+CausesRefute = (window : Window) (now : Moment) (t : ℕ) (found : Cause) → IsVerdict window now t (Redone found) → ¬ HoldsIn window now t

@@ -1,0 +1,5 @@
+-- Stepping stones between the definitions and the code: no public clause cites them.
+pub mod Changes
+pub mod Kept
+pub mod Passes
+pub mod Workspace

@@ -1,0 +1,31 @@
+-- What the fields of a field and of a book keep.
+use Rattle.std.specs.Prelude.{◌≡◌, ℕ, ◌+◌, ◌-◌, ◌*◌, ◌<◌, ◌≤◌, ◌^◌, [], Option}
+use Rattle.std.specs.Option.{ForSome}
+use Rattle.std.specs.Vec.{vec_capacity, vec_len}
+use Rattle.cell_world.specs.Grid.{Grid, world_of}
+use Rattle.ant_turn.specs.Minds.{Minds, AreSound, Fits}
+use Rattle.round_book.specs.declared.workspace.Workspace.{Workspace}
+use Rattle.round_book.specs.Inner.Workspace.{AreMarked}
+
+-- a workspace that has an equal world, and in which nothing is written yet
+pub record IsReady (world : Grid) (work : Workspace) : Type 0 where
+  pub same : work.world ≡ world
+  pub marks : AreMarked world work.marked.items []
+  pub none_written : work.written.items ≡ []
+  pub no_verdicts : work.verdicts.items ≡ []
+
+-- brains that fit the world, and a workspace that is ready, if it is there
+pub record IsFieldKept (world : Grid) (minds : Minds) (workspace : Option Workspace) : Type 0 where
+  pub fits : Fits (world_of world) minds
+  pub sound : AreSound minds
+  pub ready : ForSome workspace (IsReady world)
+
+-- a turn of the window or its end, a stream that lasts for the turns that are left, and room for what they write and for their verdicts
+pub record IsBookKept (from to next place : ℕ) (work : Workspace) : Type 0 where
+  pub begun : from ≤ next
+  pub left : next ≤ to
+  pub ids : to ≤ work.world.ids
+  pub lasting : place + (to - next) < 2 ^ 63
+  pub marks : AreMarked work.world work.marked.items work.written.items
+  pub write_room : vec_len work.written + 7 * (to - next) ≤ vec_capacity work.written
+  pub verdict_room : vec_len work.verdicts + (to - next) ≤ vec_capacity work.verdicts

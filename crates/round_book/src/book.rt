@@ -1,0 +1,224 @@
+// A book: a window of turns that is being settled.
+ghost use Rattle.std.specs.Prelude.{◌≡◌, ◌+◌, ◌-◌, ◌*◌, ◌<◌, ◌≤◌, ◌^◌, [], ◌∷◌, ◌++◌, map, Option, Some, None, MatchOption};
+ghost use Rattle.std.specs.List.{AllByRecursion};
+ghost use Rattle.std.specs.Vec.{vec_capacity, vec_len};
+ghost use Rattle.cell_world.specs.Cell.{one_if};
+ghost use Rattle.cell_world.specs.Grid.{IsWorld, world_of};
+ghost use Rattle.cell_world.specs.Parts.{Agree};
+ghost use Rattle.cell_world.specs.World.{with_cells};
+ghost use Rattle.ant_turn.specs.Minds.{AreSound, Fits, minds_of};
+ghost use Rattle.spec_record.specs.Patching.{patched_cells};
+ghost use Rattle.round_book.specs.Book.{AgreesUnwritten, BookValue, CanTake, HoldsInBook, IsCause, IsEnded, IsRedone, IsSameWindow, Settles, Wrote, moment_of};
+ghost use Rattle.round_book.specs.Inner.Kept.{IsReady};
+ghost use Rattle.round_book.specs.Inner.Workspace.{AreMarked};
+
+use crate::verdict::{Cause, Verdict};
+use crate::workspace::Workspace;
+use ant_turn::Brains;
+use cell_world::World;
+use spec_record::{Look, look};
+use std::marker::Model;
+
+/// A window of turns that is being settled, one after another (this project's own). It has a world of its own, which is that after the turns
+/// so far, the place in the stream that they left, the positions that they wrote, and what came of the look at each. Only a field's `begin`
+/// makes one, and it has no copy.
+#[derive(Drop)]
+pub struct Book {
+    seed: u32,
+    from: u32,
+    to: u32,
+    next: u32,
+    place: u64,
+    work: Workspace,
+}
+
+impl Model for Book {
+    ghost use Rattle.round_book.specs.Book.{BookValue};
+    ghost use Rattle.round_book.specs.Inner.Kept.{IsBookKept};
+
+    ghost Value = { BookValue };
+
+    ghost view = { λ book. record {
+      seed = book.seed;
+      from = book.from;
+      to = book.to;
+      next = book.next;
+      world = book.work.world;
+      place = book.place;
+      written = book.work.written.items;
+      verdicts = book.work.verdicts.items;
+    } };
+
+    ghost invariant = { λ book. IsBookKept book.from book.to book.next book.place book.work };
+}
+
+impl Book {
+    // A book of these turns, in a workspace that is ready and has room for them.
+    pub(crate) fn over(work: Workspace, seed: u32, place: u64, from: u32, to: u32) -> Book
+        requires ready { IsReady work.world work }
+        requires forwards { from ≤ to }
+        requires ids { to ≤ work.world.ids }
+        requires lasting { place + (to - from) < 2 ^ 63 }
+        requires write_room { vec_len work.written + 7 * (to - from) ≤ vec_capacity work.written }
+        requires verdict_room { vec_len work.verdicts + (to - from) ≤ vec_capacity work.verdicts }
+        ensures { result ≡ record { seed = seed; from = from; to = to; next = from; world = work.world; place = place; written = []; verdicts = [] } }
+    {
+        Book {
+            seed,
+            from,
+            to,
+            next: from,
+            place,
+            work,
+        }
+    }
+
+    /// The next turn to be settled: at most the end of the window, and equal to it once all are settled.
+    #[inline]
+    pub fn next(&self) -> u32
+        ensures { result ≡ self.now.next }
+    {
+        self.next
+    }
+
+    // How many turns the window has.
+    #[inline]
+    pub(crate) fn turns(&self) -> u32
+        ensures turns { result ≡ self.now.to - self.now.from }
+        ensures few { self.now.to - self.now.from < 2 ^ 32 }
+    {
+        self.to - self.from
+    }
+
+    // What came of the turns so far, in order.
+    #[inline]
+    pub(crate) fn verdicts(&self) -> &[Verdict]
+        ensures { result.now ≡ self.now.verdicts }
+    {
+        &self.work.verdicts
+    }
+
+    // Gives the workspace back, and the place to which the turns led.
+    #[inline]
+    pub(crate) fn close(self) -> (Workspace, u64)
+        ensures world { result.0.world ≡ self.world }
+        ensures written { result.0.written.items ≡ self.written }
+        ensures marks { AreMarked self.world result.0.marked.items self.written }
+        ensures place { result.1 ≡ self.place }
+    {
+        (self.work, self.place)
+    }
+
+    /// Settles the next turn by a look at it, where the look holds: where the book's world agrees with each cell that the look read in the
+    /// parts that it read, and the book's place is the look's guess, if the turn draws a random number. The named parts of its writes are set
+    /// then, the place rises by one if it drew, and it is noted that the look was taken. Else the answer says why it doesn't hold, and the
+    /// book is as before. It takes no memory (this project's own).
+    ///
+    /// The next turn is one of the window, and the look's. Where a read position wasn't written, the look's cell agrees with the book's
+    /// world. Where the look holds, its writes can be patched and set, first those that don't raise the weight of their cell, then the others.
+    #[inline]
+    pub fn settle(&mut self, look: Look) -> Option<Cause>
+        requires in_window { self.old.next < self.old.to }
+        requires turn { look.turn ≡ self.old.next }
+        requires unwritten { AllByRecursion (AgreesUnwritten self.old) look.reads }
+        requires writes { HoldsInBook self.old look → CanTake (world_of self.old.world) look.writes }
+        ensures settled { Settles look self.old self.new result }
+        ensures same { IsSameWindow self.old self.new }
+    {
+        self.settle_by(&look)
+    }
+
+    // The same by a look that stays with the caller.
+    #[inline]
+    pub(crate) fn settle_by(&mut self, look: &Look) -> Option<Cause>
+        requires in_window { self.old.next < self.old.to }
+        requires turn { look.now.turn ≡ self.old.next }
+        requires unwritten { AllByRecursion (AgreesUnwritten self.old) look.now.reads }
+        requires writes { HoldsInBook self.old look.now → CanTake (world_of self.old.world) look.now.writes }
+        ensures settled { Settles look.now self.old self.new result }
+        ensures same { IsSameWindow self.old self.new }
+    {
+        let cause = self.cause_against(look);
+        if cause.is_none() {
+            self.end_turn(look, Verdict::Taken);
+        }
+        cause
+    }
+
+    // Why a look doesn't hold, if it doesn't.
+    #[inline]
+    fn cause_against(&self, look: &Look) -> Option<Cause>
+        requires { AllByRecursion (AgreesUnwritten self.now) look.now.reads }
+        ensures { MatchOption result (HoldsInBook self.now look.now) (λ cause. IsCause look.now (moment_of self.now) cause) }
+    {
+        match self.work.first_change(look.reads().as_slice()) {
+            Some(change) => Some(change),
+            None => self.move_against(look),
+        }
+    }
+
+    // Why a look doesn't hold, if it doesn't, where all that it read is as it was.
+    #[inline]
+    fn move_against(&self, look: &Look) -> Option<Cause>
+        requires { AllByRecursion (λ read. Agree read.1 read.2 ((world_of self.now.world).cells read.0)) look.now.reads }
+        ensures { MatchOption result (HoldsInBook self.now look.now) (λ cause. IsCause look.now (moment_of self.now) cause) }
+    {
+        if look.drew() && look.guess() != self.place {
+            return Some(Cause::Place {
+                guessed: look.guess(),
+                actual: self.place,
+            });
+        }
+        None
+    }
+
+    /// Executes the next turn, by these brains, on the book's world at its place, and notes for which cause: world and place become those of
+    /// the turn, and the positions that it writes are written. It takes no memory (this project's own).
+    ///
+    /// The next turn is one of the window, and the brains fit the book's world. A book in which a turn was executed anew although its look
+    /// holds, or for another cause than the look's, doesn't stand.
+    pub fn redo(&mut self, brains: Brains<'_>, cause: Cause)
+        requires in_window { self.old.next < self.old.to }
+        requires fit { Fits (world_of self.old.world) (minds_of brains) }
+        ensures redone { IsRedone (minds_of brains.entry) cause self.old self.new }
+        ensures same { IsSameWindow self.old self.new }
+    {
+        vouch(brains, &self.work.world);
+        // the look at a turn in the very world in which it is taken says what the turn does
+        let look = look(&self.work.world, brains, self.seed, self.place, self.next);
+        self.end_turn(&look, Verdict::Redone(cause));
+    }
+
+    // Ends the next turn, which does what the look says, with a verdict.
+    pub(crate) fn end_turn(&mut self, look: &Look, verdict: Verdict)
+        requires in_window { self.old.next < self.old.to }
+        requires writes { CanTake (world_of self.old.world) look.now.writes }
+        ensures ended { IsEnded look.now verdict self.old self.new }
+        ensures same { IsSameWindow self.old self.new }
+    {
+        self.work.write(look.writes().as_slice());
+        self.work.verdicts.push_reserved(verdict);
+        self.place += one_if(look.drew());
+        self.next += 1;
+    }
+}
+
+// Brains are brains, their sheet is light, and a world is one.
+#[inline]
+pub(crate) fn vouch(brains: Brains<'_>, world: &World)
+    ensures sound { AreSound (minds_of brains.entry) }
+    ensures world { IsWorld world.now }
+{
+    let _red = brains.red.len();
+    let _black = brains.black.len();
+    let _corpse = brains.sheet.corpse();
+    let _width = world.width();
+}
+
+// One where it is so, and nothing where it isn't.
+#[inline]
+pub(crate) fn one_if(is: bool) -> u64
+    ensures { result ≡ one_if is }
+{
+    u64::from(is)
+}

@@ -1,0 +1,82 @@
+// How a window came out.
+ghost use Rattle.std.specs.Prelude.{◌≡◌, ◌-◌, ◌≤◌, ◌<◌, ◌^◌, length};
+ghost use Rattle.std.specs.List.{count_by};
+ghost use Rattle.round_book.specs.Book.{IsPlayed, StandsOn, window_of};
+ghost use Rattle.round_book.specs.Counts.{counts_of, is_taken_verdict};
+
+use crate::book::Book;
+use crate::field::Field;
+use crate::verdict::Verdict;
+use std::marker::Model;
+
+/// How many looks of a window were taken, and how many of its turns were executed anew (this project's own). Only a field's `finish` makes
+/// one, and it has no copy.
+#[derive(Drop)]
+pub struct Counts {
+    taken: u32,
+    redone: u32,
+}
+
+impl Model for Counts {
+    ghost use Rattle.round_book.specs.Counts.{Counted};
+
+    ghost Value = { Counted };
+
+    ghost view = { λ counts. record { taken = counts.taken; redone = counts.redone } };
+}
+
+impl Counts {
+    /// How many looks held and were taken.
+    #[inline]
+    pub fn taken(&self) -> u32
+        ensures { result ≡ self.now.taken }
+    {
+        self.taken
+    }
+
+    /// How many turns were executed anew, since their look didn't hold.
+    #[inline]
+    pub fn redone(&self) -> u32
+        ensures { result ≡ self.now.redone }
+    {
+        self.redone
+    }
+}
+
+impl Field<'_> {
+    /// Ends a window: the field is whole, with the world and the place to which the window's turns lead, and the answer counts the looks that
+    /// were taken and the turns that were executed anew (this project's own). The book stands on this field, and all its turns are settled.
+    pub fn finish(&mut self, book: Book) -> Counts
+        requires stands { StandsOn self.old book }
+        requires done { book.next ≡ book.to }
+        ensures played { IsPlayed self.old book.from book.to self.new }
+        ensures counts { result ≡ counts_of (window_of self.old book.from book.to) }
+    {
+        let turns = book.turns();
+        let taken = taken_in(book.verdicts());
+        let (work, place) = book.close();
+        self.take_back(work, place);
+        Counts {
+            taken: taken as u32,
+            redone: turns - taken as u32,
+        }
+    }
+}
+
+// How many of the verdicts are that a look was taken.
+fn taken_in(verdicts: &[Verdict]) -> usize
+    ensures count { result ≡ count_by is_taken_verdict verdicts.now }
+    ensures most { result ≤ length verdicts.now }
+{
+    verdicts.iter().filter(|verdict| is_taken(verdict)).count()
+}
+
+// Whether a look was taken.
+fn is_taken(verdict: &Verdict) -> bool
+    ensures { result ≡ is_taken_verdict verdict.now }
+{
+    match verdict {
+        Verdict::Taken => true,
+        Verdict::Redone(_) => false,
+    }
+}

@@ -1,0 +1,43 @@
+// Crews: who plays windows.
+ghost use Rattle.std.specs.Prelude.{◌≡◌, ℕ, ◌+◌, ◌-◌, ◌^◌, ⊤, min, IfOk, OnOk, OnErr};
+ghost use Rattle.round_book.specs.Book.{CanBegin, IsPlayed, window_of};
+ghost use Rattle.round_book.specs.Counts.{counts_of};
+
+use crate::counts::Counts;
+use crate::field::Field;
+use hex_geometry::OutOfMemory;
+use std::alloc::Global;
+
+/// Who plays the windows of a game: alone, or with workers (this project's own). Whoever it is, a window leads where its turns lead one after
+/// another, and the counts are the same.
+pub trait Crew {
+    /// How many turns it has played.
+    ghost played: { Self → ℕ };
+
+    /// What it needs, so that it can play.
+    ghost ready: { Self → Type 0 } = { λ _. ⊤ };
+
+    /// How many turns the crew has played, from 0; at the last value, 2^64 - 1, it stays (this project's own).
+    fn turns(&self) -> u64
+        ensures { result ≡ played self.now };
+
+    /// Plays the turns of the ids from `from` up to, and not including, `to` (this project's own). The field is whole, `from` is at most `to`,
+    /// `to` at most the number of ids, and the place with the number of turns is below 2^63. The field is whole afterwards, its world and
+    /// place are those to which the turns lead in order, and the answer counts the looks that were taken and the turns that were executed
+    /// anew. It is refused for want of memory alone; the field and the count of turns are as before then.
+    fn window(
+        &mut self,
+        alloc: Global,
+        field: &mut Field<'_>,
+        from: u32,
+        to: u32,
+    ) -> Result<Counts, OutOfMemory>
+        requires ready { ready self.old }
+        requires window { CanBegin field.old from to }
+        ensures ready { ready self.new }
+        ensures played { OnOk result (IsPlayed field.old from to field.new) }
+        ensures counts { IfOk result (λ counts. counts ≡ counts_of (window_of field.old from to)) }
+        ensures turns { OnOk result (played self.new ≡ min (played self.old + (to - from)) (2 ^ 64 - 1)) }
+        ensures unchanged { OnErr result (field.new ≡ field.old) }
+        ensures as_before { OnErr result (played self.new ≡ played self.old) };
+}

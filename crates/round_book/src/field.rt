@@ -1,0 +1,159 @@
+// A game's field.
+ghost use Rattle.std.specs.Prelude.{◌≡◌, ◌+◌, ◌-◌, ◌<◌, ◌≤◌, ◌^◌, true, false, IfOk, OnOk, OnErr};
+ghost use Rattle.std.specs.List.{Contains};
+ghost use Rattle.cell_world.specs.Grid.{IsWorld, world_of};
+ghost use Rattle.ant_turn.specs.Minds.{AreSound, Fits, minds_of};
+ghost use Rattle.round_book.specs.Book.{CanBegin, FieldValue, StandsOn, begun};
+ghost use Rattle.round_book.specs.Inner.Workspace.{AreMarked};
+
+use crate::book::{Book, vouch};
+use crate::workspace::Workspace;
+use ant_turn::Brains;
+use cell_world::World;
+use hex_geometry::{OutOfMemory, Pos};
+use std::alloc::Global;
+use std::marker::Model;
+
+/// Where a game stands: its world, its brains, its seed and its place in the stream (this project's own). It is whole, or lent for a window
+/// of turns; while it is lent it shows what it was when the window began.
+#[derive(Drop)]
+pub struct Field<'b> {
+    world: World,
+    workspace: Option<Workspace>,
+    brains: Brains<'b>,
+    seed: u32,
+    place: u64,
+}
+
+impl<'b> Model for Field<'b> {
+    ghost use Rattle.std.specs.Option.{is_some};
+    ghost use Rattle.ant_turn.specs.Minds.{minds_of};
+    ghost use Rattle.round_book.specs.Book.{FieldValue};
+    ghost use Rattle.round_book.specs.Inner.Kept.{IsFieldKept};
+
+    ghost Value = { FieldValue };
+
+    ghost view = { λ field. record {
+      world = field.world;
+      minds = minds_of field.brains;
+      seed = field.seed;
+      place = field.place;
+      whole = is_some field.workspace;
+    } };
+
+    ghost invariant = { λ field. IsFieldKept field.world (minds_of field.brains) field.workspace };
+}
+
+impl<'b> Field<'b> {
+    /// A whole field (this project's own). Each ant's state is below the length of its colour's brain, and the place is below 2^62. It is
+    /// refused for want of memory alone.
+    pub fn new(
+        alloc: Global,
+        world: World,
+        brains: Brains<'b>,
+        seed: u32,
+        place: u64,
+    ) -> Result<Field<'b>, OutOfMemory>
+        requires fit { Fits (world_of world) (minds_of brains) }
+        requires place { place < 2 ^ 62 }
+        ensures { IfOk result (λ field. field ≡ record { world = world; minds = minds_of brains.entry; seed = seed; place = place; whole = true }) }
+    {
+        vouch(brains, &world);
+        let workspace = Workspace::over(alloc, &world)?;
+        Ok(Field {
+            world,
+            workspace: Some(workspace),
+            brains,
+            seed,
+            place,
+        })
+    }
+
+    /// The world; while the field is lent, that with which the window began (this project's own).
+    #[inline]
+    pub fn world(&self) -> &World
+        ensures world { result.now ≡ self.now.world }
+        ensures fit { Fits (world_of self.now.world) self.now.minds }
+    {
+        &self.world
+    }
+
+    /// The brains of the game (this project's own).
+    #[inline]
+    pub fn brains(&self) -> Brains<'b>
+        ensures brains { minds_of result ≡ self.now.minds }
+        ensures sound { AreSound self.now.minds }
+    {
+        self.brains
+    }
+
+    /// The seed of the game's random numbers (this project's own).
+    #[inline]
+    pub fn seed(&self) -> u32
+        ensures { result ≡ self.now.seed }
+    {
+        self.seed
+    }
+
+    /// How many random numbers were drawn; while the field is lent, as the window began (this project's own).
+    #[inline]
+    pub fn place(&self) -> u64
+        ensures { result ≡ self.now.place }
+    {
+        self.place
+    }
+
+    /// Begins the window of the turns of the ids from `from` up to, and not including, `to`: the field is lent, and the book stands on it,
+    /// with no turn settled yet (this project's own). The field is whole, `from` is at most `to`, `to` at most the number of ids, and the
+    /// place with the number of turns is below 2^63. It is refused for want of memory alone; the field is whole and as before then. No call
+    /// on the book takes memory.
+    pub fn begin(&mut self, _alloc: Global, from: u32, to: u32) -> Result<Book, OutOfMemory>
+        requires { CanBegin self.old from to }
+        ensures lent { OnOk result (self.new ≡ record self.old { whole = false }) }
+        ensures book { IfOk result (λ book. book ≡ begun self.old from to) }
+        ensures stands { IfOk result (λ book. StandsOn self.new book) }
+        ensures unchanged { OnErr result (self.new ≡ self.old) }
+    {
+        self.lend(from, to)
+    }
+
+    // Lends the workspace, once it has room for the window.
+    fn lend(&mut self, from: u32, to: u32) -> Result<Book, OutOfMemory>
+        requires { CanBegin self.old from to }
+        ensures lent { OnOk result (self.new ≡ record self.old { whole = false }) }
+        ensures book { IfOk result (λ book. book ≡ begun self.old from to) }
+        ensures unchanged { OnErr result (self.new ≡ self.old) }
+        ensures world { IsWorld self.old.world }
+        ensures sound { AreSound self.old.minds }
+        ensures fit { Fits (world_of self.old.world) self.old.minds }
+    {
+        let ids = self.world.ant_count();
+        prove!(to <= ids);
+        let Some(mut work) = self.workspace.take() else {
+            unreachable!()
+        };
+        if work.reserve(to - from).is_err() {
+            self.workspace = Some(work);
+            return Err(OutOfMemory);
+        }
+        Ok(Book::over(work, self.seed, self.place, from, to))
+    }
+
+    // Takes back what was lent, with the world and the place to which the window led: the field's own world is brought up to it at the
+    // positions that were written.
+    pub(crate) fn take_back(&mut self, mut work: Workspace, place: u64)
+        requires lent { self.old.whole ≡ false }
+        requires marks { AreMarked work.world work.marked.items work.written.items }
+        requires width { self.old.world.width ≡ work.world.width }
+        requires height { self.old.world.height ≡ work.world.height }
+        requires ids { self.old.world.ids ≡ work.world.ids }
+        requires unwritten { (p : _) → ¬ Contains work.written.items p → (world_of self.old.world).cells p ≡ (world_of work.world).cells p }
+        requires fit { Fits (world_of work.world) self.old.minds }
+        ensures { self.new ≡ record self.old { world = work.world; place = place; whole = true } }
+    {
+        self.world.catch_up(&work.world, &work.written);
+        work.clear();
+        self.workspace = Some(work);
+        self.place = place;
+    }
+}

@@ -1,0 +1,49 @@
+// A crew that is a function.
+ghost use Rattle.std.specs.Prelude.{◌≡◌};
+ghost use Rattle.round_book.specs.Led.{CanPlay, PlaysWindows};
+
+use crate::counts::Counts;
+use crate::crew::Crew;
+use crate::field::Field;
+use hex_geometry::OutOfMemory;
+use std::alloc::Global;
+
+/// A crew that plays each window by a function, which counts its own looks by `finish` (this project's own). It makes a crew of workers,
+/// which are started by a function, one that plays as any other.
+#[derive(Drop)]
+pub struct Led<F: Drop> {
+    play: F,
+    turns: u64,
+}
+
+impl<F: FnMut(&mut Field<'_>, u32, u32) -> Result<Counts, OutOfMemory> + Drop> Led<F> {
+    /// A crew that plays by this function, and has played no turn yet (this project's own).
+    pub fn by(play: F) -> Led<F>
+        ensures play { result.play ≡ play }
+        ensures turns { result.turns ≡ 0 }
+    {
+        Led { play, turns: 0 }
+    }
+}
+
+impl<F: FnMut(&mut Field<'_>, u32, u32) -> Result<Counts, OutOfMemory> + Drop> Crew for Led<F> {
+    ghost played = { λ crew. crew.turns };
+
+    ghost ready = { λ _. CanPlay F.FnMut × PlaysWindows F.FnMut };
+
+    fn turns(&self) -> u64 {
+        self.turns
+    }
+
+    fn window(
+        &mut self,
+        _alloc: Global,
+        field: &mut Field<'_>,
+        from: u32,
+        to: u32,
+    ) -> Result<Counts, OutOfMemory> {
+        let counts = (self.play)(field, from, to)?;
+        self.turns = self.turns.saturating_add(u64::from(to - from));
+        Ok(counts)
+    }
+}

@@ -1,0 +1,30 @@
+//! Windows of turns, settled in order from looks that were made ahead.
+//!
+//! A window is a run of turns of one round. Its looks are made on the world with which it begins; then they are settled one after another: a
+//! look that still holds is taken, any other turn is executed anew. Whatever was looked at when, and by whom, what the window leaves is what
+//! its turns do one after another, and how many looks were taken depends on the turns and the window alone. This is this project's own.
+#![tactic(auto)]
+
+mod advancing;
+mod book;
+mod counts;
+mod crew;
+mod field;
+mod laws;
+mod led;
+mod passes;
+mod solo;
+mod verdict;
+mod workspace;
+
+pub use advancing::advance;
+pub use book::Book;
+pub use counts::Counts;
+pub use crew::Crew;
+pub use field::Field;
+pub use laws::{
+    causes_refute, counts_add_up, every_interleaving, lone_turns_are_taken, taken_where_it_holds,
+};
+pub use led::Led;
+pub use solo::SoloCrew;
+pub use verdict::{Cause, Verdict};

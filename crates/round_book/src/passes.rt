@@ -1,0 +1,79 @@
+// The writes of a look, set in a world.
+ghost use Rattle.std.specs.Prelude.{◌≡◌, if◌then◌else◌};
+ghost use Rattle.hex_geometry.specs.Position.{IsInside};
+ghost use Rattle.cell_world.specs.Cell.{ant_weight, cell_weight};
+ghost use Rattle.cell_world.specs.Grid.{world_of};
+ghost use Rattle.cell_world.specs.Parts.{CanPatch};
+ghost use Rattle.cell_world.specs.World.{with_cells};
+ghost use Rattle.spec_record.specs.Patching.{patched_cells};
+ghost use Rattle.round_book.specs.Book.{CanPatchIn, CanTake};
+ghost use Rattle.round_book.specs.Inner.Passes.{CanSetInPass, CanSetPass, after_pass, is_in_pass, with_pass};
+ghost use Rattle.round_book.specs.Book as book;
+ghost use Rattle.std.specs.List.{AllByRecursion};
+
+use cell_world::{Ant, Cell, Ground, Parts, World};
+use hex_geometry::Pos;
+
+// Sets the named parts of each write: first where that doesn't raise the weight of the cell, then at the others, so that the world is
+// light enough at every step.
+pub(crate) fn set_writes(world: &mut World, writes: &[(Pos, Parts, Cell)])
+    requires { CanTake (world_of world.old) writes.now }
+    ensures { world_of world.new ≡ with_cells (world_of world.old) (patched_cells (world_of world.old).cells writes.now) }
+{
+    set_pass(world, writes, false);
+    set_pass(world, writes, true);
+}
+
+// Sets those writes that raise the weight of their cell, or those that don't.
+fn set_pass(world: &mut World, writes: &[(Pos, Parts, Cell)], heavier: bool)
+    requires once { book.EachOnce writes.now }
+    requires each { AllByRecursion (CanPatchIn (world_of world.old)) writes.now }
+    requires set { CanSetPass heavier (world_of world.old) writes.now }
+    ensures { world_of world.new ≡ after_pass heavier (world_of world.old) writes.now }
+{
+    for write in writes {
+        set_in_pass(world, write, heavier);
+    }
+}
+
+// Sets a write, if it is one of the pass.
+#[inline]
+fn set_in_pass(world: &mut World, write: &(Pos, Parts, Cell), heavier: bool)
+    requires patch { CanPatchIn (world_of world.old) write.now }
+    requires set { CanSetInPass heavier (world_of world.old) write.now }
+    ensures { world_of world.new ≡ with_pass heavier (world_of world.old) write.now }
+{
+    let cell = world.cell(write.0);
+    let patched = cell.patched(write.2, write.1);
+    if is_in_pass(heavier, weight(&patched) > weight(&cell)) {
+        world.set(write.0, patched);
+    }
+}
+
+// Whether a write that raises the weight of its cell, or doesn't, is one of the pass.
+#[inline]
+fn is_in_pass(heavier: bool, raises: bool) -> bool
+    ensures { result ≡ is_in_pass heavier raises }
+{
+    if heavier { raises } else { !raises }
+}
+
+// What a cell weighs.
+#[inline]
+#[tactic(auto, unfolding(cell_world::specs::Cell::cell_weight))]
+fn weight(cell: &Cell) -> u64
+    ensures { result ≡ cell_weight cell.now }
+{
+    u64::from(cell.food) + ant_weight(&cell.ant)
+}
+
+// What an ant weighs, if there is one.
+#[inline]
+fn ant_weight(ant: &Option<Ant>) -> u64
+    ensures { result ≡ ant_weight ant.now }
+{
+    match ant {
+        Some(ant) => 9 + u64::from(ant.laden),
+        None => 0,
+    }
+}

@@ -1,0 +1,189 @@
+// What a book works on.
+ghost use Rattle.std.specs.Prelude.{◌≡◌, ◌⊎◌, ◌↔◌, ◌+◌, ◌*◌, ◌<◌, ◌≤◌, Bool, true, false, List, [], ◌∷◌, map, length, slice_index_or, IfOk, OnOk};
+ghost use Rattle.std.specs.List.{AllByRecursion, Contains};
+ghost use Rattle.std.specs.Vec.{vec_capacity, vec_len};
+ghost use Rattle.hex_geometry.specs.Position.{IsInside};
+ghost use Rattle.cell_world.specs.Grid.{Grid, IsWorld, index_of, world_of};
+ghost use Rattle.cell_world.specs.World.{with_cells};
+ghost use Rattle.spec_record.specs.Patching.{patched_cells};
+ghost use Rattle.round_book.specs.Book.{CanTake, Wrote};
+ghost use Rattle.round_book.specs.Inner.Changes.{AgreesIfUnwritten, Changes};
+ghost use Rattle.round_book.specs.Inner.Kept.{IsReady};
+ghost use Rattle.round_book.specs.Inner.Workspace.{AreMarked};
+
+use crate::passes::set_writes;
+use crate::verdict::{Cause, Verdict};
+use cell_world::{Cell, Parts, World};
+use hex_geometry::{OutOfMemory, Pos};
+use std::alloc::Global;
+
+// A world, which of its cells were written since it was lent, as marks and as a list, and what came of the turns so far.
+#[derive(Drop)]
+pub(crate) struct Workspace {
+    pub(crate) world: World,
+    pub(crate) marked: Vec<bool>,
+    pub(crate) written: Vec<Pos>,
+    pub(crate) verdicts: Vec<Verdict>,
+}
+
+impl Workspace {
+    // A copy of a world, with nothing written.
+    pub(crate) fn over(alloc: Global, world: &World) -> Result<Workspace, OutOfMemory>
+        ensures { IfOk result (λ it. IsReady world.now it) }
+    {
+        let cells = world.width() as usize * world.height() as usize;
+        Ok(Workspace {
+            world: world.copy(alloc)?,
+            marked: vec![in alloc; false; cells]?,
+            written: Vec::new(alloc),
+            verdicts: Vec::new(alloc),
+        })
+    }
+
+    // Takes room for what so many turns write, and for their verdicts.
+    pub(crate) fn reserve(&mut self, turns: u32) -> Result<(), OutOfMemory>
+        ensures world { self.new.world ≡ self.old.world }
+        ensures marked { self.new.marked.items ≡ self.old.marked.items }
+        ensures written { self.new.written.items ≡ self.old.written.items }
+        ensures verdicts { self.new.verdicts.items ≡ self.old.verdicts.items }
+        ensures write_room { OnOk result (vec_len self.new.written + 7 * turns ≤ vec_capacity self.new.written) }
+        ensures verdict_room { OnOk result (vec_len self.new.verdicts + turns ≤ vec_capacity self.new.verdicts) }
+    {
+        self.written.reserve(7 * turns as usize)?;
+        self.verdicts.reserve(turns as usize)?;
+        Ok(())
+    }
+
+    // Whether the cell at `p` was written; beyond the world there is none.
+    #[inline]
+    pub(crate) fn is_marked(&self, p: Pos) -> bool
+        requires { AreMarked self.now.world self.now.marked.items self.now.written.items }
+        ensures { (result ≡ true) ↔ Contains self.now.written.items p }
+    {
+        if !is_inside(&self.world, p) {
+            return false;
+        }
+        self.has_mark(p)
+    }
+
+    // Whether the cell at `p`, which is one of the world, is marked.
+    #[inline]
+    fn has_mark(&self, p: Pos) -> bool
+        requires marks { AreMarked self.now.world self.now.marked.items self.now.written.items }
+        requires inside { IsInside self.now.world.width self.now.world.height p }
+        ensures { (result ≡ true) ↔ Contains self.now.written.items p }
+    {
+        self.marked[p.y as usize * self.world.width() as usize + p.x as usize]
+    }
+
+    // Marks the cell at `p` as written, and lists it where it wasn't.
+    #[inline]
+    pub(crate) fn mark(&mut self, p: Pos)
+        requires marks { AreMarked self.old.world self.old.marked.items self.old.written.items }
+        requires inside { IsInside self.old.world.width self.old.world.height p }
+        requires room { vec_len self.old.written < vec_capacity self.old.written }
+        ensures marks { AreMarked self.new.world self.new.marked.items self.new.written.items }
+        ensures written { (q : Pos) → Contains self.new.written.items q ↔ (Contains self.old.written.items q ⊎ (q ≡ p)) }
+        ensures world { self.new.world ≡ self.old.world }
+        ensures verdicts { self.new.verdicts ≡ self.old.verdicts }
+        ensures capacity { vec_capacity self.new.written ≡ vec_capacity self.old.written }
+        ensures length { vec_len self.new.written ≤ vec_len self.old.written + 1 }
+    {
+        let i = p.y as usize * self.world.width() as usize + p.x as usize;
+        if !self.marked[i] {
+            self.marked[i] = true;
+            self.written.push_reserved(p);
+        }
+    }
+
+    // The first part, in the order of the reads, that was read and is another now. It compares the written cells alone.
+    pub(crate) fn first_change(&self, reads: &[(Pos, Parts, Cell)]) -> Option<Cause>
+        requires marks { AreMarked self.now.world self.now.marked.items self.now.written.items }
+        requires unwritten { AllByRecursion (AgreesIfUnwritten self.now.written.items (world_of self.now.world).cells) reads.now }
+        ensures { Changes reads.now (world_of self.now.world).cells result }
+    {
+        for read in reads {
+            let change = self.change(read);
+            if change.is_some() {
+                return change;
+            }
+        }
+        None
+    }
+
+    // The same of one position.
+    #[inline]
+    fn change(&self, read: &(Pos, Parts, Cell)) -> Option<Cause>
+        requires marks { AreMarked self.now.world self.now.marked.items self.now.written.items }
+        requires unwritten { AgreesIfUnwritten self.now.written.items (world_of self.now.world).cells read.now }
+        ensures { Changes (read.now ∷ []) (world_of self.now.world).cells result }
+    {
+        if !self.is_marked(read.0) {
+            return None;
+        }
+        let part = read.2.difference(&self.world.cell(read.0), read.1)?;
+        Some(Cause::Part { at: read.0, part })
+    }
+
+    // Sets the named parts of writes, and marks their cells.
+    pub(crate) fn write(&mut self, writes: &[(Pos, Parts, Cell)])
+        requires marks { AreMarked self.old.world self.old.marked.items self.old.written.items }
+        requires writes { CanTake (world_of self.old.world) writes.now }
+        requires room { vec_len self.old.written + length writes.now ≤ vec_capacity self.old.written }
+        ensures world { world_of self.new.world ≡ with_cells (world_of self.old.world) (patched_cells (world_of self.old.world).cells writes.now) }
+        ensures marks { AreMarked self.new.world self.new.marked.items self.new.written.items }
+        ensures written { Wrote self.old.written.items (map (λ write. write.0) writes.now) self.new.written.items }
+        ensures verdicts { self.new.verdicts ≡ self.old.verdicts }
+        ensures capacity { vec_capacity self.new.written ≡ vec_capacity self.old.written }
+        ensures length { vec_len self.new.written ≤ vec_len self.old.written + length writes.now }
+    {
+        self.mark_all(writes);
+        set_writes(&mut self.world, writes);
+    }
+
+    // Marks the cells of writes.
+    fn mark_all(&mut self, writes: &[(Pos, Parts, Cell)])
+        requires marks { AreMarked self.old.world self.old.marked.items self.old.written.items }
+        requires inside { AllByRecursion (λ write. IsInside self.old.world.width self.old.world.height write.0) writes.now }
+        requires room { vec_len self.old.written + length writes.now ≤ vec_capacity self.old.written }
+        ensures world { self.new.world ≡ self.old.world }
+        ensures marks { AreMarked self.new.world self.new.marked.items self.new.written.items }
+        ensures written { Wrote self.old.written.items (map (λ write. write.0) writes.now) self.new.written.items }
+        ensures verdicts { self.new.verdicts ≡ self.old.verdicts }
+        ensures capacity { vec_capacity self.new.written ≡ vec_capacity self.old.written }
+        ensures length { vec_len self.new.written ≤ vec_len self.old.written + length writes.now }
+    {
+        for write in writes {
+            self.mark(write.0);
+        }
+    }
+
+    // Takes all marks off, and empties the lists.
+    pub(crate) fn clear(&mut self)
+        requires { AreMarked self.old.world self.old.marked.items self.old.written.items }
+        ensures { IsReady self.old.world self.new }
+    {
+        unmark(&mut self.marked, &self.world, &self.written);
+        self.written.clear();
+        self.verdicts.clear();
+    }
+}
+
+// Whether the position is one of the world.
+#[inline]
+fn is_inside(world: &World, p: Pos) -> bool
+    ensures inside { (result ≡ true) ↔ ((p.x < world.now.width) × (p.y < world.now.height)) }
+    ensures world { IsWorld world.now }
+{
+    p.x < world.width() && p.y < world.height()
+}
+
+// Takes the marks of these positions off.
+fn unmark(marked: &mut [bool], world: &World, places: &[Pos])
+    requires { AreMarked world.now marked.old places.now }
+    ensures { AreMarked world.now marked.new [] }
+{
+    for p in places {
+        marked[p.y as usize * world.width() as usize + p.x as usize] = false;
+    }
+}

@@ -1,0 +1,6 @@
+pub mod GamesLemmas
+pub mod LawsLemmas
+pub mod PiecesLemmas
+pub mod StandingLemmas
+pub mod TotalLemmas
+pub mod Worked

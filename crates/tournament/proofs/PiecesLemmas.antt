@@ -1,0 +1,98 @@
+-- Pieces of a list of games: where they begin, and what they are together.
+use Rattle.hex_geometry.specs.declared.memory.OutOfMemory.{OutOfMemory}
+use Rattle.std.proofs.Common.{Result, Ok, Err, Vec, IfOk, OnOk, ◌≡◌, ◌≢◌, ℕ, zero, suc, ◌+◌, ◌-◌, ◌*◌, ◌/◌, ◌^◌, ◌<◌, ◌≤◌, Bool, true, false, List, [], ◌∷◌, ◌++◌, length, get_or, take, drop, map, All, refl, sym, ◌∙◌, ap, arith}
+use Rattle.std.specs.Bool.{OnFalse}
+use Rattle.std.specs.List.{flat_map}
+use Rattle.std.proofs.Math.Nat.{mul-le-mul_right, div-mul-le_self, le-div_iff_mul-le, div-le_of_le-mul, mul-div_cancel_left}
+use Rattle.std.proofs.Math.Seq.{take-add}
+use Rattle.std.proofs.lemmas.List.{map-append, take_more, take_at, drop_at, get_or_read, flat_map_more}
+use Rattle.std.proofs.lemmas.List.Elements.{All-take, All-drop, All-same, All-nil, All-cons, All-weaker, All-more}
+use Rattle.cell_world.specs.declared.score.Score.{Score}
+use Rattle.tournament.specs.declared.games.Game.{Game}
+use Rattle.tournament.specs.declared.games.Played.{Played}
+use Rattle.tournament.specs.declared.pieces.Piece.{Piece}
+use Rattle.tournament.specs.Games.{played_by}
+use Rattle.tournament.specs.Inner.Pieces.{AreKnown, IsReady, IsDone, dealt_games, played_games}
+use Rattle.tournament.proofs.GamesLemmas.{IsGame}
+
+-- the numerator of a border is small
+pub border_small : (k n w : ℕ) → k ≤ w → w ≤ 16 → n < 2 ^ 30 → k * n < 2 ^ 64
+border_small k n w le small few =
+    let most : k * n ≤ 16 * n = mul-le-mul_right n (omega arith) in
+    omega arith
+
+-- a border lies within the list
+pub border_within : (k n w : ℕ) → k ≤ w → k * n / w ≤ n
+border_within k n w le = div-le_of_le-mul w (mul-le-mul_right n le)
+
+-- borders rise
+pub border_rises : (k n w : ℕ) → 0 < w → k * n / w ≤ (k + 1) * n / w
+border_rises k n w some_workers =
+    let front = div-mul-le_self (k * n) w in
+    let more : k * n ≤ (k + 1) * n = mul-le-mul_right n (omega arith) in
+    let both : k * n / w * w ≤ (k + 1) * n = omega arith in
+    (le-div_iff_mul-le some_workers).1 both
+
+-- the last border is the end
+pub border_last : (n w : ℕ) → 0 < w → w * n / w ≡ n
+border_last n w some_workers = mul-div_cancel_left n some_workers
+
+-- one piece more
+pub dealt_more : (games old new : List Game) (from to : ℕ) → from ≤ to → old ≡ take from games → new ≡ old ++ take (to - from) (drop from games) → new ≡ take to games
+dealt_more games old new from to le before more =
+    let at : to ≡ from + (to - from) = omega arith in
+    more ∙ ap (λ t. t ++ take (to - from) (drop from games)) before ∙ sym (take-add from (to - from) games) ∙ ap (λ n. take n games) (sym at)
+
+-- the games of the pieces and of one more
+pub dealt_push : (pieces : List Piece) (piece : Piece) → dealt_games (pieces ++ piece ∷ []) ≡ dealt_games pieces ++ piece.games.items
+dealt_push pieces piece = sym (flat_map_more (λ p. p.games.items) [] pieces piece)
+
+-- what was played of the first pieces and of one more
+pub played_more : (pieces : List Piece) (i : ℕ) (piece : Piece) → i < length pieces → piece ≡ get_or pieces i piece → played_games (take (i + 1) pieces) ≡ played_games (take i pieces) ++ piece.played.items
+played_more pieces i piece lt is =
+    ap played_games (take_more pieces i piece lt) ∙ sym (flat_map_more (λ p. p.played.items) [] (take i pieces) (get_or pieces i piece)) ∙ ap (λ p. played_games (take i pieces) ++ p.played.items) (sym is)
+
+All-left : (P : Game → Type 0) (xs ys : List Game) → All P (xs ++ ys) → All P xs
+All-left P xs ys all = All-same P xs (take (length xs) (xs ++ ys)) (sym (take_at xs ys (length xs) refl)) (All-take P (length xs) (xs ++ ys) all)
+
+All-right : (P : Game → Type 0) (xs ys : List Game) → All P (xs ++ ys) → All P ys
+All-right P xs ys all = All-same P ys (drop (length xs) (xs ++ ys)) (sym (drop_at xs ys (length xs) refl)) (All-drop P (length xs) (xs ++ ys) all)
+
+ready_by : (knows : ℕ → ℕ → ℕ → Type 0) (pieces : List Piece) → AreKnown knows (dealt_games pieces) → All (λ piece. piece.played.items ≡ []) pieces → All (IsReady knows) pieces
+ready_by knows [] known fresh = All-nil (IsReady knows)
+ready_by knows (piece ∷ pieces) known fresh =
+    let here = All-left (λ game. knows game.world game.red game.black) piece.games.items (dealt_games pieces) known in
+    let rest = All-right (λ game. knows game.world game.red game.black) piece.games.items (dealt_games pieces) known in
+    All-cons (IsReady knows) piece pieces (record { fresh = fresh 0 piece (omega arith); known = here }) (ready_by knows pieces rest (λ k d lt. fresh (suc k) d (omega arith)))
+
+-- a referee that knows the games of a cup knows those of its pieces
+pub ready : (knows : ℕ → ℕ → ℕ → Type 0) (players worlds : ℕ) (games : List Game) (pieces : List Piece)
+    → ((world red black : ℕ) → world < worlds → red < players → black < players → red ≢ black → knows world red black)
+    → All (IsGame players worlds) games → dealt_games pieces ≡ games → All (λ piece. piece.played.items ≡ []) pieces → All (IsReady knows) pieces
+ready knows players worlds games pieces known all dealt fresh =
+    let each : AreKnown knows games = All-weaker (IsGame players worlds) (λ game. knows game.world game.red game.black) (λ game at. known game.world game.red game.black at.world at.red at.black at.apart) games all in
+    ready_by knows pieces (All-same (λ game. knows game.world game.red game.black) (dealt_games pieces) games dealt each) fresh
+
+at_false : (b : Bool) (P : Type 0) → b ≡ false → OnFalse b P → P
+at_false true P e h = absurd (cc)
+at_false false P e h = h
+
+-- what all pieces played together, where no game was refused
+pub done : (score : ℕ → ℕ → ℕ → Score) (old new : List Piece) → length new ≡ length old
+    → ((i : ℕ) (d : Piece) → i < length old → IsDone score (get_or old i d) (get_or new i d))
+    → All (λ piece. piece.refused ≡ false) new → played_games new ≡ map (played_by score) (dealt_games old)
+done score [] [] len each whole = refl
+done score [] (y ∷ ys) len each whole = absurd (omega arith)
+done score (x ∷ xs) [] len each whole = absurd (omega arith)
+done score (x ∷ xs) (y ∷ ys) len each whole =
+    let here : y.played.items ≡ map (played_by score) x.games.items = at_false y.refused _ (whole 0 y (omega arith)) (each 0 x (omega arith)) in
+    let rest = done score xs ys (omega arith) (λ i d lt. each (suc i) d (omega arith)) (λ k d lt. whole (suc k) d (omega arith)) in
+    ap (λ t. t ++ played_games ys) here ∙ ap (λ t. map (played_by score) x.games.items ++ t) rest ∙ sym (map-append (played_by score) x.games.items (dealt_games xs))
+
+-- what was gathered from the pieces is what they played
+pub gathered_done : {A : Type 0} (result : Result (Vec Played A) OutOfMemory) (score : ℕ → ℕ → ℕ → Score) (old new : List Piece) → length new ≡ length old
+    → ((i : ℕ) (d : Piece) → i < length old → IsDone score (get_or old i d) (get_or new i d))
+    → IfOk result (λ played. played.items ≡ played_games new) → OnOk result (All (λ piece. piece.refused ≡ false) new)
+    → IfOk result (λ played. played.items ≡ map (played_by score) (dealt_games old))
+gathered_done (Ok played) score old new len each is whole = is ∙ done score old new len each whole
+gathered_done (Err e) score old new len each is whole = tt

@@ -1,0 +1,53 @@
+-- Counts over games, and the order of lines.
+use Rattle.std.proofs.Common.{◌≡◌, ℕ, ◌+◌, ◌<◌, ◌≤◌, ◌==◌, Bool, true, false, nat_lt, nat_eq, List, length, get_or, take, map, All, cond, count_by, sum_by, ◌*◌, take_all, refl, sym, ◌∙◌, ap, subst, arith, add-one}
+use Rattle.std.specs.List.{AllAdjacentBelow}
+use Rattle.std.specs.Ordering.{nat_cmp, is_lt, ordering_then}
+use Rattle.std.proofs.lemmas.Bool.{ltb-false, le-ltb, eq-eqb}
+use Rattle.std.proofs.lemmas.List.Sums.{sum_by_more, count_by-le-length}
+use Rattle.std.proofs.lemmas.List.Elements.{All-map, All-weaker}
+use Rattle.std.proofs.lemmas.List.Sorted.{All-permutation}
+use Rattle.tournament.specs.Games.{below}
+use Rattle.tournament.proofs.GamesLemmas.{All-below}
+use Rattle.tournament.specs.declared.games.Played.{Played}
+use Rattle.tournament.specs.declared.standing.Line.{Line}
+use Rattle.tournament.specs.Standing.{is_won, is_lost, is_drawn, line_of, StandsAbove, Ranks}
+
+above_points_by : (a b p q : ℕ) (t : Bool) → nat_lt a b ≡ t → is_lt (ordering_then (nat_cmp a b) (nat_cmp p q)) ≡ false → b ≤ a
+above_points_by a b p q true e h = let k = rw e at h in absurd (cc)
+above_points_by a b p q false e h = ltb-false a b e
+
+above_ties_by : (a p q : ℕ) (t : Bool) → nat_lt p q ≡ t → is_lt (ordering_then (nat_cmp a a) (nat_cmp p q)) ≡ false → q ≤ p
+above_ties_by a p q true e h =
+    let less : nat_lt a a ≡ false = le-ltb a a (omega arith) in
+    let same : (a == a) ≡ true = eq-eqb a a refl in
+    let k = rw (less, same, e) at h in absurd (cc)
+above_ties_by a p q false e h = ltb-false p q e
+
+-- what a sort says of two neighbours
+pub stands_above : (x y : Line) → is_lt (ordering_then (nat_cmp x.points y.points) (nat_cmp y.player x.player)) ≡ false → StandsAbove x y
+stands_above x y h = record {
+  points = above_points_by x.points y.points y.player x.player (nat_lt x.points y.points) refl h;
+  ties = λ e. above_ties_by x.points y.player x.player (nat_lt y.player x.player) refl (subst (λ b. is_lt (ordering_then (nat_cmp x.points b) (nat_cmp y.player x.player)) ≡ false) (sym e) h);
+}
+
+-- the counts after the last game are the line
+pub line_is : (games : List Played) (player i won drawn lost : ℕ) → length games ≤ i → won ≡ count_by (is_won player) (take i games) → drawn ≡ count_by (is_drawn player) (take i games) → lost ≡ count_by (is_lost player) (take i games)
+    → (record { player = player; points = 2 * won + drawn; won = won; drawn = drawn; lost = lost }) ≡ line_of games player
+unfolding line_of
+line_is games player i won drawn lost le w d l = rw (w, d, l, take_all i games le) refl
+
+line_of-player : (games : List Played) (p : ℕ) → (line_of games p).player ≡ p
+unfolding line_of
+line_of-player games p = refl
+
+-- the players of a standing are below their number
+pub players_in : (players : ℕ) (games : List Played) (lines : List Line) → Ranks players games lines → All (λ line. line.player < players) lines
+players_in players games lines at =
+    All-permutation (λ line. line.player < players) (map (line_of games) (below players)) lines at.each
+    (All-map (λ line. line.player < players) (line_of games) (below players)
+    (All-weaker (λ p. p < players) (λ p. (line_of games p).player < players) (λ p lt. omega (arith, line_of-player games p)) (below players) (All-below players)))
+
+-- where there are at least as many names, each player of a standing has one
+pub players_named : (players count : ℕ) (games : List Played) (lines : List Line) → players ≤ count → Ranks players games lines → All (λ line. line.player < count) lines
+players_named players count games lines le at =
+    All-weaker (λ line. line.player < players) (λ line. line.player < count) (λ line lt. omega arith) lines (players_in players games lines at)

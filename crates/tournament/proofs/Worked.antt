@@ -1,0 +1,58 @@
+-- Two players on one world: a has the number 0 and b the number 1. The game with b as red ends 3 to 0, the other one 0 to 0.
+use Rattle.std.proofs.Common.{◌≡◌, ℕ, zero, suc, ◌+◌, ◌<◌, ◌==◌, List, [], ◌∷◌, ◌++◌, length, map, codes, cond, refl, sym, subst, arith, IsPermutation}
+use Rattle.std.specs.Fmt.{digits}
+use Rattle.std.specs.List.{AllAdjacentBelow}
+use Rattle.std.proofs.lemmas.List.Sorted.{IsPermutation-append_comm}
+use Rattle.cell_world.specs.declared.score.Score.{Score}
+use Rattle.tournament.specs.declared.games.Game.{Game}
+use Rattle.tournament.specs.declared.standing.Line.{Line}
+use Rattle.tournament.specs.Games.{below, above, both_ways, games_with, games_on, games_of, all_played}
+use Rattle.tournament.specs.Standing.{line_of, StandsAbove, IsStandingOf}
+use Rattle.tournament.specs.Text.{line_text, standing_text, IsCupText}
+
+abbrev score : ℕ → ℕ → ℕ → Score
+score world red black = cond (red == 1) (record { red = 3; black = 0 }) (record { red = 0; black = 0 })
+
+abbrev line_a : Line
+line_a = record { player = 0; points = 1; won = 0; drawn = 1; lost = 1 }
+
+abbrev line_b : Line
+line_b = record { player = 1; points = 3; won = 1; drawn = 1; lost = 0 }
+
+abbrev game : ℕ → ℕ → ℕ → Game
+game world red black = record { world = world; red = red; black = black }
+
+-- the games of two players on one world
+two_games : games_of 2 1 ≡ game 0 0 1 ∷ game 0 1 0 ∷ []
+unfolding games_of games_on games_with above
+two_games = refl
+
+-- the games of three players on two worlds
+twelve_games : games_of 3 2 ≡
+    game 0 0 1 ∷ game 0 1 0 ∷ game 0 0 2 ∷ game 0 2 0 ∷ game 0 1 2 ∷ game 0 2 1 ∷ game 1 0 1 ∷ game 1 1 0 ∷ game 1 0 2 ∷ game 1 2 0 ∷ game 1 1 2 ∷ game 1 2 1 ∷ []
+unfolding games_of games_on games_with above
+twelve_games = refl
+
+-- the two lines, by player number
+two_lines : map (line_of (all_played 2 1 score)) (below 2) ≡ line_a ∷ line_b ∷ []
+unfolding games_of games_on games_with above line_of
+two_lines = refl
+
+b_first : AllAdjacentBelow StandsAbove (line_b ∷ line_a ∷ []) 2
+b_first zero d lt = record { points = omega arith; ties = λ (e : 3 ≡ 1). absurd (omega arith) }
+b_first (suc k) d lt = absurd (omega arith)
+
+-- the standing: b, which has more points, and then a
+b_then_a : IsStandingOf 2 1 score (line_b ∷ line_a ∷ [])
+b_then_a = record {
+  each = subst (λ lines. IsPermutation lines (line_b ∷ line_a ∷ [])) (sym two_lines) (IsPermutation-append_comm (line_a ∷ []) (line_b ∷ []));
+  order = b_first;
+}
+
+text_is : codes "3 points: b (1 won, 1 drawn, 0 lost)\n1 points: a (0 won, 1 drawn, 1 lost)\n" ≡ standing_text (codes "a" ∷ codes "b" ∷ []) (line_b ∷ line_a ∷ [])
+unfolding digits line_text
+text_is = refl
+
+-- the text of that cup
+pub worked : IsCupText (codes "a" ∷ codes "b" ∷ []) 2 1 score (codes "3 points: b (1 won, 1 drawn, 0 lost)\n1 points: a (0 won, 1 drawn, 1 lost)\n")
+worked = record { lines = line_b ∷ line_a ∷ []; standing = b_then_a; is = text_is }

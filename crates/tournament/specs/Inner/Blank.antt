@@ -1,0 +1,5 @@
+-- A line of no player, for places past the end.
+use Rattle.tournament.specs.declared.standing.Line.{Line}
+
+abbrev pub blank : Line
+blank = record { player = 0; points = 0; won = 0; drawn = 0; lost = 0 }

@@ -1,0 +1,6 @@
+pub mod Games
+pub mod Inner
+pub mod Laws
+pub mod Names
+pub mod Standing
+pub mod Text

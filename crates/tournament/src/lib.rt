@@ -1,0 +1,33 @@
+//! Cups: every brain plays every other, on every world, once with each colour.
+//!
+//! Players and worlds are numbered from 0. On each world, in rising order, each pair of players i below j plays twice: i as red against j,
+//! and then j as red against i. The side with the greater score wins a game and gets 2 points; equal scores are a draw, which gives 1 point
+//! to each side (the task's game play). The standing has a line for each player, by points falling, equal points by player number rising.
+//!
+//! What makes a game's score is a [`Referee`], so that this crate knows no brain and no world. [`play_all`] cuts the list of games into
+//! contiguous pieces and plays each piece in a thread of its own; the standing is that of the referee's scores, whatever the number of
+//! workers is. [`push_standing`] prints it with the players' [`Names`]. Pieces, texts and names are this project's own. It stands on
+//! `cell_world` for the score, on `ant_base` for texts, and on no rule of the game.
+#![tactic(auto)]
+
+mod fork;
+mod games;
+mod laws;
+mod names;
+mod pieces;
+mod play;
+mod referee;
+mod standing;
+mod tally;
+mod text;
+
+pub use hex_geometry::OutOfMemory;
+pub use laws::{one_standing, points_add_up, wins_are_losses};
+pub use names::{Added, Names};
+pub use play::play_all;
+pub use referee::Referee;
+pub use standing::{Line, Standing};
+pub use text::push_standing;
+
+#[cfg(test)]
+mod tests;
