@@ -1,19 +1,17 @@
 -- The laws of cups.
-use Rattle.std.proofs.Common.{◌≡◌, ℕ, zero, suc, ◌+◌, ◌*◌, ◌<◌, ◌≤◌, ◌==◌, Bool, true, false, List, [], ◌∷◌, length, get_or, map, cond, count_by, sum_by, All, IsPermutation, refl, sym, ◌∙◌, ap, subst, arith}
+use Rattle.std.proofs.Common.{◌≡◌, ℕ, suc, ◌+◌, ◌*◌, ◌<◌, ◌≤◌, ◌==◌, Bool, true, false, List, [], ◌∷◌, length, get_or, map, cond, count_by, sum_by, All, refl, sym, ◌∙◌, ap, subst, arith}
 use Rattle.std.specs.Bool.{⊤}
 use Rattle.std.specs.List.{AllAdjacentBelow}
 use Rattle.std.proofs.lemmas.Bool.{eqb-true, eq-eqb}
 use Rattle.std.proofs.lemmas.List.Elements.{All-map, All-cons, All-nil}
 use Rattle.std.proofs.lemmas.List.Sorted.{sum_by-IsPermutation, All-permutation}
 use Rattle.std.proofs.lemmas.List.Sums.{sum_by-cons}
-use Rattle.cell_world.specs.declared.score.Score.{Score}
 use Rattle.tournament.specs.declared.games.Played.{Played}
 use Rattle.tournament.specs.declared.standing.Line.{Line}
-use Rattle.tournament.specs.Games.{below, games_of, played_by, all_played}
+use Rattle.tournament.specs.Games.{below, games_of, all_played}
 use Rattle.tournament.specs.Laws.{PointsAddUp, WinsAreLosses, OneStanding}
-use Rattle.tournament.specs.Standing.{is_won, is_lost, is_drawn, line_of, StandsAbove, Ranks, IsStandingOf}
+use Rattle.tournament.specs.Standing.{is_won, is_lost, is_drawn, line_of, StandsAbove}
 use Rattle.tournament.proofs.GamesLemmas.{All-games_of}
-use Rattle.tournament.proofs.Worked.{worked}
 use Rattle.tournament.proofs.TotalLemmas.{total, sum_by-lines, total-points, wins_losses, points_games}
 
 line_of-points : (games : List Played) (p : ℕ) → (line_of games p).points ≡ 2 * count_by (is_won p) games + count_by (is_drawn p) games

@@ -1,4 +1,4 @@
-use Rattle.std.proofs.Common.{◌≡◌, ◌≤◌, ◌*◌, ◌/◌, ◌+◌, length, take, take_all, sym, ap, ◌∙◌, arith}
+use Rattle.std.proofs.Common.{◌≡◌, ◌≤◌, ◌*◌, ◌/◌, length, take, take_all, sym, ap, ◌∙◌, arith}
 use Rattle.tournament.proofs.PiecesLemmas.{border_rises, border_last, dealt_more}
 use Rattle.tournament.proofs.pieces.dealt.Goals as goal
 

@@ -1,4 +1,4 @@
-use Rattle.std.proofs.Common.{◌≡◌, IfOk, length, map, sym, ap, subst, ◌∙◌, arith}
+use Rattle.std.proofs.Common.{IfOk, length, map, ap, subst, ◌∙◌, arith}
 use Rattle.std.proofs.lemmas.List.{length-map}
 use Rattle.std.proofs.lemmas.List.Elements.{All-same}
 use Rattle.tournament.specs.Games.{games_of, played_by}

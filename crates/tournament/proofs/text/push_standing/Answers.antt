@@ -2,7 +2,7 @@ use Rattle.std.proofs.Common.{subst}
 use Rattle.ant_base.specs.Sink.{Pushed}
 use Rattle.ant_base.proofs.Numbered.{numbered-list}
 use Rattle.tournament.specs.Inner.Blank.{blank}
-use Rattle.tournament.specs.Text.{line_text, standing_text}
+use Rattle.tournament.specs.Text.{line_text}
 use Rattle.tournament.proofs.text.push_standing.Goals as goal
 
 pub returns : goal.returns
