@@ -7,3 +7,6 @@ pub mod Stopping
 pub mod ViewLaws
 pub mod Viewing
 pub mod Whole
+pub mod WorkedBreaks
+pub mod WorkedGame
+pub mod WorkedTexts

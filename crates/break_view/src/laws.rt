@@ -18,7 +18,8 @@ pub fn one_list_or_one_fault()
         BreakText text list → BreakVerdict text fault → ⊥ }
 {}
 
-/// A game has one first stop, or none (this project's own). The call does nothing: its clause is the law.
+/// A game has one first stop, or none; it has one end, and one text of its view (this project's own). The call does nothing: its clause
+/// is the law.
 pub fn one_first_stop()
     ensures { OneFirstStop }
 {}
