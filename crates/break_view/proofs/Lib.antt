@@ -1,4 +1,5 @@
 pub mod Faulted
+pub mod FirstStops
 pub mod HillFood
 pub mod Meeting
 pub mod Progress
