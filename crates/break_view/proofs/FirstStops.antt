@@ -1,5 +1,5 @@
 -- Searching the turns of a game in order finds its first stop.
-use Rattle.std.proofs.Common.{◌≡◌, ◌<◌, ◌≤◌, ℕ, zero, suc, Bool, true, false, List, Option, Some, None, option_map, ◌⊎◌, inl, inr, nat_lt, refl, sym, ap₂, ◌∙◌, subst, arith, ltb-true, ltb-false}
+use Rattle.std.proofs.Common.{◌≡◌, ◌<◌, ℕ, zero, suc, Bool, true, false, List, Option, Some, None, option_map, inl, inr, nat_lt, refl, sym, ap₂, ◌∙◌, subst, arith, ltb-true, ltb-false}
 use Rattle.cell_world.specs.World.{World}
 use Rattle.ant_turn.specs.Minds.{Minds}
 use Rattle.break_view.specs.declared.breaks.Break.{Break}
