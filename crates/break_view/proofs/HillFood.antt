@@ -1,5 +1,5 @@
 -- A turn without a PickUp or Drop on a hill and without a kill keeps the food on the hills.
-use Rattle.std.proofs.Common.{◌≡◌, ◌≢◌, ◌+◌, ◌-◌, ℕ, zero, suc, Bool, true, false, ◌&&◌, ◌||◌, nat_eq, List, [], ◌∷◌, ◌++◌, length, Option, Some, None, cond, refl, sym, ap, ap₂, ◌∙◌, subst, arith, eqb-true}
+use Rattle.std.proofs.Common.{◌≡◌, ◌≢◌, ◌-◌, ℕ, zero, suc, Bool, true, false, ◌&&◌, ◌||◌, nat_eq, List, [], ◌∷◌, ◌++◌, length, Option, Some, None, cond, refl, sym, ap, ap₂, ◌∙◌, subst, arith, eqb-true}
 use Rattle.std.specs.Option.{is_some}
 use Rattle.hex_geometry.specs.declared.position.Pos.{Pos}
 use Rattle.hex_geometry.specs.Position.{IsInside}
@@ -17,10 +17,10 @@ use Rattle.cell_world.proofs.Puts.{put_cell-other}
 use Rattle.cell_world.proofs.Tallies.{hill_food_of-put}
 use Rattle.brain_read.specs.declared.instr.Instr.{Instr}
 use Rattle.brain_read.specs.declared.instr.Instr.TheVariants.{Sense, Mark, Unmark, PickUp, Drop, Turn, Move, Flip}
-use Rattle.ant_turn.specs.Kills.{check_at, check_all, check_around_at, killed_at, killed_all, killed_around, places_around}
+use Rattle.ant_turn.specs.Kills.{check_at, check_all, killed_at, killed_all, places_around}
 use Rattle.ant_turn.specs.Minds.{Minds, mind_of}
 use Rattle.ant_turn.specs.Sheet.{Sheet}
-use Rattle.ant_turn.specs.Turn.{Outcome, acts, ant_becomes, arrived, checked, execute, has_ant, in_state, instruction_at, is_blocked, left_by_ant, marked, stepped, turn, turn_from, turn_of, unmarked, with_ant}
+use Rattle.ant_turn.specs.Turn.{acts, ant_becomes, arrived, checked, execute, in_state, instruction_at, is_blocked, left_by_ant, marked, stepped, turn, turn_from, turn_of, unmarked, with_ant}
 use Rattle.ant_turn.proofs.Checks.{check_at-cases}
 use Rattle.ant_turn.proofs.KeptByTurns.{free_apart, free_clear}
 use Rattle.break_view.specs.Inner.Feeding.{is_feeding, feeds_on, feeds_at, feeds}

@@ -1,4 +1,5 @@
 pub mod Faulted
+pub mod FirstStops
 pub mod HillFood
 pub mod Meeting
 pub mod Progress
@@ -7,3 +8,6 @@ pub mod Stopping
 pub mod ViewLaws
 pub mod Viewing
 pub mod Whole
+pub mod WorkedBreaks
+pub mod WorkedGame
+pub mod WorkedTexts

@@ -1,13 +1,11 @@
 -- Which break of a list holds, and the cells that breaks look at.
-use Rattle.std.proofs.Common.{◌≡◌, ◌+◌, ◌<◌, ◌≤◌, ℕ, Bool, true, false, List, [], ◌∷◌, length, drop, Option, Some, None, cond, get_or, refl, sym, ap, ◌∙◌, subst, arith}
+use Rattle.std.proofs.Common.{◌≡◌, ◌+◌, ◌<◌, ◌≤◌, ℕ, Bool, true, false, List, ◌∷◌, length, drop, Some, None, cond, get_or, refl, ap, ◌∙◌}
 use Rattle.std.proofs.lemmas.List.{drop_more, drop_all}
-use Rattle.hex_geometry.specs.declared.position.Pos.{Pos}
-use Rattle.cell_world.specs.declared.cell.Cell.{Cell}
 use Rattle.cell_world.specs.Valid.{Valid}
 use Rattle.cell_world.specs.World.{World}
 use Rattle.cell_world.proofs.Places.{clear_inside}
 use Rattle.break_view.specs.declared.breaks.Break.{Break}
-use Rattle.break_view.specs.Met.{meets, first_met, if_clear, clear_cell}
+use Rattle.break_view.specs.Met.{meets, first_met, clear_cell}
 
 -- outside a world there is no clear cell
 pub clear_cell-outside : (w : World) (x y : ℕ) → Valid w → (x < w.width → y < w.height → ⊥) → clear_cell w x y ≡ None

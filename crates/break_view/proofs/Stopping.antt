@@ -1,21 +1,21 @@
 -- Rounds and games that are watched for a stop.
-use Rattle.std.proofs.Common.{◌≡◌, ◌+◌, ◌-◌, ◌<◌, ◌≤◌, ℕ, Bool, true, false, List, [], ◌∷◌, Option, Some, None, ◌⊎◌, inl, inr, nat_lt, refl, sym, ap, ◌∙◌, subst, arith, ltb-true, ltb-false}
+use Rattle.std.proofs.Common.{◌≡◌, ◌+◌, ◌-◌, ◌<◌, ◌≤◌, ℕ, Bool, true, false, List, Option, Some, None, inl, inr, nat_lt, refl, sym, ap, ◌∙◌, subst, arith, ltb-true, ltb-false}
 use Rattle.std.specs.Option.{is_some}
 use Rattle.ant_random.specs.Stream.{SeedAndPlace}
 use Rattle.ant_turn.specs.Minds.{Minds, Fits}
-use Rattle.ant_turn.specs.Rounds.{Moment, after_round, after_rounds, after_turns, start_of}
+use Rattle.ant_turn.specs.Rounds.{Moment, after_rounds, start_of}
 use Rattle.ant_turn.proofs.KeptByRounds.{after_rounds-ids}
 use Rattle.cell_world.specs.Grid.{Grid, world_of}
 use Rattle.cell_world.specs.Limits.{most_ants}
 use Rattle.cell_world.specs.Score.{score_of}
 use Rattle.cell_world.specs.World.{World}
 use Rattle.cell_world.specs.declared.score.Score.{Score}
-use Rattle.match_run.specs.Run.{moment_of, world_after}
+use Rattle.match_run.specs.Run.{moment_of}
 use Rattle.match_run.proofs.Playing.{IsTaken, IsAfter, IsAfter-none, IsAfter-more, IsAfter-world}
 use Rattle.break_view.specs.declared.breaks.Break.{Break}
 use Rattle.break_view.specs.declared.stop.Stop.{Stop}
 use Rattle.break_view.specs.Met.{first_met}
-use Rattle.break_view.specs.Stops.{world_in_round, world_at, met_in_round, met_at, IsTurn, IsBefore, IsFirstStop, HasNoStop, EndsAt}
+use Rattle.break_view.specs.Stops.{world_in_round, world_at, met_in_round, met_at, IsTurn, IsBefore, HasNoStop, EndsAt}
 use Rattle.break_view.specs.Inner.Rounds.{IsQuiet, StopsIn, Passes, RoundEnds}
 
 -- no turn of the round is played yet

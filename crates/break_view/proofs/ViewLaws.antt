@@ -1,5 +1,5 @@
 -- What holds of all games with breaks.
-use Rattle.std.proofs.Common.{◌≡◌, ◌+◌, ◌<◌, ◌≤◌, ℕ, zero, suc, Bool, true, false, List, [], ◌∷◌, length, slice_index_or, Option, Some, None, ◌⊎◌, inl, inr, cond, nat_lt, refl, sym, ap, ◌∙◌, subst, arith, ltb-true, ltb-false}
+use Rattle.std.proofs.Common.{◌≡◌, ◌+◌, ◌<◌, ◌≤◌, ℕ, zero, suc, Bool, true, false, List, [], ◌∷◌, length, slice_index_or, Option, Some, None, inl, inr, cond, nat_lt, refl, sym, ap, ap₂, ◌∙◌, subst, arith, ltb-true, ltb-false}
 use Rattle.std.specs.List.{Contains}
 use Rattle.std.proofs.lemmas.Bool.{false≢true}
 use Rattle.cell_world.specs.World.{World}
@@ -7,7 +7,8 @@ use Rattle.ant_turn.specs.Minds.{Minds}
 use Rattle.break_view.specs.declared.breaks.Break.{Break}
 use Rattle.break_view.specs.declared.stop.Stop.{Stop}
 use Rattle.break_view.specs.Met.{meets, first_met}
-use Rattle.break_view.specs.Stops.{world_at, met_at, IsTurn, IsBefore, IsFirstStop, HasNoStop}
+use Rattle.break_view.specs.Stops.{world_at, met_at, IsBefore, IsFirstStop, HasNoStop, EndsAt}
+use Rattle.break_view.specs.Texts.{IsViewText, view_text}
 use Rattle.break_view.specs.Laws.{StandIn, FewerStopLater, StopsFollowTurns, LaterRoundsAddNothing, OneFirstStop}
 
 -- a break of the list that holds
@@ -123,8 +124,23 @@ module _ (minds : Minds) (seed rounds : ℕ) (w : World) (items : List Break) wh
   not_both : (a : Stop) → IsFirstStop minds seed rounds w items a → HasNoStop minds seed rounds w items → ⊥
   not_both a here quiet = let e : ◌≡◌ {A = Option ℕ} None (Some a.which) = sym (quiet a.round a.id here.turn) ∙ here.met in cc
 
+  one_end : (a b : Option Stop) (u v : World) → EndsAt minds seed rounds w items a u → EndsAt minds seed rounds w items b v → (a ≡ b) × (u ≡ v)
+  one_end None None u v here there = (refl, here.1 ∙ sym there.1)
+  one_end None (Some b) u v here there = absurd (not_both b there.0 here.0)
+  one_end (Some a) None u v here there = absurd (not_both a here.0 there.0)
+  one_end (Some a) (Some b) u v here there =
+      let same = one_stop a b here.0 there.0 in
+      (ap Some same, here.1 ∙ ap (λ (s : Stop). world_at minds seed w s.round s.id) same ∙ sym there.1)
+
+  one_view : (text other : List ℕ) → IsViewText minds seed rounds w items text → IsViewText minds seed rounds w items other → text ≡ other
+  one_view text other here there =
+      let same = one_end here.stop there.stop here.end there.end here.ends there.ends in
+      here.view ∙ ap₂ (λ (v : World) (stop : Option Stop). view_text v seed rounds stop) same.1 same.0 ∙ sym there.view
+
 pub one_first_stop : OneFirstStop
 one_first_stop = record {
   one = λ minds seed rounds w items a b here there. one_stop minds seed rounds w items a b here there;
   never_both = λ minds seed rounds w items a here quiet. not_both minds seed rounds w items a here quiet;
+  one_end = λ minds seed rounds w items a b u v here there. one_end minds seed rounds w items a b u v here there;
+  one_view = λ minds seed rounds w items text other here there. one_view minds seed rounds w items text other here there;
 }

@@ -6,7 +6,6 @@ use Rattle.brain_read.specs.BrainText.{TokenLine, lines_with_tokens}
 use Rattle.break_view.specs.declared.breaks.Break.{Break}
 use Rattle.break_view.specs.declared.fault.BreakFault.{BreakFault}
 use Rattle.break_view.specs.declared.fault.BreakFault.TheVariants.{TooMany}
-use Rattle.break_view.specs.Forms.{BreakLine}
 use Rattle.break_view.specs.Judging.{first_fault}
 use Rattle.break_view.specs.Judging.Position.{BreakToken}
 use Rattle.break_view.specs.BreakText.{most_breaks, AreBreaks, BreakText, or_later, too_many, first_line_fault, BreakVerdict}

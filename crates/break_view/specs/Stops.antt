@@ -1,5 +1,5 @@
 -- The first stop of a game: what a caller of `find_stop` believes (this project's own; turns and rounds are the task's kinetics).
-use Rattle.std.specs.Prelude.{◌≡◌, ◌⊎◌, ℕ, ◌+◌, ◌-◌, ◌<◌, ◌≤◌, List, Option, Some, None}
+use Rattle.std.specs.Prelude.{◌≡◌, ◌⊎◌, ℕ, zero, suc, ◌+◌, ◌-◌, ◌<◌, ◌≤◌, List, Option, Some, None, option_map}
 use Rattle.cell_world.specs.World.{World}
 use Rattle.ant_turn.specs.Minds.{Minds}
 use Rattle.ant_turn.specs.Rounds.{Moment, after_turns, after_rounds, start_of}
@@ -52,3 +52,27 @@ HasNoStop minds seed rounds w items = (r t : ℕ) → IsTurn w rounds r t → me
 abbrev pub EndsAt : Minds → ℕ → ℕ → World → List Break → Option Stop → World → Type 0
 EndsAt minds seed rounds w items (Some stop) end = IsFirstStop minds seed rounds w items stop × (end ≡ world_at minds seed w stop.round stop.id)
 EndsAt minds seed rounds w items None end = HasNoStop minds seed rounds w items × (end ≡ world_after minds seed w rounds)
+
+-- the stop after the turn of id t in round r, where a break holds then
+abbrev pub stop_at : Minds → ℕ → World → List Break → ℕ → ℕ → Option Stop
+stop_at minds seed w items r t = option_map (λ which. record { round = r; id = t; which = which }) (met_at minds seed w items r t)
+
+-- this stop, or else the next
+abbrev pub or_next : Option Stop → Option Stop → Option Stop
+or_next None next = next
+or_next (Some stop) next = Some stop
+
+-- the first stop after the turns of the ids below a number in round r
+abbrev pub first_in_round : Minds → ℕ → World → List Break → ℕ → ℕ → Option Stop
+first_in_round minds seed w items r zero = None
+first_in_round minds seed w items r (suc t) = or_next (first_in_round minds seed w items r t) (stop_at minds seed w items r t)
+
+-- the first stop of so many rounds of a game that begins in w, by search
+abbrev pub first_stop : Minds → ℕ → World → List Break → ℕ → Option Stop
+first_stop minds seed w items zero = None
+first_stop minds seed w items (suc r) = or_next (first_stop minds seed w items r) (first_in_round minds seed w items (suc r) w.ids)
+
+-- the world at a stop; without one, the world after all rounds
+abbrev pub end_of : Minds → ℕ → ℕ → World → Option Stop → World
+end_of minds seed rounds w (Some stop) = world_at minds seed w stop.round stop.id
+end_of minds seed rounds w None = world_after minds seed w rounds

@@ -6,7 +6,7 @@ use Rattle.ant_turn.specs.Minds.{Minds}
 use Rattle.dump_print.specs.Texts.{cells_text, seed_text}
 use Rattle.break_view.specs.declared.breaks.Break.{Break}
 use Rattle.break_view.specs.declared.stop.Stop.{Stop}
-use Rattle.break_view.specs.Stops.{EndsAt}
+use Rattle.break_view.specs.Stops.{EndsAt, end_of, first_stop}
 
 -- the line of a stop
 unfoldable pub stop_line : Stop → List ℕ
@@ -31,3 +31,8 @@ pub record IsViewText (minds : Minds) (seed rounds : ℕ) (w : World) (items : L
   pub end : World
   pub ends : EndsAt minds seed rounds w items stop end
   pub view : text ≡ view_text end seed rounds stop
+
+-- the view of the game that begins in w, as a function
+unfoldable pub view_of : Minds → ℕ → ℕ → World → List Break → List ℕ
+view_of minds seed rounds w items =
+    view_text (end_of minds seed rounds w (first_stop minds seed w items rounds)) seed rounds (first_stop minds seed w items rounds)

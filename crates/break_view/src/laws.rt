@@ -3,7 +3,7 @@ ghost use Rattle.std.specs.Prelude.{◌≡◌, ◌⊎◌, ℕ, List};
 ghost use Rattle.break_view.specs.declared.breaks.Break.{Break};
 ghost use Rattle.break_view.specs.declared.fault.BreakFault.{BreakFault};
 ghost use Rattle.break_view.specs.BreakText.{BreakText, BreakVerdict};
-ghost use Rattle.break_view.specs.Laws.{FewerStopLater, LaterRoundsAddNothing, OneFirstStop, StopsFollowTurns};
+ghost use Rattle.break_view.specs.Laws.{EndsAreFound, FewerStopLater, LaterRoundsAddNothing, OneFirstStop, StopsFollowTurns};
 
 /// Every text has exactly one list of breaks or exactly one fault, and never both (this project's own). The call does nothing: its clauses
 /// are the law.
@@ -18,7 +18,8 @@ pub fn one_list_or_one_fault()
         BreakText text list → BreakVerdict text fault → ⊥ }
 {}
 
-/// A game has one first stop, or none (this project's own). The call does nothing: its clause is the law.
+/// A game has one first stop, or none; it has one end, and one text of its view (this project's own). The call does nothing: its clause
+/// is the law.
 pub fn one_first_stop()
     ensures { OneFirstStop }
 {}
@@ -39,4 +40,10 @@ pub fn stops_follow_turns()
 /// clause is the law.
 pub fn later_rounds_add_nothing()
     ensures { LaterRoundsAddNothing }
+{}
+
+/// Every game has an end, which searching its turns in order finds; so the text of its view is a function of the world, the brains, the
+/// seed, the rounds and the breaks (this project's own). The call does nothing: its clause is the law.
+pub fn ends_are_found()
+    ensures { EndsAreFound }
 {}

@@ -22,8 +22,8 @@ mod words;
 pub use breaks::{Break, Breaks};
 pub use fault::BreakFault;
 pub use laws::{
-    fewer_stop_later, later_rounds_add_nothing, one_first_stop, one_list_or_one_fault,
-    stops_follow_turns,
+    ends_are_found, fewer_stop_later, later_rounds_add_nothing, one_first_stop,
+    one_list_or_one_fault, stops_follow_turns,
 };
 pub use read::read_breaks;
 pub use stop::{Stop, find_stop};

@@ -1,7 +1,6 @@
 -- A whole text, line by line: the breaks that are read, or the fault.
 use Rattle.std.specs.Prelude.{ℕ, ◌+◌, List, [], ◌∷◌, ◌++◌, Option, Some, None, Result, Ok, Err}
 use Rattle.brain_read.specs.declared.fault.LineFault.{LineFault}
-use Rattle.brain_read.specs.declared.fault.Refusal.{Refusal}
 use Rattle.brain_read.specs.Steps.{Read}
 use Rattle.brain_read.specs.BrainText.{TokenLine, lines_with_tokens}
 use Rattle.break_view.specs.declared.breaks.Break.{Break}

@@ -1,5 +1,4 @@
-use Rattle.std.proofs.Common.{sym, ap, ◌∙◌}
-use Rattle.cell_world.specs.declared.cell.Cell.{Cell}
+use Rattle.std.proofs.Common.{sym, ◌∙◌}
 use Rattle.cell_world.specs.Grid.{world_of}
 use Rattle.cell_world.proofs.Places.{place_in-inside}
 use Rattle.break_view.proofs.feeding.feeds.Goals as goal

@@ -1,6 +1,5 @@
-use Rattle.std.proofs.Common.{◌≡◌, ◌≤◌, length, refl, sym, ap, ◌∙◌, arith}
+use Rattle.std.proofs.Common.{◌≤◌, length, refl, sym, ◌∙◌, arith}
 use Rattle.cell_world.specs.Grid.{world_of}
-use Rattle.break_view.specs.Met.{first_met}
 use Rattle.break_view.proofs.Meeting.{met-here, met-later, met-end}
 use Rattle.break_view.proofs.met.first_met.Goals as goal
 

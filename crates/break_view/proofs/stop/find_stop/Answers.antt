@@ -1,5 +1,4 @@
-use Rattle.std.proofs.Common.{◌≡◌, ◌+◌, List, sym, ap, ◌∙◌, subst, arith}
-use Rattle.std.specs.Option.{is_some}
+use Rattle.std.proofs.Common.{◌≡◌, ◌+◌, List, sym, ◌∙◌, subst, arith}
 use Rattle.ant_turn.specs.Minds.{minds_of}
 use Rattle.match_run.specs.Run.{moment_of}
 use Rattle.break_view.specs.declared.breaks.Break.{Break}

@@ -1,4 +1,4 @@
-use Rattle.std.proofs.Common.{◌≡◌, ◌+◌, Some, sym, ap, ◌∙◌, subst, refl, arith}
+use Rattle.std.proofs.Common.{◌≡◌, ◌+◌, sym, ◌∙◌, subst, refl, arith}
 use Rattle.ant_turn.specs.Minds.{minds_of}
 use Rattle.match_run.specs.Run.{moment_of}
 use Rattle.match_run.proofs.Playing.{IsTaken, IsTaken-none, IsTaken-place, IsTaken-ids, IsTaken-more, IsTaken-all}
