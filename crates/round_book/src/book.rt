@@ -76,7 +76,9 @@ impl Book {
     /// The next turn to be settled: at most the end of the window, and equal to it once all are settled.
     #[inline]
     pub fn next(&self) -> u32
-        ensures { result ≡ self.now.next }
+        ensures next { result ≡ self.now.next }
+        ensures begun { self.now.from ≤ self.now.next }
+        ensures within { self.now.next ≤ self.now.to }
     {
         self.next
     }
