@@ -21,6 +21,5 @@ pub mod Sizes
 pub mod Steps
 pub mod TurnSteps
 pub mod Unguessed
-pub mod WorkedLooks
 pub mod WritesAlone
 pub mod WritesClear
