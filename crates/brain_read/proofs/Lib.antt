@@ -5,5 +5,6 @@ pub mod Progress
 pub mod Rewritten
 pub mod Sound
 pub mod Spelled
+pub mod Unwanting
 pub mod Vocabulary
 pub mod Whole
