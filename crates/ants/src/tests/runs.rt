@@ -1,6 +1,7 @@
 // The command `run`.
 use crate::status::Status;
 use crate::tests::{CLOSED, CLOSING, Given, Job, NO_JOB, answer, check_rows};
+use std::alloc::Global;
 use std::test::Fail;
 
 // A red ant with an open cell before it.
@@ -147,6 +148,34 @@ fn a_run_prints_its_seed_its_dumps_and_its_score(rt: HostRuntime) -> Result<(), 
         Status::Done,
         &killing,
     )
+}
+
+#[test]
+fn a_thousand_rounds_are_listed(rt: HostRuntime) -> Result<(), Fail> {
+    let later = ",1000000".repeat(rt.alloc(), 997)?;
+    let line = format!(in rt.alloc(); "run w r b --seed 12345 --rounds 1 --dump 9,1{later},0")?;
+    let rows = [(line.as_str(), TURNED)];
+    check_rows(&rt, rt.alloc(), TURNING, Given::Line, Status::Done, &rows)
+}
+
+// The text of a world of these many rows and columns, whose cells are clear but for the rim, so that it has no hill.
+fn clear(alloc: Global, size: usize) -> Result<String, Fail> {
+    let rim = "#".repeat(alloc, size)?;
+    let inner = ".".repeat(alloc, size - 2)?;
+    let row = format!(in alloc; "#{inner}#\n")?;
+    let rows = row.repeat(alloc, size - 2)?;
+    Ok(format!(in alloc; "{size}\n{size}\n{rim}\n{rows}{rim}")?)
+}
+
+#[test]
+fn a_world_has_up_to_512_by_512_cells(rt: HostRuntime) -> Result<(), Fail> {
+    let most = clear(rt.alloc(), 512)?;
+    let job = TURNING.with(Given::Line, "run w r b --seed 7 --rounds 5");
+    let rows = [(most.as_str(), UNPLAYED)];
+    check_rows(&rt, rt.alloc(), job, Given::World, Status::Done, &rows)?;
+    let more = clear(rt.alloc(), 513)?;
+    let rows = [(more.as_str(), "ants: w: bad width\n")];
+    check_rows(&rt, rt.alloc(), job, Given::World, Status::Input, &rows)
 }
 
 // A game, lines of its text in their order, others between them, and the end of its text.
