@@ -158,22 +158,23 @@ fn a_thousand_rounds_are_listed(rt: HostRuntime) -> Result<(), Fail> {
     check_rows(&rt, rt.alloc(), TURNING, Given::Line, Status::Done, &rows)
 }
 
-// The text of a world of these many rows and columns, whose cells are clear but for the rim, so that it has no hill.
-fn clear(alloc: Global, size: usize) -> Result<String, Fail> {
+// The text of a world without a hill, as wide as high, whose cells are clear but for the rim, and so many in each row.
+fn clear(alloc: Global, cells: u16) -> Result<String, Fail> {
+    let inner = usize::from(cells);
+    let size = inner + 2;
     let rim = "#".repeat(alloc, size)?;
-    let inner = ".".repeat(alloc, size - 2)?;
-    let row = format!(in alloc; "#{inner}#\n")?;
-    let rows = row.repeat(alloc, size - 2)?;
+    let row = format!(in alloc; "#{}#\n", ".".repeat(alloc, inner)?)?;
+    let rows = row.repeat(alloc, inner)?;
     Ok(format!(in alloc; "{size}\n{size}\n{rim}\n{rows}{rim}")?)
 }
 
 #[test]
 fn a_world_has_up_to_512_by_512_cells(rt: HostRuntime) -> Result<(), Fail> {
-    let most = clear(rt.alloc(), 512)?;
+    let most = clear(rt.alloc(), 510)?;
     let job = TURNING.with(Given::Line, "run w r b --seed 7 --rounds 5");
     let rows = [(most.as_str(), UNPLAYED)];
     check_rows(&rt, rt.alloc(), job, Given::World, Status::Done, &rows)?;
-    let more = clear(rt.alloc(), 513)?;
+    let more = clear(rt.alloc(), 511)?;
     let rows = [(more.as_str(), "ants: w: bad width\n")];
     check_rows(&rt, rt.alloc(), job, Given::World, Status::Input, &rows)
 }
