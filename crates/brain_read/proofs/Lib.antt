@@ -8,3 +8,4 @@ pub mod Spelled
 pub mod Unwanting
 pub mod Vocabulary
 pub mod Whole
+pub mod Worked

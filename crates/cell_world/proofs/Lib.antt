@@ -18,6 +18,7 @@ pub mod Placed
 pub mod Places
 pub mod Plans
 pub mod Puts
+pub mod ScoreWorked
 pub mod Sets
 pub mod Stores
 pub mod Tallies
