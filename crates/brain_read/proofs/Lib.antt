@@ -5,7 +5,7 @@ pub mod Progress
 pub mod Rewritten
 pub mod Sound
 pub mod Spelled
+pub mod TextsWorked
 pub mod Unwanting
 pub mod Vocabulary
 pub mod Whole
-pub mod Worked

@@ -9,5 +9,6 @@ pub mod ViewLaws
 pub mod Viewing
 pub mod Whole
 pub mod WorkedBreaks
+pub mod WorkedEdges
 pub mod WorkedGame
 pub mod WorkedTexts
