@@ -1,5 +1,5 @@
 -- Edges of breaks, and the text of a view, worked out.
-use Rattle.std.proofs.Common.{◌≡◌, true, false, List, [], ◌∷◌, Some, None, codes, refl}
+use Rattle.std.proofs.Common.{◌≡◌, true, false, List, [], ◌∷◌, Some, None, codes, refl, arith}
 use Rattle.std.specs.Fmt.{digits}
 use Rattle.hex_geometry.specs.Position.{same_pos}
 use Rattle.cell_world.specs.declared.ant.Colour.TheVariants.{Red}
@@ -10,7 +10,9 @@ use Rattle.cell_world.specs.Opening.{floor, new_ant, opening}
 use Rattle.cell_world.specs.Score.{hill_food_of}
 use Rattle.cell_world.specs.World.{World, place_in, put, put_cell}
 use Rattle.dump_print.specs.Texts.{seed_text}
+use Rattle.ant_base.specs.Number.{number_of}
 use Rattle.break_view.specs.declared.breaks.Break.TheVariants as break
+use Rattle.break_view.specs.BreakText.{BreakText}
 use Rattle.break_view.specs.Met.{meets}
 use Rattle.break_view.specs.Texts.{no_stop_line, stop_line, view_text}
 
@@ -39,3 +41,8 @@ stop_told = (refl, refl)
 no_stop_told : view_text fed 7 9 None ≡ codes "random seed: 7\nno stop in 9 rounds\n"
 unfolding digits seed_text no_stop_line view_text
 no_stop_told = refl
+
+-- a line of Food gives the column, the row, and then how much at least
+food_line : BreakText (codes "Food 1 2 3") (break.Food 1 2 3 ∷ [])
+unfolding number_of
+food_line = record { lines = (record { spelled = (refl, (refl, (refl, (refl, tt)))); in_range = (tt, (omega arith, (omega arith, (omega arith, tt)))) }, tt); few = omega arith }
