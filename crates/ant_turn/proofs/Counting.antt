@@ -14,7 +14,7 @@ use Rattle.cell_world.specs.Score.{alive_in, alive_of, food_of}
 use Rattle.cell_world.specs.Valid.{Valid}
 use Rattle.cell_world.specs.World.{World, area, put, sum_over, total, weight, with_cells}
 use Rattle.cell_world.proofs.Places.{ant-clear, clear_inside}
-use Rattle.cell_world.proofs.Valids.{put_cell-all}
+use Rattle.cell_world.proofs.ValidLemmas.{put_cell-all}
 use Rattle.cell_world.proofs.Totals.{total-put, total-put_two}
 use Rattle.brain_read.specs.declared.instr.Instr.{Instr}
 use Rattle.ant_turn.specs.FoodLaws.{killed_in, living_of, world_after}
@@ -23,10 +23,10 @@ use Rattle.ant_turn.specs.Minds.{Minds, mind_of}
 use Rattle.ant_turn.specs.Sheet.{Sheet}
 use Rattle.ant_turn.specs.Turn.{Outcome, arrived, instruction_at, is_blocked, left_by_ant, stepped, turn, with_ant}
 use Rattle.ant_turn.proofs.Checks.{check_at-cases}
-use Rattle.ant_turn.proofs.Kept.{check_all-ant}
+use Rattle.ant_turn.proofs.KeptByChecks.{check_all-ant}
 use Rattle.ant_turn.proofs.KeptByTurns.{free_apart, free_clear, free_empty}
 use Rattle.ant_turn.proofs.OwnCells.{Stays, stays_weight}
-use Rattle.ant_turn.proofs.Parts.{Does, turn_parts}
+use Rattle.ant_turn.proofs.TurnParts.{Does, turn_parts}
 
 -- what is counted in each cell changes with kills alone: by so much up and so much down for each
 pub record CountsKills (sheet : Sheet) (f : Cell → ℕ) (up down : ℕ) : Type 0 where

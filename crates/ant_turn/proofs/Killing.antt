@@ -12,7 +12,7 @@ use Rattle.cell_world.specs.Valid.{Valid}
 use Rattle.cell_world.specs.World.{World, place_in, put, put_cell, with_cells}
 use Rattle.cell_world.proofs.Places.{Holder, ant-clear, holds_id-own, place_in-ant, place_in-found, place_in-holds, place_in-put_new, place_in-put_other}
 use Rattle.cell_world.proofs.Puts.{put_cell-other}
-use Rattle.cell_world.proofs.Valids.{CanSet-replaces, Valid-put}
+use Rattle.cell_world.proofs.ValidLemmas.{CanSet-replaces, Valid-put}
 use Rattle.brain_read.specs.declared.instr.Instr.{Instr}
 use Rattle.ant_turn.specs.FoodLaws.{killed_in, world_after}
 use Rattle.ant_turn.specs.KillLaws.{KillsAlone}
@@ -23,8 +23,8 @@ use Rattle.ant_turn.specs.Turn.{Outcome, acts, arrived, instruction_at, is_block
 use Rattle.ant_turn.proofs.Deaths.{check_all-place_in, killed_all-alive, killed_all-differ, killed_all-gone}
 use Rattle.ant_turn.proofs.KeptByTurns.{CanSet-arrived, Replaces-left_by_ant, free_apart, free_empty}
 use Rattle.ant_turn.proofs.OwnCells.{Stays}
-use Rattle.ant_turn.proofs.Parts.{Does, acts_parts, turn_parts}
-use Rattle.ant_turn.proofs.Kept.{check_all-holds_id}
+use Rattle.ant_turn.proofs.TurnParts.{Does, acts_parts, turn_parts}
+use Rattle.ant_turn.proofs.KeptByChecks.{check_all-holds_id}
 use Rattle.ant_turn.proofs.Turns.{turn-acts}
 
 -- what an outcome does to who is alive, and where

@@ -1,14 +1,12 @@
 pub mod Answers
-pub mod BrainText
 pub mod Canonical
-pub mod Draft
+pub mod Faulty
 pub mod Forms
+pub mod Grammar
+pub mod Inner
 pub mod Judging
 pub mod Places
-pub mod Reading
-pub mod Reads
 pub mod Refusals
 pub mod Soundness
 pub mod Steps
 pub mod Tokens
-pub mod Verdict

@@ -1,7 +1,8 @@
 // The tokens of a line, one after another.
 ghost use Rattle.std.specs.Prelude.{◌≡◌, ◌≤◌, ◌∷◌, [], length, IfNone, MatchOption};
 ghost use Rattle.std.specs.List.{prefix_len};
-ghost use Rattle.brain_read.specs.Tokens.{is_token_byte, begins_token, has_token, tokens_of};
+ghost use Rattle.brain_read.specs.Inner.Scan.{is_token_byte, begins_token};
+ghost use Rattle.brain_read.specs.Tokens.{has_token, tokens_of};
 
 use ant_base::{after_separators, is_separator};
 use std::marker::Model;

@@ -1,4 +1,4 @@
-pub mod Answers
+pub mod Answered
 pub mod Feeding
 pub mod Places
 pub mod Reading

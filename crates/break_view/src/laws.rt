@@ -2,20 +2,21 @@
 ghost use Rattle.std.specs.Prelude.{◌≡◌, ◌⊎◌, ℕ, List};
 ghost use Rattle.break_view.specs.declared.breaks.Break.{Break};
 ghost use Rattle.break_view.specs.declared.fault.BreakFault.{BreakFault};
-ghost use Rattle.break_view.specs.BreakText.{BreakText, BreakVerdict};
+ghost use Rattle.break_view.specs.Grammar.{IsBreakText};
+ghost use Rattle.break_view.specs.Faulty.{IsBreakFault};
 ghost use Rattle.break_view.specs.Laws.{EndsAreFound, FewerStopLater, LaterRoundsAddNothing, OneFirstStop, StopsFollowTurns};
 
 /// Every text has exactly one list of breaks or exactly one fault, and never both (this project's own). The call does nothing: its clauses
 /// are the law.
 pub fn one_list_or_one_fault()
     ensures some { (text : List ℕ) →
-        ((list : List Break) × BreakText text list) ⊎ ((fault : BreakFault) × BreakVerdict text fault) }
+        ((list : List Break) × IsBreakText text list) ⊎ ((fault : BreakFault) × IsBreakFault text fault) }
     ensures one_list { (text : List ℕ) (a b : List Break) →
-        BreakText text a → BreakText text b → a ≡ b }
+        IsBreakText text a → IsBreakText text b → a ≡ b }
     ensures one_fault { (text : List ℕ) (a b : BreakFault) →
-        BreakVerdict text a → BreakVerdict text b → a ≡ b }
+        IsBreakFault text a → IsBreakFault text b → a ≡ b }
     ensures never_both { (text : List ℕ) (list : List Break) (fault : BreakFault) →
-        BreakText text list → BreakVerdict text fault → ⊥ }
+        IsBreakText text list → IsBreakFault text fault → ⊥ }
 {}
 
 /// A game has one first stop, or none; it has one end, and one text of its view (this project's own). The call does nothing: its clause

@@ -6,7 +6,7 @@ use Rattle.ant_base.specs.Number.{number_of}
 use Rattle.cell_world.proofs.OpeningWorked.{one_hill, three_hills}
 use Rattle.world_read.specs.declared.fault.WorldFault.TheVariants.{BadCell, LongRow, ShortRow, ExtraRow, OpenRim}
 use Rattle.world_read.specs.Canonical.{canonical_text, cell_text, row_text}
-use Rattle.world_read.specs.Reading.{open_rim, plan_of}
+use Rattle.world_read.specs.Inner.Reading.{open_rim, plan_of}
 
 -- the canonical text of a small world
 text-one_hill : canonical_text 3 3 one_hill ≡ codes "3\n3\n# # #\n # + #\n# # #\n"

@@ -1,5 +1,5 @@
 use Rattle.std.proofs.Common.{◌∙◌, sym}
-use Rattle.brain_read.proofs.Cursor.{IsNext, next_of}
+use Rattle.brain_read.proofs.TokensLemmas.{IsNext, next_of}
 use Rattle.brain_read.proofs.tokens.Tokens.next.Goals as goal
 use Rattle.brain_read.proofs.tokens.Tokens.next.Goals.{After-split_at}
 
