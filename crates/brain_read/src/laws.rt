@@ -2,6 +2,7 @@
 ghost use Rattle.std.specs.Prelude.{◌≡◌, ◌⊎◌, ℕ, List};
 ghost use Rattle.std.specs.List.{AllByRecursion};
 ghost use Rattle.brain_read.specs.declared.fault.BrainFault.{BrainFault};
+ghost use Rattle.brain_read.specs.declared.fault.BrainFault.TheVariants.{OutOfMemory};
 ghost use Rattle.brain_read.specs.declared.instr.Instr.{Instr};
 ghost use Rattle.brain_read.specs.Soundness.{IsBrain};
 ghost use Rattle.brain_read.specs.Forms.{HasBound};
@@ -26,4 +27,17 @@ pub fn one_brain_or_one_fault()
 pub fn canonical_text_is_read()
     ensures { (brain : List Instr) →
         IsBrain brain → AllByRecursion HasBound brain → IsBrainText (brain_text brain) brain }
+{}
+
+/// A law: what a text is the text of is a brain: 1 to 10,000 instructions, whose states are below their number, whose markers are below 6 and
+/// whose bounds are at least 1 (the task's neurology).
+pub fn texts_make_brains()
+    ensures { (text : List ℕ) (brain : List Instr) →
+        IsBrainText text brain → IsBrain brain }
+{}
+
+/// A law: want of memory is no text's fault.
+pub fn no_text_wants_memory()
+    ensures { (text : List ℕ) →
+        IsBrainFault text OutOfMemory → ⊥ }
 {}
