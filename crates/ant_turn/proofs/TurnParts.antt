@@ -13,7 +13,7 @@ use Rattle.ant_random.specs.Stream.{drawn}
 use Rattle.ant_turn.specs.Conditions.{meets}
 use Rattle.ant_turn.specs.Minds.{Minds, mind_of}
 use Rattle.ant_turn.specs.Sheet.{Sheet}
-use Rattle.ant_turn.specs.Turn.{Outcome, acts, ant_becomes, checked, execute, idle, in_state, instruction_at, is_blocked, stepped, turn, turn_from, turn_of}
+use Rattle.ant_turn.specs.Turn.{Outcome, acts, ant_becomes, checked, execute, idle, in_state, instruction_at, is_blocked, stepped, turn, turn_from, turn_at}
 use Rattle.ant_turn.proofs.OwnCells.{Stays, rest_stays, sense_stays, mark_stays, unmark_stays, pick_up_stays, drop_stays, turn_stays, move_stays, flip_stays}
 
 -- the ant of p stays: its own cell changes, and no other
@@ -72,7 +72,7 @@ pub record Acted (minds : Minds) (w : World) (t : ℕ) (outcome : Outcome) : Typ
 
 -- the turn at a place
 turn_of_parts : (minds : Minds) (seed : ℕ) (w : World) (place t : ℕ) (p : Pos) (o : Option Ant) → place_in w t ≡ Some p → (w.cells p).ant ≡ o →
-    (turn_of minds seed w.cells place p o ≡ idle w.cells) ⊎ Acted minds w t (turn_of minds seed w.cells place p o)
+    (turn_at minds seed w.cells place p o ≡ idle w.cells) ⊎ Acted minds w t (turn_at minds seed w.cells place p o)
 turn_of_parts minds seed w place t p None found is = inl refl
 turn_of_parts minds seed w place t p (Some ant) found is = inr (record { p = p; ant = ant; place = found; is = is; does = acts_parts minds seed w.cells place p ant ant.resting })
 

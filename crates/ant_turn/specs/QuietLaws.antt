@@ -8,7 +8,7 @@ use Rattle.cell_world.specs.declared.ant.Colour.{Colour}
 use Rattle.cell_world.specs.Cell.{holds_id, marks_of}
 use Rattle.cell_world.specs.Valid.{Valid}
 use Rattle.cell_world.specs.World.{World, place_in, put}
-use Rattle.ant_turn.specs.FoodLaws.{killed_in, world_after}
+use Rattle.ant_turn.specs.FoodLaws.{killed_in, world_after_turn}
 use Rattle.ant_turn.specs.Kills.{places_around}
 use Rattle.ant_turn.specs.Minds.{Minds}
 use Rattle.ant_turn.specs.Rounds.{Moment, after_turn, after_turns, after_rounds}
@@ -43,7 +43,7 @@ pub record TurnsAreNear : Type 0 where
       ((turn minds seed w place t).cells p).ant ≡ Some left → (turn minds seed w place t).cells q ≡ w.cells q
   -- an ant that lives on is where it was, or on the cell ahead
   pub own : (minds : Minds) (seed : ℕ) (w : World) (place t : ℕ) (p : Pos) (ant : Ant) (q : Pos) → Valid w → place_in w t ≡ Some p
-      → (w.cells p).ant ≡ Some ant → place_in (world_after minds seed w place t) t ≡ Some q →
+      → (w.cells p).ant ≡ Some ant → place_in (world_after_turn minds seed w place t) t ≡ Some q →
       (q ≡ p) ⊎ (q ≡ adjacent_pos p ant.facing)
   -- it changes no marker but its own colour's on its own cell
   pub marks : (minds : Minds) (seed : ℕ) (w : World) (place t : ℕ) (p : Pos) (ant : Ant) (colour : Colour) (q : Pos) → place_in w t ≡ Some p

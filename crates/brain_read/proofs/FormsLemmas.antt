@@ -6,7 +6,7 @@ use Rattle.hex_geometry.specs.declared.direction.Side.TheVariants.{Left, Right}
 use Rattle.hex_geometry.specs.declared.neighbourhood.Sight.{Sight}
 use Rattle.hex_geometry.specs.declared.neighbourhood.Sight.TheVariants.{Here, Ahead, LeftAhead, RightAhead}
 use Rattle.ant_base.specs.Number.{number_of, within}
-use Rattle.word_table.specs.Words.{IsSameWord, place_in}
+use Rattle.word_table.specs.Words.{IsSameWord, word_place}
 use Rattle.brain_read.specs.declared.instr.Cond.{Cond}
 use Rattle.brain_read.specs.declared.instr.Cond.TheVariants.{Friend, Foe, FriendWithFood, FoeWithFood, Food, Rock, Marker, FoeMarker, Home, FoeHome}
 use Rattle.brain_read.specs.declared.instr.Instr.{Instr}
@@ -78,7 +78,7 @@ taken_some (Some z) token rest fault x left e = let same = ok_same (z, rest) (x,
 word_takes : {words : List (List ℕ)} {n : ℕ} {word : ℕ → List ℕ} → Names words n word → (tokens : List (List ℕ)) (i : ℕ) (rest : List (List ℕ)) → take_word words tokens ≡ Ok (i, rest) → IsTaken (λ j. IsSameWord (word j)) tokens i rest
 word_takes names [] i rest e = (let never : ◌≡◌ {A = Step ℕ} (Err missing) (Ok (i, rest)) = e in absurd (cc))
 word_takes {words} names (token ∷ tokens) i rest e =
-    let found = taken_some (place_in words token) token tokens UnknownWord i rest e in
+    let found = taken_some (word_place words token) token tokens UnknownWord i rest e in
     record { token = token; front = ap (λ r. token ∷ r) found.1; spelled = word-found names token i found.0 }
 
 -- a number within its bounds

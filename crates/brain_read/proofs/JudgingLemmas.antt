@@ -1,7 +1,7 @@
 -- The reading of a line stops at the first position at fault.
 use Rattle.std.proofs.Common.{◌≡◌, ℕ, Bool, true, false, List, [], ◌∷◌, ◌++◌, Option, Some, None, Ok, Err, option_map, cond, refl, sym, ap, ◌∙◌}
 use Rattle.ant_base.specs.Number.{number_of, number_within}
-use Rattle.word_table.specs.Words.{place_in}
+use Rattle.word_table.specs.Words.{word_place}
 use Rattle.brain_read.specs.declared.fault.BrainFault.{BrainFault}
 use Rattle.brain_read.specs.declared.fault.BrainFault.TheVariants.{BadByte, UnknownWord, BadNumber}
 use Rattle.brain_read.specs.declared.fault.LineFault.{LineFault}
@@ -45,15 +45,15 @@ judge_token line token rest positions (Some x) brings fault f good next =
     ap (λ b. cond b (Some (BadByte line)) (first_fault line rest (brings x ++ positions))) (good x refl) ∙ next x
 
 -- a step whose token is a word of a table
-word_judges : {words : List (List ℕ)} {n : ℕ} {word : ℕ → List ℕ} → Names words n word → (position : Position) (brings : ℕ → List Position) → ((token : List ℕ) → accepted position token ≡ option_map brings (place_in words token)) → ((line : ℕ) → fault_of position line ≡ UnknownWord line) → Judges position (take_word words) brings
+word_judges : {words : List (List ℕ)} {n : ℕ} {word : ℕ → List ℕ} → Names words n word → (position : Position) (brings : ℕ → List Position) → ((token : List ℕ) → accepted position token ≡ option_map brings (word_place words token)) → ((line : ℕ) → fault_of position line ≡ UnknownWord line) → Judges position (take_word words) brings
 word_judges {words} names position brings accepts faults = record { steps = steps }
   where
     steps : (line : ℕ) (tokens : List (List ℕ)) (positions : List Position) (f : ℕ × List (List ℕ) → Read Instr) → ((x : ℕ) (rest : List (List ℕ)) → first_fault line rest (brings x ++ positions) ≡ fault_in line (f (x, rest))) → first_fault line tokens (position ∷ positions) ≡ fault_in line (take_word words tokens >>= f)
     steps line [] positions f next = refl
     steps line (token ∷ rest) positions f next =
         ap (λ a. cond (has_bad_byte token) (Some (BadByte line)) (judged a (fault_of position line) (λ more. first_fault line rest (more ++ positions)))) (accepts token)
-        ∙ ap (λ b. cond (has_bad_byte token) (Some (BadByte line)) (judged (option_map brings (place_in words token)) b (λ more. first_fault line rest (more ++ positions)))) (faults line)
-        ∙ judge_token line token rest positions (place_in words token) brings LineFault.UnknownWord f (λ i found. word-good names token i found) (λ i. next i rest)
+        ∙ ap (λ b. cond (has_bad_byte token) (Some (BadByte line)) (judged (option_map brings (word_place words token)) b (λ more. first_fault line rest (more ++ positions)))) (faults line)
+        ∙ judge_token line token rest positions (word_place words token) brings LineFault.UnknownWord f (λ i found. word-good names token i found) (λ i. next i rest)
 
 -- a step whose token is a number
 number_judges : (least most : ℕ) (position : Position) → ((token : List ℕ) → accepted position token ≡ option_map (λ n. []) (number_within least most token)) → ((line : ℕ) → fault_of position line ≡ BadNumber line) → Judges position (take_number least most) (λ n. [])

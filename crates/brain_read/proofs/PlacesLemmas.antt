@@ -11,8 +11,8 @@ use Rattle.std.proofs.lemmas.Str.Parse.{digits_value_short}
 use Rattle.ant_base.proofs.Digits.{all_ascii_digits-IsNumeralModel}
 use Rattle.ant_base.specs.Number.{is_number, number_of, within, number_within}
 use Rattle.std.specs.Str.{str_to_ascii_lowercase, str_eq_ignore_ascii_case}
-use Rattle.word_table.specs.Words.{IsSameWord, are_distinct, place_in}
-use Rattle.word_table.proofs.Places.{place_in-found, place_in-only}
+use Rattle.word_table.specs.Words.{IsSameWord, are_distinct, word_place}
+use Rattle.word_table.proofs.Places.{word_place-found, word_place-only}
 use Rattle.brain_read.specs.Tokens.{is_bad_byte, has_bad_byte}
 use Rattle.brain_read.specs.Forms.{named}
 
@@ -60,23 +60,23 @@ good_at (first ∷ words) (suc i) word all at =
     good_at words i word parts.1 at
 
 -- a word that is found is the one that its place names
-pub word-found : {words : List (List ℕ)} {n : ℕ} {word : ℕ → List ℕ} → Names words n word → (token : List ℕ) (i : ℕ) → place_in words token ≡ Some i → IsSameWord (word i) token
+pub word-found : {words : List (List ℕ)} {n : ℕ} {word : ℕ → List ℕ} → Names words n word → (token : List ℕ) (i : ℕ) → word_place words token ≡ Some i → IsSameWord (word i) token
 word-found {words} {n} {word} names token i found =
-    let at = place_in-found words token i found in
+    let at = word_place-found words token i found in
     let within : i < n = (let inside = slice_get_within words i at.word at.stands in omega (arith, names.count)) in
     let equal : bytes_eq (get_or words i []) (word i) ≡ true = agree_below_at (λ k. bytes_eq (get_or words k []) (word k)) (λ _. true) n i names.named within in
     let is : get_or words i [] ≡ word i = (bytes_eq-Decides (get_or words i []) (word i)).0 equal in
     ap str_to_ascii_lowercase (sym is ∙ get_or_from_slice_get words i at.word [] at.stands) ∙ at.same
 
 -- a word that is found has no bad byte
-pub word-good : {words : List (List ℕ)} {n : ℕ} {word : ℕ → List ℕ} → Names words n word → (token : List ℕ) (i : ℕ) → place_in words token ≡ Some i → has_bad_byte token ≡ false
+pub word-good : {words : List (List ℕ)} {n : ℕ} {word : ℕ → List ℕ} → Names words n word → (token : List ℕ) (i : ℕ) → word_place words token ≡ Some i → has_bad_byte token ≡ false
 word-good {words} names token i found =
-    let at = place_in-found words token i found in
+    let at = word_place-found words token i found in
     sym (has_bad_byte-same at.word token at.same) ∙ good_at words i at.word names.good at.stands
 
 -- a token that is a word of the table is found
-pub word-again : {words : List (List ℕ)} {n : ℕ} {word : ℕ → List ℕ} → Names words n word → (i : ℕ) (w token : List ℕ) → slice_get words i ≡ Some w → IsSameWord w token → place_in words token ≡ Some i
-word-again {words} names i w token stands same = place_in-only words token i names.distinct (record { word = w; stands = stands; same = same })
+pub word-again : {words : List (List ℕ)} {n : ℕ} {word : ℕ → List ℕ} → Names words n word → (i : ℕ) (w token : List ℕ) → slice_get words i ≡ Some w → IsSameWord w token → word_place words token ≡ Some i
+word-again {words} names i w token stands same = word_place-only words token i names.distinct (record { word = w; stands = stands; same = same })
 
 -- these things stand at the places from 0 on
 abbrev pub Stand : {A : Type 0} → (ℕ → A) → List A → Type 0
@@ -84,7 +84,7 @@ Stand at [] = Unit {0}
 Stand at (thing ∷ things) = (at 0 ≡ thing) × Stand (λ i. at (suc i)) things
 
 -- what a token names is what stands at the place of its word
-pub named-place : {A B : Type 0} (word : A → List ℕ) (at : ℕ → A) (f : A → B) (things : List A) (token : List ℕ) → Stand at things → option_map f (named word things token) ≡ option_map (λ i. f (at i)) (place_in (map word things) token)
+pub named-place : {A B : Type 0} (word : A → List ℕ) (at : ℕ → A) (f : A → B) (things : List A) (token : List ℕ) → Stand at things → option_map f (named word things token) ≡ option_map (λ i. f (at i)) (word_place (map word things) token)
 named-place word at f [] token stand = refl
 named-place {A} {B} word at f (thing ∷ things) token stand = go (str_eq_ignore_ascii_case (word thing) token) (named-place word (λ i. at (suc i)) f things token stand.1)
   where
@@ -92,9 +92,9 @@ named-place {A} {B} word at f (thing ∷ things) token stand = go (str_eq_ignore
     later None = refl
     later (Some i) = refl
 
-    go : (b : Bool) → option_map f (named word things token) ≡ option_map (λ i. f (at (suc i))) (place_in (map word things) token) → option_map f (cond b (Some thing) (named word things token)) ≡ option_map (λ i. f (at i)) (cond b (Some 0) (option_map suc (place_in (map word things) token)))
+    go : (b : Bool) → option_map f (named word things token) ≡ option_map (λ i. f (at (suc i))) (word_place (map word things) token) → option_map f (cond b (Some thing) (named word things token)) ≡ option_map (λ i. f (at i)) (cond b (Some 0) (option_map suc (word_place (map word things) token)))
     go true rest = ap (λ x. Some (f x)) (sym stand.0)
-    go false rest = rest ∙ later (place_in (map word things) token)
+    go false rest = rest ∙ later (word_place (map word things) token)
 
 -- a number, as its digits
 record IsDigits (token : List ℕ) (n : ℕ) : Type 0 where

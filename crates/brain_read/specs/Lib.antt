@@ -5,6 +5,7 @@ pub mod Forms
 pub mod Grammar
 pub mod Inner
 pub mod Judging
+pub mod Laws
 pub mod Places
 pub mod Refusals
 pub mod Soundness

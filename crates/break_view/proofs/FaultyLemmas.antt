@@ -9,11 +9,13 @@ use Rattle.break_view.specs.declared.fault.BreakFault.TheVariants.{TooMany}
 use Rattle.break_view.specs.Judging.{first_fault}
 use Rattle.break_view.specs.Judging.Position.{BreakToken}
 use Rattle.break_view.specs.Grammar.{most_breaks, AreBreaks, IsBreakText}
-use Rattle.break_view.specs.Faulty.{or_later, too_many, first_line_fault, IsBreakFault}
+use Rattle.break_view.specs.Faulty.{or_later, too_many, IsBreakFault}
+use Rattle.break_view.specs.Inner.FirstFault.{first_line_fault}
 use Rattle.break_view.specs.Inner.Reading.{read_line}
 use Rattle.break_view.specs.Inner.Verdict.{Judged, fault_at, put_before, unless, at_line, judged_line, line_then, read_lines, read_text}
 use Rattle.break_view.proofs.FormsLemmas.{line_spelled, line_again}
 use Rattle.break_view.proofs.JudgingLemmas.{fault_in, line_faulted}
+use Rattle.break_view.proofs.FirstFaults.{first_line_fault-found, first_line_fault-first}
 
 -- the fault of what was judged, if there is one
 abbrev fault_of_judged : Judged (List Break) → Option BreakFault
@@ -115,12 +117,12 @@ module _ (text : List ℕ) where
   -- the fault that is answered is the text's
   pub fault_read_of : (fault : BreakFault) → read_text text ≡ Err fault → IsBreakFault text fault
   unfolding read_text
-  fault_read_of fault e = record { first = lines_faulted 0 (lines_with_tokens text) ∙ ap fault_of_judged e }
+  fault_read_of fault e = first_line_fault-first text fault (lines_faulted 0 (lines_with_tokens text) ∙ ap fault_of_judged e)
 
   -- the text's fault is answered
   pub fault_read_again : (fault : BreakFault) → IsBreakFault text fault → read_text text ≡ Err fault
   unfolding read_text
-  fault_read_again fault v = judged_err (read_lines 0 (lines_with_tokens text)) fault (sym (lines_faulted 0 (lines_with_tokens text)) ∙ v.first)
+  fault_read_again fault v = judged_err (read_lines 0 (lines_with_tokens text)) fault (sym (lines_faulted 0 (lines_with_tokens text)) ∙ first_line_fault-found text fault v)
 
   -- a text has a list or a fault
   pub some_answer : ((list : List Break) × IsBreakText text list) ⊎ ((fault : BreakFault) × IsBreakFault text fault)

@@ -3,7 +3,7 @@ use Rattle.std.proofs.Common.{◌≡◌, ◌≤◌, ℕ, List, [], ◌∷◌, co
 use Rattle.cell_world.specs.declared.ant.Colour.{Colour}
 use Rattle.cell_world.specs.declared.ant.Colour.TheVariants.{Red, Black}
 use Rattle.ant_base.specs.Number.{number_of, number_within}
-use Rattle.word_table.specs.Words.{IsSameWord, place_in}
+use Rattle.word_table.specs.Words.{IsSameWord, word_place}
 use Rattle.brain_read.specs.declared.fault.LineFault.{LineFault}
 use Rattle.brain_read.specs.declared.fault.LineFault.TheVariants.{UnknownWord, BadNumber, ExtraToken}
 use Rattle.brain_read.specs.Steps.{Read, Step, ◌>>=◌, missing, refused, or_refused, take_word, take_number, take_end}
@@ -38,7 +38,7 @@ taken_some (Some z) token rest fault x left e = let same = ok_same (z, rest) (x,
 word_takes : {words : List (List ℕ)} {n : ℕ} {word : ℕ → List ℕ} → Names words n word → (tokens : List (List ℕ)) (i : ℕ) (rest : List (List ℕ)) → take_word words tokens ≡ Ok (i, rest) → IsTaken (λ j. IsSameWord (word j)) tokens i rest
 word_takes names [] i rest e = (let never : ◌≡◌ {A = Step ℕ} (Err missing) (Ok (i, rest)) = e in absurd (cc))
 word_takes {words} names (token ∷ tokens) i rest e =
-    let found = taken_some (place_in words token) token tokens UnknownWord i rest e in
+    let found = taken_some (word_place words token) token tokens UnknownWord i rest e in
     record { token = token; front = ap (λ r. token ∷ r) found.1; spelled = word-found names token i found.0 }
 
 -- a number that a break may have

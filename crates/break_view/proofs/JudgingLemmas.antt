@@ -2,7 +2,7 @@
 use Rattle.std.proofs.Common.{◌≡◌, ℕ, List, [], ◌∷◌, ◌++◌, Option, Some, None, Ok, Err, option_map, refl, sym, ap, ◌∙◌}
 use Rattle.ant_base.specs.Number.{number_within}
 use Rattle.cell_world.specs.declared.ant.Colour.{Colour}
-use Rattle.word_table.specs.Words.{place_in}
+use Rattle.word_table.specs.Words.{word_place}
 use Rattle.brain_read.specs.declared.fault.LineFault.{LineFault}
 use Rattle.brain_read.specs.Steps.{Read, Step, ◌>>=◌, or_refused, take_word, take_number, take_end}
 use Rattle.brain_read.proofs.PlacesLemmas.{named-place}
@@ -36,15 +36,15 @@ judge_token line token rest positions None brings fault f next = refl
 judge_token line token rest positions (Some x) brings fault f next = next x
 
 -- a step whose token is a word of a table
-word_judges : (words : List (List ℕ)) (position : Position) (brings : ℕ → List Position) → ((token : List ℕ) → accepted position token ≡ option_map brings (place_in words token)) → ((line : ℕ) → fault_of position line ≡ fault_at line LineFault.UnknownWord) → Judges position (take_word words) brings
+word_judges : (words : List (List ℕ)) (position : Position) (brings : ℕ → List Position) → ((token : List ℕ) → accepted position token ≡ option_map brings (word_place words token)) → ((line : ℕ) → fault_of position line ≡ fault_at line LineFault.UnknownWord) → Judges position (take_word words) brings
 word_judges words position brings accepts faults = record { steps = steps }
   where
     steps : (line : ℕ) (tokens : List (List ℕ)) (positions : List Position) (f : ℕ × List (List ℕ) → Read Break) → ((x : ℕ) (rest : List (List ℕ)) → first_fault line rest (brings x ++ positions) ≡ fault_in line (f (x, rest))) → first_fault line tokens (position ∷ positions) ≡ fault_in line (take_word words tokens >>= f)
     steps line [] positions f next = refl
     steps line (token ∷ rest) positions f next =
         ap (λ a. judged a (fault_of position line) (λ more. first_fault line rest (more ++ positions))) (accepts token)
-        ∙ ap (λ b. judged (option_map brings (place_in words token)) b (λ more. first_fault line rest (more ++ positions))) (faults line)
-        ∙ judge_token line token rest positions (place_in words token) brings LineFault.UnknownWord f (λ i. next i rest)
+        ∙ ap (λ b. judged (option_map brings (word_place words token)) b (λ more. first_fault line rest (more ++ positions))) (faults line)
+        ∙ judge_token line token rest positions (word_place words token) brings LineFault.UnknownWord f (λ i. next i rest)
 
 -- a step that names what its word stands for
 named_judges : {A : Type 0} (words : List (List ℕ)) (position : Position) → Judges position (take_word words) (λ i. []) → (at : ℕ → A) → Judges position (λ tokens. take_word words tokens >>= as_named at) (λ x. [])

@@ -1,4 +1,5 @@
 pub mod FaultyLemmas
+mod FirstFaults
 pub mod FirstStops
 pub mod FormsLemmas
 pub mod HillFood

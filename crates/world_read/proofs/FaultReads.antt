@@ -15,7 +15,7 @@ use Rattle.cell_world.proofs.GridLemmas.{index_of-pos_at, pos_at-index_of}
 use Rattle.world_read.specs.declared.fault.WorldFault.{WorldFault}
 use Rattle.world_read.specs.declared.fault.WorldFault.TheVariants.{BadWidth, BadHeight, MissingRow, BadCell, ShortRow, LongRow, ExtraRow, OpenRim, TooManyAnts, OutOfMemory}
 use Rattle.world_read.specs.Bytes.{byte_of, kind_of, spelled}
-use Rattle.world_read.specs.Faulty.{BeginsWith, BeginsWithNoSize, HasRows, HasRowFault, HasSize, IsCellFault, IsComplete, IsNoCell, IsRowFault, IsWorldFault}
+use Rattle.world_read.specs.Faulty.{BeginsWith, BeginsWithNoSize, HasRows, HasRowFault, HasSize, IsCellFault, HasWholeRows, IsNoCell, IsRowFault, IsWorldFault}
 use Rattle.world_read.specs.Grammar.{AreRows}
 use Rattle.world_read.specs.Inner.Reading.{Rows, after_height, after_width, cell_of, ended, first_size, is_open_at, limited, open_rim, plan_of, row_from, row_of, rows_from, with_cell, with_row}
 use Rattle.world_read.proofs.BytesLemmas.{Spells, kind_of-byte_of}
@@ -283,10 +283,10 @@ module _ (text first second : List ℕ) (lines : List (List ℕ)) (width height 
         wrong = other.wrong;
       }
 
-  complete : (rows : Rows) → rows_from width 0 height lines ≡ Ok rows → list_all is_blank rows.rest ≡ true → IsComplete text width height rows.kinds
+  complete : (rows : Rows) → rows_from width 0 height lines ≡ Ok rows → list_all is_blank rows.rest ≡ true → HasWholeRows text width height rows.kinds
   complete rows told blank = record { rest = rows.rest; rows = read_rows rows told; blank = AllPass-from_list_all is_blank rows.rest blank }
 
-  open_rim_fault : (kinds : List Kind) (p : Pos) → IsComplete text width height kinds → open_rim width height kinds ≡ Some p → IsWorldFault text (OpenRim p.x p.y)
+  open_rim_fault : (kinds : List Kind) (p : Pos) → HasWholeRows text width height kinds → open_rim width height kinds ≡ Some p → IsWorldFault text (OpenRim p.x p.y)
   open_rim_fault kinds p whole found =
       let test = is_open_at width height kinds in
       let first = open_rim-known width height kinds p found in
@@ -305,7 +305,7 @@ module _ (text first second : List ℕ) (lines : List (List ℕ)) (width height 
             clear within;
       }
 
-  limits_fault : (kinds : List Kind) (fault : WorldFault) → IsComplete text width height kinds → limited width height kinds (open_rim width height kinds) ≡ Err fault → IsWorldFault text fault
+  limits_fault : (kinds : List Kind) (fault : WorldFault) → HasWholeRows text width height kinds → limited width height kinds (open_rim width height kinds) ≡ Err fault → IsWorldFault text fault
   limits_fault kinds fault whole is = go (open_rim width height kinds) refl (leb (hill_count kinds) most_ants) refl is where
     go : (found : Option Pos) → open_rim width height kinds ≡ found → (few : Bool) → leb (hill_count kinds) most_ants ≡ few → limited width height kinds found ≡ Err fault → IsWorldFault text fault
     go (Some p) f few e is =

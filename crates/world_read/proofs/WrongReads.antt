@@ -15,7 +15,7 @@ use Rattle.cell_world.proofs.GridLemmas.{index_of-inside, index_of-pos_at}
 use Rattle.world_read.specs.declared.fault.WorldFault.{WorldFault}
 use Rattle.world_read.specs.declared.fault.WorldFault.TheVariants.{BadWidth, BadHeight, MissingRow, BadCell, ShortRow, LongRow, ExtraRow, OpenRim, TooManyAnts, OutOfMemory}
 use Rattle.world_read.specs.Bytes.{kind_of, spelled}
-use Rattle.world_read.specs.Faulty.{BeginsWithNoSize, HasExtraRow, HasNoHeight, HasOpenRim, HasRowFault, HasRows, HasTooManyAnts, IsCellFault, IsComplete, IsNoCell, IsRowFault, IsWorldFault}
+use Rattle.world_read.specs.Faulty.{BeginsWithNoSize, HasExtraRow, HasNoHeight, HasOpenRim, HasRowFault, HasRows, HasTooManyAnts, IsCellFault, HasWholeRows, IsNoCell, IsRowFault, IsWorldFault}
 use Rattle.world_read.specs.Grammar.{Plan}
 use Rattle.world_read.specs.Inner.Reading.{after_height, after_width, cell_of, ended, first_size, is_open_at, limited, onto_row, open_rim, plan_of, row_from, rows_from, size_of, with_cell, with_row}
 use Rattle.world_read.specs.Inner.Scan.{IsClosedBefore}
@@ -132,7 +132,7 @@ extra_wrong text h =
     ∙ cond-false (list_all is_blank (h.before ++ h.line ∷ h.after)) (limited h.width h.height h.kinds (open_rim h.width h.height h.kinds)) (Err ExtraRow) other
 
 -- a text that is complete
-plan_of-complete : (text : List ℕ) (width height : ℕ) (kinds : List Kind) → IsComplete text width height kinds → plan_of text ≡ limited width height kinds (open_rim width height kinds)
+plan_of-complete : (text : List ℕ) (width height : ℕ) (kinds : List Kind) → HasWholeRows text width height kinds → plan_of text ≡ limited width height kinds (open_rim width height kinds)
 plan_of-complete text width height kinds c =
     plan_of-whole text width height kinds c.rest c.rows
     ∙ cond-true (list_all is_blank c.rest) (limited width height kinds (open_rim width height kinds)) (Err ExtraRow) (list_all-from_AllPass is_blank c.rest c.blank)

@@ -131,7 +131,7 @@ pub record HasExtraRow (text : List ℕ) : Type 0 where
   pub wrong : is_blank line ≡ false
 
 -- all rows are whole, of these sizes and kinds, and blank lines alone come after them
-pub record IsComplete (text : List ℕ) (width height : ℕ) (kinds : List Kind) : Type 0 where
+pub record HasWholeRows (text : List ℕ) (width height : ℕ) (kinds : List Kind) : Type 0 where
   pub rest : List (List ℕ)
   pub rows : HasRows text width height height kinds rest
   pub blank : All (λ line. is_blank line ≡ true) rest
@@ -145,7 +145,7 @@ pub record HasOpenRim (text : List ℕ) (p : Pos) : Type 0 where
   pub width : ℕ
   pub height : ℕ
   pub kinds : List Kind
-  pub complete : IsComplete text width height kinds
+  pub complete : HasWholeRows text width height kinds
   pub inside : IsInside width height p
   pub wrong : IsClosed width height kinds p → ⊥
   pub first : (q : Pos) → IsInside width height q → index_of width q < index_of width p → IsClosed width height kinds q
@@ -155,7 +155,7 @@ pub record HasTooManyAnts (text : List ℕ) (count : ℕ) : Type 0 where
   pub width : ℕ
   pub height : ℕ
   pub kinds : List Kind
-  pub complete : IsComplete text width height kinds
+  pub complete : HasWholeRows text width height kinds
   pub rim : (p : Pos) → IsInside width height p → IsClosed width height kinds p
   pub is : count ≡ hill_count kinds
   pub wrong : most_ants < count

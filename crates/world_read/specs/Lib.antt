@@ -4,4 +4,5 @@ pub mod Canonical
 pub mod Faulty
 pub mod Grammar
 pub mod Inner
+pub mod Laws
 pub mod Opened

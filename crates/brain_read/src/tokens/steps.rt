@@ -4,7 +4,7 @@ ghost use Rattle.brain_read.specs.Tokens.{is_bad_byte, has_bad_byte};
 ghost use Rattle.brain_read.specs.Steps.{with_rest, missing, refused, take_word, take_number, take_end};
 
 use crate::fault::{LineFault, Refusal};
-use crate::tokens::Tokens;
+use super::Tokens;
 use ant_base::read_number_within;
 use word_table::WordTable;
 
