@@ -9,3 +9,4 @@ pub mod TokensLemmas
 pub mod Unwanting
 pub mod VerdictLemmas
 pub mod Worked
+pub mod WorkedTexts
