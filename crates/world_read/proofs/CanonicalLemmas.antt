@@ -17,7 +17,7 @@ use Rattle.cell_world.specs.declared.kind.Kind.TheVariants.{Rock, Clear, RedHill
 use Rattle.cell_world.specs.Grid.{Grid}
 use Rattle.cell_world.specs.Opening.{IsPlan}
 use Rattle.world_read.specs.Bytes.{byte_of, spelled}
-use Rattle.world_read.specs.Canonical.{canonical_text, cell_text, row_line, space_if}
+use Rattle.world_read.specs.Canonical.{canonical_text, cell_text, line_of_row, space_if}
 use Rattle.world_read.specs.Grammar.{AreRows, IsWorldText}
 use Rattle.world_read.specs.Opened.{IsOpeningWorld, OpensAs, kinds_of}
 use Rattle.world_read.proofs.OpenedLemmas.{kinds_of-opening}
@@ -88,9 +88,9 @@ spelled-cells width kinds y (suc n) le =
 row_line : ℕ → List Kind → ℕ → List ℕ
 row_line width kinds y = space_if (eqb (y % 2) 1) ++ cells_text width kinds y width
 
-row_line-line : (width : ℕ) (kinds : List Kind) (y : ℕ) → row_line width kinds y ≡ row_line width kinds y ++ 10 ∷ []
-unfolding row_line row_line
-row_line-line width kinds y = sym (append_assoc (space_if (eqb (y % 2) 1)) (cells_text width kinds y width) (10 ∷ []))
+line_of_row-line : (width : ℕ) (kinds : List Kind) (y : ℕ) → line_of_row width kinds y ≡ row_line width kinds y ++ 10 ∷ []
+unfolding line_of_row row_line
+line_of_row-line width kinds y = sym (append_assoc (space_if (eqb (y % 2) 1)) (cells_text width kinds y width) (10 ∷ []))
 
 has_no_lf-row : (width : ℕ) (kinds : List Kind) (y : ℕ) → has_no_lf (row_line width kinds y) ≡ true
 unfolding row_line
@@ -107,13 +107,13 @@ spelled-row width kinds y le =
 abbrev row_lines : ℕ → ℕ → List Kind → List (List ℕ)
 row_lines width height kinds = map (row_line width kinds) (range_with_len 0 height)
 
-lines_of-rows : (width height : ℕ) (kinds : List Kind) → lines_of (numbered (row_line width kinds) height) ≡ row_lines width height kinds ++ []
+lines_of-rows : (width height : ℕ) (kinds : List Kind) → lines_of (numbered (line_of_row width kinds) height) ≡ row_lines width height kinds ++ []
 lines_of-rows width height kinds =
     let numbers = range_with_len 0 height in
     let text = λ (y : ℕ). row_line width kinds y ++ 10 ∷ [] in
-    let each : numbered (row_line width kinds) height ≡ numbered (λ i. text (get_or numbers i 0)) height =
-    numbered-same (row_line width kinds) (λ i. text (get_or numbers i 0)) height
-    (λ i lt. row_line-line width kinds i ∙ ap text (sym (get_or-range_with_len 0 height i 0 lt ∙ omega arith))) in
+    let each : numbered (line_of_row width kinds) height ≡ numbered (λ i. text (get_or numbers i 0)) height =
+    numbered-same (line_of_row width kinds) (λ i. text (get_or numbers i 0)) height
+    (λ i lt. line_of_row-line width kinds i ∙ ap text (sym (get_or-range_with_len 0 height i 0 lt ∙ omega arith))) in
     let many : numbered (λ i. text (get_or numbers i 0)) height ≡ numbered (λ i. text (get_or numbers i 0)) (length numbers) =
     ap (numbered (λ i. text (get_or numbers i 0))) (sym (length-range_with_len 0 height)) in
     ap lines_of (each ∙ many ∙ numbered-list text numbers 0 ∙ sym (append-nil (flat_map text numbers)))
@@ -138,7 +138,7 @@ are_rows-from width kinds y (suc count) full =
 pub IsWorldText-canonical : (width height : ℕ) (kinds : List Kind) → IsPlan width height kinds → IsWorldText (canonical_text width height kinds) width height kinds
 unfolding canonical_text
 IsWorldText-canonical width height kinds plan =
-    let rows = numbered (row_line width kinds) height in
+    let rows = numbered (line_of_row width kinds) height in
     let none : 0 * width ≡ 0 = omega arith in
     let all : height ≡ 0 + height = omega arith in
     record {
