@@ -1,11 +1,11 @@
 -- That want of memory is no text's fault.
-use Rattle.std.proofs.Common.{◌≡◌, ℕ, ◌+◌, Bool, true, false, if◌then◌else◌, List, [], ◌∷◌, ◌++◌, Option, Some, None, option_map, subst}
+use Rattle.std.proofs.Common.{◌≡◌, ℕ, Bool, true, false, if◌then◌else◌, List, [], ◌∷◌, ◌++◌, Option, Some, None, subst}
 use Rattle.std.specs.Prelude.{⊤, length, nat_le}
 use Rattle.brain_read.specs.declared.fault.BrainFault.{BrainFault}
-use Rattle.brain_read.specs.declared.fault.BrainFault.TheVariants.{BadByte, UnknownWord, MissingToken, BadNumber, ExtraToken, TooMany, Empty, NoSuchState, OutOfMemory}
-use Rattle.brain_read.specs.declared.instr.Instr.{Instr}
-use Rattle.brain_read.specs.BrainText.{BrainVerdict, TokenLine, first_line_fault, first_not_below, first_state_fault, line_fault, lines_with_tokens, or_later, states_of, too_many}
-use Rattle.brain_read.specs.BrainText.BrainVerdict.{OfLine, OfNothing, OfState}
+use Rattle.brain_read.specs.declared.fault.BrainFault.TheVariants.{BadByte, ExtraToken, TooMany, Empty, NoSuchState, OutOfMemory}
+use Rattle.brain_read.specs.Faulty.{IsBrainFault, line_fault, or_later, too_many}
+use Rattle.brain_read.specs.Grammar.{TokenLine}
+use Rattle.brain_read.specs.Faulty.IsBrainFault.{OfLine, OfNothing, OfState}
 use Rattle.brain_read.specs.Judging.{Position, accepted, fault_of, first_fault, judged}
 use Rattle.brain_read.specs.Judging.Position.{FormToken, SightToken, SideToken, ConditionToken, MarkerToken, StateToken, BoundToken}
 use Rattle.brain_read.specs.Soundness.{most_states}
@@ -63,27 +63,8 @@ line_fault-of_text before line =
     (either_later (nat_le most_states before) (TooMany line.number) None tt tt)
     (first_fault-of_text line.number line.tokens (FormToken ∷ []))
 
--- that of the first line at fault
-first_line_fault-of_text : (before : ℕ) (lines : List TokenLine) → OfText (first_line_fault before lines)
-first_line_fault-of_text before [] = tt
-first_line_fault-of_text before (line ∷ lines) =
-    or_later-of_text (line_fault before line) (first_line_fault (before + 1) lines) (line_fault-of_text before line) (first_line_fault-of_text (before + 1) lines)
-
--- a state that there isn't
-no_such-of_text : (line : ℕ) (state : Option ℕ) → OfText (option_map (NoSuchState line) state)
-no_such-of_text line None = tt
-no_such-of_text line (Some state) = tt
-
--- the first of them
-first_state_fault-of_text : (n : ℕ) (lines : List TokenLine) (list : List Instr) → OfText (first_state_fault n lines list)
-first_state_fault-of_text n [] list = tt
-first_state_fault-of_text n (line ∷ lines) [] = tt
-first_state_fault-of_text n (line ∷ lines) (instruction ∷ list) =
-    or_later-of_text (option_map (NoSuchState line.number) (first_not_below n (states_of instruction))) (first_state_fault n lines list)
-    (no_such-of_text line.number (first_not_below n (states_of instruction))) (first_state_fault-of_text n lines list)
-
 -- want of memory is no text's fault
-pub no_want : (text : List ℕ) → BrainVerdict text OutOfMemory → ⊥
-no_want text (OfLine at) = subst OfText at (first_line_fault-of_text 0 (lines_with_tokens text))
+pub no_want : (text : List ℕ) → IsBrainFault text OutOfMemory → ⊥
+no_want text (OfLine at) = subst OfText at.wrong (line_fault-of_text (length at.before) at.line)
 no_want text (OfNothing none is) = (let never : OutOfMemory ≡ Empty = is in cc)
-no_want text (OfState list none are at) = subst OfText at (first_state_fault-of_text (length list) (lines_with_tokens text) list)
+no_want text (OfState at) = (let never : OutOfMemory ≡ NoSuchState at.line.number at.state = at.is in cc)

@@ -4,7 +4,7 @@ use Rattle.std.specs.Prelude.{ℕ, ◌+◌, false, List, [], ◌∷◌, length, 
 use Rattle.hex_geometry.specs.declared.direction.Side.{Side}
 use Rattle.hex_geometry.specs.declared.neighbourhood.Sight.{Sight}
 use Rattle.ant_base.specs.Number.{number_within}
-use Rattle.word_table.specs.Words.{place_in}
+use Rattle.word_table.specs.Words.{word_place}
 use Rattle.brain_read.specs.declared.fault.LineFault.{LineFault}
 use Rattle.brain_read.specs.declared.fault.LineFault.TheVariants.{UnknownWord, MissingToken, BadNumber, ExtraToken}
 use Rattle.brain_read.specs.declared.fault.Refusal.{Refusal}
@@ -50,7 +50,7 @@ or_refused None rest token fault = Err (refused token fault)
 -- a word of a table, as its place there
 abbrev pub take_word : List (List ℕ) → List (List ℕ) → Step ℕ
 take_word words [] = Err missing
-take_word words (token ∷ rest) = or_refused (place_in words token) rest token UnknownWord
+take_word words (token ∷ rest) = or_refused (word_place words token) rest token UnknownWord
 
 -- a number from the least to the greatest that are accepted
 abbrev pub take_number : ℕ → ℕ → List (List ℕ) → Step ℕ

@@ -16,7 +16,6 @@ mod laws;
 mod line;
 pub mod positions;
 mod read;
-mod steps;
 mod tokens;
 mod write;
 

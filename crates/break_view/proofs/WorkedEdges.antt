@@ -12,7 +12,7 @@ use Rattle.cell_world.specs.World.{World, place_in, put, put_cell}
 use Rattle.dump_print.specs.Texts.{seed_text}
 use Rattle.ant_base.specs.Number.{number_of}
 use Rattle.break_view.specs.declared.breaks.Break.TheVariants as break
-use Rattle.break_view.specs.BreakText.{BreakText}
+use Rattle.break_view.specs.Grammar.{IsBreakText}
 use Rattle.break_view.specs.Met.{meets}
 use Rattle.break_view.specs.Texts.{no_stop_line, stop_line, view_text}
 
@@ -43,6 +43,6 @@ unfolding digits seed_text no_stop_line view_text
 no_stop_told = refl
 
 -- a line of Food gives the column, the row, and then how much at least
-food_line : BreakText (codes "Food 1 2 3") (break.Food 1 2 3 ∷ [])
+food_line : IsBreakText (codes "Food 1 2 3") (break.Food 1 2 3 ∷ [])
 unfolding number_of
 food_line = record { lines = (record { spelled = (refl, (refl, (refl, (refl, tt)))); in_range = (tt, (omega arith, (omega arith, (omega arith, tt)))) }, tt); few = omega arith }

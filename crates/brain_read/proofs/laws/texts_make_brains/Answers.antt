@@ -1,4 +1,4 @@
-use Rattle.brain_read.proofs.Sound.{brain_of}
+use Rattle.brain_read.proofs.SoundnessLemmas.{brain_of}
 use Rattle.brain_read.proofs.laws.texts_make_brains.Goals as goal
 
 pub returns : goal.returns
