@@ -1,5 +1,5 @@
 // What holds of all games and runs, as laws of their definitions.
-ghost use Rattle.match_run.specs.Laws.{AllDumps, NoDumps, SameRounds, RepeatAddsNothing, LaterAddsNothing, GoesOn};
+ghost use Rattle.match_run.specs.RunLaws.{AllDumps, NoDumps, SameRounds, RepeatAddsNothing, LaterAddsNothing, GoesOn};
 
 /// The text of a run with `Dumps::All` is the line of the seed, the dump after each round from 0 to the number of rounds in order, and the
 /// score (the task's game play; the layout is this project's own). The call does nothing: its clause is the law.

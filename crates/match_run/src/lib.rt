@@ -6,16 +6,24 @@
 //! it, and that a game may be broken off and gone on with. This crate stands on `ant_turn` and `dump_print`.
 #![tactic(auto)]
 
+mod alone;
 mod dumps;
+mod fault;
 mod game;
 mod laws;
 mod plan;
-mod play;
+mod playing;
+mod sequential;
+mod windows;
 
+pub use alone::{play_alone, play_score};
+pub use dump_print::Totals;
 pub use dumps::{Dumps, Rounds};
+pub use fault::PlayFault;
+pub use game::Game;
 pub use hex_geometry::OutOfMemory;
 pub use laws::{
     all_dumps, goes_on, later_adds_nothing, no_dumps, repeat_adds_nothing, same_rounds,
 };
 pub use plan::Plan;
-pub use play::{play_alone, play_score};
+pub use playing::play;

@@ -1,6 +1,6 @@
 use Rattle.std.proofs.lemmas.Result.{err_from_is_err_and}
 use Rattle.ant_base.proofs.Pushing.{front_more, front_then}
-use Rattle.match_run.proofs.play.play_to_score.Goals as goal
+use Rattle.match_run.proofs.alone.play_to_score.Goals as goal
 
 pub returns-in_err-play_rounds-clause-text : goal.returns-in_err-play_rounds-clause-text
 returns-in_err-play_rounds-clause-text g c =

@@ -2,8 +2,8 @@ use Rattle.std.proofs.Common.{◌≡◌, ◌∙◌, ap, arith}
 use Rattle.ant_turn.specs.Minds.{minds_of}
 use Rattle.cell_world.specs.Grid.{world_of}
 use Rattle.match_run.specs.Run.{world_after}
-use Rattle.match_run.proofs.Playing.{IsAfter-none, IsAfter-more, IsAfter-world}
-use Rattle.match_run.proofs.play.play_silently.Goals as goal
+use Rattle.match_run.proofs.SequentialLemmas.{IsAfter-none, IsAfter-more, IsAfter-world}
+use Rattle.match_run.proofs.alone.play_silently.Goals as goal
 
 pub loop-init : goal.loop-init
 loop-init c = IsAfter-none (minds_of c.args.brains) c.args.seed c.args.world.now c.from_seed-stream.result c.from_seed-stream.ensures.seed c.from_seed-stream.ensures.place c.requires.fit

@@ -4,8 +4,9 @@ use Rattle.ant_base.proofs.Pushing.{all_then, front_then, front_more}
 use Rattle.ant_turn.specs.Minds.{minds_of}
 use Rattle.cell_world.specs.Grid.{world_of}
 use Rattle.match_run.specs.Run.{world_after}
-use Rattle.match_run.proofs.Playing.{IsAfter, IsAfter-none, IsAfter-more, IsAfter-world, dumps_text-first, dumps_text-front, dumps_text-more}
-use Rattle.match_run.proofs.play.play_rounds.Goals as goal
+use Rattle.match_run.proofs.RunLemmas.{dumps_text-first, dumps_text-front, dumps_text-more}
+use Rattle.match_run.proofs.SequentialLemmas.{IsAfter, IsAfter-none, IsAfter-more, IsAfter-world}
+use Rattle.match_run.proofs.alone.play_rounds.Goals as goal
 
 pub loop-round-init : goal.loop-round-init
 loop-round-init g c =

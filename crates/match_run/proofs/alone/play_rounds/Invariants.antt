@@ -3,8 +3,8 @@ use Rattle.ant_base.specs.Sink.{PushedAll}
 use Rattle.ant_turn.specs.Minds.{minds_of}
 use Rattle.cell_world.specs.Grid.{world_of}
 use Rattle.match_run.specs.Run.{dumps_text}
-use Rattle.match_run.proofs.Playing.{IsAfter}
-use Rattle.match_run.proofs.play.play_rounds.Given as goal
+use Rattle.match_run.proofs.SequentialLemmas.{IsAfter}
+use Rattle.match_run.proofs.alone.play_rounds.Given as goal
 
 -- these rounds are played, and their dumps are pushed
 abbrev pub invariant-loop-round : goal.invariant-loop-round

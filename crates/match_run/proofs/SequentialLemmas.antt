@@ -1,7 +1,5 @@
--- Turns, rounds and dumps, one after another.
-use Rattle.std.proofs.Common.{◌≡◌, ℕ, ◌+◌, ◌*◌, ◌≤◌, List, ◌++◌, refl, sym, ◌∙◌, ap, ap₂, arith}
-use Rattle.ant_base.specs.Layout.{numbered}
-use Rattle.ant_base.proofs.Numbered.{numbered-front, numbered-more}
+-- Turns and rounds, one after another.
+use Rattle.std.proofs.Common.{◌≡◌, ℕ, ◌+◌, ◌*◌, ◌≤◌, refl, sym, ◌∙◌, ap, ap₂, arith}
 use Rattle.ant_random.specs.Stream.{SeedAndPlace}
 use Rattle.cell_world.specs.Cell.{one_if}
 use Rattle.cell_world.specs.Grid.{Grid, world_of}
@@ -11,10 +9,8 @@ use Rattle.ant_turn.specs.Minds.{Minds, Fits}
 use Rattle.ant_turn.specs.Rounds.{Moment, after_turn, after_turns, after_round, after_rounds, start_of}
 use Rattle.ant_turn.specs.Turn.{turn}
 use Rattle.ant_turn.proofs.KeptByRounds.{after_rounds-more, after_turns-ids, after_turns-more, after_turns-place}
-use Rattle.match_run.specs.declared.dumps.Dumps.{Dumps}
-use Rattle.cell_world.specs.Score.{score_of}
-use Rattle.dump_print.specs.Texts.{seed_text, score_text}
-use Rattle.match_run.specs.Run.{chosen_dump, dumps_text, moment_of, run_text, world_after}
+use Rattle.match_run.specs.Run.{world_after}
+use Rattle.match_run.specs.Inner.Sequential.{moment_of}
 
 -- the moment of a world and a place
 abbrev moment_at : World → ℕ → Moment
@@ -110,23 +106,3 @@ IsAfter-more {minds} {seed} {w} {round} {grid} {stream} after next later played 
 pub IsAfter-world : {minds : Minds} {seed : ℕ} {w : World} {round : ℕ} {grid : Grid} {stream : SeedAndPlace} → IsAfter minds seed w round grid stream → world_of grid ≡ world_after minds seed w round
 unfolding world_after
 IsAfter-world after = ap (λ (m : Moment). m.world) after.moment
-
--- the first dump is that of the start
-pub dumps_text-first : (minds : Minds) (seed : ℕ) (dumps : Dumps) (w : World) → dumps_text minds seed dumps w 1 ≡ chosen_dump dumps w 0
-unfolding dumps_text numbered world_after
-dumps_text-first minds seed dumps w = refl
-
--- the dump of one round more comes last
-pub dumps_text-more : (minds : Minds) (seed : ℕ) (dumps : Dumps) (w : World) (n : ℕ) → dumps_text minds seed dumps w (n + 1) ≡ dumps_text minds seed dumps w n ++ chosen_dump dumps (world_after minds seed w n) n
-unfolding dumps_text
-dumps_text-more minds seed dumps w n = numbered-more (λ round. chosen_dump dumps (world_after minds seed w round) round) n
-
--- the dumps of the first rounds are a front of all
-pub dumps_text-front : (minds : Minds) (seed : ℕ) (dumps : Dumps) (w : World) (i n : ℕ) → i ≤ n → (rest : List ℕ) × (dumps_text minds seed dumps w n ≡ dumps_text minds seed dumps w i ++ rest)
-unfolding dumps_text
-dumps_text-front minds seed dumps w i n le = numbered-front (λ round. chosen_dump dumps (world_after minds seed w round) round) i n le
-
--- the parts of a run's text
-pub run_text-parts : (minds : Minds) (seed rounds : ℕ) (dumps : Dumps) (w : World) → run_text minds seed rounds dumps w ≡ seed_text seed ++ (dumps_text minds seed dumps w (rounds + 1) ++ score_text (score_of (world_after minds seed w rounds)))
-unfolding run_text
-run_text-parts minds seed rounds dumps w = refl

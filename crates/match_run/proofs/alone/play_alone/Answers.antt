@@ -3,8 +3,8 @@ use Rattle.ant_base.proofs.Pushing.{front_more, pushed_then}
 use Rattle.ant_turn.specs.Minds.{minds_of}
 use Rattle.cell_world.specs.Grid.{world_of}
 use Rattle.match_run.specs.Run.{ended}
-use Rattle.match_run.proofs.Playing.{run_text-parts}
-use Rattle.match_run.proofs.play.play_alone.Goals as goal
+use Rattle.match_run.proofs.RunLemmas.{run_text-parts}
+use Rattle.match_run.proofs.alone.play_alone.Goals as goal
 
 pub returns-in_err-push_seed-clause-text : goal.returns-in_err-push_seed-clause-text
 returns-in_err-push_seed-clause-text g c =

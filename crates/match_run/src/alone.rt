@@ -1,4 +1,4 @@
-// A whole game, played on one thread.
+// A whole game, played turn after turn.
 ghost use Rattle.std.specs.Prelude.{◌≡◌, ◌+◌, ◌≤◌, IfOk, OnOk};
 ghost use Rattle.ant_base.specs.Layout.{◌+++◌};
 ghost use Rattle.ant_base.specs.Sink.{Pushed};
@@ -6,16 +6,16 @@ ghost use Rattle.ant_turn.specs.Minds.{Fits, minds_of};
 ghost use Rattle.cell_world.specs.Grid.{world_of};
 ghost use Rattle.cell_world.specs.Score.{score_of};
 ghost use Rattle.dump_print.specs.Texts.{score_text};
-ghost use Rattle.match_run.specs.Run.{most_rounds, chosen_dump, dumps_text, ended, run_text, world_after};
+ghost use Rattle.match_run.specs.Run.{most_rounds, dumps_text, ended, run_text, world_after};
 
-use crate::dumps::Dumps;
-use crate::game::play_round;
+use crate::dumps::push_chosen;
 use crate::plan::Plan;
+use crate::sequential::play_round;
 use ant_base::{Failed, Sink};
 use ant_random::Stream;
 use ant_turn::Brains;
 use cell_world::{Score, World};
-use dump_print::{push_dump, push_score, push_seed};
+use dump_print::{push_score, push_seed};
 
 /// Plays a game and pushes the text of its run: the line of the seed, the dump after each round that the plan chooses, from round 0, the
 /// start, to the last in order, and the score (the task's game play; the layout is this project's own).
@@ -23,7 +23,8 @@ use dump_print::{push_dump, push_score, push_seed};
 /// Each ant's state is below the length of its colour's brain, as in every opening world, and the plan has at most 1,000,000 rounds.
 /// The turns are those of the ids in rising order, from 0, round after round, with the random numbers of the seed from place 0 on.
 /// Gives the score after the last round: the food on each colour's hill. It fails only where the sink did: a front of the text was pushed
-/// then. It takes no memory, and reads neither the plan's window nor whether counts are printed.
+/// then. It takes no memory. It makes no looks and counts none: its text is that of a plan without counts, whatever the plan's window and
+/// whether it asks for counts.
 pub fn play_alone<K: Sink>(
     world: World,
     brains: Brains<'_>,
@@ -81,22 +82,6 @@ fn play_rounds<K: Sink>(
         push_chosen(world, &plan.dumps, round + 1, sink)?;
     }
     Ok(())
-}
-
-// Pushes the dump of the world after a round, if that round is chosen.
-fn push_chosen<K: Sink>(
-    world: &World,
-    dumps: &Dumps,
-    round: u32,
-    sink: &mut K,
-) -> Result<(), Failed>
-    ensures { Pushed (K.state sink.old) (K.state sink.new) (chosen_dump dumps.now (world_of world.now) round) result }
-{
-    if dumps.chooses(round) {
-        push_dump(world, round, sink)
-    } else {
-        Ok(())
-    }
 }
 
 /// The score after the last round of a game, as `play_alone` gives it, without a text: the food on each colour's hill (the task's game
