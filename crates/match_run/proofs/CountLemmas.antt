@@ -2,10 +2,11 @@
 use Rattle.std.proofs.Common.{◌≡◌, ℕ, zero, suc, ◌+◌, ◌-◌, ◌*◌, ◌/◌, ◌%◌, ◌<◌, ◌≤◌, min, refl, sym, ◌∙◌, ap, ap₂, arith}
 use Rattle.std.proofs.lemmas.Nat.{div-add-mod', div-mul-add, mod_below}
 use Rattle.ant_turn.specs.Minds.{Minds}
-use Rattle.ant_turn.specs.Rounds.{Moment, after_rounds}
-use Rattle.ant_turn.proofs.KeptByRounds.{after_rounds-ids, after_rounds-then}
+use Rattle.ant_turn.specs.Rounds.{Moment, after_rounds, after_turns}
+use Rattle.ant_turn.proofs.KeptByRounds.{after_rounds-ids, after_rounds-then, after_turns-ids, after_turns-then}
 use Rattle.dump_print.specs.declared.totals.Totals.{Totals}
 use Rattle.round_book.proofs.CountLemmas.{counts-add_up}
+use Rattle.round_book.specs.Window.{Window}
 use Rattle.match_run.specs.Counts.{both, no_turns, round_totals, sum_windows, totals_of, window_at, window_totals, windows_of}
 
 abbrev three : ℕ → ℕ → ℕ → Totals
@@ -99,3 +100,35 @@ module _ (minds : Minds) (seed size : ℕ) where
       ap (totals_of minds seed size m) (let more : r + suc q ≡ suc (r + q) = omega arith in more)
       ∙ ap₂ (λ s (n : Moment). both s (round_totals minds seed size n)) (totals_of-then m r q) (sym (after_rounds-then minds seed m r q))
       ∙ both-both (totals_of minds seed size m r) (totals_of minds seed size (after_rounds minds seed m r) q) (round_totals minds seed size (after_rounds minds seed (after_rounds minds seed m r) q))
+
+-- no window is empty
+pub windows_of-full : (size turns : ℕ) → 1 ≤ size → windows_of size turns * size < turns + size
+windows_of-full size turns sized =
+    let whole = div-add-mod' (turns + size - 1) size in
+    omega (arith, whole)
+
+abbrev window_from : Minds → ℕ → Moment → ℕ → ℕ → Window
+window_from minds seed m from to = record { minds = minds; seed = seed; base = m.world; place = m.place; from = from; to = to }
+
+module _ (minds : Minds) (seed size : ℕ) (m : Moment) (from k : ℕ) where
+  -- the windows after the first k are those of the turns after them
+  window_at-later : (j : ℕ) → window_at minds seed size (after_turns minds seed m from (k * size)) (from + k * size) j ≡ window_at minds seed size m from (k + j)
+  unfolding window_at
+  window_at-later j =
+      let turns : k * size + j * size ≡ (k + j) * size = omega arith in
+      let first : from + k * size + j * size ≡ from + (k + j) * size = omega arith in
+      let ids = after_turns-ids minds seed m from (k * size) in
+      let last : min (from + k * size + j * size + size) (after_turns minds seed m from (k * size)).world.ids ≡ min (from + (k + j) * size + size) m.world.ids = omega (arith, first, ids) in
+      let there = after_turns minds seed (after_turns minds seed m from (k * size)) (from + k * size) (j * size) in
+      ap (λ t. window_from minds seed there t (min (from + k * size + j * size + size) (after_turns minds seed m from (k * size)).world.ids)) first
+      ∙ ap (λ t. window_from minds seed there (from + (k + j) * size) t) last
+      ∙ ap (λ (n : Moment). window_from minds seed n (from + (k + j) * size) (min (from + (k + j) * size + size) m.world.ids))
+      (after_turns-then minds seed m from (k * size) (j * size) ∙ ap (after_turns minds seed m from) turns)
+
+  -- the turns of the first windows, and of those after them
+  pub sum_windows-then : (j : ℕ) → both (sum_windows minds seed size m from k) (sum_windows minds seed size (after_turns minds seed m from (k * size)) (from + k * size) j) ≡ sum_windows minds seed size m from (k + j)
+  sum_windows-then zero = both-none (sum_windows minds seed size m from k) ∙ ap (sum_windows minds seed size m from) (let same : k ≡ k + 0 = omega arith in same)
+  sum_windows-then (suc j) =
+      sym (both-both (sum_windows minds seed size m from k) (sum_windows minds seed size (after_turns minds seed m from (k * size)) (from + k * size) j) (window_totals (window_at minds seed size (after_turns minds seed m from (k * size)) (from + k * size) j)))
+      ∙ ap₂ (λ t (window : Window). both t (window_totals window)) (sum_windows-then j) (window_at-later j)
+      ∙ ap (sum_windows minds seed size m from) (let more : suc (k + j) ≡ k + suc j = omega arith in more)

@@ -1,4 +1,6 @@
+pub mod CountLaws
 pub mod CountLemmas
+pub mod CountWorked
 pub mod GameLemmas
 pub mod PlayLemmas
 pub mod RunLaws

@@ -23,7 +23,8 @@ pub use fault::PlayFault;
 pub use game::Game;
 pub use hex_geometry::OutOfMemory;
 pub use laws::{
-    all_dumps, goes_on, later_adds_nothing, no_dumps, repeat_adds_nothing, same_rounds,
+    all_dumps, broken_rounds_go_on, counts_come_last, goes_on, later_adds_nothing, no_dumps,
+    repeat_adds_nothing, rounds_go_on, same_rounds, totals_add_up, whole_rounds,
 };
 pub use plan::Plan;
 pub use playing::play;
