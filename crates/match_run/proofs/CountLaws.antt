@@ -1,12 +1,11 @@
 -- What holds of the counts of all games.
-use Rattle.std.proofs.Common.{◌≡◌, ℕ, ◌+◌, ◌-◌, ◌*◌, ◌≤◌, List, [], ◌++◌, refl, sym, ◌∙◌, ap, ap₂, append-nil, arith}
+use Rattle.std.proofs.Common.{◌≡◌, ℕ, ◌+◌, ◌-◌, ◌*◌, refl, sym, ◌∙◌, ap, append-nil, arith}
 use Rattle.ant_turn.specs.Minds.{Minds}
 use Rattle.ant_turn.specs.Rounds.{Moment, after_turns}
 use Rattle.ant_turn.proofs.KeptByRounds.{after_rounds-then, after_turns-then}
-use Rattle.dump_print.specs.declared.totals.Totals.{Totals}
 use Rattle.match_run.specs.Counts.{both, sum_windows, whole_text, windows_of}
 use Rattle.match_run.specs.CountLaws.{BrokenRoundsGoOn, CountsComeLast, RoundsGoOn, TotalsAddUp, WholeRounds}
-use Rattle.match_run.specs.Game.{GameValue, now_of}
+use Rattle.match_run.specs.Game.{now_of}
 use Rattle.match_run.specs.Run.{run_text}
 use Rattle.match_run.proofs.CountLemmas.{both-both, sum_windows-then, totals_of-add_up, totals_of-then, totals_of-turns, windows_of-full, windows_of-is, windows_of-room}
 use Rattle.match_run.proofs.GameLemmas.{whole-moment, whole-totals}

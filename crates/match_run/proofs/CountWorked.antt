@@ -1,5 +1,5 @@
 -- The counts of games, worked out.
-use Rattle.std.proofs.Common.{◌≡◌, codes, refl, true, false}
+use Rattle.std.proofs.Common.{◌≡◌, refl}
 use Rattle.cell_world.specs.Cell.{rock}
 use Rattle.cell_world.specs.Grid.{cell_in}
 use Rattle.cell_world.specs.Opening.{floor, opening}

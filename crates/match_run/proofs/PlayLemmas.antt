@@ -1,9 +1,9 @@
 -- What playing a run pushes, and where it stands.
-use Rattle.std.proofs.Common.{◌≡◌, ℕ, ◌+◌, ◌-◌, ◌*◌, ◌^◌, ◌<◌, ◌≤◌, true, Bool, List, [], ◌++◌, refl, sym, ◌∙◌, ap, ap₂, subst, Result, Ok, Err, append_assoc, arith}
+use Rattle.std.proofs.Common.{◌≡◌, ℕ, ◌+◌, ◌-◌, ◌*◌, ◌^◌, ◌<◌, ◌≤◌, Bool, List, [], ◌++◌, refl, sym, ◌∙◌, ap, ap₂, subst, Result, Ok, Err, append_assoc, arith}
 use Rattle.ant_base.specs.Sink.{SinkState, PushedAll}
 use Rattle.ant_base.proofs.Pushing.{all_of_nothing, all_then, front_more, front_then}
 use Rattle.ant_turn.specs.Minds.{Minds}
-use Rattle.ant_turn.specs.Rounds.{Moment, after_round, after_rounds, start_of}
+use Rattle.ant_turn.specs.Rounds.{Moment, after_round, start_of}
 use Rattle.ant_turn.proofs.KeptByRounds.{after_rounds-more}
 use Rattle.cell_world.specs.Grid.{world_of}
 use Rattle.cell_world.specs.Score.{score_of}

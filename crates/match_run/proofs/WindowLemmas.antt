@@ -7,7 +7,7 @@ use Rattle.dump_print.specs.declared.totals.Totals.{Totals}
 use Rattle.round_book.specs.Book.{FieldValue, IsPlayed, field_moment, window_of}
 use Rattle.round_book.specs.Counts.{Counted, counts_of}
 use Rattle.round_book.specs.Window.{Window, moment_before}
-use Rattle.match_run.specs.Counts.{both, no_turns, sum_windows, window_at, window_totals}
+use Rattle.match_run.specs.Counts.{both, sum_windows, window_at, window_totals}
 use Rattle.match_run.specs.Game.{counted_on}
 use Rattle.match_run.specs.Inner.Windows.{WindowsPlayed}
 use Rattle.match_run.proofs.CountLemmas.{both-both, both-none, sum_windows-turns}

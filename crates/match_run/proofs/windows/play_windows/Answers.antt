@@ -1,10 +1,9 @@
-use Rattle.std.proofs.Common.{◌≡◌, ℕ, ◌+◌, ◌-◌, ◌<◌, ◌≤◌, min, refl, sym, ◌∙◌, ap, subst, arith}
+use Rattle.std.proofs.Common.{◌≡◌, ℕ, ◌+◌, ◌-◌, ◌<◌, min, sym, ◌∙◌, ap, subst, arith}
 use Rattle.cell_world.specs.Grid.{Grid}
 use Rattle.dump_print.specs.declared.totals.Totals.{Totals}
 use Rattle.round_book.specs.Book.{FieldValue, window_of}
 use Rattle.round_book.specs.Counts.{Counted}
 use Rattle.round_book.proofs.CountLemmas.{counts-add_up}
-use Rattle.match_run.specs.Game.{counted_on}
 use Rattle.match_run.specs.Inner.Windows.{WindowsPlayed}
 use Rattle.match_run.proofs.WindowLemmas.{counted-more, counted-none, played-more, played-none, played-next, played-place, played-turns}
 use Rattle.match_run.proofs.windows.play_windows.Goals as goal

@@ -1,4 +1,4 @@
-use Rattle.std.proofs.Common.{ℕ, refl, sym, subst}
+use Rattle.std.proofs.Common.{ℕ, sym, subst}
 use Rattle.match_run.specs.Counts.{no_turns}
 use Rattle.match_run.specs.Game.{IsGame}
 use Rattle.match_run.proofs.GameLemmas.{IsGame-beginning}

@@ -1,8 +1,8 @@
-use Rattle.std.proofs.Common.{◌≡◌, ◌+◌, ◌<◌, ◌∙◌, ap, subst, sym, arith}
+use Rattle.std.proofs.Common.{◌+◌, ◌<◌, ◌∙◌, ap, subst, sym, arith}
 use Rattle.cell_world.specs.Grid.{Grid}
 use Rattle.match_run.specs.Game.{GameValue, IsRoundPlayed}
 use Rattle.match_run.specs.Run.{most_rounds}
-use Rattle.match_run.proofs.GameLemmas.{IsGame-played, IsGame-refused, IsRoundPlayed-windows, IsRoundRefused-windows, game-lasting, next-within, of_game, totals-small}
+use Rattle.match_run.proofs.GameLemmas.{IsGame-played, IsGame-refused, IsRoundPlayed-windows, game-lasting, next-within, of_game, totals-small}
 use Rattle.match_run.proofs.game.Game.round.Goals as goal
 
 pub play_windows-progress-requires-clause-begins : goal.play_windows-progress-requires-clause-begins
