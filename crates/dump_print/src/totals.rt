@@ -2,7 +2,7 @@
 
 /// What came of the turns of a game: how many there were, how many of them were taken from looks that were made ahead, and how many were
 /// executed anew (this project's own).
-#[derive(Clone, Copy)]
+#[derive(Clone, Copy, Debug, PartialEq, Eq)]
 pub struct Totals {
     /// How many turns were played, those of dead and resting ants among them.
     pub turns: u64,
