@@ -17,9 +17,9 @@ use Rattle.spec_record.specs.Look.{LookValue, look_of}
 use Rattle.spec_record.proofs.Flips.{look-drew}
 use Rattle.round_workers.specs.declared.piece.Piece.{Piece}
 use Rattle.round_workers.specs.declared.share.Share.{Share}
-use Rattle.round_workers.specs.Inner.Pieces.{AreLooked, Follow, HasRoom, IsDone, IsReady, all_have_room}
-use Rattle.round_workers.specs.Shares.{looks_for}
-use Rattle.round_workers.proofs.ShareLemmas.{Follow-within}
+use Rattle.round_workers.specs.Inner.Pieces.{AreLooked, Follow, HasRoom, IsDone, IsReady, all_have_room, shares_among}
+use Rattle.round_workers.specs.Shares.{looks_for, shares}
+use Rattle.round_workers.proofs.ShareLemmas.{Follow-shares, Follow-within}
 
 pub looks_for-length : (window : Window) (t n : ℕ) → length (looks_for window t n) ≡ n
 looks_for-length window t zero = refl
@@ -180,3 +180,10 @@ module _ (window : Window) (share : Share) (looks : List LookValue) (looked : Ar
       let long = looked-length in
       let within : i < share.to - share.from = omega arith in
       is ∙ ap (λ xs. get_or xs i look) looked ∙ looks_for-at window share.from (share.to - share.from) i look within
+
+-- what was dealt to all workers is the window
+pub dealt-follow : (workers from to dealt : ℕ) (pieces slice : List Piece) → 0 < workers → from ≤ to → slice ≡ pieces → shares_among dealt pieces ≡ shares workers from (to - from) workers → Follow (shares_among dealt slice) from to
+dealt-follow workers from to dealt pieces slice some_workers forwards is shared =
+    let end : from + (to - from) ≡ to = omega arith in
+    subst (λ ss. Follow ss from to) (sym (ap (shares_among dealt) is ∙ shared))
+    (subst (λ e. Follow (shares workers from (to - from) workers) from e) end (Follow-shares workers from (to - from) some_workers))

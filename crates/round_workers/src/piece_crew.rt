@@ -117,15 +117,9 @@ fn play<R: Threads + Sync, G: Gate>(
     ensures unchanged { OnErr result (field.new ≡ field.old) }
 {
     let dealt = deal(pieces, alloc, workers, from, to)?;
-    look_at_pieces(
-        rt,
-        gate,
-        field,
-        from,
-        &mut pieces[..dealt],
-        workers as usize,
-    );
+    let pieces = &mut pieces[..dealt];
+    look_at_pieces(rt, gate, field, from, pieces, workers as usize);
     let mut book = field.begin(alloc, from, to)?;
-    settle_pieces(&mut book, field, &pieces[..dealt]);
+    settle_pieces(&mut book, field, pieces);
     Ok(field.finish(book))
 }
