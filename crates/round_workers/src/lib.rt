@@ -15,3 +15,6 @@ mod share;
 
 pub use hex_geometry::OutOfMemory;
 pub use piece_crew::PieceCrew;
+
+#[cfg(test)]
+mod tests;
