@@ -1,5 +1,5 @@
 -- one turn further
-use Rattle.std.proofs.Common.{◌≡◌, add-one, ◌+◌, ◌≤◌, sym, ◌∙◌, ap, arith}
+use Rattle.std.proofs.Common.{◌≡◌, add-one, ◌≤◌, sym, ◌∙◌, ap, arith}
 use Rattle.cell_world.specs.Grid.{world_of}
 use Rattle.cell_world.specs.Cell.{one_if}
 use Rattle.ant_turn.specs.Minds.{minds_of}
