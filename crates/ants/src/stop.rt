@@ -5,7 +5,7 @@ ghost use Rattle.ants.specs.Stopping.{file_fault_text, brain_fault_text, world_f
 use crate::status::Status;
 use ant_base::{Failed, Layout, Sink, layout};
 use brain_read::BrainFault;
-use match_run::OutOfMemory;
+use match_run::{OutOfMemory, PlayFault};
 use world_read::WorldFault;
 
 /// Why a file was refused (this project's own).
@@ -53,6 +53,19 @@ impl From<OutOfMemory> for Stop<'_> {
 
     fn from(_: OutOfMemory) -> Self {
         Stop::Memory
+    }
+}
+
+impl From<PlayFault> for Stop<'_> {
+    ghost use Rattle.ants.specs.Inner.Planning.{stop_of};
+
+    ghost from_gives = { λ fault stop. stop ≡ stop_of fault };
+
+    fn from(fault: PlayFault) -> Self {
+        match fault {
+            PlayFault::WriteFault => Stop::Write,
+            PlayFault::OutOfMemory => Stop::Memory,
+        }
     }
 }
 
