@@ -92,7 +92,15 @@ fn carry_out<'w, R: Threads + Sync, S: Shelf, K: Sink, G: Gate>(
                 black,
                 options,
             },
-        ) => carry_out_run(rt, alloc, Names { world, red, black }, options, shelf, out, gate),
+        ) => carry_out_run(
+            rt,
+            alloc,
+            Names { world, red, black },
+            options,
+            shelf,
+            out,
+            gate,
+        ),
         Ok(Command::Gen { seed, shape }) => gen_world(alloc, seed, shape, shelf, out),
         // The table of commands knows no others, so no words are one of them.
         Ok(Command::Cup { .. } | Command::View { .. } | Command::Workload { .. }) => {

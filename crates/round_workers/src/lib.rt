@@ -15,6 +15,3 @@ mod share;
 
 pub use hex_geometry::OutOfMemory;
 pub use piece_crew::PieceCrew;
-
-#[cfg(test)]
-mod tests;
