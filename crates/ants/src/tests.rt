@@ -7,10 +7,11 @@ mod outside;
 mod runs;
 mod shown;
 mod words;
+mod workers;
 
 use crate::program::run_ants;
 use crate::status::Status;
-use ant_base::{Calls, Files, MemShelf, MemSink, NoGate};
+use ant_base::{Calls, Files, Gate, MemShelf, MemSink, NoGate};
 use std::alloc::Global;
 use std::process::Abort;
 use std::test::Fail;
@@ -92,12 +93,22 @@ fn files_of(alloc: Global, job: &Job<'_>) -> Result<Files, Fail> {
 
 // Carries out a command.
 fn answer<R: Threads + Sync>(rt: &R, alloc: Global, job: &Job<'_>) -> Result<Outcome, Fail> {
+    answer_by(rt, alloc, job, &NoGate)
+}
+
+// Carries out a command, whose workers call this gate.
+fn answer_by<R: Threads + Sync, G: Gate>(
+    rt: &R,
+    alloc: Global,
+    job: &Job<'_>,
+    gate: &G,
+) -> Result<Outcome, Fail> {
     let words = split(alloc, job.line)?;
     let files = files_of(alloc, job)?;
     let mut shelf = MemShelf::new(files, only(alloc, job.failing_fetch)?);
     let mut out = MemSink::with_room(alloc, job.room, only(alloc, job.failing_push)?)?;
     let mut err = MemSink::with_room(alloc, job.err_room, Calls::new(alloc))?;
-    let status = run_ants(rt, alloc, &words, &mut shelf, &mut out, &mut err, &NoGate);
+    let status = run_ants(rt, alloc, &words, &mut shelf, &mut out, &mut err, gate);
     Ok(Outcome { status, out, err })
 }
 

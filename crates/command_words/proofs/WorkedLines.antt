@@ -54,17 +54,17 @@ run_defaults = read-accepts (words_of (codes "run w r b --seed 1 --rounds 100000
     (RunCommand (codes "w") (codes "r") (codes "b") (game 1 1000000 NoDump 1 16384 5 3 14 false)) refl
 
 -- each option of `run`, at its greatest number
-pub run_all_greatest : IsCommand (words_of (codes "run w r b --stats --rest 255 --corpse 9 --surround 6 --window 16384 --dump all --rounds 0 --seed 0"))
-    (RunCommand (codes "w") (codes "r") (codes "b") (game 0 0 EveryDump 1 16384 6 9 255 true))
+pub run_all_greatest : IsCommand (words_of (codes "run w r b --stats --rest 255 --corpse 9 --surround 6 --window 16384 --workers 16 --dump all --rounds 0 --seed 0"))
+    (RunCommand (codes "w") (codes "r") (codes "b") (game 0 0 EveryDump 16 16384 6 9 255 true))
 unfolding kind_of choice_of is_among rest_after is_file_name is_dumps dumps_of number_of
-run_all_greatest = read-accepts (words_of (codes "run w r b --stats --rest 255 --corpse 9 --surround 6 --window 16384 --dump all --rounds 0 --seed 0"))
-    (RunCommand (codes "w") (codes "r") (codes "b") (game 0 0 EveryDump 1 16384 6 9 255 true)) refl
+run_all_greatest = read-accepts (words_of (codes "run w r b --stats --rest 255 --corpse 9 --surround 6 --window 16384 --workers 16 --dump all --rounds 0 --seed 0"))
+    (RunCommand (codes "w") (codes "r") (codes "b") (game 0 0 EveryDump 16 16384 6 9 255 true)) refl
 
 -- each number of `run` at its least
-pub run_all_least : IsCommand (words_of (codes "run w r b --seed 2 --rounds 3 --dump none --window 1 --surround 4 --corpse 0 --rest 0"))
+pub run_all_least : IsCommand (words_of (codes "run w r b --seed 2 --rounds 3 --dump none --workers 1 --window 1 --surround 4 --corpse 0 --rest 0"))
     (RunCommand (codes "w") (codes "r") (codes "b") (game 2 3 NoDump 1 1 4 0 0 false))
 unfolding kind_of choice_of is_among rest_after is_file_name is_dumps dumps_of number_of
-run_all_least = read-accepts (words_of (codes "run w r b --seed 2 --rounds 3 --dump none --window 1 --surround 4 --corpse 0 --rest 0"))
+run_all_least = read-accepts (words_of (codes "run w r b --seed 2 --rounds 3 --dump none --workers 1 --window 1 --surround 4 --corpse 0 --rest 0"))
     (RunCommand (codes "w") (codes "r") (codes "b") (game 2 3 NoDump 1 1 4 0 0 false)) refl
 
 -- options in another order, a list in its own order with a repeat, and a leading zero
@@ -152,6 +152,16 @@ corpse_too_great = read-refuses (words_of (codes "run w r b --corpse 10")) 6 ref
 pub rest_too_great : IsRefusedAt (words_of (codes "run w r b --rest 256")) 6
 unfolding kind_of choice_of is_among rest_after is_file_name is_dumps dumps_of number_of
 rest_too_great = read-refuses (words_of (codes "run w r b --rest 256")) 6 refl
+
+-- no workers
+pub no_workers : IsRefusedAt (words_of (codes "run w r b --workers 0")) 6
+unfolding kind_of choice_of is_among rest_after is_file_name is_dumps dumps_of number_of
+no_workers = read-refuses (words_of (codes "run w r b --workers 0")) 6 refl
+
+-- 17 workers
+pub too_many_workers : IsRefusedAt (words_of (codes "run w r b --workers 17")) 6
+unfolding kind_of choice_of is_among rest_after is_file_name is_dumps dumps_of number_of
+too_many_workers = read-refuses (words_of (codes "run w r b --workers 17")) 6 refl
 
 -- a window without turns
 pub no_window : IsRefusedAt (words_of (codes "run w r b --window 0")) 6

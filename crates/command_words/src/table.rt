@@ -164,6 +164,7 @@ impl CommandKind {
                 Choice::Seed,
                 Choice::Rounds,
                 Choice::Dump,
+                Choice::Workers,
                 Choice::Window,
                 Choice::Surround,
                 Choice::Corpse,

@@ -1,5 +1,5 @@
 // Games that are played by crews, round by round.
-ghost use Rattle.std.specs.Prelude.{◌≤◌, length};
+ghost use Rattle.std.specs.Prelude.{◌≡◌, ◌≤◌, true, length, IfOk};
 ghost use Rattle.ant_base.specs.Shelf.{longest};
 
 use crate::tests::CLOSING;
@@ -14,7 +14,7 @@ use std::test::Fail;
 use world_read::read_world;
 
 // The most bytes of a file.
-const MOST_BYTES: usize = 4_194_304;
+pub const MOST_BYTES: usize = 4_194_304;
 
 // A crew that plays as another does, but for the window of one call, which it refuses.
 #[derive(Drop)]
@@ -49,13 +49,29 @@ impl<C: Crew + Drop> Crew for Refusing<C> {
 }
 
 // The brain of a text.
-fn brain_of<R: Abort>(rt: &R, alloc: Global, text: &str) -> Result<Brain, Fail> {
+pub fn brain_of<R: Abort>(rt: &R, alloc: Global, text: &str) -> Result<Brain, Fail> {
     let bytes = text.as_bytes();
     assert!(rt; bytes.len() <= MOST_BYTES);
     Ok(read_brain(alloc, bytes)?)
 }
 
-// A game on the world of a text, from the start of a seed's random numbers.
+// A whole field on the world of a text, at the start of a seed's random numbers.
+pub fn field_on<'b>(
+    alloc: Global,
+    text: &[u8],
+    brains: Brains<'b>,
+    seed: u32,
+) -> Result<Field<'b>, Fail>
+    requires { length text.now ≤ longest }
+    ensures { IfOk result (λ field. (field.whole ≡ true) × (field.place ≡ 0)) }
+{
+    let world = read_world(alloc, text)?;
+    let _red_states = brains.red.len();
+    let _black_states = brains.black.len();
+    Ok(Field::new(alloc, world, brains, seed, 0)?)
+}
+
+// A game that begins so.
 fn game_on<'b>(
     alloc: Global,
     text: &[u8],
@@ -66,11 +82,7 @@ fn game_on<'b>(
     requires short { length text.now ≤ longest }
     requires sized { 1 ≤ window }
 {
-    let world = read_world(alloc, text)?;
-    let _red_states = brains.red.len();
-    let _black_states = brains.black.len();
-    let field = Field::new(alloc, world, brains, seed, 0)?;
-    Ok(Game::begin(field, window))
+    Ok(Game::begin(field_on(alloc, text, brains, seed)?, window))
 }
 
 // Asserts what came of the turns of a game so far, and how many rounds are done.

@@ -12,5 +12,5 @@ returns c =
     let w = world_of c.args.base.now in
     let s = c.stream_for-stream.result in
     c.set_guess.ensures
-    ∙ ap (λ (l : LookValue). record l { guess = c.args.guess }) (c.renew.ensures.look ∙ ap (λ n. look_of minds n w s.place c.args.id) c.stream_for-stream.ensures.seed)
+    ∙ ap (λ (l : LookValue). record l { guess = c.args.guess }) (c.look_by-look.ensures.look ∙ ap (λ n. look_of minds n w s.place c.args.id) c.stream_for-stream.ensures.seed)
     ∙ look_of-guessed minds c.args.seed w s.place c.args.guess c.args.id c.stream_for-stream.ensures.place

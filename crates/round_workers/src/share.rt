@@ -1,0 +1,37 @@
+// Which turns of a window each worker looks at.
+ghost use Rattle.std.specs.Prelude.{◌≡◌, ◌+◌, ◌*◌, ◌/◌, ◌<◌, ◌≤◌, ◌^◌};
+ghost use Rattle.round_workers.specs.Shares.{share_of};
+
+// The turns of one worker: those of the ids from `from` up to, and not including, `to`.
+#[derive(Clone, Copy)]
+pub struct Share {
+    pub worker: u32,
+    pub from: u32,
+    pub to: u32,
+}
+
+// The share of this worker in so many turns from `from` on.
+pub fn share_of(workers: u32, from: u32, turns: u32, worker: u32) -> Share
+    requires workers { workers ≤ 16 }
+    requires worker { worker < workers }
+    requires turns { from + turns < 2 ^ 32 }
+    ensures { result ≡ share_of workers from turns worker }
+{
+    Share {
+        worker,
+        from: from + border(workers, turns, worker),
+        to: from + border(workers, turns, worker + 1),
+    }
+}
+
+// How many of so many turns the workers before this one have.
+#[tactic(auto, using(crate::proofs::ShareLemmas::border_small, crate::proofs::ShareLemmas::border_within))]
+fn border(workers: u32, turns: u32, worker: u32) -> u32
+    requires some { 0 < workers }
+    requires workers { workers ≤ 16 }
+    requires worker { worker ≤ workers }
+    ensures value { result ≡ worker * turns / workers }
+    ensures within { result ≤ turns }
+{
+    (u64::from(worker) * u64::from(turns) / u64::from(workers)) as u32
+}
