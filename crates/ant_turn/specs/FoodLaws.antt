@@ -39,4 +39,4 @@ TurnsKeepAnts = (minds : Minds) (seed : ℕ) (w : World) (place t : ℕ) → Val
 abbrev pub RoundsKeepFood : Type 0
 RoundsKeepFood = (minds : Minds) (seed : ℕ) (m : Moment) (r : ℕ) → AreSound minds → Valid m.world → Fits m.world minds →
     food_of (after_rounds minds seed m r).world + minds.sheet.corpse * living_of (after_rounds minds seed m r).world
-        ≡ food_of m.world + minds.sheet.corpse * living_of m.world
+    ≡ food_of m.world + minds.sheet.corpse * living_of m.world

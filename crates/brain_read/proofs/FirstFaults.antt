@@ -169,11 +169,11 @@ first_state_fault-found text fault h =
       none = first_line_fault-none (lines_with_tokens text) list h.good h.few;
       are = h.good;
       found =
-        ap (λ k. first_state_fault k (lines_with_tokens text) list) (AreLines-length (lines_with_tokens text) list h.good)
-        ∙ ap (λ lines. first_state_fault n lines list) h.lines
-        ∙ first_state_fault-pass n h.before (h.line ∷ h.after) h.read (h.instruction ∷ h.unread) h.as_many h.below
-        ∙ ap (λ o. or_later (option_map (NoSuchState h.line.number) o) (first_state_fault n h.after h.unread)) h.wrong
-        ∙ ap Some (sym h.is);
+          ap (λ k. first_state_fault k (lines_with_tokens text) list) (AreLines-length (lines_with_tokens text) list h.good)
+          ∙ ap (λ lines. first_state_fault n lines list) h.lines
+          ∙ first_state_fault-pass n h.before (h.line ∷ h.after) h.read (h.instruction ∷ h.unread) h.as_many h.below
+          ∙ ap (λ o. or_later (option_map (NoSuchState h.line.number) o) (first_state_fault n h.after h.unread)) h.wrong
+          ∙ ap Some (sym h.is);
     }
 
 -- an instruction among these that names a state which isn't below n

@@ -3,8 +3,8 @@ ghost use Rattle.std.specs.Prelude.{◌≡◌, ◌≤◌, drop, IfOk};
 ghost use Rattle.brain_read.specs.Tokens.{is_bad_byte, has_bad_byte};
 ghost use Rattle.brain_read.specs.Steps.{with_rest, missing, refused, take_word, take_number, take_end};
 
-use crate::fault::{LineFault, Refusal};
 use super::Tokens;
+use crate::fault::{LineFault, Refusal};
 use ant_base::read_number_within;
 use word_table::WordTable;
 
