@@ -2,6 +2,7 @@ pub mod Checks
 pub mod Corpses
 pub mod Counting
 pub mod Deaths
+pub mod EdgesWorked
 pub mod Fitting
 pub mod Foes
 pub mod FoodByRounds

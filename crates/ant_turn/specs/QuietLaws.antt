@@ -1,14 +1,14 @@
 -- What turns leave as it is, and how turns and rounds follow one another (the task's kinetics).
-use Rattle.std.specs.Prelude.{◌≡◌, ◌≢◌, ◌⊎◌, ℕ, ◌+◌, Some, None}
+use Rattle.std.specs.Prelude.{◌≡◌, ◌≢◌, ◌⊎◌, ℕ, ◌+◌, false, Some, None}
 use Rattle.std.specs.List.{Contains}
 use Rattle.hex_geometry.specs.declared.position.Pos.{Pos}
 use Rattle.hex_geometry.specs.Neighbourhood.{adjacent_pos}
 use Rattle.cell_world.specs.declared.ant.Ant.{Ant}
 use Rattle.cell_world.specs.declared.ant.Colour.{Colour}
-use Rattle.cell_world.specs.Cell.{marks_of}
+use Rattle.cell_world.specs.Cell.{holds_id, marks_of}
 use Rattle.cell_world.specs.Valid.{Valid}
 use Rattle.cell_world.specs.World.{World, place_in, put}
-use Rattle.ant_turn.specs.FoodLaws.{world_after_turn}
+use Rattle.ant_turn.specs.FoodLaws.{killed_in, world_after_turn}
 use Rattle.ant_turn.specs.Kills.{places_around}
 use Rattle.ant_turn.specs.Minds.{Minds}
 use Rattle.ant_turn.specs.Rounds.{Moment, after_turn, after_turns, after_rounds}
@@ -35,6 +35,12 @@ pub record TurnsAreNear : Type 0 where
   pub cells : (minds : Minds) (seed : ℕ) (w : World) (place t : ℕ) (p : Pos) (ant : Ant) (q : Pos) → place_in w t ≡ Some p
       → (w.cells p).ant ≡ Some ant → q ≢ p → (Contains (places_around (adjacent_pos p ant.facing)) q → ⊥) →
       (turn minds seed w place t).cells q ≡ w.cells q
+  -- of these it changes none but its own and the one ahead where nobody is killed
+  pub spared : (minds : Minds) (seed : ℕ) (w : World) (place t : ℕ) (p : Pos) (ant : Ant) (q : Pos) → place_in w t ≡ Some p → (w.cells p).ant ≡ Some ant → q ≢ p → q ≢ adjacent_pos p ant.facing →
+      ((u : ℕ) → Contains (killed_in minds seed w place t) u → holds_id u (w.cells q) ≡ false) → (turn minds seed w place t).cells q ≡ w.cells q
+  -- and where an ant is left on its own cell, it changes no other
+  pub stayed : (minds : Minds) (seed : ℕ) (w : World) (place t : ℕ) (p : Pos) (ant left : Ant) (q : Pos) → place_in w t ≡ Some p → (w.cells p).ant ≡ Some ant → q ≢ p →
+      ((turn minds seed w place t).cells p).ant ≡ Some left → (turn minds seed w place t).cells q ≡ w.cells q
   -- an ant that lives on is where it was, or on the cell ahead
   pub own : (minds : Minds) (seed : ℕ) (w : World) (place t : ℕ) (p : Pos) (ant : Ant) (q : Pos) → Valid w → place_in w t ≡ Some p
       → (w.cells p).ant ≡ Some ant → place_in (world_after_turn minds seed w place t) t ≡ Some q →

@@ -1,6 +1,5 @@
 -- A text has exactly one brain or exactly one fault, and the reading answers it.
-use Rattle.std.proofs.Common.{◌≡◌, ◌+◌, ◌<◌, ◌≤◌, ℕ, Bool, true, false, not, List, [], ◌∷◌, ◌++◌, length, map, Option, Some, None, Ok, Err, option_map, cond, nat_le, nat_lt, ◌⊎◌, inl, inr, refl, sym, ap, ◌∙◌, subst, arith, leb-false, ltb-true, lt-ltb}
-use Rattle.std.specs.List.{AllByRecursion}
+use Rattle.std.proofs.Common.{◌≡◌, ◌+◌, ◌<◌, ◌≤◌, ℕ, Bool, true, false, List, [], ◌∷◌, ◌++◌, length, map, Option, Some, None, Ok, Err, option_map, cond, nat_le, ◌⊎◌, inl, inr, refl, sym, ap, ◌∙◌, subst, arith, leb-false}
 use Rattle.std.proofs.lemmas.Bool.{lt-leb}
 use Rattle.std.proofs.lemmas.List.{length-map}
 use Rattle.brain_read.specs.declared.fault.BrainFault.{BrainFault}
@@ -13,7 +12,7 @@ use Rattle.brain_read.specs.Forms.{InstrLine}
 use Rattle.brain_read.specs.Steps.{Read}
 use Rattle.brain_read.specs.Inner.Reading.{read_line}
 use Rattle.brain_read.specs.Grammar.{TokenLine, lines_with_tokens, AreLines, states_of, StatesBelow, IsBrainText}
-use Rattle.brain_read.specs.Faulty.{or_later, too_many, first_not_below, HasNoSuchState, IsBrainFault}
+use Rattle.brain_read.specs.Faulty.{or_later, too_many, first_not_below, IsBrainFault}
 use Rattle.brain_read.specs.Inner.FirstFault.{first_line_fault, first_state_fault}
 use Rattle.brain_read.specs.Faulty.IsBrainFault.{OfLine, OfNothing, OfState}
 use Rattle.brain_read.specs.Refusals.{refusal_at}

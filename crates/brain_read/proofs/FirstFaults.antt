@@ -2,7 +2,7 @@
 use Rattle.std.proofs.Common.{◌≡◌, ◌+◌, ◌<◌, ◌≤◌, ℕ, suc, Bool, true, false, not, List, [], ◌∷◌, ◌++◌, length, Option, Some, None, Ok, Err, option_map, cond, nat_le, nat_lt, refl, sym, ap, ◌∙◌, subst, arith, leb-false, ltb-true, lt-ltb}
 use Rattle.std.specs.List.{AllByRecursion}
 use Rattle.std.proofs.lemmas.Bool.{lt-leb}
-use Rattle.std.proofs.lemmas.List.{append-nil, length-append}
+use Rattle.std.proofs.lemmas.List.{append-nil}
 use Rattle.brain_read.specs.declared.fault.BrainFault.{BrainFault}
 use Rattle.brain_read.specs.declared.fault.BrainFault.TheVariants.{TooMany, NoSuchState}
 use Rattle.brain_read.specs.declared.instr.Instr.{Instr}
@@ -12,7 +12,7 @@ use Rattle.brain_read.specs.Judging.Position.{FormToken}
 use Rattle.brain_read.specs.Forms.{InstrLine}
 use Rattle.brain_read.specs.Steps.{Read}
 use Rattle.brain_read.specs.Grammar.{TokenLine, lines_with_tokens, AreLines, states_of, StatesBelow}
-use Rattle.brain_read.specs.Faulty.{or_later, too_many, line_fault, first_not_below, HasLineFault, HasNoSuchState}
+use Rattle.brain_read.specs.Faulty.{or_later, line_fault, first_not_below, HasLineFault, HasNoSuchState}
 use Rattle.brain_read.specs.Inner.FirstFault.{first_line_fault, first_state_fault}
 use Rattle.brain_read.specs.Inner.Reading.{read_line}
 use Rattle.brain_read.proofs.FormsLemmas.{line_spelled, line_again}

@@ -6,5 +6,7 @@ pub mod JudgingLemmas
 pub mod PlacesLemmas
 pub mod SoundnessLemmas
 pub mod TokensLemmas
+pub mod Unwanting
 pub mod VerdictLemmas
 pub mod Worked
+pub mod WorkedTexts

@@ -2,6 +2,7 @@
 use Rattle.std.specs.Prelude.{◌≡◌, ◌⊎◌, ℕ, List}
 use Rattle.std.specs.List.{AllByRecursion}
 use Rattle.brain_read.specs.declared.fault.BrainFault.{BrainFault}
+use Rattle.brain_read.specs.declared.fault.BrainFault.TheVariants.{OutOfMemory}
 use Rattle.brain_read.specs.declared.instr.Instr.{Instr}
 use Rattle.brain_read.specs.Soundness.{IsBrain}
 use Rattle.brain_read.specs.Forms.{HasBound}
@@ -19,3 +20,12 @@ pub record OneBrainOrOneFault : Type 0 where
 -- the canonical text of a brain, whose bounds are at most the largest, is a text of that brain
 abbrev pub CanonicalTextIsRead : Type 0
 CanonicalTextIsRead = (brain : List Instr) → IsBrain brain → AllByRecursion HasBound brain → IsBrainText (brain_text brain) brain
+
+-- what a text is the text of is a brain: 1 to 10,000 instructions, whose states are below their number, whose markers are below 6 and whose
+-- bounds are at least 1
+abbrev pub TextsMakeBrains : Type 0
+TextsMakeBrains = (text : List ℕ) (brain : List Instr) → IsBrainText text brain → IsBrain brain
+
+-- want of memory is no text's fault
+abbrev pub NoTextWantsMemory : Type 0
+NoTextWantsMemory = (text : List ℕ) → ¬ IsBrainFault text OutOfMemory

@@ -1,5 +1,5 @@
 // Laws of the text of brains.
-ghost use Rattle.brain_read.specs.Laws.{OneBrainOrOneFault, CanonicalTextIsRead};
+ghost use Rattle.brain_read.specs.Laws.{CanonicalTextIsRead, NoTextWantsMemory, OneBrainOrOneFault, TextsMakeBrains};
 
 /// A law: every text has exactly one brain or exactly one fault, and never both.
 pub fn one_brain_or_one_fault()
@@ -10,4 +10,15 @@ pub fn one_brain_or_one_fault()
 /// and no other.
 pub fn canonical_text_is_read()
     ensures { CanonicalTextIsRead }
+{}
+
+/// A law: what a text is the text of is a brain: 1 to 10,000 instructions, whose states are below their number, whose markers are below 6 and
+/// whose bounds are at least 1 (the task's neurology).
+pub fn texts_make_brains()
+    ensures { TextsMakeBrains }
+{}
+
+/// A law: want of memory is no text's fault.
+pub fn no_text_wants_memory()
+    ensures { NoTextWantsMemory }
 {}

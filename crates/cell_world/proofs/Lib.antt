@@ -18,6 +18,7 @@ pub mod Patches
 pub mod Places
 pub mod Plans
 pub mod Puts
+pub mod ScoreWorked
 pub mod Sets
 pub mod StoredLemmas
 pub mod Tallies
