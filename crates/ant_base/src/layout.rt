@@ -7,7 +7,7 @@ ghost use Rattle.ant_base.specs.Layout.{text_of_option};
 use crate::{Failed, Sink};
 use itoa::Buffer;
 
-/// A value that is printed as one exact text (this project's own).
+/// A value that is printed as one exact text.
 pub trait Layout {
     /// The text that is printed.
     ghost text: { Self → List ℕ };
