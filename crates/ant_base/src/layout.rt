@@ -17,6 +17,7 @@ pub trait Layout {
         ensures { Pushed (K.state sink.old) (K.state sink.new) (text self.now) result };
 }
 
+// An impl for each type of numbers: one for all types that become a u64 would overlap with that for texts.
 impl Layout for u8 {
     ghost text = { decimal };
 

@@ -43,6 +43,7 @@ impl<T: AsStr, const N: usize> Words<T, N> {
         ensures found { IfSome result (λ i. IsWordAt self.now i text.now) }
         ensures only { (i : ℕ) → IsWordAt self.now i text.now → result ≡ Some i }
     {
+        // Reading the field makes known here what it keeps: its words are pairwise different.
         let _table = &self.words;
         self.place(text)
     }
