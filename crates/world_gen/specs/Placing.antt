@@ -93,7 +93,7 @@ abbrev pub Follow : ℕ → Shape → List Spot → ℕ → List Spot → ℕ �
 Follow seed shape placed g [] after = g ≡ after
 Follow seed shape placed g (spot ∷ rest) after =
     (next : ℕ) × Goes (Fits shape.width shape.height placed) seed shape.width shape.height (element_of shape (length placed)) g spot next
-        × Follow seed shape (placed ++ spot ∷ []) next rest after
+    × Follow seed shape (placed ++ spot ∷ []) next rest after
 
 -- all elements are placed so, one after another
 pub record IsPlacing (seed : ℕ) (shape : Shape) (placed : List Spot) : Type 0 where
