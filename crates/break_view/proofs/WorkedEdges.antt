@@ -1,5 +1,5 @@
 -- Edges of breaks, and the text of a view, worked out.
-use Rattle.std.proofs.Common.{◌≡◌, true, false, List, [], ◌∷◌, Some, None, codes, refl, arith}
+use Rattle.std.proofs.Common.{◌≡◌, true, false, [], ◌∷◌, Some, None, codes, refl, arith}
 use Rattle.std.specs.Fmt.{digits}
 use Rattle.hex_geometry.specs.Position.{same_pos}
 use Rattle.cell_world.specs.declared.ant.Colour.TheVariants.{Red}
