@@ -3,7 +3,8 @@ use Rattle.std.specs.Prelude.{◌≡◌, ℕ, List, [], ◌∷◌, ◌++◌, map
 use Rattle.ant_base.specs.Fetched.{Fetched}
 use Rattle.ant_base.specs.declared.shelf.FetchFault.TheVariants as answer
 use Rattle.brain_read.specs.declared.instr.Instr.{Instr}
-use Rattle.brain_read.specs.BrainText.{BrainText, BrainVerdict}
+use Rattle.brain_read.specs.Grammar.{IsBrainText}
+use Rattle.brain_read.specs.Faulty.{IsBrainFault}
 use Rattle.cell_world.specs.Grid.{Grid}
 use Rattle.world_read.specs.Faulty.{IsWorldFault}
 use Rattle.world_read.specs.Opened.{OpensAs}
@@ -30,7 +31,7 @@ abbrev pub Reads : FileKind → List ℕ → Content → Type 0
 Reads WorldFile bytes (WorldContent grid) = OpensAs bytes grid
 Reads WorldFile bytes (BrainContent list) = ⊥
 Reads BrainFile bytes (WorldContent grid) = ⊥
-Reads BrainFile bytes (BrainContent list) = BrainText bytes list
+Reads BrainFile bytes (BrainContent list) = IsBrainText bytes list
 
 -- bytes have this fault in a file of this kind
 abbrev pub Refuses : FileKind → List ℕ → FileFault → Type 0
@@ -39,7 +40,7 @@ Refuses WorldFile bytes (World fault) = IsWorldFault bytes fault
 Refuses WorldFile bytes (Brain fault) = ⊥
 Refuses BrainFile bytes TooLong = ⊥
 Refuses BrainFile bytes (World fault) = ⊥
-Refuses BrainFile bytes (Brain fault) = BrainVerdict bytes fault
+Refuses BrainFile bytes (Brain fault) = IsBrainFault bytes fault
 
 -- the file was fetched, and its bytes are read as this content
 pub record IsAccepted (file : File) (fetch : Fetched) (content : Content) : Type 0 where
