@@ -54,7 +54,7 @@ fn carry_out_run<'w, R: Threads + Sync, S: Shelf, K: Sink, G: Gate>(
     out: &mut K,
     gate: &G,
 ) -> Result<(), Stop<'w>>
-    requires { SetupWithin (plain_setup options) }
+    requires within { SetupWithin (plain_setup options) }
     ensures { CarriesOut (RunCommand names.entry.world.now names.entry.red.now names.entry.black.now (plain_setup options.entry)) (S.state shelf.old) (S.state shelf.new) (K.state out.old) (K.state out.new) (ending_of result) }
 {
     let sheet = Sheet::new(options.surround, options.corpse, options.rest);

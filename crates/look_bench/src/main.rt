@@ -9,7 +9,7 @@ ghost use Rattle.std.specs.Prelude.{◌≡◌, ◌≤◌, length, IfSome};
 ghost use Rattle.ant_base.specs.Shelf.{longest};
 ghost use Rattle.cell_world.specs.Grid.{world_of};
 ghost use Rattle.ant_turn.specs.Minds.{Fits, minds_of};
-ghost use Rattle.spec_record.specs.Guess.{flips_among};
+ghost use Rattle.spec_record.specs.Guess.{guess};
 ghost use Rattle.world_read.specs.Opened.{IsOpeningWorld};
 
 use ant_base::{FileShelf, Shelf, read_number};
@@ -57,7 +57,7 @@ fn brain_in<S: Shelf>(alloc: Global, shelf: &mut S, name: &str) -> Option<Brain>
 // Makes the look at each turn of a round, one after another in one room; answers how many of them draw.
 fn look_at_all(world: &World, brains: Brains<'_>) -> u64
     requires { Fits (world_of world.now) (minds_of brains) }
-    ensures { result ≡ flips_among (minds_of brains.entry) (world_of world.now) 0 world.now.ids }
+    ensures { result ≡ guess (minds_of brains.entry) (world_of world.now) 0 0 world.now.ids }
 {
     let ids = world.ant_count();
     let mut stream = Stream::from_seed(SEED);
@@ -71,8 +71,21 @@ fn look_at_all(world: &World, brains: Brains<'_>) -> u64
     stream.place()
 }
 
-// Makes the looks at the worlds and brains of these files, so many times; answers how many turns a round has, and how many of them draw.
-fn look_often<S: Shelf>(
+// The same on a world as a game begins, so many times; answers how many looks of the last time draw.
+fn look_often(world: &World, brains: Brains<'_>, times: u64) -> u64
+    requires { IsOpeningWorld world.now }
+{
+    let _red_states = brains.red.len();
+    let _black_states = brains.black.len();
+    let mut drawn = 0;
+    for _ in 0..times {
+        drawn = look_at_all(world, brains);
+    }
+    drawn
+}
+
+// Makes the looks at the world and the brains of these files, so many times; answers how many looks there are, and how many of them draw.
+fn look_at_files<S: Shelf>(
     alloc: Global,
     shelf: &mut S,
     names: [&str; 3],
@@ -86,12 +99,7 @@ fn look_often<S: Shelf>(
         black: &black,
         sheet: Sheet::contest(),
     };
-    let _red_states = red.len();
-    let _black_states = black.len();
-    let mut drawn = 0;
-    for _ in 0..times {
-        drawn = look_at_all(&world, brains);
-    }
+    let drawn = look_often(&world, brains, times);
     Some((world.ant_count(), drawn))
 }
 
@@ -107,7 +115,7 @@ fn main(rt: HostRuntime) -> Result<()> {
     let times = read_number(count.as_bytes()).context("no number of times")?;
     let mut shelf = FileShelf::new(&rt);
     let names = [world.as_str(), red.as_str(), black.as_str()];
-    let (looks, drawn) = look_often(alloc, &mut shelf, names, times).context(
+    let (looks, drawn) = look_at_files(alloc, &mut shelf, names, times).context(
         "a file is missing or at fault",
     )?;
     println!(rt; "{looks} looks, of which {drawn} draw, made {times} times")?;

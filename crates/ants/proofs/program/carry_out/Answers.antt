@@ -7,8 +7,8 @@ use Rattle.ants.proofs.Readings.{carries_nothing, carries_words}
 use Rattle.ants.specs.Stopping.Reason.{AtMemory}
 use Rattle.ants.proofs.program.carry_out.Goals as goal
 
-pub carry_out_run-requires : goal.carry_out_run-requires
-carry_out_run-requires g c =
+pub carry_out_run-requires-clause-within : goal.carry_out_run-requires-clause-within
+carry_out_run-requires-clause-within g c κs outlives =
     within_limits (texts c.args.words.now) (RunCommand c.in-Ok-Run.world.now c.in-Ok-Run.red.now c.in-Ok-Run.black.now (plain_setup c.in-Ok-Run.options)) (rw c.in-Ok-Run.field-0-is at c.in-Ok-Run.ensures.command)
 
 pub gen_world-requires : goal.gen_world-requires
