@@ -1,5 +1,5 @@
 // Games that are played by crews, round by round.
-ghost use Rattle.std.specs.Prelude.{◌≤◌, length};
+ghost use Rattle.std.specs.Prelude.{◌≡◌, ◌≤◌, true, IfOk, length};
 ghost use Rattle.ant_base.specs.Shelf.{longest};
 
 use crate::tests::CLOSING;
@@ -14,7 +14,7 @@ use std::test::Fail;
 use world_read::read_world;
 
 // The most bytes of a file.
-const MOST_BYTES: usize = 4_194_304;
+pub const MOST_BYTES: usize = 4_194_304;
 
 // A crew that plays as another does, but for the window of one call, which it refuses.
 #[derive(Drop)]
@@ -49,28 +49,26 @@ impl<C: Crew + Drop> Crew for Refusing<C> {
 }
 
 // The brain of a text.
-fn brain_of<R: Abort>(rt: &R, alloc: Global, text: &str) -> Result<Brain, Fail> {
+pub fn brain_of<R: Abort>(rt: &R, alloc: Global, text: &str) -> Result<Brain, Fail> {
     let bytes = text.as_bytes();
     assert!(rt; bytes.len() <= MOST_BYTES);
     Ok(read_brain(alloc, bytes)?)
 }
 
-// A game on the world of a text, from the start of a seed's random numbers.
-fn game_on<'b>(
+// A whole field with the world of a text, at the start of a seed's random numbers.
+pub fn field_on<'b>(
     alloc: Global,
     text: &[u8],
     brains: Brains<'b>,
     seed: u32,
-    window: u32,
-) -> Result<Game<'b>, Fail>
-    requires short { length text.now ≤ longest }
-    requires sized { 1 ≤ window }
+) -> Result<Field<'b>, Fail>
+    requires { length text.now ≤ longest }
+    ensures { IfOk result (λ field. (field.whole ≡ true) × (field.place ≡ 0)) }
 {
     let world = read_world(alloc, text)?;
     let _red_states = brains.red.len();
     let _black_states = brains.black.len();
-    let field = Field::new(alloc, world, brains, seed, 0)?;
-    Ok(Game::begin(field, window))
+    Ok(Field::new(alloc, world, brains, seed, 0)?)
 }
 
 // Asserts what came of the turns of a game so far, and how many rounds are done.
@@ -95,7 +93,7 @@ fn a_game_is_played_by_any_crew(rt: HostRuntime) -> Result<(), Fail> {
     };
     let bytes = CLOSING.as_bytes();
     assert!(rt; bytes.len() <= MOST_BYTES);
-    let mut game = game_on(rt.alloc(), bytes, brains, 12345, 3)?;
+    let mut game = Game::begin(field_on(rt.alloc(), bytes, brains, 12345)?, 3);
     let mut crew = SoloCrew::new();
     assert!(rt; game.done() < 1_000_000);
     game.round(rt.alloc(), &mut crew)?;
@@ -123,7 +121,7 @@ fn a_round_that_was_refused_goes_on(rt: HostRuntime) -> Result<(), Fail> {
     };
     let bytes = CLOSING.as_bytes();
     assert!(rt; bytes.len() <= MOST_BYTES);
-    let mut game = game_on(rt.alloc(), bytes, brains, 12345, 3)?;
+    let mut game = Game::begin(field_on(rt.alloc(), bytes, brains, 12345)?, 3);
     let mut crew = Refusing {
         crew: SoloCrew::new(),
         calls: 0,

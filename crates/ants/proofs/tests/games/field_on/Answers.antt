@@ -3,9 +3,9 @@ use Rattle.std.proofs.Common.{sym, subst}
 use Rattle.cell_world.specs.Grid.{Grid, world_of}
 use Rattle.ant_turn.specs.Minds.{Fits, minds_of}
 use Rattle.ant_turn.proofs.Fitting.{Fits-opening}
-use Rattle.ants.proofs.tests.games.game_on.Goals as goal
+use Rattle.ants.proofs.tests.games.field_on.Goals as goal
 
-pub new-requires-clause-fit : goal.new-field-requires-clause-fit
+pub new-requires-clause-fit : goal.new-requires-clause-fit
 new-requires-clause-fit c =
     let grid : Grid = c.in_ok-world.world in
     subst (λ (g : Grid). Fits (world_of g) (minds_of c.args.brains)) (sym c.in_ok-world.ensures.world.opened)
