@@ -5,6 +5,7 @@ mod games;
 mod generated;
 mod outside;
 mod runs;
+mod settling;
 mod shown;
 mod words;
 mod workers;
