@@ -18,7 +18,7 @@ use Rattle.spec_record.proofs.Flips.{look-drew}
 use Rattle.round_workers.specs.declared.piece.Piece.{Piece}
 use Rattle.round_workers.specs.declared.share.Share.{Share}
 use Rattle.round_workers.specs.Inner.Pieces.{AreLooked, Follow, HasRoom, IsDone, IsReady, all_have_room, shares_among}
-use Rattle.round_workers.specs.Shares.{looks_for, shares}
+use Rattle.round_workers.specs.Inner.Shares.{looks_for, shares}
 use Rattle.round_workers.proofs.ShareLemmas.{Follow-shares, Follow-within}
 
 pub looks_for-length : (window : Window) (t n : ℕ) → length (looks_for window t n) ≡ n

@@ -5,7 +5,7 @@ use Rattle.std.proofs.lemmas.List.{append-nil}
 use Rattle.std.proofs.Math.Nat.{mul-le-mul_right, div-mul-le_self, le-div_iff_mul-le, div-le_of_le-mul, mul-div_cancel_left}
 use Rattle.round_workers.specs.declared.share.Share.{Share}
 use Rattle.round_workers.specs.Inner.Pieces.{Follow}
-use Rattle.round_workers.specs.Shares.{share_of, shares}
+use Rattle.round_workers.specs.Inner.Shares.{share_of, shares}
 
 -- the numerator of a border is small
 pub border_small : (k n w : ℕ) → k ≤ w → w ≤ 16 → n < 2 ^ 32 → k * n < 2 ^ 64

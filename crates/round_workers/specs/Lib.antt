@@ -1,3 +1,2 @@
 pub mod Crews
 pub mod Inner
-pub mod Shares

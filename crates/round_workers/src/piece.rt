@@ -7,7 +7,7 @@ ghost use Rattle.round_book.specs.Book.{CanBegin, window_of};
 ghost use Rattle.round_book.specs.Window.{guess_for};
 ghost use Rattle.spec_record.specs.Look.{look_of};
 ghost use Rattle.round_workers.specs.Inner.Pieces.{AreLooked, HasRoom, IsDone, IsReady, all_have_room, shares_among};
-ghost use Rattle.round_workers.specs.Shares.{if_any, looks_for, shares};
+ghost use Rattle.round_workers.specs.Inner.Shares.{if_any, looks_for, shares};
 
 use crate::share::{Share, share_of};
 use ant_base::Gate;

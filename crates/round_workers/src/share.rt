@@ -1,6 +1,6 @@
 // Which turns of a window each worker looks at.
 ghost use Rattle.std.specs.Prelude.{◌≡◌, ◌+◌, ◌*◌, ◌/◌, ◌<◌, ◌≤◌, ◌^◌};
-ghost use Rattle.round_workers.specs.Shares.{share_of};
+ghost use Rattle.round_workers.specs.Inner.Shares.{share_of};
 
 // The turns of one worker: those of the ids from `from` up to, and not including, `to`.
 #[derive(Clone, Copy)]

@@ -6,7 +6,7 @@ use Rattle.round_book.specs.Window.{Window}
 use Rattle.spec_record.specs.Look.{LookValue}
 use Rattle.round_workers.specs.declared.piece.Piece.{Piece}
 use Rattle.round_workers.specs.declared.share.Share.{Share}
-use Rattle.round_workers.specs.Shares.{looks_for}
+use Rattle.round_workers.specs.Inner.Shares.{looks_for}
 
 -- there is room for the looks at all its turns
 abbrev pub HasRoom : Piece → Type 0

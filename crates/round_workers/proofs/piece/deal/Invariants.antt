@@ -2,7 +2,7 @@
 use Rattle.std.proofs.Common.{◌≡◌, ◌-◌, ◌≤◌}
 use Rattle.std.specs.Vec.{vec_len}
 use Rattle.round_workers.specs.Inner.Pieces.{all_have_room, shares_among}
-use Rattle.round_workers.specs.Shares.{shares}
+use Rattle.round_workers.specs.Inner.Shares.{shares}
 use Rattle.round_workers.proofs.piece.deal.Given as goal
 
 abbrev pub invariant-loop-worker : goal.invariant-loop-worker

@@ -3,7 +3,7 @@ use Rattle.std.proofs.Common.{◌≡◌, ◌-◌, ◌≤◌, take}
 use Rattle.std.specs.Vec.{vec_capacity, vec_len}
 use Rattle.round_book.specs.Book.{window_of}
 use Rattle.round_book.specs.Window.{guess_for}
-use Rattle.round_workers.specs.Shares.{looks_for}
+use Rattle.round_workers.specs.Inner.Shares.{looks_for}
 use Rattle.round_workers.proofs.piece.make_looks.Given as goal
 
 abbrev pub invariant-loop-id : goal.invariant-loop-id
