@@ -1,5 +1,5 @@
 -- The endings of a command that generates a world.
-use Rattle.std.proofs.Common.{◌≡◌, ℕ, List, [], refl, sym, subst, Result, Ok, Err}
+use Rattle.std.proofs.Common.{◌≡◌, ℕ, [], refl, sym, subst, Result, Ok, Err}
 use Rattle.std.specs.Prelude.{IsErrAnd}
 use Rattle.ant_base.proofs.Fetching.{fetches_none}
 use Rattle.ant_base.specs.Shelf.{ShelfState}
@@ -17,7 +17,7 @@ use Rattle.ants.specs.declared.stop.Stop.TheVariants as stop
 use Rattle.ants.specs.Inner.Planning.{IsGenerating}
 use Rattle.ants.specs.Inner.Reading.{CarriesOut, ReadsFiles, ending_of}
 use Rattle.ants.specs.Inner.Reading.Outcome.{Contents}
-use Rattle.ants.specs.Jobs.{TellsGenerated, shape_named}
+use Rattle.ants.specs.Jobs.{shape_named}
 use Rattle.ants.proofs.Readings.{carries_done, carries_failure, carries_wanting, ending_stopped}
 
 -- a generated world is one at the start of a game

@@ -5,3 +5,4 @@ pub mod Planned
 pub mod Readings
 pub mod Texts
 pub mod Verdicts
+pub mod Viewed

@@ -10,7 +10,7 @@ use Rattle.ant_base.specs.declared.shelf.FetchFault.{FetchFault}
 use Rattle.ant_base.specs.declared.shelf.FetchFault.TheVariants as answer
 use Rattle.command_words.specs.Command.{PlainCommand, IsCommand}
 use Rattle.ants.specs.declared.stop.FileFault.{FileFault}
-use Rattle.ants.specs.declared.stop.FileFault.TheVariants.{TooLong, World, Brain}
+use Rattle.ants.specs.declared.stop.FileFault.TheVariants.{TooLong, World, Brain, Breaks}
 use Rattle.ants.specs.declared.stop.Stop.{Stop}
 use Rattle.ants.specs.declared.stop.Stop.TheVariants as stop
 use Rattle.ants.specs.Files.{File, Content, AreAccepted, AreBegun, IsRefused, Refuses, StopsAt}
@@ -139,6 +139,7 @@ pub refused_text : (file : File) (fetch : Fetched) (bytes : List ℕ) (fault : F
 refused_text file fetch bytes TooLong got refuses = absurd (never_long file.kind bytes refuses)
 refused_text file fetch bytes (World fault) got refuses = record { bytes = bytes; got = got; refuses = refuses }
 refused_text file fetch bytes (Brain fault) got refuses = record { bytes = bytes; got = got; refuses = refuses }
+refused_text file fetch bytes (Breaks fault) got refuses = record { bytes = bytes; got = got; refuses = refuses }
 
 text_stops : (shelf new_shelf : ShelfState) (file : File) (fetch : Fetched) (bytes : List ℕ) (reason : Reason) → fetch ≡ record { name = file.name; answer = Ok bytes } → TextStops file.kind bytes file.name reason
     → ReadingStops shelf new_shelf (file ∷ []) (fetch ∷ []) reason

@@ -1,12 +1,13 @@
 -- What each command reads and writes (this project's own): one equation a command.
-use Rattle.std.specs.Prelude.{◌≡◌, ℕ, List, [], ◌∷◌, Option}
+use Rattle.std.specs.Prelude.{◌≡◌, ℕ, List, [], ◌∷◌, ◌++◌, Option}
 use Rattle.ant_base.specs.Layout.{◌+++◌}
-use Rattle.ant_turn.specs.Minds.{Minds}
+use Rattle.ant_turn.specs.Minds.{Minds, contest_minds}
 use Rattle.ant_turn.specs.Sheet.{Sheet}
 use Rattle.brain_minimise.specs.Minimised.{IsMinimised}
 use Rattle.brain_minimise.specs.Text.{minimised_text}
 use Rattle.brain_read.specs.declared.instr.Instr.{Instr}
 use Rattle.brain_read.specs.Canonical.{brain_text}
+use Rattle.break_view.specs.Texts.{IsViewText}
 use Rattle.cell_world.specs.Grid.{Grid, world_of}
 use Rattle.command_words.specs.declared.command.GenShape.{GenShape}
 use Rattle.command_words.specs.Slots.{DumpChoice}
@@ -23,15 +24,18 @@ use Rattle.world_gen.specs.Placing.{HasNoRoom}
 use Rattle.world_read.specs.Canonical.{canonical_text}
 use Rattle.world_read.specs.Opened.{kinds_of}
 use Rattle.ants.specs.Files.{File, Content}
-use Rattle.ants.specs.Files.FileKind.{WorldFile, BrainFile}
-use Rattle.ants.specs.Files.Content.{WorldContent, BrainContent}
+use Rattle.ants.specs.Files.FileKind.{WorldFile, BrainFile, BreakFile}
+use Rattle.ants.specs.Files.Content.{WorldContent, BrainContent, BreakContent}
 
--- a file with a world, and one with a brain
+-- a file with a world, one with a brain, and one with breaks
 abbrev pub world_file : List ℕ → File
 world_file name = record { name = name; kind = WorldFile }
 
 abbrev pub brain_file : List ℕ → File
 brain_file name = record { name = name; kind = BrainFile }
+
+abbrev pub break_file : List ℕ → File
+break_file name = record { name = name; kind = BreakFile }
 
 -- the files of a game
 abbrev pub game_files : List ℕ → List ℕ → List ℕ → List File
@@ -45,18 +49,18 @@ files_of (MinimiseCommand file) = brain_file file ∷ []
 files_of (RunCommand world red black setup) = game_files world red black
 files_of (GenCommand seed shape) = []
 files_of (CupCommand worlds brains seed rounds workers) = []
-files_of (ViewCommand world red black breaks seed rounds) = []
+files_of (ViewCommand world red black breaks seed rounds) = game_files world red black ++ break_file breaks ∷ []
 files_of (WorkloadCommand seed rounds workers) = []
 
 -- the output of `show`: the line of the seed, and the dump after round 0
 unfoldable pub show_output : ℕ → Content → List ℕ
 show_output seed (WorldContent grid) = seed_text seed +++ dump_text (world_of grid) 0
-show_output seed (BrainContent list) = []
+show_output seed content = []
 
 -- the output of `brain`: the canonical text
 unfoldable pub brain_output : Content → List ℕ
-brain_output (WorldContent grid) = []
 brain_output (BrainContent list) = brain_text list
+brain_output content = []
 
 -- the rounds that the words of a command choose
 abbrev pub chosen_rounds : DumpChoice → Dumps
@@ -86,8 +90,14 @@ pub record TellsMinimised (old : List Instr) (text : List ℕ) : Type 0 where
   pub told : text ≡ minimised_text old new
 
 abbrev pub IsMinimisedOutput : Content → List ℕ → Type 0
-IsMinimisedOutput (WorldContent grid) text = ⊥
 IsMinimisedOutput (BrainContent list) text = TellsMinimised list text
+IsMinimisedOutput content text = ⊥
+
+-- the output of `view`: the view of the game, by the contest's rules, with these breaks
+abbrev pub IsViewOutput : ℕ → ℕ → Content → Content → Content → Content → List ℕ → Type 0
+IsViewOutput seed rounds (WorldContent grid) (BrainContent red) (BrainContent black) (BreakContent items) text =
+    IsViewText (contest_minds red black) seed rounds (world_of grid) items text
+IsViewOutput seed rounds world red black breaks text = ⊥
 
 -- the shape that the words of `gen` name
 abbrev pub shape_named : GenShape → Shape
@@ -120,6 +130,7 @@ IsJobText (ShowCommand world seed) (content ∷ []) text = text ≡ show_output 
 IsJobText (BrainCommand file) (content ∷ []) text = text ≡ brain_output content
 IsJobText (MinimiseCommand file) (content ∷ []) text = IsMinimisedOutput content text
 IsJobText (RunCommand world red black setup) (first ∷ second ∷ third ∷ []) text = text ≡ match_output setup first second third
+IsJobText (ViewCommand world red black breaks seed rounds) (first ∷ second ∷ third ∷ fourth ∷ []) text = IsViewOutput seed rounds first second third fourth text
 IsJobText (GenCommand seed shape) [] text = TellsGenerated seed (shape_named shape) text
 -- never: a command's files are as many as its contents
 IsJobText command contents text = ⊥

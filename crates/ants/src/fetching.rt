@@ -2,12 +2,13 @@
 ghost use Rattle.std.specs.Prelude.{◌≡◌, ◌≤◌, [], ◌∷◌, length};
 ghost use Rattle.ant_base.specs.Shelf.{longest};
 ghost use Rattle.ants.specs.Files.{Content, FileKind};
-ghost use Rattle.ants.specs.Inner.Reading.{ReadsFiles, ReadsText, brain_reason, fetch_reason, outcome_of, world_reason};
+ghost use Rattle.ants.specs.Inner.Reading.{ReadsFiles, ReadsText, brain_reason, break_reason, fetch_reason, outcome_of, world_reason};
 ghost use Rattle.ants.specs.Stopping.{reason_of};
 
 use crate::stop::{FileFault, Stop};
 use ant_base::{FetchFault, Shelf};
 use brain_read::{Brain, BrainFault, read_brain};
+use break_view::{BreakFault, Breaks, read_breaks};
 use cell_world::World;
 use std::alloc::Global;
 use world_read::{WorldFault, read_world};
@@ -58,6 +59,22 @@ impl FileText for Brain {
     }
 }
 
+impl FileText for Breaks {
+    ghost use Rattle.ants.specs.Files.FileKind.{BreakFile};
+    ghost use Rattle.ants.specs.Files.Content.{BreakContent};
+
+    ghost kind = { BreakFile };
+
+    ghost content = { BreakContent };
+
+    fn read<'w>(alloc: Global, name: &'w str, bytes: &[u8]) -> Result<Breaks, Stop<'w>> {
+        match read_breaks(alloc, bytes) {
+            Ok(breaks) => Ok(breaks),
+            Err(fault) => Err(break_stop(name, fault)),
+        }
+    }
+}
+
 /// Fetches a file, and reads what came.
 pub fn read_file<'w, T: FileText, S: Shelf>(
     alloc: Global,
@@ -100,5 +117,15 @@ fn brain_stop<'w>(name: &'w str, fault: BrainFault) -> Stop<'w>
     match fault {
         BrainFault::OutOfMemory => Stop::Memory,
         other => Stop::Input(name, FileFault::Brain(other)),
+    }
+}
+
+// Why a command stops at the text of breaks.
+fn break_stop<'w>(name: &'w str, fault: BreakFault) -> Stop<'w>
+    ensures { reason_of result ≡ break_reason name.now fault }
+{
+    match fault {
+        BreakFault::OutOfMemory => Stop::Memory,
+        other => Stop::Input(name, FileFault::Breaks(other)),
     }
 }

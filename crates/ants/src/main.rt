@@ -16,6 +16,7 @@ mod status;
 mod stop;
 #[cfg(test)]
 mod tests;
+mod view;
 
 use crate::program::{exit_without_memory, run_to_exit};
 use ant_base::{ErrSink, FileShelf, NoGate, OutSink};

@@ -18,6 +18,7 @@ use crate::run::{Names, dumps_of, run};
 use crate::show::show;
 use crate::status::Status;
 use crate::stop::Stop;
+use crate::view::view;
 use ant_base::{Gate, Layout, Shelf, Sink};
 use ant_turn::Sheet;
 use command_words::{Command, RunOptions, read_words};
@@ -79,10 +80,26 @@ fn carry_out<'w, S: Shelf, K: Sink>(
             },
         ) => carry_out_run(alloc, Names { world, red, black }, options, shelf, out),
         Ok(Command::Gen { seed, shape }) => gen_world(alloc, seed, shape, shelf, out),
+        Ok(
+            Command::View {
+                world,
+                red,
+                black,
+                breaks,
+                seed,
+                rounds,
+            },
+        ) => view(
+            alloc,
+            Names { world, red, black },
+            breaks,
+            seed,
+            rounds,
+            shelf,
+            out,
+        ),
         // The table of commands knows no others, so no words are one of them.
-        Ok(Command::Cup { .. } | Command::View { .. } | Command::Workload { .. }) => {
-            Err(Stop::Memory)
-        }
+        Ok(Command::Cup { .. } | Command::Workload { .. }) => Err(Stop::Memory),
     }
 }
 

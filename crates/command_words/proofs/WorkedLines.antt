@@ -89,6 +89,11 @@ pub gen_least : IsCommand (words_of (codes "gen 7 --width 3 --height 4 --rocks 0
 unfolding kind_of choice_of is_among rest_after is_file_name is_dumps dumps_of number_of
 gen_least = read-accepts (words_of (codes "gen 7 --width 3 --height 4 --rocks 0 --blobs 1")) (GenCommand 7 (shape_of 3 4 0 1)) refl
 
+-- `view`
+pub view_command : IsCommand (words_of (codes "view w r b k --rounds 5 --seed 12345")) (ViewCommand (codes "w") (codes "r") (codes "b") (codes "k") 12345 5)
+unfolding kind_of choice_of is_among rest_after is_file_name is_dumps dumps_of number_of
+view_command = read-accepts (words_of (codes "view w r b k --rounds 5 --seed 12345")) (ViewCommand (codes "w") (codes "r") (codes "b") (codes "k") 12345 5) refl
+
 -- there is no word
 pub no_word : IsRefusedAt [] 1
 no_word = read-refuses [] 1 refl
@@ -207,3 +212,13 @@ show_takes_no_option = read-refuses (words_of (codes "show w 1 --seed 1")) 4 ref
 pub run_takes_no_width : IsRefusedAt (words_of (codes "run w r b --width 150")) 5
 unfolding kind_of choice_of is_among rest_after is_file_name is_dumps dumps_of number_of
 run_takes_no_width = read-refuses (words_of (codes "run w r b --width 150")) 5 refl
+
+-- `view` needs a file of breaks
+pub view_without_breaks : IsRefusedAt (words_of (codes "view w r b --seed 1")) 5
+unfolding kind_of choice_of is_among rest_after is_file_name is_dumps dumps_of number_of
+view_without_breaks = read-refuses (words_of (codes "view w r b --seed 1")) 5 refl
+
+-- `view` takes no workers
+pub view_takes_no_workers : IsRefusedAt (words_of (codes "view w r b k --workers 1")) 6
+unfolding kind_of choice_of is_among rest_after is_file_name is_dumps dumps_of number_of
+view_takes_no_workers = read-refuses (words_of (codes "view w r b k --workers 1")) 6 refl

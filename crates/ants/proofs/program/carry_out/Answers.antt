@@ -1,10 +1,7 @@
 -- the numbers of a game are within their limits; and what becomes of commands that are not known
-use Rattle.std.proofs.Common.{◌≡◌, Some}
-use Rattle.command_words.specs.Words.{plain, plain_setup, texts}
+use Rattle.command_words.specs.Words.{plain_setup, texts}
 use Rattle.command_words.proofs.WordLaws.{within_limits}
 use Rattle.command_words.specs.Command.PlainCommand.{GenCommand, RunCommand}
-use Rattle.ants.proofs.Readings.{carries_nothing, carries_words}
-use Rattle.ants.specs.Stopping.Reason.{AtMemory}
 use Rattle.ants.proofs.program.carry_out.Goals as goal
 
 pub carry_out_run-requires : goal.carry_out_run-requires
