@@ -1,6 +1,8 @@
 pub mod Accepted
+pub mod Cups
 pub mod Generated
 pub mod Judgements
+pub mod Listed
 pub mod Planned
 pub mod Readings
 pub mod Texts

@@ -64,6 +64,13 @@ begun_later (file ∷ a) b [] more contents one two = absurd one
 begun_later (file ∷ a) b (fetch ∷ fetches) more [] one two = absurd one
 begun_later (file ∷ a) b (fetch ∷ fetches) more (content ∷ contents) one two = inr (content, one.0, begun_later a b fetches more contents one.1 two)
 
+-- files that were accepted are begun
+accepted_begun : (files : List File) (fetches : List Fetched) (contents : List Content) → AreAccepted files fetches contents → AreBegun files fetches
+accepted_begun [] fetches contents are = are.0
+accepted_begun (file ∷ files) [] contents are = tt
+accepted_begun (file ∷ files) (fetch ∷ fetches) [] are = absurd are
+accepted_begun (file ∷ files) (fetch ∷ fetches) (content ∷ contents) are = inr (content, are.0, accepted_begun files fetches contents are.1)
+
 -- the files a were begun, and those of b were not fetched
 begun_first : (a b : List File) (fetches : List Fetched) → AreBegun a fetches → AreBegun (a ++ b) fetches
 begun_first [] b fetches begun = rw begun (begun_none b)
@@ -133,6 +140,11 @@ reads_then first second third a b contents outcome one two =
 pub reads_stopped : (first second : ShelfState) (a b : List File) (reason : Reason) → ReadsFiles first second a (Stopped reason) → ReadsFiles first second (a ++ b) (Stopped reason)
 reads_stopped first second a b reason reads =
     record { fetches = reads.fetches; fetched = reads.fetched; comes = reading_stops_first first second a b reads.fetches reason reads.comes }
+
+-- files were read, and then memory was wanting
+pub reads_wanting : (first second : ShelfState) (files : List File) (contents : List Content) → ReadsFiles first second files (Contents contents) → ReadsFiles first second files (Stopped AtMemory)
+reads_wanting first second files contents reads =
+    record { fetches = reads.fetches; fetched = reads.fetched; comes = accepted_begun files reads.fetches contents reads.comes }
 
 -- a file whose bytes are refused is
 pub refused_text : (file : File) (fetch : Fetched) (bytes : List ℕ) (fault : FileFault) → fetch ≡ record { name = file.name; answer = Ok bytes } → Refuses file.kind bytes fault → IsRefused file fetch fault
@@ -220,7 +232,7 @@ carries_words words command shelf new_shelf out new_out ending is carried =
     record { fetches = carried.fetches; fetched = carried.fetched; ends = ends_as words command shelf new_shelf carried.fetches out new_out ending is carried.ends }
 
 -- the outcome of a call that answers with a stop
-outcome_stopped : {V : Type 0} (contents_of : V → List Content) (result : Result V Stop) (why : Stop) → IsErrAnd result (λ other. other ≡ why) → Stopped (reason_of why) ≡ outcome_of contents_of result
+pub outcome_stopped : {V : Type 0} (contents_of : V → List Content) (result : Result V Stop) (why : Stop) → IsErrAnd result (λ other. other ≡ why) → Stopped (reason_of why) ≡ outcome_of contents_of result
 outcome_stopped contents_of (Ok value) why same = absurd same
 outcome_stopped contents_of (Err other) why same = ap (λ s. Stopped (reason_of s)) (sym same)
 
@@ -255,6 +267,12 @@ carries_failure command shelf new_shelf out new_out contents result same reads t
 -- a command that answers with want of memory before a file was fetched
 pub carries_wanting : {U : Type 0} (command : PlainCommand) (shelf : ShelfState) (out : SinkState) (result : Result U Stop) → IsErrAnd result (λ other. other ≡ stop.Memory) → CarriesOut command shelf shelf out out (ending_of result)
 carries_wanting command shelf out result same = subst (CarriesOut command shelf shelf out out) (ending_stopped result stop.Memory same) (carries_nothing command shelf out)
+
+-- a command that answers with want of memory after its files were read
+pub carries_wanting_later : {U : Type 0} (command : PlainCommand) (shelf new_shelf : ShelfState) (out : SinkState) (contents : List Content) (result : Result U Stop) → IsErrAnd result (λ other. other ≡ stop.Memory)
+    → ReadsFiles shelf new_shelf (files_of command) (Contents contents) → CarriesOut command shelf new_shelf out out (ending_of result)
+carries_wanting_later command shelf new_shelf out contents result same reads =
+    carries_stop command shelf new_shelf out result stop.Memory same (reads_wanting shelf new_shelf (files_of command) contents reads)
 
 -- words that answer with want of memory before a file was fetched
 pub carries_want : {U : Type 0} (words : List (List ℕ)) (command : PlainCommand) (shelf : ShelfState) (out : SinkState) (result : Result U Stop) → IsErrAnd result (λ other. other ≡ stop.Memory) → IsCommand words command

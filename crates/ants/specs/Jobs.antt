@@ -1,5 +1,5 @@
 -- What each command reads and writes (this project's own): one equation a command.
-use Rattle.std.specs.Prelude.{◌≡◌, ℕ, List, [], ◌∷◌, ◌++◌, Option}
+use Rattle.std.specs.Prelude.{◌≡◌, ℕ, List, [], ◌∷◌, ◌++◌, length, map, slice_index_or, Option}
 use Rattle.ant_base.specs.Layout.{◌+++◌}
 use Rattle.ant_turn.specs.Minds.{Minds, contest_minds}
 use Rattle.ant_turn.specs.Sheet.{Sheet}
@@ -9,15 +9,18 @@ use Rattle.brain_read.specs.declared.instr.Instr.{Instr}
 use Rattle.brain_read.specs.Canonical.{brain_text}
 use Rattle.break_view.specs.Texts.{IsViewText}
 use Rattle.cell_world.specs.Grid.{Grid, world_of}
+use Rattle.cell_world.specs.Score.{score_of}
+use Rattle.cell_world.specs.declared.score.Score.{Score}
 use Rattle.command_words.specs.declared.command.GenShape.{GenShape}
 use Rattle.command_words.specs.Slots.{DumpChoice}
 use Rattle.command_words.specs.Slots.DumpChoice.{NoDump, EveryDump, ChosenDumps}
 use Rattle.match_run.specs.declared.dumps.Dumps.{Dumps}
 use Rattle.match_run.specs.declared.dumps.Dumps.TheVariants.{Nothing, All, Chosen}
-use Rattle.match_run.specs.Run.{run_text}
+use Rattle.match_run.specs.Run.{run_text, world_after}
 use Rattle.dump_print.specs.Texts.{seed_text, dump_text}
 use Rattle.command_words.specs.Command.{PlainCommand, RunSetup}
 use Rattle.command_words.specs.Command.PlainCommand.{ShowCommand, BrainCommand, MinimiseCommand, RunCommand, GenCommand, CupCommand, ViewCommand, WorkloadCommand}
+use Rattle.tournament.specs.Text.{IsCupText}
 use Rattle.world_gen.specs.declared.shape.Shape.{Shape}
 use Rattle.world_gen.specs.Painting.{IsGenerated}
 use Rattle.world_gen.specs.Placing.{HasNoRoom}
@@ -41,6 +44,10 @@ break_file name = record { name = name; kind = BreakFile }
 abbrev pub game_files : List ℕ → List ℕ → List ℕ → List File
 game_files world red black = world_file world ∷ brain_file red ∷ brain_file black ∷ []
 
+-- the files of a cup: its worlds, and then its brains; a name that stands twice is fetched twice
+abbrev pub cup_files : List (List ℕ) → List (List ℕ) → List File
+cup_files worlds brains = map world_file worlds ++ map brain_file brains
+
 -- the files of a command, in the order in which they are fetched
 abbrev pub files_of : PlainCommand → List File
 files_of (ShowCommand world seed) = world_file world ∷ []
@@ -48,7 +55,7 @@ files_of (BrainCommand file) = brain_file file ∷ []
 files_of (MinimiseCommand file) = brain_file file ∷ []
 files_of (RunCommand world red black setup) = game_files world red black
 files_of (GenCommand seed shape) = []
-files_of (CupCommand worlds brains seed rounds workers) = []
+files_of (CupCommand worlds brains seed rounds workers) = cup_files worlds brains
 files_of (ViewCommand world red black breaks seed rounds) = game_files world red black ++ break_file breaks ∷ []
 files_of (WorkloadCommand seed rounds workers) = []
 
@@ -99,6 +106,30 @@ IsViewOutput seed rounds (WorldContent grid) (BrainContent red) (BrainContent bl
     IsViewText (contest_minds red black) seed rounds (world_of grid) items text
 IsViewOutput seed rounds world red black breaks text = ⊥
 
+-- no cells, for places past the end of a list
+abbrev pub nowhere : Grid
+nowhere = record { width = 0; height = 0; ids = 0; cells = [] }
+
+-- the minds of a game by the contest's rules between two players of a list, the red one first; players are counted from 0
+abbrev pub minds_between : List (List Instr) → ℕ → ℕ → Minds
+minds_between players red black = contest_minds (slice_index_or players red []) (slice_index_or players black [])
+
+-- the score of a game of so many rounds on a world of a list, counted from 0, between two players
+unfoldable pub score_between : List Grid → List (List Instr) → ℕ → ℕ → ℕ → ℕ → ℕ → Score
+score_between worlds players seed rounds world red black =
+    score_of (world_after (minds_between players red black) seed (world_of (slice_index_or worlds world nowhere)) rounds)
+
+-- what was read are these worlds, and then these players
+abbrev pub cup_contents : List Grid → List (List Instr) → List Content
+cup_contents worlds players = map WorldContent worlds ++ map BrainContent players
+
+-- the output of `cup`: that of all games between the players, on all worlds, with this seed and so many rounds each
+pub record IsCupOutput (names : List (List ℕ)) (seed rounds : ℕ) (contents : List Content) (text : List ℕ) : Type 0 where
+  pub worlds : List Grid
+  pub players : List (List Instr)
+  pub read : contents ≡ cup_contents worlds players
+  pub told : IsCupText names (length players) (length worlds) (score_between worlds players seed rounds) text
+
 -- the shape that the words of `gen` name
 abbrev pub shape_named : GenShape → Shape
 shape_named shape = record { width = shape.width; height = shape.height; rocks = shape.rocks; blobs = shape.blobs }
@@ -130,6 +161,7 @@ IsJobText (ShowCommand world seed) (content ∷ []) text = text ≡ show_output 
 IsJobText (BrainCommand file) (content ∷ []) text = text ≡ brain_output content
 IsJobText (MinimiseCommand file) (content ∷ []) text = IsMinimisedOutput content text
 IsJobText (RunCommand world red black setup) (first ∷ second ∷ third ∷ []) text = text ≡ match_output setup first second third
+IsJobText (CupCommand worlds brains seed rounds workers) contents text = IsCupOutput brains seed rounds contents text
 IsJobText (ViewCommand world red black breaks seed rounds) (first ∷ second ∷ third ∷ fourth ∷ []) text = IsViewOutput seed rounds first second third fourth text
 IsJobText (GenCommand seed shape) [] text = TellsGenerated seed (shape_named shape) text
 -- never: a command's files are as many as its contents

@@ -1,7 +1,9 @@
 // The files of a command, fetched and read one after another.
-ghost use Rattle.std.specs.Prelude.{◌≡◌, ◌≤◌, [], ◌∷◌, length};
+ghost use Rattle.std.specs.Prelude.{◌≡◌, ◌≤◌, [], ◌∷◌, length, map};
 ghost use Rattle.ant_base.specs.Shelf.{longest};
+ghost use Rattle.command_words.specs.Words.{texts};
 ghost use Rattle.ants.specs.Files.{Content, FileKind};
+ghost use Rattle.ants.specs.Inner.Cups.{files_named};
 ghost use Rattle.ants.specs.Inner.Reading.{ReadsFiles, ReadsText, brain_reason, break_reason, fetch_reason, outcome_of, world_reason};
 ghost use Rattle.ants.specs.Stopping.{reason_of};
 
@@ -87,6 +89,22 @@ pub fn read_file<'w, T: FileText, S: Shelf>(
         Ok(bytes) => T::read(alloc, name, &bytes),
         Err(fault) => Err(fetch_stop(name, fault)),
     }
+}
+
+/// Fetches the files of these names, and reads what came of each before it fetches the next.
+pub fn read_files<'w, T: FileText + Drop, S: Shelf>(
+    alloc: Global,
+    shelf: &mut S,
+    names: &'w [String],
+) -> Result<Vec<T>, Stop<'w>>
+    ensures { ReadsFiles (S.state shelf.old) (S.state shelf.new) (files_named T.kind (texts names.now)) (outcome_of (λ values. map T.content values.items) result) }
+{
+    let mut values = Vec::new(alloc);
+    for name in names {
+        let value = read_file(alloc, shelf, name.as_str())?;
+        values.push(value)?;
+    }
+    Ok(values)
 }
 
 // Why a command stops at a fetch.

@@ -5,6 +5,7 @@
 #![tactic(auto)]
 
 mod brain;
+mod cup;
 mod fetching;
 mod generating;
 mod laws;

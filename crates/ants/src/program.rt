@@ -12,6 +12,7 @@ ghost use Rattle.ants.specs.Stopping.Reason.{AtMemory};
 ghost use Rattle.std.specs.Process.{exit_status};
 
 use crate::brain::brain;
+use crate::cup::{Entry, cup};
 use crate::generating::gen_world;
 use crate::minimise::minimise;
 use crate::run::{Names, dumps_of, run};
@@ -58,7 +59,8 @@ fn carry_out_run<'w, S: Shelf, K: Sink>(
 }
 
 // Carries out the command that the words are.
-fn carry_out<'w, S: Shelf, K: Sink>(
+fn carry_out<'w, R: Threads + Sync, S: Shelf, K: Sink>(
+    rt: &R,
     alloc: Global,
     words: &'w [String],
     shelf: &mut S,
@@ -81,6 +83,27 @@ fn carry_out<'w, S: Shelf, K: Sink>(
         ) => carry_out_run(alloc, Names { world, red, black }, options, shelf, out),
         Ok(Command::Gen { seed, shape }) => gen_world(alloc, seed, shape, shelf, out),
         Ok(
+            Command::Cup {
+                worlds,
+                brains,
+                seed,
+                rounds,
+                workers,
+            },
+        ) => cup(
+            rt,
+            alloc,
+            Entry {
+                worlds,
+                brains,
+                seed,
+                rounds,
+                workers,
+            },
+            shelf,
+            out,
+        ),
+        Ok(
             Command::View {
                 world,
                 red,
@@ -99,7 +122,7 @@ fn carry_out<'w, S: Shelf, K: Sink>(
             out,
         ),
         // The table of commands knows no others, so no words are one of them.
-        Ok(Command::Cup { .. } | Command::Workload { .. }) => Err(Stop::Memory),
+        Ok(Command::Workload { .. }) => Err(Stop::Memory),
     }
 }
 
@@ -121,7 +144,7 @@ fn carry_out<'w, S: Shelf, K: Sink>(
 /// where they failed. The shelf keeps its contents and all of which it is sure, its log grows by the fetches, and its count of faults rises
 /// only where it isn't sure of each name that was fetched. The runtime and the gate serve looks made at the same time; no command uses them.
 pub fn run_ants<R: Threads + Sync, S: Shelf, K: Sink, E: Sink, G: Gate>(
-    _rt: &R,
+    rt: &R,
     alloc: Global,
     words: &[String],
     shelf: &mut S,
@@ -137,7 +160,7 @@ pub fn run_ants<R: Threads + Sync, S: Shelf, K: Sink, E: Sink, G: Gate>(
     ensures refusing { IsRefusing (texts words.now) (S.state shelf.old) (S.state shelf.new) result }
     ensures read { NeverUnread (texts words.now) (S.state shelf.old) result }
 {
-    match carry_out(alloc, words, shelf, out) {
+    match carry_out(rt, alloc, words, shelf, out) {
         Ok(()) => Status::Done,
         Err(stop) => report(&stop, err),
     }

@@ -7,6 +7,7 @@ use ant_base::{Failed, Layout, Sink, layout};
 use brain_read::BrainFault;
 use break_view::BreakFault;
 use match_run::OutOfMemory;
+use std::alloc::AllocFailed;
 use world_read::WorldFault;
 
 /// Why a file was refused (this project's own).
@@ -55,6 +56,16 @@ impl From<OutOfMemory> for Stop<'_> {
     ghost from_gives = { λ _ stop. stop ≡ Memory };
 
     fn from(_: OutOfMemory) -> Self {
+        Stop::Memory
+    }
+}
+
+impl<T: Drop> From<AllocFailed<T>> for Stop<'_> {
+    ghost use Rattle.ants.specs.declared.stop.Stop.TheVariants.{Memory};
+
+    ghost from_gives = { λ _ stop. stop ≡ Memory };
+
+    fn from(_: AllocFailed<T>) -> Self {
         Stop::Memory
     }
 }

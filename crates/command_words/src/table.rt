@@ -95,6 +95,7 @@ pub(crate) fn kinds() -> &'static [CommandKind]
         CommandKind::Minimise,
         CommandKind::Run,
         CommandKind::Gen,
+        CommandKind::Cup,
         CommandKind::View,
     ]
 }
