@@ -9,11 +9,15 @@ use Rattle.ant_base.specs.Sink.{SinkState, PushedAll, PushedFront}
 use Rattle.ant_base.specs.declared.shelf.FetchFault.{FetchFault}
 use Rattle.ant_base.specs.declared.shelf.FetchFault.TheVariants as answer
 use Rattle.command_words.specs.Command.{PlainCommand, IsCommand}
+use Rattle.match_run.specs.declared.fault.PlayFault.{PlayFault}
+use Rattle.match_run.specs.declared.fault.PlayFault.TheVariants as play
+use Rattle.match_run.specs.Play.{PushedSome, StoppedBy}
 use Rattle.ants.specs.declared.stop.FileFault.{FileFault}
 use Rattle.ants.specs.declared.stop.FileFault.TheVariants.{TooLong, World, Brain, Breaks}
 use Rattle.ants.specs.declared.stop.Stop.{Stop}
 use Rattle.ants.specs.declared.stop.Stop.TheVariants as stop
 use Rattle.ants.specs.Files.{File, Content, AreAccepted, AreBegun, IsRefused, Refuses, StopsAt}
+use Rattle.ants.specs.Inner.Planning.{stop_of}
 use Rattle.ants.specs.Inner.Reading.{CarriesOut, CarriesOutWords, ComesTo, Outcome, ReadingStops, ReadsFiles, ReadsText, TextStops, ending_of, fetch_reason, outcome_of}
 use Rattle.ants.specs.Inner.Reading.Outcome.{Contents, Stopped}
 use Rattle.ants.specs.Jobs.{files_of, IsJobText}
@@ -192,7 +196,7 @@ stops_for command shelf new_shelf fetches out (AtFile name) stops = record { sto
 stops_for command shelf new_shelf fetches out AtOutput stops = absurd stops
 stops_for command shelf new_shelf fetches out (AtInput name fault) stops = record { stopped = stops; unwritten = refl }
 stops_for command shelf new_shelf fetches out (AtRoom element) stops = absurd stops
-stops_for command shelf new_shelf fetches out AtMemory stops = record { begun = stops; unwritten = refl }
+stops_for command shelf new_shelf fetches out AtMemory stops = inl (record { begun = stops; unwritten = refl })
 
 -- a command stopped at its files, with nothing written
 pub carries_stopped : (command : PlainCommand) (shelf new_shelf : ShelfState) (out : SinkState) (reason : Reason) → ReadsFiles shelf new_shelf (files_of command) (Stopped reason) → CarriesOut command shelf new_shelf out out (Some reason)
@@ -211,9 +215,15 @@ pub carries_cut : (command : PlainCommand) (shelf new_shelf : ShelfState) (out n
 carries_cut command shelf new_shelf out new_out contents reads text is pushed =
     record { fetches = reads.fetches; fetched = reads.fetched; ends = record { contents = contents; accepted = reads.comes; text = text; is_text = is; cut = pushed } }
 
+-- a command's files were read, and a front of its text was written before memory was wanting
+carries_broken : (command : PlainCommand) (shelf new_shelf : ShelfState) (out new_out : SinkState) (contents : List Content) → ReadsFiles shelf new_shelf (files_of command) (Contents contents)
+    → (text : List ℕ) → IsJobText command contents text → PushedSome out new_out text → CarriesOut command shelf new_shelf out new_out (Some AtMemory)
+carries_broken command shelf new_shelf out new_out contents reads text is pushed =
+    record { fetches = reads.fetches; fetched = reads.fetched; ends = inr (record { contents = contents; accepted = reads.comes; text = text; is_text = is; broken = pushed }) }
+
 -- memory was wanting before a file was fetched
 pub carries_nothing : (command : PlainCommand) (shelf : ShelfState) (out : SinkState) → CarriesOut command shelf shelf out out (Some AtMemory)
-carries_nothing command shelf out = record { fetches = []; fetched = fetches_none shelf; ends = record { begun = begun_none (files_of command); unwritten = refl } }
+carries_nothing command shelf out = record { fetches = []; fetched = fetches_none shelf; ends = inl (record { begun = begun_none (files_of command); unwritten = refl }) }
 
 ends_as : (words : List (List ℕ)) (command : PlainCommand) (shelf new_shelf : ShelfState) (fetches : List Fetched) (out new_out : SinkState) (ending : Option Reason) → IsCommand words command
     → EndsBy command shelf new_shelf fetches out new_out ending → Ends words shelf new_shelf fetches out new_out ending
@@ -263,6 +273,13 @@ pub carries_failure : {U : Type 0} (command : PlainCommand) (shelf new_shelf : S
     → ReadsFiles shelf new_shelf (files_of command) (Contents contents) → (text : List ℕ) → IsJobText command contents text → PushedFront out new_out text → CarriesOut command shelf new_shelf out new_out (ending_of result)
 carries_failure command shelf new_shelf out new_out contents result same reads text is pushed =
     subst (CarriesOut command shelf new_shelf out new_out) (ending_stopped result stop.Write same) (carries_cut command shelf new_shelf out new_out contents reads text is pushed)
+
+-- a command that answers with the fault of a play
+pub carries_fault : {U : Type 0} (command : PlainCommand) (shelf new_shelf : ShelfState) (out new_out : SinkState) (contents : List Content) (result : Result U Stop) (fault : PlayFault) → IsErrAnd result (λ other. other ≡ stop_of fault)
+    → ReadsFiles shelf new_shelf (files_of command) (Contents contents) → (text : List ℕ) → IsJobText command contents text → StoppedBy out new_out text fault → CarriesOut command shelf new_shelf out new_out (ending_of result)
+carries_fault command shelf new_shelf out new_out contents result play.WriteFault same reads text is pushed = carries_failure command shelf new_shelf out new_out contents result same reads text is pushed
+carries_fault command shelf new_shelf out new_out contents result play.OutOfMemory same reads text is pushed =
+    subst (CarriesOut command shelf new_shelf out new_out) (ending_stopped result stop.Memory same) (carries_broken command shelf new_shelf out new_out contents reads text is pushed)
 
 -- a command that answers with want of memory before a file was fetched
 pub carries_wanting : {U : Type 0} (command : PlainCommand) (shelf : ShelfState) (out : SinkState) (result : Result U Stop) → IsErrAnd result (λ other. other ≡ stop.Memory) → CarriesOut command shelf shelf out out (ending_of result)

@@ -186,7 +186,8 @@ in_order_by command shelf new_shelf fetches out new_out (Some AtOutput) ends = i
 in_order_by command shelf new_shelf fetches out new_out (Some (AtInput name fault)) ends =
     in_order_stopped (IsRefusedAs name fault) (files_of command) fetches (λ file fetch is. refused_name file fetch fault is.refused) ends.stopped
 in_order_by command shelf new_shelf fetches out new_out (Some (AtRoom element)) ends = in_order_accepted (files_of command) fetches ends.contents ends.accepted
-in_order_by command shelf new_shelf fetches out new_out (Some AtMemory) ends = in_order_begun (files_of command) fetches ends.begun
+in_order_by command shelf new_shelf fetches out new_out (Some AtMemory) ends =
+    elim ends [ inl unbegun ↦ in_order_begun (files_of command) fetches unbegun.begun | inr broken ↦ in_order_accepted (files_of command) fetches broken.contents broken.accepted ]
 
 -- lists with the same front are the same in their rests
 same_rest : {X : Type 0} (front a b : List X) → front ++ a ≡ front ++ b → a ≡ b

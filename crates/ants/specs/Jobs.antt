@@ -16,7 +16,8 @@ use Rattle.command_words.specs.Slots.{DumpChoice}
 use Rattle.command_words.specs.Slots.DumpChoice.{NoDump, EveryDump, ChosenDumps}
 use Rattle.match_run.specs.declared.dumps.Dumps.{Dumps}
 use Rattle.match_run.specs.declared.dumps.Dumps.TheVariants.{Nothing, All, Chosen}
-use Rattle.match_run.specs.Run.{run_text, world_after}
+use Rattle.match_run.specs.Counts.{whole_text}
+use Rattle.match_run.specs.Run.{world_after}
 use Rattle.dump_print.specs.Texts.{seed_text, dump_text}
 use Rattle.command_words.specs.Command.{PlainCommand, RunSetup}
 use Rattle.command_words.specs.Command.PlainCommand.{ShowCommand, BrainCommand, MinimiseCommand, RunCommand, GenCommand, CupCommand, ViewCommand, WorkloadCommand}
@@ -83,10 +84,10 @@ sheet_named setup = record { surround = setup.surround; corpse = setup.corpse; r
 abbrev pub minds_named : RunSetup → List Instr → List Instr → Minds
 minds_named setup red black = record { red = red; black = black; sheet = sheet_named setup }
 
--- the output of `run`: the line of the seed, the chosen dumps and the score
+-- the output of `run`: the line of the seed, the chosen dumps, the score, and the counts where they are asked for
 unfoldable pub match_output : RunSetup → Content → Content → Content → List ℕ
 match_output setup (WorldContent grid) (BrainContent red) (BrainContent black) =
-    run_text (minds_named setup red black) setup.seed setup.rounds (chosen_rounds setup.dumps) (world_of grid)
+    whole_text (minds_named setup red black) setup.seed setup.rounds (chosen_rounds setup.dumps) setup.window setup.stats (world_of grid)
 match_output setup world red black = []
 
 -- the output of `minimise`: what is told of this brain, minimised

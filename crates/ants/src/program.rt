@@ -24,6 +24,7 @@ use ant_base::{Gate, Layout, Shelf, Sink};
 use ant_turn::Sheet;
 use command_words::{Command, RunOptions, read_words};
 use match_run::Plan;
+use round_book::SoloCrew;
 use std::alloc::Global;
 use std::process::ExitCode;
 use std::thread::Threads;
@@ -55,7 +56,8 @@ fn carry_out_run<'w, S: Shelf, K: Sink>(
 {
     let sheet = Sheet::new(options.surround, options.corpse, options.rest);
     let plan = plan_of(alloc, options)?;
-    run(alloc, names, sheet, &plan, shelf, out)
+    let mut crew = SoloCrew::new();
+    run(alloc, &mut crew, names, sheet, &plan, shelf, out)
 }
 
 // Carries out the command that the words are.
@@ -137,8 +139,8 @@ fn carry_out<'w, R: Threads + Sync, S: Shelf, K: Sink>(
 /// - `Write`: all files were fetched and accepted, the output failed, and got a front of the text.
 /// - `Input`: the last file that was fetched is too long or not in its grammar, and each before it was accepted; or an element of the world
 ///   to be generated has no room; the output got nothing.
-/// - `Memory`: memory could not be had; no fetch failed or was too long, each file but perhaps the last was accepted, and the output got
-///   nothing.
+/// - `Memory`: memory could not be had; no fetch failed or was too long. Either each file but perhaps the last was accepted, and the output
+///   got nothing; or all files were accepted, and the output got a front of the text.
 ///
 /// At each but `Done` the errors got one line, which names the word (from 1) or the file and the place in it; or a front of that line,
 /// where they failed. The shelf keeps its contents and all of which it is sure, its log grows by the fetches, and its count of faults rises

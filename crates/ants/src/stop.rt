@@ -6,7 +6,7 @@ use crate::status::Status;
 use ant_base::{Failed, Layout, Sink, layout};
 use brain_read::BrainFault;
 use break_view::BreakFault;
-use match_run::OutOfMemory;
+use match_run::{OutOfMemory, PlayFault};
 use std::alloc::AllocFailed;
 use world_read::WorldFault;
 
@@ -67,6 +67,19 @@ impl<T: Drop> From<AllocFailed<T>> for Stop<'_> {
 
     fn from(_: AllocFailed<T>) -> Self {
         Stop::Memory
+    }
+}
+
+impl From<PlayFault> for Stop<'_> {
+    ghost use Rattle.ants.specs.Inner.Planning.{stop_of};
+
+    ghost from_gives = { λ fault stop. stop ≡ stop_of fault };
+
+    fn from(fault: PlayFault) -> Self {
+        match fault {
+            PlayFault::WriteFault => Stop::Write,
+            PlayFault::OutOfMemory => Stop::Memory,
+        }
     }
 }
 

@@ -1,6 +1,8 @@
 // What no clause says: that commands succeed, and the exact bytes that they write. Each file has tables of cases, and a loop for each.
 mod brains;
+mod counts;
 mod cups;
+mod games;
 mod generated;
 mod outside;
 mod runs;

@@ -54,18 +54,18 @@ run_defaults = read-accepts (words_of (codes "run w r b --seed 1 --rounds 100000
     (RunCommand (codes "w") (codes "r") (codes "b") (game 1 1000000 NoDump 1 16384 5 3 14 false)) refl
 
 -- each option of `run`, at its greatest number
-pub run_all_greatest : IsCommand (words_of (codes "run w r b --rest 255 --corpse 9 --surround 6 --dump all --rounds 0 --seed 0"))
-    (RunCommand (codes "w") (codes "r") (codes "b") (game 0 0 EveryDump 1 16384 6 9 255 false))
+pub run_all_greatest : IsCommand (words_of (codes "run w r b --stats --rest 255 --corpse 9 --surround 6 --window 16384 --dump all --rounds 0 --seed 0"))
+    (RunCommand (codes "w") (codes "r") (codes "b") (game 0 0 EveryDump 1 16384 6 9 255 true))
 unfolding kind_of choice_of is_among rest_after is_file_name is_dumps dumps_of number_of
-run_all_greatest = read-accepts (words_of (codes "run w r b --rest 255 --corpse 9 --surround 6 --dump all --rounds 0 --seed 0"))
-    (RunCommand (codes "w") (codes "r") (codes "b") (game 0 0 EveryDump 1 16384 6 9 255 false)) refl
+run_all_greatest = read-accepts (words_of (codes "run w r b --stats --rest 255 --corpse 9 --surround 6 --window 16384 --dump all --rounds 0 --seed 0"))
+    (RunCommand (codes "w") (codes "r") (codes "b") (game 0 0 EveryDump 1 16384 6 9 255 true)) refl
 
 -- each number of `run` at its least
-pub run_all_least : IsCommand (words_of (codes "run w r b --seed 2 --rounds 3 --dump none --surround 4 --corpse 0 --rest 0"))
-    (RunCommand (codes "w") (codes "r") (codes "b") (game 2 3 NoDump 1 16384 4 0 0 false))
+pub run_all_least : IsCommand (words_of (codes "run w r b --seed 2 --rounds 3 --dump none --window 1 --surround 4 --corpse 0 --rest 0"))
+    (RunCommand (codes "w") (codes "r") (codes "b") (game 2 3 NoDump 1 1 4 0 0 false))
 unfolding kind_of choice_of is_among rest_after is_file_name is_dumps dumps_of number_of
-run_all_least = read-accepts (words_of (codes "run w r b --seed 2 --rounds 3 --dump none --surround 4 --corpse 0 --rest 0"))
-    (RunCommand (codes "w") (codes "r") (codes "b") (game 2 3 NoDump 1 16384 4 0 0 false)) refl
+run_all_least = read-accepts (words_of (codes "run w r b --seed 2 --rounds 3 --dump none --window 1 --surround 4 --corpse 0 --rest 0"))
+    (RunCommand (codes "w") (codes "r") (codes "b") (game 2 3 NoDump 1 1 4 0 0 false)) refl
 
 -- options in another order, a list in its own order with a repeat, and a leading zero
 pub run_other_order : IsCommand (words_of (codes "run w r b --dump 7,0,7 --rounds 02 --seed 5"))
@@ -183,6 +183,21 @@ corpse_too_great = read-refuses (words_of (codes "run w r b --corpse 10")) 6 ref
 pub rest_too_great : IsRefusedAt (words_of (codes "run w r b --rest 256")) 6
 unfolding kind_of choice_of is_among rest_after is_file_name is_dumps dumps_of number_of
 rest_too_great = read-refuses (words_of (codes "run w r b --rest 256")) 6 refl
+
+-- a window without turns
+pub no_window : IsRefusedAt (words_of (codes "run w r b --window 0")) 6
+unfolding kind_of choice_of is_among rest_after is_file_name is_dumps dumps_of number_of
+no_window = read-refuses (words_of (codes "run w r b --window 0")) 6 refl
+
+-- a window of 16,385 turns
+pub window_too_great : IsRefusedAt (words_of (codes "run w r b --window 16385")) 6
+unfolding kind_of choice_of is_among rest_after is_file_name is_dumps dumps_of number_of
+window_too_great = read-refuses (words_of (codes "run w r b --window 16385")) 6 refl
+
+-- `--stats` takes no word
+pub stats_with_a_value : IsRefusedAt (words_of (codes "run w r b --stats 1")) 6
+unfolding kind_of choice_of is_among rest_after is_file_name is_dumps dumps_of number_of
+stats_with_a_value = read-refuses (words_of (codes "run w r b --stats 1")) 6 refl
 
 -- 1,000,001 rounds
 pub rounds_too_many : IsRefusedAt (words_of (codes "run w r b --rounds 1000001")) 6

@@ -43,7 +43,7 @@ abbrev pub choices_of : CommandKind → List Choice
 choices_of Show = []
 choices_of Brain = []
 choices_of Minimise = []
-choices_of Run = Seed ∷ Rounds ∷ Dump ∷ Surround ∷ Corpse ∷ Rest ∷ []
+choices_of Run = Seed ∷ Rounds ∷ Dump ∷ Window ∷ Surround ∷ Corpse ∷ Rest ∷ Stats ∷ []
 choices_of Gen = Width ∷ Height ∷ Rocks ∷ Blobs ∷ []
 choices_of Cup = Seed ∷ Rounds ∷ Workers ∷ []
 choices_of View = Seed ∷ Rounds ∷ []

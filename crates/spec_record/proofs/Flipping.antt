@@ -1,5 +1,5 @@
 -- Which ants flip, and the guesses that follow.
-use Rattle.std.proofs.Common.{◌≡◌, ℕ, zero, suc, refl, ◌+◌, ◌-◌, ◌≤◌, false, List, [], ◌∷◌, Some, None, sym, ap, ◌∙◌, add-one, arith}
+use Rattle.std.proofs.Common.{◌≡◌, ℕ, zero, suc, refl, ◌+◌, ◌-◌, ◌≤◌, false, ◌∷◌, Some, None, sym, ap, ◌∙◌, add-one, arith}
 use Rattle.hex_geometry.specs.declared.position.Pos.{Pos}
 use Rattle.cell_world.specs.declared.ant.Ant.{Ant}
 use Rattle.cell_world.specs.Cell.{one_if}

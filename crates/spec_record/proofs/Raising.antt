@@ -1,13 +1,13 @@
 -- A turn raises the weight of one cell at most.
-use Rattle.std.proofs.Common.{◌≡◌, ◌≢◌, inl, inr, ℕ, ◌+◌, ◌≤◌, Option, Some, None, refl, sym, ◌∙◌, ap, subst, arith}
+use Rattle.std.proofs.Common.{◌≡◌, ◌≢◌, inl, inr, ℕ, ◌≤◌, Option, Some, None, refl, sym, ◌∙◌, ap, subst, arith}
 use Rattle.std.proofs.lemmas.Bool.{false≢true}
 use Rattle.hex_geometry.specs.declared.position.Pos.{Pos}
 use Rattle.hex_geometry.specs.Neighbourhood.{adjacent_pos}
 use Rattle.cell_world.specs.declared.ant.Ant.{Ant}
 use Rattle.cell_world.specs.declared.cell.Cell.{Cell}
-use Rattle.cell_world.specs.Cell.{ant_weight, cell_weight, holds_id, one_if}
-use Rattle.cell_world.specs.Valid.{Replaces, Valid}
-use Rattle.cell_world.specs.World.{Cells, World, put, put_cell}
+use Rattle.cell_world.specs.Cell.{ant_weight, cell_weight}
+use Rattle.cell_world.specs.Valid.{Replaces}
+use Rattle.cell_world.specs.World.{Cells, World, put_cell}
 use Rattle.cell_world.proofs.Puts.{put_cell-other, put_cell-same}
 use Rattle.cell_world.proofs.Valids.{put_cell-all}
 use Rattle.brain_read.specs.declared.instr.Instr.{Instr}

@@ -1,5 +1,5 @@
 -- A turn that draws nothing is the same at every guess.
-use Rattle.std.proofs.Common.{◌≡◌, inl, inr, ℕ, zero, suc, true, false, Option, Some, None, refl, sym, ◌∙◌, ap}
+use Rattle.std.proofs.Common.{◌≡◌, inl, inr, ℕ, zero, suc, true, false, Option, Some, None, refl, ◌∙◌, ap}
 use Rattle.std.proofs.lemmas.Bool.{cases_Bool}
 use Rattle.hex_geometry.specs.declared.position.Pos.{Pos}
 use Rattle.cell_world.specs.declared.ant.Ant.{Ant}
@@ -11,7 +11,7 @@ use Rattle.ant_turn.specs.Sheet.{Sheet}
 use Rattle.ant_turn.specs.Turn.{Outcome, acts, execute, instruction_at, turn, turn_from, turn_of}
 use Rattle.spec_record.specs.Claims.{with_cells_at}
 use Rattle.spec_record.specs.Guess.{ant_flips, flips, flips_from, flips_now, is_flip}
-use Rattle.spec_record.specs.Look.{LookValue, look_of, look_with}
+use Rattle.spec_record.specs.Look.{look_of, look_with}
 use Rattle.spec_record.specs.Reads.{reads}
 use Rattle.spec_record.specs.Writes.{writes}
 

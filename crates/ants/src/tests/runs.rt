@@ -16,11 +16,11 @@ const ROW: &str = "5\n3\n# # # # #\n # + + - #\n# # # # #\n";
 const SURROUNDED: &str = "5\n5\n# # # # #\n # - - . #\n# - + - #\n # - - . #\n# # # # #\n";
 
 // A black ant among four red ones, beside a red ant among five black ones; a red ant is about to stand beside both.
-const NEIGHBOURS: &str =
+pub const NEIGHBOURS: &str =
     "6\n6\n# # # # # #\n # . + + # #\n# + . - + #\n # - + - . #\n# . - - . #\n # # # # # #\n";
 
 // No hill, no ant.
-const EMPTY: &str = "4\n4\n# # # #\n # . . #\n# . . #\n # # # #\n";
+pub const EMPTY: &str = "4\n4\n# # # #\n # . . #\n# . . #\n # # # #\n";
 
 // A red ant dies after a black one's move: one round of `CLOSING` with the seed 12345, red `Flip 2 0 0`, black `Move 0 0`.
 pub const KILLED: &str = "random seed: 12345\n\

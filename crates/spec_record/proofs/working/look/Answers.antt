@@ -1,5 +1,5 @@
 -- the stream stands at the guess where that matters
-use Rattle.std.proofs.Common.{◌≡◌, ℕ, sym, ◌∙◌, ap}
+use Rattle.std.proofs.Common.{◌∙◌, ap}
 use Rattle.cell_world.specs.Grid.{world_of}
 use Rattle.ant_turn.specs.Minds.{minds_of}
 use Rattle.spec_record.specs.Look.{LookValue, look_of}
