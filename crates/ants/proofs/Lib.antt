@@ -5,6 +5,8 @@ pub mod Judgements
 pub mod Listed
 pub mod Planned
 pub mod Readings
+pub mod SampleWorked
 pub mod Texts
 pub mod Verdicts
 pub mod Viewed
+pub mod Workloads

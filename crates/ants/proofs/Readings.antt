@@ -22,7 +22,7 @@ use Rattle.ants.specs.Inner.Reading.{CarriesOut, CarriesOutWords, ComesTo, Outco
 use Rattle.ants.specs.Inner.Reading.Outcome.{Contents, Stopped}
 use Rattle.ants.specs.Jobs.{files_of, IsJobText}
 use Rattle.ants.specs.Judged.{IsRefusedAs}
-use Rattle.ants.specs.Performing.{EndsBy, IsUnsure, StopsFor}
+use Rattle.ants.specs.Performing.{EndsBy, IsUnsure, StopsFor, WritesInPlay}
 use Rattle.ants.specs.Running.{Ends}
 use Rattle.ants.specs.Stopping.{Reason, reason_of}
 use Rattle.ants.specs.Stopping.Reason.{AtWord, AtFile, AtOutput, AtInput, AtRoom, AtMemory}
@@ -217,9 +217,9 @@ carries_cut command shelf new_shelf out new_out contents reads text is pushed =
 
 -- a command's files were read, and a front of its text was written before memory was wanting
 carries_broken : (command : PlainCommand) (shelf new_shelf : ShelfState) (out new_out : SinkState) (contents : List Content) → ReadsFiles shelf new_shelf (files_of command) (Contents contents)
-    → (text : List ℕ) → IsJobText command contents text → PushedSome out new_out text → CarriesOut command shelf new_shelf out new_out (Some AtMemory)
-carries_broken command shelf new_shelf out new_out contents reads text is pushed =
-    record { fetches = reads.fetches; fetched = reads.fetched; ends = inr (record { contents = contents; accepted = reads.comes; text = text; is_text = is; broken = pushed }) }
+    → (text : List ℕ) → IsJobText command contents text → PushedSome out new_out text → WritesInPlay command → CarriesOut command shelf new_shelf out new_out (Some AtMemory)
+carries_broken command shelf new_shelf out new_out contents reads text is pushed in_play =
+    record { fetches = reads.fetches; fetched = reads.fetched; ends = inr (record { contents = contents; accepted = reads.comes; text = text; is_text = is; broken = pushed; in_play = in_play }) }
 
 -- memory was wanting before a file was fetched
 pub carries_nothing : (command : PlainCommand) (shelf : ShelfState) (out : SinkState) → CarriesOut command shelf shelf out out (Some AtMemory)
@@ -276,10 +276,11 @@ carries_failure command shelf new_shelf out new_out contents result same reads t
 
 -- a command that answers with the fault of a play
 pub carries_fault : {U : Type 0} (command : PlainCommand) (shelf new_shelf : ShelfState) (out new_out : SinkState) (contents : List Content) (result : Result U Stop) (fault : PlayFault) → IsErrAnd result (λ other. other ≡ stop_of fault)
-    → ReadsFiles shelf new_shelf (files_of command) (Contents contents) → (text : List ℕ) → IsJobText command contents text → StoppedBy out new_out text fault → CarriesOut command shelf new_shelf out new_out (ending_of result)
-carries_fault command shelf new_shelf out new_out contents result play.WriteFault same reads text is pushed = carries_failure command shelf new_shelf out new_out contents result same reads text is pushed
-carries_fault command shelf new_shelf out new_out contents result play.OutOfMemory same reads text is pushed =
-    subst (CarriesOut command shelf new_shelf out new_out) (ending_stopped result stop.Memory same) (carries_broken command shelf new_shelf out new_out contents reads text is pushed)
+    → ReadsFiles shelf new_shelf (files_of command) (Contents contents) → (text : List ℕ) → IsJobText command contents text → StoppedBy out new_out text fault → WritesInPlay command
+    → CarriesOut command shelf new_shelf out new_out (ending_of result)
+carries_fault command shelf new_shelf out new_out contents result play.WriteFault same reads text is pushed in_play = carries_failure command shelf new_shelf out new_out contents result same reads text is pushed
+carries_fault command shelf new_shelf out new_out contents result play.OutOfMemory same reads text is pushed in_play =
+    subst (CarriesOut command shelf new_shelf out new_out) (ending_stopped result stop.Memory same) (carries_broken command shelf new_shelf out new_out contents reads text is pushed in_play)
 
 -- a command that answers with want of memory before a file was fetched
 pub carries_wanting : {U : Type 0} (command : PlainCommand) (shelf : ShelfState) (out : SinkState) (result : Result U Stop) → IsErrAnd result (λ other. other ≡ stop.Memory) → CarriesOut command shelf shelf out out (ending_of result)

@@ -17,7 +17,7 @@ use Rattle.ants.specs.declared.status.Status.TheVariants as status
 use Rattle.ants.specs.declared.stop.FileFault.{FileFault}
 use Rattle.ants.specs.declared.stop.FileFault.TheVariants.{TooLong, World, Brain, Breaks}
 use Rattle.ants.specs.Files.{AreAccepted, AreBegun, AreInOrder, Content, File, IsAccepted, IsFetched, IsNoText, IsRefused, Reads, Refuses, StopsAt}
-use Rattle.ants.specs.Jobs.{HasRoom, IsJobText, LacksRoom, files_of, shape_named}
+use Rattle.ants.specs.Jobs.{HasRoom, IsJobText, LacksRoom, contest_shape, files_of, shape_named}
 use Rattle.ants.specs.Judged.{IsRefusedAs, Judged, Verdict}
 use Rattle.ants.specs.Judged.Verdict.{AllAccepted, FirstRefused}
 use Rattle.ants.specs.Performing.{EndsBy, IsUnsure}
@@ -245,24 +245,25 @@ complete_run words shelf new_shelf out new_out err new_err ended run = λ conten
 text_has_room : (command : PlainCommand) (contents : List Content) (text : List ℕ) (element : ℕ) → IsJobText command contents text → LacksRoom command element → ⊥
 text_has_room (GenCommand seed shape) [] text element is lacks = one_outcome.none seed (shape_named shape) is.generated.placed element is.generated.placing lacks
 text_has_room (GenCommand seed shape) (content ∷ contents) text element is lacks = is
+text_has_room (WorkloadCommand seed rounds workers) [] text element is lacks = one_outcome.none seed contest_shape is.generated.placed element is.generated.placing lacks
+text_has_room (WorkloadCommand seed rounds workers) (content ∷ contents) text element is lacks = is
 text_has_room (ShowCommand world seed) contents text element is lacks = lacks
 text_has_room (BrainCommand file) contents text element is lacks = lacks
 text_has_room (MinimiseCommand file) contents text element is lacks = lacks
 text_has_room (RunCommand world red black setup) contents text element is lacks = lacks
 text_has_room (CupCommand worlds brains seed rounds workers) contents text element is lacks = lacks
 text_has_room (ViewCommand world red black breaks seed rounds) contents text element is lacks = lacks
-text_has_room (WorkloadCommand seed rounds workers) contents text element is lacks = lacks
 
 -- a command that lacks room fetches nothing
 lacks_no_file : (command : PlainCommand) (element : ℕ) → LacksRoom command element → files_of command ≡ []
 lacks_no_file (GenCommand seed shape) element lacks = refl
+lacks_no_file (WorkloadCommand seed rounds workers) element lacks = refl
 lacks_no_file (ShowCommand world seed) element lacks = absurd lacks
 lacks_no_file (BrainCommand file) element lacks = absurd lacks
 lacks_no_file (MinimiseCommand file) element lacks = absurd lacks
 lacks_no_file (RunCommand world red black setup) element lacks = absurd lacks
 lacks_no_file (CupCommand worlds brains seed rounds workers) element lacks = absurd lacks
 lacks_no_file (ViewCommand world red black breaks seed rounds) element lacks = absurd lacks
-lacks_no_file (WorkloadCommand seed rounds workers) element lacks = absurd lacks
 
 -- a run of which an element has no room ends so, or wants memory
 crowding_by : (command : PlainCommand) (shelf new_shelf : ShelfState) (fetches : List Fetched) (out new_out : SinkState) (element : ℕ) (ending : Option Reason) → LacksRoom command element → EndsBy command shelf new_shelf fetches out new_out ending

@@ -1,7 +1,8 @@
 -- What each command reads and writes (this project's own): one equation a command.
-use Rattle.std.specs.Prelude.{◌≡◌, ℕ, List, [], ◌∷◌, ◌++◌, length, map, slice_index_or, Option}
+use Rattle.std.specs.Prelude.{◌≡◌, ℕ, List, [], ◌∷◌, ◌++◌, length, map, slice_index_or, codes, decimal, Option}
 use Rattle.ant_base.specs.Layout.{◌+++◌}
 use Rattle.ant_turn.specs.Minds.{Minds, contest_minds}
+use Rattle.ant_turn.specs.Rounds.{start_of}
 use Rattle.ant_turn.specs.Sheet.{Sheet}
 use Rattle.brain_minimise.specs.Minimised.{IsMinimised}
 use Rattle.brain_minimise.specs.Text.{minimised_text}
@@ -9,27 +10,33 @@ use Rattle.brain_read.specs.declared.instr.Instr.{Instr}
 use Rattle.brain_read.specs.Canonical.{brain_text}
 use Rattle.break_view.specs.Texts.{IsViewText}
 use Rattle.cell_world.specs.Grid.{Grid, world_of}
-use Rattle.cell_world.specs.Score.{score_of}
+use Rattle.cell_world.specs.Score.{alive_of, score_of}
+use Rattle.cell_world.specs.World.{World}
+use Rattle.cell_world.specs.declared.ant.Colour.TheVariants.{Red, Black}
 use Rattle.cell_world.specs.declared.score.Score.{Score}
 use Rattle.command_words.specs.declared.command.GenShape.{GenShape}
 use Rattle.command_words.specs.Slots.{DumpChoice}
+use Rattle.command_words.specs.Table.{default_blobs, default_rocks, default_side, default_window}
 use Rattle.command_words.specs.Slots.DumpChoice.{NoDump, EveryDump, ChosenDumps}
 use Rattle.match_run.specs.declared.dumps.Dumps.{Dumps}
 use Rattle.match_run.specs.declared.dumps.Dumps.TheVariants.{Nothing, All, Chosen}
-use Rattle.match_run.specs.Counts.{whole_text}
+use Rattle.match_run.specs.Counts.{totals_of, whole_text}
 use Rattle.match_run.specs.Run.{world_after}
-use Rattle.dump_print.specs.Texts.{seed_text, dump_text}
+use Rattle.dump_print.specs.Texts.{seed_text, dump_text, score_text, stats_text}
 use Rattle.command_words.specs.Command.{PlainCommand, RunSetup}
 use Rattle.command_words.specs.Command.PlainCommand.{ShowCommand, BrainCommand, MinimiseCommand, RunCommand, GenCommand, CupCommand, ViewCommand, WorkloadCommand}
 use Rattle.tournament.specs.Text.{IsCupText}
 use Rattle.world_gen.specs.declared.shape.Shape.{Shape}
+use Rattle.world_gen.specs.Food.{food_on}
 use Rattle.world_gen.specs.Painting.{IsGenerated}
 use Rattle.world_gen.specs.Placing.{HasNoRoom}
 use Rattle.world_read.specs.Canonical.{canonical_text}
 use Rattle.world_read.specs.Opened.{kinds_of}
+use Rattle.ants.specs.declared.workload.Summary.{Summary}
 use Rattle.ants.specs.Files.{File, Content}
 use Rattle.ants.specs.Files.FileKind.{WorldFile, BrainFile, BreakFile}
 use Rattle.ants.specs.Files.Content.{WorldContent, BrainContent, BreakContent}
+use Rattle.ants.specs.Sample.{sample_brain}
 
 -- a file with a world, one with a brain, and one with breaks
 abbrev pub world_file : List ℕ → File
@@ -141,16 +148,54 @@ pub record TellsGenerated (seed : ℕ) (shape : Shape) (text : List ℕ) : Type 
   pub generated : IsGenerated seed shape world
   pub told : text ≡ canonical_text world.width world.height (kinds_of world)
 
+-- the shape of a world of the contest: what `gen` makes without options
+abbrev pub contest_shape : Shape
+contest_shape = record { width = default_side; height = default_side; rocks = default_rocks; blobs = default_blobs }
+
+-- the task's sample brain on both sides, by the contest's rules
+abbrev pub sample_minds : Minds
+sample_minds = contest_minds sample_brain sample_brain
+
+-- what a workload tells of its game: how many ants there are, and the food on all cells at the start; how many are alive, the score and what
+-- came of the turns after so many rounds, which are played in windows of the default size
+unfoldable pub summary_of : ℕ → ℕ → World → Summary
+summary_of seed rounds w = record {
+  ants = w.ids;
+  food = food_on w;
+  red = alive_of (world_after sample_minds seed w rounds) Red;
+  black = alive_of (world_after sample_minds seed w rounds) Black;
+  score = score_of (world_after sample_minds seed w rounds);
+  totals = totals_of sample_minds seed default_window (start_of w) rounds;
+}
+
+-- the first four lines of a workload, the last without its end
+unfoldable pub summary_lines : ℕ → ℕ → Summary → List ℕ
+summary_lines seed rounds summary =
+    codes "workload seed " +++ decimal seed +++ codes " rounds " +++ decimal rounds
+    +++ codes "\nants " +++ decimal summary.ants
+    +++ codes "\nfood " +++ decimal summary.food
+    +++ codes "\nalive red " +++ decimal summary.red +++ codes " black " +++ decimal summary.black
+
+-- the six lines of a workload; the text of a score begins with the end of the line before it
+unfoldable pub workload_text : ℕ → ℕ → Summary → List ℕ
+workload_text seed rounds summary = summary_lines seed rounds summary +++ score_text summary.score +++ stats_text summary.totals
+
+-- the output of `workload`: what is told of a game on the world of this seed and the contest's shape; no number of workers stands in it
+pub record TellsWorkload (seed rounds : ℕ) (text : List ℕ) : Type 0 where
+  pub world : Grid
+  pub generated : IsGenerated seed contest_shape world
+  pub told : text ≡ workload_text seed rounds (summary_of seed rounds (world_of world))
+
 -- this element of the world that a command generates has no room
 abbrev pub LacksRoom : PlainCommand → ℕ → Type 0
 LacksRoom (GenCommand seed shape) element = HasNoRoom seed (shape_named shape) element
+LacksRoom (WorkloadCommand seed rounds workers) element = HasNoRoom seed contest_shape element
 LacksRoom (ShowCommand world seed) element = ⊥
 LacksRoom (BrainCommand file) element = ⊥
 LacksRoom (MinimiseCommand file) element = ⊥
 LacksRoom (RunCommand world red black setup) element = ⊥
 LacksRoom (CupCommand worlds brains seed rounds workers) element = ⊥
 LacksRoom (ViewCommand world red black breaks seed rounds) element = ⊥
-LacksRoom (WorkloadCommand seed rounds workers) element = ⊥
 
 -- each element of the world that a command generates has room
 abbrev pub HasRoom : PlainCommand → Type 0
@@ -165,5 +210,6 @@ IsJobText (RunCommand world red black setup) (first ∷ second ∷ third ∷ [])
 IsJobText (CupCommand worlds brains seed rounds workers) contents text = IsCupOutput brains seed rounds contents text
 IsJobText (ViewCommand world red black breaks seed rounds) (first ∷ second ∷ third ∷ fourth ∷ []) text = IsViewOutput seed rounds first second third fourth text
 IsJobText (GenCommand seed shape) [] text = TellsGenerated seed (shape_named shape) text
+IsJobText (WorkloadCommand seed rounds workers) [] text = TellsWorkload seed rounds text
 -- never: a command's files are as many as its contents
 IsJobText command contents text = ⊥

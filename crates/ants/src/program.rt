@@ -20,6 +20,7 @@ use crate::show::show;
 use crate::status::Status;
 use crate::stop::Stop;
 use crate::view::view;
+use crate::workload::workload;
 use ant_base::{Gate, Layout, Shelf, Sink};
 use ant_turn::Sheet;
 use command_words::{Command, RunOptions, read_words};
@@ -123,8 +124,16 @@ fn carry_out<'w, R: Threads + Sync, S: Shelf, K: Sink>(
             shelf,
             out,
         ),
-        // The table of commands knows no others, so no words are one of them.
-        Ok(Command::Workload { .. }) => Err(Stop::Memory),
+        Ok(
+            Command::Workload {
+                seed,
+                rounds,
+                workers: _workers,
+            },
+        ) => {
+            let mut crew = SoloCrew::new();
+            workload(alloc, &mut crew, seed, rounds, shelf, out)
+        }
     }
 }
 

@@ -9,6 +9,7 @@ mod runs;
 mod shown;
 mod viewed;
 mod words;
+mod workloads;
 
 use crate::program::run_ants;
 use crate::status::Status;

@@ -120,6 +120,11 @@ pub view_command : IsCommand (words_of (codes "view w r b k --rounds 5 --seed 12
 unfolding kind_of choice_of is_among rest_after is_file_name is_dumps dumps_of number_of
 view_command = read-accepts (words_of (codes "view w r b k --rounds 5 --seed 12345")) (ViewCommand (codes "w") (codes "r") (codes "b") (codes "k") 12345 5) refl
 
+-- `workload`
+pub workload_command : IsCommand (words_of (codes "workload 12345 1000 4")) (WorkloadCommand 12345 1000 4)
+unfolding kind_of choice_of is_among rest_after is_file_name is_dumps dumps_of number_of
+workload_command = read-accepts (words_of (codes "workload 12345 1000 4")) (WorkloadCommand 12345 1000 4) refl
+
 -- there is no word
 pub no_word : IsRefusedAt [] 1
 no_word = read-refuses [] 1 refl
@@ -338,3 +343,13 @@ cup_takes_no_window = read-refuses (words_of (codes "cup --worlds w --brains a b
 pub cup_takes_no_rules : IsRefusedAt (words_of (codes "cup --worlds w --brains a b --surround 5")) 7
 unfolding kind_of choice_of is_among rest_after is_file_name is_dumps dumps_of number_of
 cup_takes_no_rules = read-refuses (words_of (codes "cup --worlds w --brains a b --surround 5")) 7 refl
+
+-- no worker of a workload
+pub workload_workers : IsRefusedAt (words_of (codes "workload 1 2 0")) 4
+unfolding kind_of choice_of is_among rest_after is_file_name is_dumps dumps_of number_of
+workload_workers = read-refuses (words_of (codes "workload 1 2 0")) 4 refl
+
+-- `workload` takes no option
+pub workload_takes_no_option : IsRefusedAt (words_of (codes "workload 1 2 3 --stats")) 5
+unfolding kind_of choice_of is_among rest_after is_file_name is_dumps dumps_of number_of
+workload_takes_no_option = read-refuses (words_of (codes "workload 1 2 3 --stats")) 5 refl

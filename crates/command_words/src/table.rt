@@ -97,6 +97,7 @@ pub(crate) fn kinds() -> &'static [CommandKind]
         CommandKind::Gen,
         CommandKind::Cup,
         CommandKind::View,
+        CommandKind::Workload,
     ]
 }
 

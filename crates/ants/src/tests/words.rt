@@ -4,7 +4,7 @@ use crate::tests::{CLOSED, Given, Job, NO_JOB, check_rows};
 use std::test::Fail;
 
 // Words, and the line that names the first one with which no command begins.
-const REFUSED: [(&str, &str); 61] = [
+const REFUSED: [(&str, &str); 66] = [
     ("", "ants: word 1 refused\n"),
     ("jump", "ants: word 1 refused\n"),
     ("Show w 1", "ants: word 1 refused\n"),
@@ -93,6 +93,11 @@ const REFUSED: [(&str, &str); 61] = [
     ("view w r b --seed 1", "ants: word 5 refused\n"),
     ("view w r b k --rounds 1", "ants: word 8 refused\n"),
     ("view w r b k --surround 5", "ants: word 6 refused\n"),
+    ("workload", "ants: word 2 refused\n"),
+    ("workload 1 1000001 1", "ants: word 3 refused\n"),
+    ("workload 1 2", "ants: word 4 refused\n"),
+    ("workload 1 2 17", "ants: word 4 refused\n"),
+    ("workload 1 2 3 --stats", "ants: word 5 refused\n"),
 ];
 
 #[test]
