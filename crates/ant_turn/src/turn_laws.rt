@@ -70,9 +70,10 @@ pub fn turns_follow()
     ensures { TurnsFollow }
 {}
 
-/// The turn of an ant changes no cell but its own, the one ahead of it and the six around that one; an ant that lives on is where it was
-/// or on the cell ahead; and no marker changes but the own colour's on the own cell (the task's kinetics and chemistry). The call does
-/// nothing: its clause is the law.
+/// The turn of an ant changes no cell but its own, the one ahead of it and the six around that one: its own alone where it stays there, and
+/// else its own, the one onto which it steps and those from which an ant was killed. An ant that lives on is where it was or on the cell
+/// ahead; and no marker changes but the own colour's on the own cell (the task's kinetics and chemistry). The call does nothing: its clause
+/// is the law.
 pub fn turns_are_near()
     ensures { TurnsAreNear }
 {}

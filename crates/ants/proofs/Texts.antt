@@ -1,7 +1,7 @@
 -- The bytes of a file of each kind: they are read in one way or refused in one way, and never both.
 use Rattle.std.proofs.Common.{◌≡◌, ◌≢◌, ◌⊎◌, inl, inr, ℕ, List, Result, Ok, Err, refl, ap}
-use Rattle.brain_read.proofs.Whole as whole
-use Rattle.brain_read.specs.BrainText as brain_text
+use Rattle.brain_read.proofs.FaultyLemmas as whole
+use Rattle.brain_read.specs.Answers as brain_answers
 use Rattle.brain_read.specs.declared.fault.BrainFault.{BrainFault}
 use Rattle.brain_read.specs.declared.fault.BrainFault.TheVariants as brain
 use Rattle.break_view.proofs.Whole as break_whole
@@ -9,11 +9,11 @@ use Rattle.break_view.specs.BreakText as break_text
 use Rattle.break_view.specs.declared.fault.BreakFault.{BreakFault}
 use Rattle.break_view.specs.declared.fault.BreakFault.TheVariants as breaks
 use Rattle.cell_world.specs.Grid.{Grid}
-use Rattle.world_read.proofs.Told as told
+use Rattle.world_read.proofs.AnswersLemmas as told
 use Rattle.world_read.specs.Answers as world_answers
 use Rattle.world_read.specs.Faulty.{IsWorldFault}
 use Rattle.world_read.specs.Opened.{OpensAs}
-use Rattle.world_read.specs.Reading.{world_of_text}
+use Rattle.world_read.specs.Inner.Reading.{world_of_text}
 use Rattle.world_read.specs.declared.fault.WorldFault.{WorldFault}
 use Rattle.world_read.specs.declared.fault.WorldFault.TheVariants as world
 use Rattle.ants.specs.declared.stop.FileFault.{FileFault}
@@ -139,7 +139,7 @@ world_stops name bytes (world.TooManyAnts count) is = (refl, is)
 world_stops name bytes world.OutOfMemory is = tt
 
 -- the fault of a brain's text stops the reading of its file
-pub brain_stops : (name bytes : List ℕ) (fault : BrainFault) → brain_text.IsFaultOf bytes fault → TextStops BrainFile bytes name (brain_reason name fault)
+pub brain_stops : (name bytes : List ℕ) (fault : BrainFault) → brain_answers.IsFaultOf bytes fault → TextStops BrainFile bytes name (brain_reason name fault)
 brain_stops name bytes (brain.BadByte line) is = (refl, is)
 brain_stops name bytes (brain.UnknownWord line) is = (refl, is)
 brain_stops name bytes (brain.MissingToken line) is = (refl, is)

@@ -44,8 +44,8 @@ pub enum Draft {
 }
 
 impl Draft {
-    ghost use Rattle.brain_read.specs.Draft.{drafted};
-    ghost use Rattle.brain_read.specs.Verdict.{settled};
+    ghost use Rattle.brain_read.specs.Inner.Draft.{drafted};
+    ghost use Rattle.brain_read.specs.Inner.Verdict.{settled};
 
     /// The instruction of a brain of so many states, at most 65,536; or the first of its states that isn't below their number.
     pub fn settled(self, states: u64) -> Result<Instr, u64>

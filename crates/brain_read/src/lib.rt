@@ -16,7 +16,6 @@ mod laws;
 mod line;
 pub mod positions;
 mod read;
-mod steps;
 mod tokens;
 mod write;
 
@@ -25,7 +24,9 @@ pub use fault::{BrainFault, LineFault, Refusal};
 pub use form::{ConditionWord, Form, condition_table, form_table, side_table, sight_table};
 pub use hex_geometry::{OutOfMemory, Side, Sight};
 pub use instr::{Cond, Instr};
-pub use laws::{canonical_text_is_read, one_brain_or_one_fault};
+pub use laws::{
+    canonical_text_is_read, no_text_wants_memory, one_brain_or_one_fault, texts_make_brains,
+};
 pub use read::read_brain;
 pub use tokens::Tokens;
 pub use write::write_brain;

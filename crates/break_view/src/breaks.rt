@@ -1,6 +1,6 @@
 // Breaks, and lists of them.
 ghost use Rattle.std.specs.Prelude.{◌≡◌, ◌<◌, ◌≤◌, length, slice_get, Some};
-ghost use Rattle.break_view.specs.BreakText.{most_breaks};
+ghost use Rattle.break_view.specs.Grammar.{most_breaks};
 
 use cell_world::Colour;
 use std::marker::Model;
@@ -31,7 +31,7 @@ pub struct Breaks {
 impl Model for Breaks {
     ghost use Rattle.std.specs.Prelude.{List, ◌≤◌, length};
     ghost use Rattle.break_view.specs.declared.breaks.Break.{Break};
-    ghost use Rattle.break_view.specs.BreakText.{most_breaks};
+    ghost use Rattle.break_view.specs.Grammar.{most_breaks};
 
     ghost Value = { List Break };
 

@@ -1,21 +1,10 @@
 // What holds of all texts of breaks and of all games with breaks, as laws of their definitions.
-ghost use Rattle.std.specs.Prelude.{◌≡◌, ◌⊎◌, ℕ, List};
-ghost use Rattle.break_view.specs.declared.breaks.Break.{Break};
-ghost use Rattle.break_view.specs.declared.fault.BreakFault.{BreakFault};
-ghost use Rattle.break_view.specs.BreakText.{BreakText, BreakVerdict};
-ghost use Rattle.break_view.specs.Laws.{EndsAreFound, FewerStopLater, LaterRoundsAddNothing, OneFirstStop, StopsFollowTurns};
+ghost use Rattle.break_view.specs.Laws.{EndsAreFound, FewerStopLater, LaterRoundsAddNothing, OneFirstStop, OneListOrOneFault, StopsFollowTurns};
 
 /// Every text has exactly one list of breaks or exactly one fault, and never both (this project's own). The call does nothing: its clauses
 /// are the law.
 pub fn one_list_or_one_fault()
-    ensures some { (text : List ℕ) →
-        ((list : List Break) × BreakText text list) ⊎ ((fault : BreakFault) × BreakVerdict text fault) }
-    ensures one_list { (text : List ℕ) (a b : List Break) →
-        BreakText text a → BreakText text b → a ≡ b }
-    ensures one_fault { (text : List ℕ) (a b : BreakFault) →
-        BreakVerdict text a → BreakVerdict text b → a ≡ b }
-    ensures never_both { (text : List ℕ) (list : List Break) (fault : BreakFault) →
-        BreakText text list → BreakVerdict text fault → ⊥ }
+    ensures { OneListOrOneFault }
 {}
 
 /// A game has one first stop, or none; it has one end, and one text of its view (this project's own). The call does nothing: its clause

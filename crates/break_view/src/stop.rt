@@ -9,7 +9,7 @@ ghost use Rattle.cell_world.specs.Score.{score_of};
 ghost use Rattle.cell_world.specs.World.{with_cells};
 ghost use Rattle.match_run.specs.Inner.Sequential.{LastsARound, moment_of};
 ghost use Rattle.match_run.specs.Run.{most_rounds};
-ghost use Rattle.break_view.specs.BreakText.{most_breaks};
+ghost use Rattle.break_view.specs.Grammar.{most_breaks};
 ghost use Rattle.break_view.specs.Stops.{EndsAt};
 ghost use Rattle.break_view.specs.Inner.Rounds.{RoundEnds};
 

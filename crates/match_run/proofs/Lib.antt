@@ -2,6 +2,7 @@ pub mod CountLaws
 pub mod CountLemmas
 pub mod CountWorked
 pub mod GameLemmas
+pub mod LoneWindows
 pub mod PlayLemmas
 pub mod RunLaws
 pub mod RunLemmas

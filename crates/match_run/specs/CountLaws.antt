@@ -1,8 +1,9 @@
 -- Laws of the counts of games (this project's own).
-use Rattle.std.specs.Prelude.{◌≡◌, ℕ, ◌+◌, ◌*◌, ◌≤◌, true, false}
+use Rattle.std.specs.Prelude.{◌≡◌, ℕ, ◌+◌, ◌*◌, ◌^◌, ◌<◌, ◌≤◌, true, false}
 use Rattle.ant_base.specs.Layout.{◌+++◌}
-use Rattle.ant_turn.specs.Minds.{Minds}
+use Rattle.ant_turn.specs.Minds.{AreSound, Fits, Minds}
 use Rattle.ant_turn.specs.Rounds.{Moment, after_round, after_rounds, start_of}
+use Rattle.cell_world.specs.Valid.{Valid}
 use Rattle.cell_world.specs.World.{World}
 use Rattle.dump_print.specs.Texts.{stats_text}
 use Rattle.match_run.specs.declared.dumps.Dumps.{Dumps}
@@ -19,6 +20,11 @@ pub record TotalsAddUp : Type 0 where
 pub record RoundsGoOn : Type 0 where
   pub moment : (minds : Minds) (seed : ℕ) (m : Moment) (r q : ℕ) → after_rounds minds seed (after_rounds minds seed m r) q ≡ after_rounds minds seed m (r + q)
   pub totals : (minds : Minds) (seed size : ℕ) (m : Moment) (r q : ℕ) → both (totals_of minds seed size m r) (totals_of minds seed size (after_rounds minds seed m r) q) ≡ totals_of minds seed size m (r + q)
+
+-- where a window has one turn, every turn is taken, at whatever moment the rounds begin where brains fit and the stream lasts
+abbrev pub LoneWindowsAreTaken : Type 0
+LoneWindowsAreTaken = (minds : Minds) (seed : ℕ) (m : Moment) (r : ℕ) → AreSound minds → Valid m.world → Fits m.world minds → m.place + m.world.ids * r < 2 ^ 63 →
+    totals_of minds seed 1 m r ≡ record { turns = m.world.ids * r; taken = m.world.ids * r; redone = 0 }
 
 -- the counts come last: without their line the text is the same whatever the size of a window
 pub record CountsComeLast : Type 0 where

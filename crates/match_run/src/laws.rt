@@ -1,5 +1,5 @@
 // What holds of all games and runs, as laws of their definitions.
-ghost use Rattle.match_run.specs.CountLaws.{BrokenRoundsGoOn, CountsComeLast, RoundsGoOn, TotalsAddUp, WholeRounds};
+ghost use Rattle.match_run.specs.CountLaws.{BrokenRoundsGoOn, CountsComeLast, LoneWindowsAreTaken, RoundsGoOn, TotalsAddUp, WholeRounds};
 ghost use Rattle.match_run.specs.RunLaws.{AllDumps, NoDumps, SameRounds, RepeatAddsNothing, LaterAddsNothing, GoesOn};
 
 /// The text of a run with `Dumps::All` is the line of the seed, the dump after each round from 0 to the number of rounds in order, and the
@@ -46,6 +46,11 @@ pub fn rounds_go_on()
 /// call does nothing: its clause is the law.
 pub fn totals_add_up()
     ensures { TotalsAddUp }
+{}
+
+/// Where a window has one turn, every turn of a game's rounds is taken (this project's own). The call does nothing: its clause is the law.
+pub fn lone_windows_are_taken()
+    ensures { LoneWindowsAreTaken }
 {}
 
 /// The counts stand on the last line alone: without that line the text of a run is the same, however many turns a window has (this project's

@@ -25,8 +25,9 @@ pub use fault::PlayFault;
 pub use game::Game;
 pub use hex_geometry::OutOfMemory;
 pub use laws::{
-    all_dumps, broken_rounds_go_on, counts_come_last, goes_on, later_adds_nothing, no_dumps,
-    repeat_adds_nothing, rounds_go_on, same_rounds, totals_add_up, whole_rounds,
+    all_dumps, broken_rounds_go_on, counts_come_last, goes_on, later_adds_nothing,
+    lone_windows_are_taken, no_dumps, repeat_adds_nothing, rounds_go_on, same_rounds,
+    totals_add_up, whole_rounds,
 };
 pub use plan::Plan;
 pub use playing::play;

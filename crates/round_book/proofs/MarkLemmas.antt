@@ -9,7 +9,7 @@ use Rattle.hex_geometry.specs.Position.{IsInside}
 use Rattle.cell_world.specs.Grid.{Grid, index_of}
 use Rattle.cell_world.specs.Parts.{Agree}
 use Rattle.cell_world.specs.World.{Cells}
-use Rattle.cell_world.proofs.Grids.{index_of-inside}
+use Rattle.cell_world.proofs.GridLemmas.{index_of-inside}
 use Rattle.spec_record.specs.Claims.{Sighting, places_of}
 use Rattle.round_book.specs.declared.verdict.Cause.{Cause}
 use Rattle.round_book.specs.declared.verdict.Cause.TheVariants as cause

@@ -8,7 +8,7 @@ use Rattle.hex_geometry.specs.declared.position.Pos.{Pos}
 use Rattle.hex_geometry.specs.Position.{IsInside}
 use Rattle.cell_world.specs.Grid.{Grid, index_of, world_of}
 use Rattle.cell_world.specs.World.{Cells, World, pos_at, with_cells}
-use Rattle.cell_world.proofs.Grids.{index_of-inside, pos_at-index_of}
+use Rattle.cell_world.proofs.GridLemmas.{index_of-inside, pos_at-index_of}
 use Rattle.round_book.specs.Inner.Workspace.{AreMarked}
 
 -- two positions of a world with one number in row order are one

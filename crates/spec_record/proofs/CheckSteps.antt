@@ -15,7 +15,7 @@ use Rattle.ant_turn.specs.Kills.{after_kill, ants_among, check_all, check_at, ha
 use Rattle.ant_turn.specs.Sheet.{Sheet}
 use Rattle.ant_turn.specs.Turn.{has_ant}
 use Rattle.ant_turn.proofs.Checks.{check_at-spared, check_at-struck}
-use Rattle.ant_turn.proofs.Kept.{check_all-ant}
+use Rattle.ant_turn.proofs.KeptByChecks.{check_all-ant}
 use Rattle.spec_record.specs.Claims.{Claim, claim}
 use Rattle.spec_record.specs.Reads.{ant_and_food, emptied}
 use Rattle.spec_record.proofs.OwnSteps.{kill_step}

@@ -11,6 +11,7 @@ pub mod LooksWorked
 pub mod Noting
 pub mod OwnSteps
 pub mod Patched
+pub mod PlacesLemmas
 pub mod Raising
 pub mod Ring
 pub mod RoundsWorked

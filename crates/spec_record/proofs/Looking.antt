@@ -20,7 +20,7 @@ use Rattle.brain_read.specs.declared.instr.Instr.TheVariants.{Sense, Mark, Unmar
 use Rattle.ant_turn.specs.Kills.{check_all, places_around}
 use Rattle.ant_turn.specs.Minds.{Minds, mind_of}
 use Rattle.ant_turn.specs.Sheet.{Sheet}
-use Rattle.ant_turn.specs.Turn.{Outcome, acts, checked, execute, has_ant, instruction_at, is_blocked, stepped, turn, turn_from, turn_of, with_ant}
+use Rattle.ant_turn.specs.Turn.{Outcome, acts, checked, execute, has_ant, instruction_at, is_blocked, stepped, turn, turn_from, turn_at, with_ant}
 use Rattle.ant_turn.proofs.Turns.{turn-acts}
 use Rattle.spec_record.specs.Claims.{Claim, EachOnce, Sighting, claim, merged, places_of, with_cells_at}
 use Rattle.spec_record.specs.Look.{LookValue, look_of, look_with}
@@ -48,7 +48,7 @@ look_of-from minds seed w guess t = refl
 
 -- by the ant there, if there is one
 abbrev look_at : Minds → ℕ → Cells → ℕ → ℕ → Pos → Option Ant → LookValue
-look_at minds seed cells guess t p o = look_claiming cells t guess (turn_of minds seed cells guess p o) (reads_of minds cells p o) (writes_of minds cells p o)
+look_at minds seed cells guess t p o = look_claiming cells t guess (turn_at minds seed cells guess p o) (reads_of minds cells p o) (writes_of minds cells p o)
 
 -- by its resting count
 abbrev look_acting : Minds → ℕ → Cells → ℕ → ℕ → Pos → Ant → ℕ → LookValue

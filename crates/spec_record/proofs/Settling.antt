@@ -9,12 +9,13 @@ use Rattle.cell_world.specs.declared.part.Part.TheVariants as part
 use Rattle.cell_world.specs.declared.part.Parts.{Parts}
 use Rattle.cell_world.specs.Cell.{cell_weight, holds_id}
 use Rattle.cell_world.specs.Parts.{CanPatch, patched}
-use Rattle.cell_world.specs.Valid.{CanSet, Replaces, Valid}
+use Rattle.cell_world.specs.Valid.{CanSet, Valid}
+use Rattle.cell_world.specs.Inner.Replaces.{Replaces}
 use Rattle.cell_world.specs.World.{Cells, World, put, put_cell, with_cells}
 use Rattle.cell_world.proofs.Patches.{CanPatch-alike, patched-named, patched-others, patched-unchanged}
 use Rattle.cell_world.proofs.Places.{clear_inside, holds_id-own}
 use Rattle.cell_world.proofs.Puts.{cases_pos, put_cell-other, put_cell-same}
-use Rattle.cell_world.proofs.Valids.{CanSet-replaces, Valid-put}
+use Rattle.cell_world.proofs.ValidLemmas.{CanSet-replaces, Valid-put}
 use Rattle.spec_record.specs.Claims.{EachOnce, Sighting, places_of}
 use Rattle.spec_record.specs.Patching.{CanSetHeavier, CanSetLighter, CanSetWrites, CanWrite, after_heavier, after_lighter, patched_by_write, raises, with_heavier, with_lighter}
 

@@ -29,7 +29,7 @@ use Rattle.ant_turn.specs.Conditions.{clear_meets, is_laden, is_rock_condition, 
 use Rattle.ant_turn.specs.Kills.{places_around}
 use Rattle.ant_turn.specs.Minds.{Minds, mind_of}
 use Rattle.ant_turn.specs.Sheet.{Sheet}
-use Rattle.ant_turn.specs.Turn.{Outcome, acts, ant_becomes, arrived, checked, execute, in_state, instruction_at, is_blocked, left_by_ant, marked, stepped, turn, turn_from, turn_of, unmarked, with_ant}
+use Rattle.ant_turn.specs.Turn.{Outcome, acts, ant_becomes, arrived, checked, execute, in_state, instruction_at, is_blocked, left_by_ant, marked, stepped, turn, turn_from, turn_at, unmarked, with_ant}
 use Rattle.ant_turn.proofs.KeptByTurns.{free_apart}
 use Rattle.spec_record.specs.Claims.{Claim, claim}
 use Rattle.spec_record.specs.Guess.{flips, flips_from, flips_now, is_flip}
@@ -279,7 +279,7 @@ same_but_load a (Some b) who mind = (b.laden, ap Some (same_parts_ant b (record 
 module _ (minds : Minds) (seed : ℕ) (base : World) (guess : ℕ) (now : World) (place t : ℕ) (goes : GoesOn base now t) where
   -- an ant that stands at p in the base
   stands_both : (p : Pos) (a : Ant) → place_in base t ≡ Some p → (base.cells p).ant ≡ Some a → a.id ≡ t → AgreeInAll base.cells now.cells (reads_of minds base.cells p (Some a)) → (flips_now a.resting minds a ≡ true → place ≡ guess) →
-      SameOutcome (writes_of minds base.cells p (Some a)) base.cells now.cells (turn_of minds seed base.cells guess p (Some a)) (turn minds seed now place t)
+      SameOutcome (writes_of minds base.cells p (Some a)) base.cells now.cells (turn_at minds seed base.cells guess p (Some a)) (turn minds seed now place t)
   unfolding turn
   stands_both p a found is id agree guessed =
       let it : (laden : Bool) × ((now.cells p).ant ≡ Some (record a { laden = laden })) = same_but_load a (now.cells p).ant

@@ -8,7 +8,7 @@ use Rattle.cell_world.specs.declared.ant.Ant.{Ant}
 use Rattle.cell_world.specs.Valid.{Valid}
 use Rattle.cell_world.specs.World.{Cells, World, place_in, put}
 use Rattle.cell_world.proofs.Places.{ant-clear}
-use Rattle.cell_world.proofs.Valids.{put_cell-all}
+use Rattle.cell_world.proofs.ValidLemmas.{put_cell-all}
 use Rattle.brain_read.specs.declared.instr.Instr.{Instr}
 use Rattle.brain_read.specs.declared.instr.Instr.TheVariants.{Sense, Mark, Unmark, PickUp, Drop, Turn, Move, Flip}
 use Rattle.ant_turn.specs.Kills.{check_at, is_surrounded, places_around}

@@ -1,7 +1,7 @@
 // The table, and the search in it.
 ghost use Rattle.std.specs.Prelude.{◌≡◌, ◌<◌, ℕ, List, Some, IfSome, IsTrue, map, slice_get};
 ghost use Rattle.std.specs.Str.{str_eq_ignore_ascii_case};
-ghost use Rattle.word_table.specs.Words.{are_distinct, place_in, IsWordAt};
+ghost use Rattle.word_table.specs.Words.{are_distinct, word_place, IsWordAt};
 
 use std::convert::AsStr;
 use std::marker::Model;
@@ -38,7 +38,7 @@ impl<T: AsStr, const N: usize> Words<T, N> {
 
     /// The place, counted from 0, of the word that the text is in some ASCII case; `None` exactly where it is no word (this project's own).
     pub fn find(&self, text: &[u8]) -> Option<usize>
-        ensures place { result ≡ place_in self.now text.now }
+        ensures place { result ≡ word_place self.now text.now }
         ensures below { IfSome result (λ i. i < N) }
         ensures found { IfSome result (λ i. IsWordAt self.now i text.now) }
         ensures only { (i : ℕ) → IsWordAt self.now i text.now → result ≡ Some i }
@@ -56,7 +56,7 @@ impl<T: AsStr, const N: usize> Words<T, N> {
     }
 
     fn place(&self, text: &[u8]) -> Option<usize>
-        ensures place { result ≡ place_in self.now text.now }
+        ensures place { result ≡ word_place self.now text.now }
         ensures below { IfSome result (λ i. i < N) }
     {
         for (i, word) in self.words.iter().enumerate() {
@@ -71,7 +71,7 @@ impl<T: AsStr, const N: usize> Words<T, N> {
 /// A law: in a table whose words differ in any ASCII case, a word is found at the place where it stands (this project's own).
 pub fn word_is_found()
     ensures { (words : List (List ℕ)) (i : ℕ) (word : List ℕ) → IsTrue (are_distinct words)
-        → slice_get words i ≡ Some word → place_in words word ≡ Some i }
+        → slice_get words i ≡ Some word → word_place words word ≡ Some i }
 {}
 
 // The word is the text in some ASCII case.

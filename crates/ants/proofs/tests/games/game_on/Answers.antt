@@ -5,8 +5,8 @@ use Rattle.ant_turn.specs.Minds.{Fits, minds_of}
 use Rattle.ant_turn.proofs.Fitting.{Fits-opening}
 use Rattle.ants.proofs.tests.games.game_on.Goals as goal
 
-pub new-field-requires-clause-fit : goal.new-field-requires-clause-fit
-new-field-requires-clause-fit c =
+pub new-requires-clause-fit : goal.new-field-requires-clause-fit
+new-requires-clause-fit c =
     let grid : Grid = c.in_ok-world.world in
     subst (λ (g : Grid). Fits (world_of g) (minds_of c.args.brains)) (sym c.in_ok-world.ensures.world.opened)
     (Fits-opening grid.width grid.height c.in_ok-world.ensures.world.kinds (minds_of c.args.brains) c.len-red_states.ensures.brain.some c.len-black_states.ensures.brain.some)

@@ -3,7 +3,7 @@ use Rattle.std.proofs.Common.{◌≡◌, sym, ◌∙◌, ap, subst}
 use Rattle.cell_world.specs.Grid.{world_of}
 use Rattle.cell_world.specs.Valid.{Valid}
 use Rattle.cell_world.specs.World.{put, with_cells}
-use Rattle.cell_world.proofs.Valids.{Valid-put}
+use Rattle.cell_world.proofs.ValidLemmas.{Valid-put}
 use Rattle.spec_record.specs.Trail.{Sets, TrailValue, laid, trail_room, trail_world}
 use Rattle.spec_record.proofs.Laying.{laid-last}
 use Rattle.spec_record.proofs.trail.TrailGround.set.Goals as goal
