@@ -12,7 +12,7 @@ use Rattle.ant_turn.specs.Minds.{Fits, contest_minds}
 use Rattle.ant_turn.specs.Sheet.{Sheet, contest}
 use Rattle.ant_turn.proofs.Fitting.{Fits-opening}
 use Rattle.brain_read.specs.declared.instr.Instr.{Instr}
-use Rattle.brain_read.proofs.Sound.{brain_of}
+use Rattle.brain_read.proofs.SoundnessLemmas.{brain_of}
 use Rattle.cell_world.specs.Grid.{Grid, world_of}
 use Rattle.cell_world.specs.Score.{score_of}
 use Rattle.cell_world.specs.declared.score.Score.{Score}

@@ -4,8 +4,8 @@ use Rattle.brain_read.proofs.FaultyLemmas as whole
 use Rattle.brain_read.specs.Answers as brain_answers
 use Rattle.brain_read.specs.declared.fault.BrainFault.{BrainFault}
 use Rattle.brain_read.specs.declared.fault.BrainFault.TheVariants as brain
-use Rattle.break_view.proofs.Whole as break_whole
-use Rattle.break_view.specs.BreakText as break_text
+use Rattle.break_view.proofs.FaultyLemmas as break_whole
+use Rattle.break_view.specs.Answers as break_answers
 use Rattle.break_view.specs.declared.fault.BreakFault.{BreakFault}
 use Rattle.break_view.specs.declared.fault.BreakFault.TheVariants as breaks
 use Rattle.cell_world.specs.Grid.{Grid}
@@ -151,7 +151,7 @@ brain_stops name bytes (brain.NoSuchState line state) is = (refl, is)
 brain_stops name bytes brain.OutOfMemory is = tt
 
 -- the fault of a text of breaks stops the reading of its file
-pub break_stops : (name bytes : List ℕ) (fault : BreakFault) → break_text.IsFaultOf bytes fault → TextStops BreakFile bytes name (break_reason name fault)
+pub break_stops : (name bytes : List ℕ) (fault : BreakFault) → break_answers.IsFaultOf bytes fault → TextStops BreakFile bytes name (break_reason name fault)
 break_stops name bytes (breaks.UnknownWord line) is = (refl, is)
 break_stops name bytes (breaks.MissingToken line) is = (refl, is)
 break_stops name bytes (breaks.BadNumber line) is = (refl, is)

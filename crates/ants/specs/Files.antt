@@ -5,7 +5,8 @@ use Rattle.ant_base.specs.declared.shelf.FetchFault.TheVariants as answer
 use Rattle.brain_read.specs.declared.instr.Instr.{Instr}
 use Rattle.brain_read.specs.Grammar.{IsBrainText}
 use Rattle.brain_read.specs.Faulty.{IsBrainFault}
-use Rattle.break_view.specs.BreakText.{BreakText, BreakVerdict}
+use Rattle.break_view.specs.Grammar.{IsBreakText}
+use Rattle.break_view.specs.Faulty.{IsBreakFault}
 use Rattle.break_view.specs.declared.breaks.Break.{Break}
 use Rattle.cell_world.specs.Grid.{Grid}
 use Rattle.world_read.specs.Faulty.{IsWorldFault}
@@ -34,14 +35,14 @@ pub data Content : Type 0 where
 abbrev pub Reads : FileKind → List ℕ → Content → Type 0
 Reads WorldFile bytes (WorldContent grid) = OpensAs bytes grid
 Reads BrainFile bytes (BrainContent list) = IsBrainText bytes list
-Reads BreakFile bytes (BreakContent items) = BreakText bytes items
+Reads BreakFile bytes (BreakContent items) = IsBreakText bytes items
 Reads kind bytes content = ⊥
 
 -- bytes have this fault in a file of this kind
 abbrev pub Refuses : FileKind → List ℕ → FileFault → Type 0
 Refuses WorldFile bytes (World fault) = IsWorldFault bytes fault
 Refuses BrainFile bytes (Brain fault) = IsBrainFault bytes fault
-Refuses BreakFile bytes (Breaks fault) = BreakVerdict bytes fault
+Refuses BreakFile bytes (Breaks fault) = IsBreakFault bytes fault
 Refuses kind bytes fault = ⊥
 
 -- the file was fetched, and its bytes are read as this content
