@@ -192,11 +192,12 @@ fn carry_out<'w, R: Threads + Sync, S: Shelf, K: Sink, G: Gate>(
 /// - `Input`: the last file that was fetched is too long or not in its grammar, and each before it was accepted; or an element of the world
 ///   to be generated has no room; the output got nothing.
 /// - `Memory`: memory could not be had; no fetch failed or was too long. Either each file but perhaps the last was accepted, and the output
-///   got nothing; or all files were accepted, and the output got a front of the text.
+///   got nothing; or all files of a `run`, which writes while it plays, were accepted, and the output got a front of the text.
 ///
 /// At each but `Done` the errors got one line, which names the word (from 1) or the file and the place in it; or a front of that line,
 /// where they failed. The shelf keeps its contents and all of which it is sure, its log grows by the fetches, and its count of faults rises
-/// only where it isn't sure of each name that was fetched. The runtime serves the workers of a game, which call the gate before each look.
+/// only where it isn't sure of each name that was fetched. The runtime serves the workers of a game and of a cup; a game's workers call the
+/// gate before each look.
 pub fn run_ants<R: Threads + Sync, S: Shelf, K: Sink, E: Sink, G: Gate>(
     rt: &R,
     alloc: Global,
