@@ -2,6 +2,8 @@
 ghost use Rattle.std.specs.Prelude.{◌≡◌, ◌+◌, ◌*◌, ◌/◌, ◌<◌, ◌≤◌, ◌^◌};
 ghost use Rattle.round_workers.specs.Inner.Shares.{share_of};
 
+use work_share::border;
+
 // The turns of one worker: those of the ids from `from` up to, and not including, `to`.
 #[derive(Clone, Copy)]
 pub struct Share {
@@ -19,19 +21,7 @@ pub fn share_of(workers: u32, from: u32, turns: u32, worker: u32) -> Share
 {
     Share {
         worker,
-        from: from + border(workers, turns, worker),
-        to: from + border(workers, turns, worker + 1),
+        from: from + border(workers as usize, turns as usize, worker as usize) as u32,
+        to: from + border(workers as usize, turns as usize, worker as usize + 1) as u32,
     }
-}
-
-// How many of so many turns the workers before this one have.
-#[tactic(auto, using(crate::proofs::ShareLemmas::border_small, crate::proofs::ShareLemmas::border_within))]
-fn border(workers: u32, turns: u32, worker: u32) -> u32
-    requires some { 0 < workers }
-    requires workers { workers ≤ 16 }
-    requires worker { worker ≤ workers }
-    ensures value { result ≡ worker * turns / workers }
-    ensures within { result ≤ turns }
-{
-    (u64::from(worker) * u64::from(turns) / u64::from(workers)) as u32
 }

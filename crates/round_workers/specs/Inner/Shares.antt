@@ -1,12 +1,13 @@
 -- How the turns of a window are shared out among workers, and what each makes of its share (this project's own).
-use Rattle.std.specs.Prelude.{ℕ, zero, suc, ◌+◌, ◌*◌, ◌/◌, List, [], ◌∷◌, ◌++◌, nat_lt, if◌then◌else◌}
+use Rattle.std.specs.Prelude.{ℕ, zero, suc, ◌+◌, List, [], ◌∷◌, ◌++◌, nat_lt, if◌then◌else◌}
+use Rattle.work_share.specs.Borders.{border}
 use Rattle.round_book.specs.Window.{Window, look_for}
 use Rattle.spec_record.specs.Look.{LookValue}
 use Rattle.round_workers.specs.declared.share.Share.{Share}
 
--- of n turns from `from` on worker k has those from `from + k * n / workers` up to, and not including, `from + (k + 1) * n / workers`
+-- of n turns from `from` on worker k has the piece between two borders of the row of turns
 abbrev pub share_of : (workers from n k : ℕ) → Share
-share_of workers from n k = record { worker = k; from = from + k * n / workers; to = from + (k + 1) * n / workers }
+share_of workers from n k = record { worker = k; from = from + border workers n k; to = from + border workers n (k + 1) }
 
 -- the share, if it has a turn
 abbrev pub if_any : Share → List Share
