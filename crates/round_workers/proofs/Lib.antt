@@ -1,0 +1,4 @@
+pub mod BoardTotalLemmas
+pub mod BoardKeeps
+pub mod BoardSeating
+pub mod BoardTickets

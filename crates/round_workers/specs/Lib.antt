@@ -1,0 +1,5 @@
+pub mod BoardPlays
+pub mod BoardRule
+pub mod BoardSeats
+pub mod BoardTotals
+pub mod BoardView
