@@ -38,7 +38,7 @@ guess_for-next window t before =
     ap (flips_among window.minds window.base window.from) more ∙ ap (λ u. flips_among window.minds window.base window.from (t - window.from) + one_if (flips window.minds window.base u)) here in
     (let joined : window.place + flips_among window.minds window.base window.from (t + 1 - window.from) ≡ window.place + flips_among window.minds window.base window.from (t - window.from) + one_if (flips window.minds window.base t) = omega arith in joined)
 
-guess_for-le : (window : Window) (t : ℕ) → guess_for window t ≤ window.place + (t - window.from)
+pub guess_for-le : (window : Window) (t : ℕ) → guess_for window t ≤ window.place + (t - window.from)
 unfolding guess_for guess
 guess_for-le window t =
     let few : flips_among window.minds window.base window.from (t - window.from) ≤ t - window.from = flips_among-le window.minds window.base window.from (t - window.from) in omega arith

@@ -3,8 +3,8 @@ use Rattle.std.proofs.Common.{◌≡◌, ◌≢◌, ◌⊎◌, ℕ, zero, suc, �
 use mathlib.Core.Option as maybe
 use lib.ListN.{get_elem?}
 use Rattle.std.specs.Prelude.{slice_index, nat_eq}
-use Rattle.atomic_table.specs.Table.{State, opening as opening_table, Splits, Joins}
-use Rattle.atomic_table.proofs.Lists.{set_else}
+use Rattle.atomic_table.specs.Table.{Allows, Me, State, opening as opening_table, Splits, Joins, keeps, step, stepped}
+use Rattle.atomic_table.proofs.Lists.{set_again, set_else}
 use Rattle.cell_world.specs.Cell.{one_if}
 use Rattle.round_book.specs.Machine.{times}
 use Rattle.round_book.specs.Window.{IsPlayable, Window}
@@ -16,9 +16,9 @@ use Rattle.round_workers.specs.declared.board.view.Phase.TheVariants.{Resting}
 use Rattle.round_workers.specs.declared.board.view.View.{View}
 use Rattle.round_workers.specs.BoardTotals.{late_among, once_below, total}
 use Rattle.round_workers.specs.BoardView.{first_seat, spent_seat, window_for}
-use Rattle.round_workers.specs.BoardPlays.{joined, made_one, newcomer}
+use Rattle.round_workers.specs.BoardPlays.{joined, made_one, newcomer, tells_each_once}
 use Rattle.round_workers.specs.BoardRule.{AreDealt, AreParts, HasHome, IsBookKept, IsBookKeptBy, IsKept, IsLookKept, IsLookKeptBy, IsSeated, Sits, first_one, has_opened, is_first, made_by, only_if, opening, putting, taking, turns_of}
-use Rattle.round_workers.proofs.BoardTotalLemmas.{above-none, late-append, once-suc, one_if-le, same-one, times-append, times-length, total-alone, total-at, total-joined, total-set, total-snoc, total-two}
+use Rattle.round_workers.proofs.BoardTotalLemmas.{above-none, late-append, once-le, once-suc, one_if-le, same-one, times-append, times-length, total-alone, total-at, total-joined, total-set, total-snoc, total-two}
 use Rattle.round_workers.proofs.BoardKeeps.{book-by, book-seen, first-other, first-seat, look-by, only-none, parts-stay, seated, seats-set, seats-snoc}
 
 -- lists of one thing
@@ -68,7 +68,7 @@ pub starts-so : (key : Basis) (words : List ℕ) (slots : List Place) → IsPlay
 starts-so key words slots playable ew es = subst (λ (z : List ℕ × List Place). IsKept key (opening_table z.0 z.1 (first_seat key))) (λ k. (sym ew k, sym es k)) (starts key playable)
 
 -- the first seat made them all
-made-all : (key : Basis) (s : State Place View) (r : IsKept key s) (id : ℕ) (v : View) → get_elem? s.views id ≡ maybe.some v → v.about ≡ Some key → v.number ≡ 0 → made_by s.views ≡ v.made
+pub made-all : (key : Basis) (s : State Place View) (r : IsKept key s) (id : ℕ) (v : View) → get_elem? s.views id ≡ maybe.some v → v.about ≡ Some key → v.number ≡ 0 → made_by s.views ≡ v.made
 made-all key s r id v at about zeroth = total-alone (λ u. u.made) s.views id v at (λ j w other there. ⊎_elim (λ spent. ap (λ (u : View). u.made) spent)
     (λ is. is.makes (λ zero_too. let two = total-two is_first s.views id j v w at there other in let one = r.parts.first in let a = first-seat key v about zeroth in let b = first-seat key w is.same zero_too in absurd (omega arith)))
     (r.seats j w there))
@@ -145,3 +145,31 @@ module _ (key : Basis) (id : ℕ) (v : View) (other : ℕ) (w : View) (about : v
         looks = λ j inside. look-by (window_for key) j _ _ _ _ _ _ _ _ _ _ (sum (λ y. times j y.put) refl (times-append j v.put w.put)) (sum (λ y. times j y.took) refl (times-append j v.took w.took))
             (own (λ y. putting j y.phase) refl refl (ap (putting j) rests)) (own (λ y. taking j y.phase) refl refl (ap (taking j) rests)) (r.looks j inside);
       }
+
+word-there : (l : List ℕ) (i : ℕ) → i < length l → get_elem? l i ≡ maybe.some (slice_index l i)
+word-there [] i h = absurd (omega arith)
+word-there (x ∷ xs) zero h = refl
+word-there (x ∷ xs) (suc i) h = word-there xs i (omega arith)
+
+module _ (key : Basis) (slots id : ℕ) (me : Me Place View) where
+  -- a step that only reads leaves the table as it was
+  stays : (s : State Place View) → IsKept key s → get_elem? s.views id ≡ maybe.some me.0 → IsKept key (stepped s 0 (slice_index s.words 0) id me.1 me.0 keeps)
+  stays s r at = let wide = r.words in subst (IsKept key)
+      (λ k. record { words = sym (set_again s.words 0 (slice_index s.words 0) (word-there s.words 0 (omega arith))) k; homes = s.homes; views = sym (set_again s.views id me.0 at) k }) r
+
+  pub sees-each-once : Allows (IsKept key) slots id me 0 (λ n. n) (tells_each_once (step slots 0 0 0 maybe.none) me)
+  sees-each-once s r _ at _ = (
+    me.0,
+    keeps,
+    tt,
+    stays s r at,
+    (
+      refl,
+      λ k.
+          let sum = r.tickets.each k in let few = once-le k (slice_index s.words 0) in let here = total-at (λ (u : View). times k u.drawn) s.views id me.0 at in omega arith,
+    ),
+  )
+
+-- what two seats drew that are one now
+pub drew-apart : (v w : View) (me : Me Place View) (c : List (ℕ × Place)) → me ≡ (joined v w, c) → ((k : ℕ) → times k me.0.drawn ≤ 1) → (k : ℕ) → times k v.drawn + times k w.drawn ≤ 1
+drew-apart v w me c is once k = let a = once k in let b : times k me.0.drawn ≡ times k (v.drawn ++ w.drawn) = ap (λ (m : Me Place View). times k m.0.drawn) is in let d = times-append k v.drawn w.drawn in omega arith

@@ -1,4 +1,11 @@
-pub mod BoardTotalLemmas
+pub mod BoardBook
+pub mod BoardClosing
+pub mod BoardCrewing
 pub mod BoardKeeps
+pub mod BoardLooks
+pub mod BoardMoves
 pub mod BoardSeating
+pub mod BoardSteps
 pub mod BoardTickets
+pub mod BoardTotalLemmas
+pub mod BoardWorking

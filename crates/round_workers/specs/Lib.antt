@@ -1,5 +1,9 @@
+pub mod BoardCrew
+pub mod Crews
+pub mod BoardPlaces
 pub mod BoardPlays
 pub mod BoardRule
 pub mod BoardSeats
 pub mod BoardTotals
 pub mod BoardView
+pub mod BoardWorker

@@ -3,4 +3,4 @@
 
 mod board;
 
-pub use board::{Basis, Board, Phase, Place, Seat, Try, View};
+pub use board::{Basis, Board, BoardCrew, Closed, Phase, Place, Seat, Try, View, Worker};

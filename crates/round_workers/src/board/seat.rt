@@ -1,5 +1,5 @@
 // A board and its seats.
-ghost use Rattle.std.specs.Prelude.{◌≡◌, [], ◌+◌, ◌-◌, ◌≤◌};
+ghost use Rattle.std.specs.Prelude.{◌≡◌, [], ◌+◌, ◌-◌, ◌<◌, ◌≤◌, ◌^◌};
 ghost use Rattle.std.specs.Vec.{vec_capacity};
 ghost use Rattle.round_workers.specs.BoardView.{IsAtRest};
 
@@ -27,6 +27,8 @@ pub struct Board {
     ghost slots: { table.shared.table_id.slots ≡ to - from + 1 },
     ghost first: { table.shared.key.from ≡ from },
     ghost last: { table.shared.key.to ≡ to },
+    ghost ids: { to ≤ table.shared.key.world.value.ids },
+    ghost lasting: { table.shared.key.place + (to - from) < 2 ^ 63 },
     ghost forwards: { from ≤ to },
     ghost bare: { room.items ≡ [] },
     ghost roomy: { to - from ≤ vec_capacity room },
