@@ -1,12 +1,13 @@
-use Rattle.std.proofs.Common.{◌≡◌, ℕ, ◌+◌, ◌-◌, ◌<◌, ◌≤◌, All, [], ◌∷◌, length, sym, ap, ◌∙◌, subst, arith}
+use Rattle.std.proofs.Common.{◌≡◌, ℕ, ◌+◌, ◌-◌, ◌<◌, ◌≤◌, All, List, [], ◌∷◌, length, sym, ap, ◌∙◌, subst, arith}
 use Rattle.std.proofs.lemmas.List.Elements.{All-nil, All-same}
 use Rattle.round_book.specs.Window.{Window}
 use Rattle.round_workers.specs.declared.board.view.View.{View}
+use Rattle.round_workers.specs.declared.board.worker.Worker.{Worker}
 use Rattle.round_workers.specs.BoardCrew.{AreLooks, IsHired, IsManned, IsRoom}
 use Rattle.round_workers.specs.BoardPlays.{has_seen}
-use Rattle.round_workers.specs.BoardSeats.{basis_of, known, window_of}
+use Rattle.round_workers.specs.BoardSeats.{IsSeatOf, basis_of, known, window_of}
 use Rattle.round_workers.specs.BoardWorker.{guesses_for, turns_in}
-use Rattle.round_workers.proofs.BoardCrewing.{book-for, lent-for, looks-left, manned-first, whole-joined}
+use Rattle.round_workers.proofs.BoardCrewing.{book-for, lent-for, looks-left, manned-first, manned-worked, refilled, seats-worked, whole-joined, worked-so}
 use Rattle.round_workers.proofs.BoardWorking.{on-for}
 use Rattle.round_workers.proofs.board.crew.settle.Goals as goal
 
@@ -60,3 +61,15 @@ settle_left-requires-clause-looks g c =
     let board = c.args.laid.board in let field = c.args.field.now in let laid = c.requires.laid in
     let lent = lent-for field c.args.from c.args.to (window_of board) laid.window c.requires.stands.lent in
     subst (λ (w : Window). AreLooks w c.close-closed.result.looks.items) laid.window (looks-left (window_of board) (known c.gather.new.first) c.close-closed.result.looks.items c.close-closed.ensures.looks)
+
+pub gather-requires-clause-manned : goal.gather-requires-clause-manned
+gather-requires-clause-manned g c =
+    let board = c.args.laid.board in let old = c.hire.new.workers in let new = c.work_all.new.workers in let long = c.work_all.ensures.len ∙ ap length c.deref_mut.ensures.value in
+    let worked = worked-so board c.deref_mut.result.now old.items new c.deref_mut.ensures.value c.work_all.ensures.worked in
+    subst (IsManned board c.hire.new.first) (sym (refilled old.len old.items new old.ok.0 long)) (manned-worked board c.hire.new.first old.items new long worked c.hire.ensures.manned)
+
+pub gather-requires-clause-seats : goal.gather-requires-clause-seats
+gather-requires-clause-seats g c =
+    let board = c.args.laid.board in let old = c.hire.new.workers in let new = c.work_all.new.workers in let long = c.work_all.ensures.len ∙ ap length c.deref_mut.ensures.value in
+    let worked = worked-so board c.deref_mut.result.now old.items new c.deref_mut.ensures.value c.work_all.ensures.worked in
+    subst (λ (l : List Worker). All (λ (w : Worker). IsSeatOf board w.seat) l) (sym (refilled old.len old.items new old.ok.0 long)) (seats-worked board old.items new long worked)
