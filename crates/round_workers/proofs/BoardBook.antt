@@ -1,5 +1,5 @@
 -- The steps on the book's word keep a board's rule: it is opened, taken and given.
-use Rattle.std.proofs.Common.{◌≡◌, ◌≢◌, ◌⊎◌, ℕ, zero, suc, ◌+◌, ◌-◌, ◌<◌, ◌≤◌, Bool, true, false, List, [], ◌∷◌, ◌++◌, length, get_or, set, sym, refl, ap, ◌∙◌, subst, inl, inr, ⊎_elim, arith, eqb, length-set, Option, Some, None}
+use Rattle.std.proofs.Common.{◌≡◌, ℕ, ◌+◌, ◌≤◌, true, false, List, ◌∷◌, set, sym, refl, ap, ◌∙◌, subst, inr, ⊎_elim, arith, eqb, length-set, Some}
 use mathlib.Core.Option as maybe
 use native.Mathlib.Decide.{ℕ_discrete}
 use lib.ListN.{get_elem?}
@@ -18,12 +18,12 @@ use Rattle.round_workers.specs.declared.board.view.Phase.TheVariants.{Resting, O
 use Rattle.round_workers.specs.declared.board.view.Try.TheVariants.{OfBook}
 use Rattle.round_workers.specs.declared.board.view.View.{View}
 use Rattle.round_workers.specs.BoardTotals.{total}
-use Rattle.round_workers.specs.BoardView.{spent_seat, window_about, window_for}
+use Rattle.round_workers.specs.BoardView.{window_about, window_for}
 use Rattle.round_workers.specs.BoardPlays.{after_try, has_seen, opens_now, tells_give_book, tells_open, tells_opened, tells_take_book, with_book, without_book}
-use Rattle.round_workers.specs.BoardRule.{HasBook, HasHome, IsBookKept, IsBookKeptBy, IsKept, IsSeated, Sits, StandsFor, has_opened, is_first, only_if, opening, putting, taking, turns_of}
+use Rattle.round_workers.specs.BoardRule.{HasHome, IsBookKept, IsKept, StandsFor, has_opened, is_first, only_if, opening, putting, taking}
 use Rattle.round_workers.proofs.BoardTotalLemmas.{total-add, total-at, total-gap, total-same, total-set}
 use Rattle.round_workers.proofs.BoardKeeps.{book-stays, first-seat, seated}
-use Rattle.round_workers.proofs.BoardSteps.{IsSameAt, IsSameSeat, book-kept}
+use Rattle.round_workers.proofs.BoardSteps.{IsSameAt, book-kept}
 
 -- a step goes on to a state that keeps the rule, and tells what it tells
 abbrev pub Goes : Basis → State Place View → ℕ → ℕ → Me Place View → (ℕ → Me Place View → Type 0) → ℕ → Type 0

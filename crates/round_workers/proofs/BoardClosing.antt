@@ -1,5 +1,5 @@
 -- What is true of a board's last state, where its first seat has every part.
-use Rattle.std.proofs.Common.{◌≡◌, ◌≢◌, ◌⊎◌, ℕ, zero, suc, ◌+◌, ◌-◌, ◌^◌, ◌<◌, ◌≤◌, Bool, true, false, List, [], ◌∷◌, ◌++◌, length, get_or, set, sym, refl, ap, ap₂, ◌∙◌, subst, inl, inr, ⊎_elim, arith, get_or-set_other, get_or-set_same, Option, Some, None}
+use Rattle.std.proofs.Common.{◌≡◌, ◌≢◌, ℕ, zero, suc, ◌+◌, ◌^◌, ◌<◌, ◌≤◌, Bool, true, false, List, [], ◌∷◌, ◌++◌, length, get_or, set, sym, refl, ap, ◌∙◌, subst, ⊎_elim, arith, get_or-set_other, get_or-set_same, Option, Some, None}
 use mathlib.Core.Option as maybe
 use native.Mathlib.Decide.{ℕ_discrete}
 use lib.ListN.{get_elem?}
@@ -19,11 +19,10 @@ use Rattle.round_workers.specs.declared.board.view.Phase.TheVariants.{Resting}
 use Rattle.round_workers.specs.declared.board.view.View.{View}
 use Rattle.round_workers.specs.BoardTotals.{once_below, total}
 use Rattle.round_workers.specs.BoardView.{spent_seat, window_for}
-use Rattle.round_workers.specs.BoardRule.{HasHome, IsBookKept, IsKept, IsLookKept, IsSeated, Sits, StandsFor, has_opened, is_first, made_by, opening, putting, taking, turns_of}
+use Rattle.round_workers.specs.BoardRule.{HasHome, IsKept, IsLookKept, StandsFor, made_by, putting, taking, turns_of}
 use Rattle.round_workers.specs.BoardPlaces.{AreTaken, book_in, look_in}
 use Rattle.round_workers.specs.BoardSeats.{left_if, left_look}
-use Rattle.round_workers.proofs.BoardTotalLemmas.{below-one, below-where, once-le, total-alone, total-at, total-two}
-use Rattle.round_workers.proofs.BoardKeeps.{seated}
+use Rattle.round_workers.proofs.BoardTotalLemmas.{below-where, once-le, total-alone, total-at, total-two}
 use Rattle.round_workers.proofs.BoardSeating.{made-all}
 use Rattle.round_workers.proofs.BoardBook.{opened-seen}
 use Rattle.round_workers.proofs.BoardTickets.{few-turns, word-bound}

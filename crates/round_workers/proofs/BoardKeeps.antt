@@ -1,20 +1,16 @@
 -- What a step leaves as it was of a board's rule.
-use Rattle.std.proofs.Common.{◌≡◌, ◌≢◌, ◌⊎◌, ℕ, zero, suc, ◌+◌, ◌-◌, ◌<◌, ◌≤◌, Bool, true, false, List, [], ◌∷◌, ◌++◌, length, get_or, set, sym, refl, ap, ◌∙◌, subst, inl, inr, ⊎_elim, arith, Option, Some, None}
+use Rattle.std.proofs.Common.{◌≡◌, ◌≢◌, ℕ, zero, suc, ◌+◌, Bool, true, false, List, [], ◌∷◌, ◌++◌, length, set, sym, refl, ap, ◌∙◌, subst, ⊎_elim, arith, Option, Some, None}
 use mathlib.Core.Option as maybe
 use lib.ListN.{get_elem?}
-use Rattle.std.specs.Prelude.{slice_index}
-use Rattle.atomic_table.specs.Table.{State}
 use Rattle.atomic_table.proofs.Lists.{at_set, at_snoc}
 use Rattle.cell_world.specs.Cell.{one_if}
 use Rattle.round_book.specs.Machine.{times}
 use Rattle.round_book.specs.Window.{Window}
 use Rattle.round_workers.specs.declared.board.view.Basis.{Basis}
 use Rattle.round_workers.specs.declared.board.view.Place.{Place}
-use Rattle.round_workers.specs.declared.board.view.Phase.{Phase}
 use Rattle.round_workers.specs.declared.board.view.View.{View}
 use Rattle.round_workers.specs.BoardTotals.{late_among, once_below, total}
-use Rattle.round_workers.specs.BoardView.{spent_seat, window_for}
-use Rattle.round_workers.specs.BoardRule.{AreDealt, AreParts, IsBookKept, IsBookKeptBy, IsKept, IsLookKept, IsLookKeptBy, IsSeated, Sits, first_one, has_opened, is_first, only_if, made_by, opening, putting, taking, turns_of}
+use Rattle.round_workers.specs.BoardRule.{AreDealt, AreParts, IsBookKept, IsBookKeptBy, IsLookKept, IsLookKeptBy, IsSeated, Sits, first_one, has_opened, is_first, only_if, opening, putting, taking}
 use Rattle.round_workers.proofs.BoardTotalLemmas.{total-same}
 
 none-some : (basis : Basis) → ¬ (None ≡ Some basis)

@@ -1,15 +1,15 @@
 -- The steps on a look's word keep a board's rule: it is put and taken.
-use Rattle.std.proofs.Common.{◌≡◌, ◌≢◌, ◌⊎◌, ℕ, zero, suc, ◌+◌, ◌-◌, ◌<◌, ◌≤◌, Bool, true, false, List, [], ◌∷◌, ◌++◌, length, get_or, set, sym, refl, ap, ap₂, ◌∙◌, subst, inl, inr, ⊎_elim, arith, eqb, length-set, Option, Some, None}
+use Rattle.std.proofs.Common.{◌≡◌, ◌≢◌, ℕ, ◌+◌, ◌<◌, ◌≤◌, List, [], ◌∷◌, ◌++◌, set, sym, refl, ap, ap₂, ◌∙◌, subst, inr, ⊎_elim, arith, eqb, length-set, Option, Some}
 use mathlib.Core.Option as maybe
 use native.Mathlib.Decide.{ℕ_discrete}
 use lib.ListN.{get_elem?}
 use prog.Atomic.{either}
 use Rattle.std.specs.Prelude.{slice_index}
-use Rattle.atomic_table.specs.Table.{Act, Allows, Me, State, Valid, carried_after, gives, keeps, step, stepped, takes}
+use Rattle.atomic_table.specs.Table.{Allows, State, gives, keeps, step, takes}
 use Rattle.atomic_table.proofs.Lists.{exchanged, set_else, set_here}
 use Rattle.spec_record.specs.Look.{LookValue}
 use Rattle.round_book.specs.Machine.{times}
-use Rattle.round_book.specs.Window.{Window, look_for}
+use Rattle.round_book.specs.Window.{look_for}
 use Rattle.round_workers.specs.declared.board.view.Basis.{Basis}
 use Rattle.round_workers.specs.declared.board.view.Place.{Place}
 use Rattle.round_workers.specs.declared.board.view.Place.TheVariants.{Nothing, OneLook}
@@ -17,12 +17,12 @@ use Rattle.round_workers.specs.declared.board.view.Phase.TheVariants.{Resting, P
 use Rattle.round_workers.specs.declared.board.view.Try.TheVariants.{OfLook}
 use Rattle.round_workers.specs.declared.board.view.View.{View}
 use Rattle.round_workers.specs.BoardTotals.{total}
-use Rattle.round_workers.specs.BoardView.{spent_seat, window_about, window_for}
-use Rattle.round_workers.specs.BoardPlays.{TellsTakeLook, after_try, has_put, has_taken, puts_now, takes_now, tells_has_put, tells_has_taken, tells_put, tells_take_look}
-use Rattle.round_workers.specs.BoardRule.{HasHome, IsKept, IsLookKept, IsSeated, Sits, has_opened, is_first, opening, putting, taking, turns_of}
+use Rattle.round_workers.specs.BoardView.{window_about, window_for}
+use Rattle.round_workers.specs.BoardPlays.{after_try, has_put, has_taken, puts_now, takes_now, tells_has_put, tells_has_taken, tells_put, tells_take_look}
+use Rattle.round_workers.specs.BoardRule.{IsKept, opening, putting, taking, turns_of}
 use Rattle.round_workers.proofs.BoardTotalLemmas.{once-le, other-none, same-one, times-append, total-add, total-at, total-gap, total-same, total-set}
 use Rattle.round_workers.proofs.BoardKeeps.{look-stays, seated}
-use Rattle.round_workers.proofs.BoardSteps.{IsSameAt, IsSameByBook, IsSameSeat, look-kept}
+use Rattle.round_workers.proofs.BoardSteps.{look-kept}
 use Rattle.round_workers.proofs.BoardBook.{Goes}
 
 -- one more in a list

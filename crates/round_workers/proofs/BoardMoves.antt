@@ -1,8 +1,7 @@
 -- A seat that holds a slot, before and after what lies in it is exchanged.
-use Rattle.std.proofs.Common.{◌≡◌, ◌≢◌, ℕ, ◌+◌, ◌-◌, ◌<◌, ◌≤◌, List, [], ◌∷◌, sym, ap, ap₂, ◌∙◌, subst, arith, Option, Some, None}
+use Rattle.std.proofs.Common.{◌≡◌, ◌≢◌, ℕ, ◌+◌, ◌-◌, ◌≤◌, List, [], ◌∷◌, sym, ap, ◌∙◌, subst, arith, Option, Some, None}
 use Rattle.std.specs.Prelude.{IfNone, IfSome, OnSome}
 use Rattle.atomic_table.specs.Table.{Me, rest}
-use Rattle.spec_record.specs.Look.{LookValue}
 use Rattle.round_workers.specs.declared.board.view.Place.{Place}
 use Rattle.round_workers.specs.declared.board.view.View.{View}
 use Rattle.round_workers.specs.BoardView.{IsAtRest, out_with}

@@ -1,5 +1,5 @@
 -- A board's rule at the start, and the steps of seats keep it: a seat is cut in two, two seats are made one.
-use Rattle.std.proofs.Common.{◌≡◌, ◌≢◌, ◌⊎◌, ℕ, zero, suc, ◌+◌, ◌-◌, ◌<◌, ◌≤◌, Bool, true, false, List, [], ◌∷◌, ◌++◌, map, length, get_or, set, sym, refl, ap, ◌∙◌, subst, inl, inr, ⊎_elim, arith, length-append, replicate, Option, Some, None}
+use Rattle.std.proofs.Common.{◌≡◌, ◌≢◌, ℕ, zero, suc, ◌+◌, ◌<◌, ◌≤◌, false, List, [], ◌∷◌, ◌++◌, map, length, set, sym, refl, ap, ◌∙◌, subst, inl, inr, ⊎_elim, arith, length-append, replicate, Some}
 use mathlib.Core.Option as maybe
 use lib.ListN.{get_elem?}
 use Rattle.std.specs.Prelude.{slice_index, nat_eq}
@@ -7,19 +7,18 @@ use Rattle.atomic_table.specs.Table.{Allows, Me, State, opening as opening_table
 use Rattle.atomic_table.proofs.Lists.{set_again, set_else}
 use Rattle.cell_world.specs.Cell.{one_if}
 use Rattle.round_book.specs.Machine.{times}
-use Rattle.round_book.specs.Window.{IsPlayable, Window}
+use Rattle.round_book.specs.Window.{IsPlayable}
 use Rattle.round_workers.specs.declared.board.view.Basis.{Basis}
 use Rattle.round_workers.specs.declared.board.view.Place.{Place}
 use Rattle.round_workers.specs.declared.board.view.Place.TheVariants.{Nothing}
-use Rattle.round_workers.specs.declared.board.view.Phase.{Phase}
 use Rattle.round_workers.specs.declared.board.view.Phase.TheVariants.{Resting}
 use Rattle.round_workers.specs.declared.board.view.View.{View}
 use Rattle.round_workers.specs.BoardTotals.{late_among, once_below, total}
 use Rattle.round_workers.specs.BoardView.{first_seat, spent_seat, window_for}
 use Rattle.round_workers.specs.BoardPlays.{joined, made_one, newcomer, tells_each_once}
-use Rattle.round_workers.specs.BoardRule.{AreDealt, AreParts, HasHome, IsBookKept, IsBookKeptBy, IsKept, IsLookKept, IsLookKeptBy, IsSeated, Sits, first_one, has_opened, is_first, made_by, only_if, opening, putting, taking, turns_of}
-use Rattle.round_workers.proofs.BoardTotalLemmas.{above-none, late-append, once-le, once-suc, one_if-le, same-one, times-append, times-length, total-alone, total-at, total-joined, total-set, total-snoc, total-two}
-use Rattle.round_workers.proofs.BoardKeeps.{book-by, book-seen, first-other, first-seat, look-by, only-none, parts-stay, seated, seats-set, seats-snoc}
+use Rattle.round_workers.specs.BoardRule.{AreParts, HasHome, IsKept, IsSeated, has_opened, is_first, made_by, opening, putting, taking, turns_of}
+use Rattle.round_workers.proofs.BoardTotalLemmas.{above-none, late-append, once-le, once-suc, same-one, times-append, total-alone, total-at, total-joined, total-set, total-snoc, total-two}
+use Rattle.round_workers.proofs.BoardKeeps.{book-by, book-seen, first-other, first-seat, look-by, only-none, seated, seats-set, seats-snoc}
 
 -- lists of one thing
 all-zero : (m i : ℕ) → slice_index (replicate m 0) i ≡ 0

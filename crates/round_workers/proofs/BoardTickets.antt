@@ -1,24 +1,21 @@
 -- The steps of tickets keep a board's rule: a ticket is drawn, a seat is cut in two, two seats are made one.
-use Rattle.std.proofs.Common.{◌≡◌, ◌≢◌, ◌⊎◌, ℕ, zero, suc, ◌+◌, ◌-◌, ◌%◌, ◌^◌, ◌<◌, ◌≤◌, Bool, true, false, List, [], ◌∷◌, ◌++◌, length, get_or, set, sym, refl, ap, ◌∙◌, subst, inl, inr, ⊎_elim, lt_of_not-le, arith, length-set, length-append, get_or-set_same, get_or-set_other, Option, Some, None}
+use Rattle.std.proofs.Common.{◌≡◌, ℕ, ◌+◌, ◌%◌, ◌^◌, ◌<◌, ◌≤◌, List, [], ◌∷◌, ◌++◌, length, set, sym, refl, ap, ◌∙◌, subst, inr, ⊎_elim, lt_of_not-le, arith, length-set, get_or-set_same, get_or-set_other, Some}
 use mathlib.Core.Option as maybe
 use native.Mathlib.Decide.{dec_le}
 use lib.ListN.{get_elem?}
-use Rattle.std.specs.Prelude.{slice_index, nat_eq, nat_lt, nat_le}
+use Rattle.std.specs.Prelude.{slice_index, nat_le}
 use Rattle.std.specs.List.{AllByRecursion}
 use Rattle.atomic_table.specs.Table.{State, Me, step, keeps, stepped, Allows}
-use Rattle.cell_world.specs.Cell.{one_if}
-use Rattle.cell_world.specs.Limits.{most_ants}
 use Rattle.round_book.specs.Machine.{times}
-use Rattle.round_book.specs.Window.{Window}
 use Rattle.round_workers.specs.declared.board.view.Basis.{Basis}
 use Rattle.round_workers.specs.declared.board.view.Place.{Place}
 use Rattle.round_workers.specs.declared.board.view.View.{View}
-use Rattle.round_workers.specs.BoardTotals.{late_among, once_below, total}
-use Rattle.round_workers.specs.BoardView.{spent_seat, window_for}
+use Rattle.round_workers.specs.BoardTotals.{late_among, total}
+use Rattle.round_workers.specs.BoardView.{window_for}
 use Rattle.round_workers.specs.BoardPlays.{drew, tells_draw}
-use Rattle.round_workers.specs.BoardRule.{AreDealt, AreParts, IsBookKept, IsBookKeptBy, IsKept, IsLookKept, IsLookKeptBy, IsSeated, Sits, has_opened, is_first, made_by, opening, putting, taking, turns_of}
+use Rattle.round_workers.specs.BoardRule.{AreDealt, IsBookKeptBy, IsKept, IsLookKeptBy, turns_of}
 use Rattle.round_workers.proofs.BoardTotalLemmas.{all-below, below-where, late-append, late-one, once-suc, one_if-le, times-append, times-length, total-at, total-le, total-set}
-use Rattle.round_workers.proofs.BoardKeeps.{book-stays, look-stays, parts-stay, seated, seats-set, tickets-stay}
+use Rattle.round_workers.proofs.BoardKeeps.{book-stays, look-stays, parts-stay, seated, seats-set}
 
 -- each number that a seat drew is below the ticket word
 pub below-word : (word n : ℕ) (views : List View) (id : ℕ) (v : View) → get_elem? views id ≡ maybe.some v → AreDealt n word views → AllByRecursion (λ k. k < word) v.drawn

@@ -1,6 +1,6 @@
 -- Totals over lists: what a change of one element, or one more, makes of them.
-use Rattle.std.proofs.Common.{◌≡◌, ℕ, Bool, true, false, eq-eqb, ne_eqb, lt_of_not-le, zero, suc, ◌+◌, ◌<◌, ◌≤◌, ◌≢◌, List, [], ◌∷◌, ◌++◌, length, set, sym, refl, ap, ◌∙◌, subst, arith}
-use mathlib.Core.Option.{none, some, some-injective, some-ne-none}
+use Rattle.std.proofs.Common.{◌≡◌, ℕ, Bool, true, false, eq-eqb, ne_eqb, lt_of_not-le, zero, suc, ◌+◌, ◌<◌, ◌≤◌, ◌≢◌, List, [], ◌∷◌, ◌++◌, length, set, sym, refl, ap, arith}
+use mathlib.Core.Option.{some, some-injective, some-ne-none}
 use lib.ListN.{get_elem?}
 use native.Mathlib.Decide.{dec_le, ℕ_discrete}
 use Rattle.std.proofs.lemmas.Bool.{le-leb, le-ltb, lt-leb, lt-ltb}

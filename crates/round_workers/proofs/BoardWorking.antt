@@ -1,12 +1,12 @@
 -- What a worker does with a ticket.
-use Rattle.std.proofs.Common.{◌≡◌, ◌≢◌, ℕ, zero, suc, ◌+◌, ◌-◌, ◌<◌, ◌≤◌, ◌^◌, Bool, true, false, ◌&&◌, cond, nat_eq, nat_le, nat_lt, List, [], ◌∷◌, ◌++◌, map, length, slice_index_or, sym, refl, ap, ap₂, ◌∙◌, subst, arith, length-append, lt_of_not-le, Option, Some, None}
-use native.Mathlib.Decide.{dec_le, ℕ_discrete}
+use Rattle.std.proofs.Common.{◌≡◌, ◌≢◌, ℕ, zero, suc, ◌+◌, ◌-◌, ◌<◌, ◌≤◌, Bool, true, false, ◌&&◌, cond, nat_eq, nat_le, nat_lt, List, [], ◌∷◌, ◌++◌, map, length, slice_index_or, sym, refl, ap, ap₂, ◌∙◌, subst, arith, length-append, lt_of_not-le, Option}
+use native.Mathlib.Decide.{dec_le}
 use Rattle.std.specs.List.{AllByRecursion}
 use Rattle.std.proofs.lemmas.Bool.{false≢true, le-leb, leb-true, lt-ltb, le-ltb}
 use Rattle.cell_world.specs.Cell.{one_if}
 use Rattle.cell_world.specs.World.{World}
 use Rattle.ant_turn.specs.Minds.{Minds}
-use Rattle.spec_record.specs.Guess.{flips_among, guess, guesses_of}
+use Rattle.spec_record.specs.Guess.{guess, guesses_of}
 use Rattle.spec_record.specs.Look.{LookValue, look_of}
 use Rattle.round_book.specs.Book.{BookValue, FieldValue, IsSameWindow, Stands, StandsOn, window_of}
 use Rattle.round_book.specs.Machine.{times}
@@ -14,7 +14,6 @@ use Rattle.round_book.specs.Window.{IsPlayable, Window, guess_for, look_for}
 use Rattle.round_workers.specs.declared.board.view.View.{View}
 use Rattle.round_workers.specs.BoardPlays.{drew, has_put}
 use Rattle.round_workers.specs.BoardRule.{StandsFor}
-use Rattle.round_workers.specs.BoardTotals.{late_among}
 use Rattle.round_workers.specs.BoardView.{window_about}
 use Rattle.round_workers.specs.BoardWorker.{HasServed, IsLentFor, IsSameButTook, IsWorker, ascends, below, guesses_for, turns_in}
 use Rattle.round_workers.proofs.BoardTotalLemmas.{late-append, late-one, other-none, same-one, times-append}

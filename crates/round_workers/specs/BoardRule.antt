@@ -2,7 +2,7 @@
 --
 -- Word 0 is the number of tickets drawn. Word 1 is the book's: 0 where the book's slot is home, 1 where a seat has it. Word j + 2 is that of
 -- the look of ticket j: 0 empty, 1 in hand, 2 full, 3 emptied. Slot 0 is the book's, and slot j + 1 that of the look of ticket j.
-use Rattle.std.specs.Prelude.{◌≡◌, ◌≢◌, ◌⊎◌, ℕ, zero, suc, ◌+◌, ◌-◌, ◌<◌, ◌≤◌, Bool, true, false, nat_eq, List, [], ◌∷◌, length, slice_index, Option, Some, None}
+use Rattle.std.specs.Prelude.{◌≡◌, ◌≢◌, ◌⊎◌, ℕ, zero, suc, ◌+◌, ◌-◌, ◌<◌, ◌≤◌, Bool, true, false, nat_eq, List, length, slice_index, Option, Some, None}
 use mathlib.Core.Option as maybe
 use lib.ListN.{get_elem?}
 use Rattle.atomic_table.specs.Table.{State}

@@ -1,5 +1,5 @@
 -- What a seat of a board knows (this project's own).
-use Rattle.std.specs.Prelude.{◌≡◌, ◌≢◌, ℕ, ◌+◌, ◌-◌, ◌<◌, ◌≤◌, Bool, true, false, List, [], ◌∷◌, ◌++◌, Option, Some, None}
+use Rattle.std.specs.Prelude.{◌≡◌, ◌≢◌, ℕ, Bool, true, false, List, [], ◌∷◌, Option, Some, None}
 use Rattle.cell_world.specs.Cell.{rock}
 use Rattle.cell_world.specs.Grid.{world_of}
 use Rattle.ant_turn.specs.Minds.{contest_minds}
@@ -10,7 +10,6 @@ use Rattle.round_workers.specs.declared.board.view.Basis.{Basis}
 use Rattle.round_workers.specs.declared.board.view.Place.{Place}
 use Rattle.round_workers.specs.declared.board.view.Place.TheVariants.{Nothing}
 use Rattle.round_workers.specs.declared.board.view.Phase.TheVariants.{Resting}
-use Rattle.round_workers.specs.declared.board.view.Try.{Try}
 use Rattle.round_workers.specs.declared.board.view.Try.TheVariants.{Never}
 use Rattle.round_workers.specs.declared.board.view.View.{View}
 

@@ -1,4 +1,4 @@
-use Rattle.std.proofs.Common.{◌≡◌, ◌+◌, arith, sym, ap, ◌∙◌, subst}
+use Rattle.std.proofs.Common.{◌+◌, arith, sym, subst}
 use Rattle.std.specs.Mem.Slots.{slots_counts, slots_filled, slots_len}
 use Rattle.round_workers.specs.BoardPlaces.{AreTaken}
 use Rattle.round_workers.proofs.BoardClosing.{taken-more}

@@ -1,9 +1,9 @@
-use Rattle.std.proofs.Common.{◌≡◌, ℕ, ◌+◌, ◌-◌, ◌<◌, ◌≤◌, [], ◌∷◌, length, length-append, sym, ap, ◌∙◌, subst, arith}
+use Rattle.std.proofs.Common.{ℕ, ◌<◌, ◌≤◌, [], ◌∷◌, sym, ap, ◌∙◌, subst, arith}
 use Rattle.std.specs.List.{AllByRecursion}
-use Rattle.std.specs.Vec.{vec_capacity, vec_len}
+use Rattle.std.specs.Vec.{vec_capacity}
 use Rattle.round_workers.specs.declared.board.view.View.{View}
-use Rattle.round_workers.specs.BoardCrew.{IsHired, IsRoom}
-use Rattle.round_workers.specs.BoardSeats.{known, window_of}
+use Rattle.round_workers.specs.BoardCrew.{IsRoom}
+use Rattle.round_workers.specs.BoardSeats.{window_of}
 use Rattle.round_workers.specs.BoardWorker.{turns_in}
 use Rattle.round_workers.proofs.BoardCrewing.{all-front, all-last, hired-more, manned-more}
 use Rattle.round_workers.proofs.board.crew.hire.Goals as goal

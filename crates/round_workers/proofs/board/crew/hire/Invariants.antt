@@ -1,4 +1,4 @@
-use Rattle.std.proofs.Common.{◌≡◌, ◌+◌, ◌≤◌, All, length}
+use Rattle.std.proofs.Common.{◌+◌, ◌≤◌, All, length}
 use Rattle.std.specs.Vec.{vec_capacity, vec_len}
 use Rattle.round_workers.specs.BoardCrew.{IsHired, IsManned, IsRoom}
 use Rattle.round_workers.specs.BoardSeats.{known, window_of}

@@ -1,4 +1,4 @@
-use Rattle.std.proofs.Common.{◌≡◌, sym, ap, ◌∙◌, subst}
+use Rattle.std.proofs.Common.{sym, ap, ◌∙◌, subst}
 use Rattle.round_book.specs.Book.{FieldValue, window_of}
 use Rattle.round_workers.specs.BoardCrew.{IsLaid}
 use Rattle.round_workers.specs.BoardWorker.{guesses_for}

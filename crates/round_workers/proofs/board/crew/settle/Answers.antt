@@ -1,4 +1,4 @@
-use Rattle.std.proofs.Common.{◌≡◌, ℕ, ◌+◌, ◌-◌, ◌<◌, ◌≤◌, All, List, [], ◌∷◌, length, sym, ap, ◌∙◌, subst, arith}
+use Rattle.std.proofs.Common.{All, List, [], length, sym, ap, ◌∙◌, subst}
 use Rattle.std.proofs.lemmas.List.Elements.{All-nil, All-same}
 use Rattle.round_book.specs.Window.{Window}
 use Rattle.round_workers.specs.declared.board.view.View.{View}
@@ -7,7 +7,7 @@ use Rattle.round_workers.specs.BoardCrew.{AreLooks, IsHired, IsManned, IsRoom}
 use Rattle.round_workers.specs.BoardPlays.{has_seen}
 use Rattle.round_workers.specs.BoardSeats.{IsSeatOf, basis_of, known, window_of}
 use Rattle.round_workers.specs.BoardWorker.{guesses_for, turns_in}
-use Rattle.round_workers.proofs.BoardCrewing.{book-for, lent-for, looks-left, manned-first, manned-worked, refilled, seats-worked, whole-joined, worked-so}
+use Rattle.round_workers.proofs.BoardCrewing.{book-for, lent-for, looks-left, manned-first, manned-worked, refilled, seats-worked, worked-so}
 use Rattle.round_workers.proofs.BoardWorking.{on-for}
 use Rattle.round_workers.proofs.board.crew.settle.Goals as goal
 

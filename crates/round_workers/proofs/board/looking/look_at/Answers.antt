@@ -1,4 +1,4 @@
-use Rattle.std.proofs.Common.{◌≡◌, ℕ, ◌+◌, ◌-◌, ◌<◌, List, length, slice_index_or, arith, sym, ap, ◌∙◌, subst}
+use Rattle.std.proofs.Common.{◌≡◌, ℕ, ◌+◌, ◌-◌, List, length, slice_index_or, arith, ap, ◌∙◌}
 use Rattle.cell_world.specs.Grid.{world_of}
 use Rattle.round_book.specs.Book.{window_of}
 use Rattle.round_book.specs.Window.{guess_for}

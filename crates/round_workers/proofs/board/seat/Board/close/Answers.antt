@@ -1,8 +1,7 @@
-use Rattle.std.proofs.Common.{◌≡◌, ℕ, ◌+◌, ◌-◌, ◌<◌, ◌≤◌, [], ◌∷◌, length, length-append, Some, arith, sym, ap, ◌∙◌, subst}
-use Rattle.std.specs.Prelude.{slice_index}
+use Rattle.std.proofs.Common.{◌≡◌, ℕ, ◌+◌, ◌-◌, ◌<◌, ◌≤◌, [], ◌∷◌, length, length-append, arith, sym, ap, ◌∙◌}
 use lib.ListN.{get_elem?}
 use Rattle.std.specs.Vec.{vec_capacity}
-use Rattle.std.specs.Mem.Slots.{slots_items, slots_len}
+use Rattle.std.specs.Mem.Slots.{slots_len}
 use Rattle.round_workers.specs.BoardSeats.{basis_of, known, window_of}
 use Rattle.round_workers.specs.BoardTotals.{once_below}
 use Rattle.round_workers.proofs.BoardClosing.{book-at-slot, index-at, lasts, look-at-slot, looks-more, stands-so}

@@ -1,4 +1,4 @@
-use Rattle.std.proofs.Common.{rules, arith}
+use Rattle.std.proofs.Common.{arith}
 use Rattle.round_workers.proofs.BoardTotalLemmas.{none-late}
 use Rattle.round_workers.proofs.BoardTickets.{draws}
 use Rattle.round_workers.specs.BoardRule.{turns_of}

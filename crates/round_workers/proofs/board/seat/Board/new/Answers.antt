@@ -1,5 +1,4 @@
-use Rattle.std.proofs.Common.{rules, arith, ap, ap₂, sym, ◌∙◌, ◌≡◌, ℕ, ◌+◌, ◌-◌, replicate, List}
-use Rattle.round_workers.specs.declared.board.view.Place.{Place}
+use Rattle.std.proofs.Common.{ap, ap₂, sym, ◌∙◌, ℕ, ◌+◌, ◌-◌, replicate}
 use Rattle.round_workers.specs.declared.board.view.Place.TheVariants.{Nothing}
 use Rattle.round_workers.proofs.BoardSeating.{starts-so}
 use Rattle.round_workers.proofs.board.seat.Board.new.Goals as goal

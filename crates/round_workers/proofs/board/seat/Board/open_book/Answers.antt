@@ -1,6 +1,6 @@
-use Rattle.std.proofs.Common.{arith, sym, ap, refl, ◌∙◌, subst}
+use Rattle.std.proofs.Common.{arith, sym, refl, ◌∙◌, subst}
 use mathlib.Core.Option as maybe
-use Rattle.atomic_table.specs.Table.{Allows, Me, step}
+use Rattle.atomic_table.specs.Table.{Allows, step}
 use Rattle.round_workers.specs.declared.board.view.Place.TheVariants.{Nothing, TheBook}
 use Rattle.round_workers.specs.BoardPlays.{opens_now, tells_opened}
 use Rattle.round_workers.specs.BoardRule.{IsKept}

@@ -1,4 +1,4 @@
-use Rattle.std.proofs.Common.{rules, arith}
+use Rattle.std.proofs.Common.{arith}
 use Rattle.round_workers.specs.BoardSeats.{basis_of}
 use Rattle.round_workers.proofs.BoardSeating.{splits}
 use Rattle.round_workers.proofs.board.seat.Board.split.Goals as goal

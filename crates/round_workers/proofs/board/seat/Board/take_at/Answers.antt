@@ -1,12 +1,11 @@
-use Rattle.std.proofs.Common.{ℕ, ◌+◌, arith, sym, ap, refl, ◌∙◌, ◌∷◌, subst}
+use Rattle.std.proofs.Common.{ℕ, ◌+◌, arith, sym, ap, refl, ◌∙◌, subst}
 use mathlib.Core.Option as maybe
 use Rattle.atomic_table.specs.Table.{Allows, rest, step}
-use Rattle.round_workers.specs.declared.board.view.Place.TheVariants.{Nothing, OneLook}
-use Rattle.round_workers.specs.declared.board.view.Try.TheVariants.{OfLook}
+use Rattle.round_workers.specs.declared.board.view.Place.TheVariants.{Nothing}
 use Rattle.round_workers.specs.BoardPlaces.{look_in}
-use Rattle.round_workers.specs.BoardPlays.{after_try, has_taken, takes_now, tells_has_taken, took_look}
+use Rattle.round_workers.specs.BoardPlays.{has_taken, takes_now, tells_has_taken, took_look}
 use Rattle.round_workers.specs.BoardRule.{IsKept}
-use Rattle.round_workers.specs.BoardSeats.{basis_of, window_of}
+use Rattle.round_workers.specs.BoardSeats.{basis_of}
 use Rattle.round_workers.specs.BoardView.{window_about}
 use Rattle.round_book.specs.Window.{look_for}
 use Rattle.round_workers.proofs.BoardLooks.{has-taken, takes-look}

@@ -1,4 +1,4 @@
-use Rattle.std.proofs.Common.{◌≡◌, ℕ, ◌+◌, ◌-◌, ◌<◌, ◌≤◌, true, arith, sym, ap, ◌∙◌, subst}
+use Rattle.std.proofs.Common.{sym, ap, subst}
 use Rattle.round_workers.specs.BoardSeats.{known, window_of}
 use Rattle.round_workers.specs.BoardView.{window_about}
 use Rattle.round_workers.specs.BoardWorker.{HasServed, turns_in}
