@@ -4,8 +4,9 @@ use Rattle.std.proofs.Math.Nat.{mod-add-mod, add-mod-mod, mod-mod_of_dvd}
 use Rattle.std.proofs.lemmas.Nat.{mul-mod_first, mul-mod_second, and_mask, field_of}
 use Rattle.std.proofs.lemmas.Nat.Gcd.{dvd_of_mod-eq-zero}
 use Rattle.std.specs.Fn.{iterate}
-use Rattle.ant_random.specs.Stream.{state_at, random_at, next_state}
-use Rattle.ant_random.specs.Jump.{landed}
+use Rattle.ant_random.specs.Stream.{state_at, random_at}
+use Rattle.ant_random.specs.Inner.Jump.{next_state}
+use Rattle.ant_random.specs.Inner.Jump.{landed}
 use Rattle.ant_random.specs.declared.jump.Jump.{Jump}
 
 -- a wrapped product and a wrapped sum are wrapped once

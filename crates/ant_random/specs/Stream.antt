@@ -1,5 +1,5 @@
 -- The stream of random numbers (the task's number generation).
-use Rattle.std.specs.Prelude.{ℕ, zero, suc, ◌+◌, ◌*◌, ◌/◌, ◌%◌, ◌^◌}
+use Rattle.std.specs.Prelude.{ℕ, zero, suc, ◌+◌, ◌*◌, ◌/◌, ◌%◌}
 
 -- what a contract sees of a stream: its seed, and how many numbers were drawn of it
 pub record SeedAndPlace : Type 0 where
@@ -18,7 +18,3 @@ random_at seed i = state_at seed (i + 4) / 65536 % 16384
 -- what a draw below n gives at a place of a seed's stream (number generation)
 unfoldable pub drawn : ℕ → ℕ → ℕ → ℕ
 drawn seed place n = random_at seed place % n
-
--- the state one place on, where 32 bits are kept of each (number generation)
-unfoldable pub next_state : ℕ → ℕ
-next_state state = (state * 22695477 + 1) % 2 ^ 32

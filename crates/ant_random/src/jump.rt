@@ -1,6 +1,6 @@
 // Steps through the stream: one place on at no count, and jumps whose every use is counted.
 ghost use Rattle.std.specs.Prelude.{◌≡◌, ℕ, ◌+◌};
-ghost use Rattle.ant_random.specs.Stream.{next_state};
+ghost use Rattle.ant_random.specs.Inner.Jump.{next_state};
 
 use crate::steps::Steps;
 use std::sync::ledger::Ledger;
@@ -25,7 +25,7 @@ pub(crate) struct Jump {
 }
 
 impl Jump {
-    ghost use Rattle.ant_random.specs.Jump.{landed};
+    ghost use Rattle.ant_random.specs.Inner.Jump.{landed};
 
     /// The jump of one place.
     pub(crate) fn of_one<L: Ledger>(steps: &mut Steps<L>) -> Jump

@@ -6,9 +6,10 @@ use Rattle.cell_world.specs.declared.ant.Ant.{Ant}
 use Rattle.cell_world.specs.declared.cell.Cell.{Cell}
 use Rattle.cell_world.specs.Cell.{cell_weight, ant_weight, one_if}
 use Rattle.cell_world.specs.World.{World}
-use Rattle.cell_world.specs.Valid.{Valid, CanSet, Replaces}
+use Rattle.cell_world.specs.Valid.{Valid, CanSet}
+use Rattle.cell_world.specs.Inner.Replaces.{Replaces}
 use Rattle.cell_world.proofs.Places.{ant-clear}
-use Rattle.cell_world.proofs.Valids.{CanSet-replaces}
+use Rattle.cell_world.proofs.ValidLemmas.{CanSet-replaces}
 use Rattle.ant_turn.specs.Kills.{after_kill, corpse_food}
 use Rattle.ant_turn.specs.Sheet.{Sheet}
 

@@ -14,19 +14,19 @@ use Rattle.cell_world.specs.Score.{alive_in, alive_of, food_of}
 use Rattle.cell_world.specs.Valid.{Valid}
 use Rattle.cell_world.specs.World.{World, area, put, sum_over, total, weight, with_cells}
 use Rattle.cell_world.proofs.Places.{ant-clear, clear_inside}
-use Rattle.cell_world.proofs.Valids.{put_cell-all}
+use Rattle.cell_world.proofs.ValidLemmas.{put_cell-all}
 use Rattle.cell_world.proofs.Totals.{total-put, total-put_two}
 use Rattle.brain_read.specs.declared.instr.Instr.{Instr}
-use Rattle.ant_turn.specs.FoodLaws.{killed_in, living_of, world_after}
+use Rattle.ant_turn.specs.FoodLaws.{killed_in, living_of, world_after_turn}
 use Rattle.ant_turn.specs.Kills.{after_kill, check_all, check_at, corpse_food, killed_all, killed_at, places_around}
 use Rattle.ant_turn.specs.Minds.{Minds, mind_of}
 use Rattle.ant_turn.specs.Sheet.{Sheet}
 use Rattle.ant_turn.specs.Turn.{Outcome, arrived, instruction_at, is_blocked, left_by_ant, stepped, turn, with_ant}
 use Rattle.ant_turn.proofs.Checks.{check_at-cases}
-use Rattle.ant_turn.proofs.Kept.{check_all-ant}
+use Rattle.ant_turn.proofs.KeptByChecks.{check_all-ant}
 use Rattle.ant_turn.proofs.KeptByTurns.{free_apart, free_clear, free_empty}
 use Rattle.ant_turn.proofs.OwnCells.{Stays, stays_weight}
-use Rattle.ant_turn.proofs.Parts.{Does, turn_parts}
+use Rattle.ant_turn.proofs.TurnParts.{Does, turn_parts}
 
 -- what is counted in each cell changes with kills alone: by so much up and so much down for each
 pub record CountsKills (sheet : Sheet) (f : Cell → ℕ) (up down : ℕ) : Type 0 where
@@ -105,7 +105,7 @@ module _ (sheet : Sheet) (f : Cell → ℕ) (up down : ℕ) (counts : CountsKill
       subst (λ (o : Outcome). Counted f up down w (with_cells w o.cells) o.killed) (sym went.is) (omega (arith, same, checks))
 
 -- a turn
-pub turn-counted : (minds : Minds) (seed : ℕ) (w : World) (place t : ℕ) (f : Cell → ℕ) (up down : ℕ) → CountsKills minds.sheet f up down → Valid w → Counted f up down w (world_after minds seed w place t) (killed_in minds seed w place t)
+pub turn-counted : (minds : Minds) (seed : ℕ) (w : World) (place t : ℕ) (f : Cell → ℕ) (up down : ℕ) → CountsKills minds.sheet f up down → Valid w → Counted f up down w (world_after_turn minds seed w place t) (killed_in minds seed w place t)
 turn-counted minds seed w place t f up down counts valid =
     elim (turn_parts minds seed w place t) [
       | inl nothing ↦ subst (λ (o : Outcome). Counted f up down w (with_cells w o.cells) o.killed) (sym nothing) (grind arith)
@@ -191,19 +191,19 @@ unfolding living_in alive_of
 living_of-total w = sum_over-both w.width (λ p. alive_in Red (w.cells p)) (λ p. alive_in Black (w.cells p)) (area w)
 
 -- the food after a turn
-pub turn-food : (minds : Minds) (seed : ℕ) (w : World) (place t : ℕ) → Valid w → food_of (world_after minds seed w place t) ≡ food_of w + minds.sheet.corpse * length (killed_in minds seed w place t)
+pub turn-food : (minds : Minds) (seed : ℕ) (w : World) (place t : ℕ) → Valid w → food_of (world_after_turn minds seed w place t) ≡ food_of w + minds.sheet.corpse * length (killed_in minds seed w place t)
 unfolding food_of
 turn-food minds seed w place t valid = let it = turn-counted minds seed w place t food_in minds.sheet.corpse 0 (food-counts minds.sheet) valid in omega (arith, it)
 
 -- the weight after a turn
-pub turn-weight : (minds : Minds) (seed : ℕ) (w : World) (place t : ℕ) → minds.sheet.corpse ≤ 9 → Valid w → weight (world_after minds seed w place t) + (9 - minds.sheet.corpse) * length (killed_in minds seed w place t) ≡ weight w
+pub turn-weight : (minds : Minds) (seed : ℕ) (w : World) (place t : ℕ) → minds.sheet.corpse ≤ 9 → Valid w → weight (world_after_turn minds seed w place t) + (9 - minds.sheet.corpse) * length (killed_in minds seed w place t) ≡ weight w
 unfolding weight
 turn-weight minds seed w place t small valid = let it = turn-counted minds seed w place t cell_weight 0 (9 - minds.sheet.corpse) (weight-counts minds.sheet small) valid in omega (arith, it)
 
 -- the ants after a turn
-pub turn-living : (minds : Minds) (seed : ℕ) (w : World) (place t : ℕ) → Valid w → living_of (world_after minds seed w place t) + length (killed_in minds seed w place t) ≡ living_of w
+pub turn-living : (minds : Minds) (seed : ℕ) (w : World) (place t : ℕ) → Valid w → living_of (world_after_turn minds seed w place t) + length (killed_in minds seed w place t) ≡ living_of w
 turn-living minds seed w place t valid =
     let it = turn-counted minds seed w place t living_in 0 1 (living-counts minds.sheet) valid in
-    let now = living_of-total (world_after minds seed w place t) in
+    let now = living_of-total (world_after_turn minds seed w place t) in
     let then = living_of-total w in
     omega (arith, it, now, then)

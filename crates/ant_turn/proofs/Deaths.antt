@@ -12,7 +12,7 @@ use Rattle.cell_world.proofs.Places.{Holder, is_ant-true, holds_id-own, place_in
 use Rattle.ant_turn.specs.Kills.{after_kill, check_at, check_all, is_surrounded, killed_at, killed_all}
 use Rattle.ant_turn.specs.Sheet.{Sheet}
 use Rattle.ant_turn.proofs.Checks.{check_at-cases}
-use Rattle.ant_turn.proofs.Kept.{check_all-holds_id, check_at-Valid}
+use Rattle.ant_turn.proofs.KeptByChecks.{check_all-holds_id, check_at-Valid}
 
 -- the one element of a list
 contains_one : (x y : ℕ) → Contains (x ∷ []) y → x ≡ y

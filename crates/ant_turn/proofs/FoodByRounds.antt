@@ -4,7 +4,7 @@ use Rattle.std.proofs.Math.Nat.{mul-add}
 use Rattle.cell_world.specs.Score.{food_of}
 use Rattle.cell_world.specs.Valid.{Valid}
 use Rattle.cell_world.specs.World.{World}
-use Rattle.ant_turn.specs.FoodLaws.{killed_in, living_of, world_after}
+use Rattle.ant_turn.specs.FoodLaws.{killed_in, living_of, world_after_turn}
 use Rattle.ant_turn.specs.Keeps.{Keeps}
 use Rattle.ant_turn.specs.Minds.{Minds, Fits, AreSound}
 use Rattle.ant_turn.specs.Rounds.{Moment, after_turn, after_turns, after_round, after_rounds}
@@ -16,9 +16,9 @@ abbrev food_to_come : Minds → World → ℕ
 food_to_come minds w = food_of w + minds.sheet.corpse * living_of w
 
 -- a turn keeps it
-turn-food_to_come : (minds : Minds) (seed : ℕ) (w : World) (place t : ℕ) → Valid w → food_to_come minds (world_after minds seed w place t) ≡ food_to_come minds w
+turn-food_to_come : (minds : Minds) (seed : ℕ) (w : World) (place t : ℕ) → Valid w → food_to_come minds (world_after_turn minds seed w place t) ≡ food_to_come minds w
 turn-food_to_come minds seed w place t valid =
-    let now : ℕ = living_of (world_after minds seed w place t) in
+    let now : ℕ = living_of (world_after_turn minds seed w place t) in
     let dead : ℕ = length (killed_in minds seed w place t) in
     let food = turn-food minds seed w place t valid in
     let living : now + dead ≡ living_of w = turn-living minds seed w place t valid in

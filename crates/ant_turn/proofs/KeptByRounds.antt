@@ -6,7 +6,7 @@ use Rattle.ant_turn.specs.Keeps.{Keeps}
 use Rattle.ant_turn.specs.Minds.{Minds, Fits, AreSound}
 use Rattle.ant_turn.specs.Rounds.{Moment, after_turn, after_turns, after_round, after_rounds}
 use Rattle.ant_turn.specs.Turn.{turn}
-use Rattle.ant_turn.proofs.Keeping.{Keeps-self, Keeps-then}
+use Rattle.ant_turn.proofs.KeepsLemmas.{Keeps-self, Keeps-then}
 use Rattle.ant_turn.proofs.KeptByTurns.{Keeps-turn}
 
 -- one where a thing is, and nothing where it isn't

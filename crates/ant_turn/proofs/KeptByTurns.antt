@@ -9,12 +9,13 @@ use Rattle.cell_world.specs.declared.ant.Colour.{Colour}
 use Rattle.cell_world.specs.declared.ant.Colour.TheVariants.{Red, Black}
 use Rattle.cell_world.specs.declared.cell.Cell.{Cell}
 use Rattle.cell_world.specs.Cell.{holds_id, is_ant, cell_weight, ant_weight, one_if}
-use Rattle.cell_world.specs.Valid.{Valid, CanSet, Replaces}
+use Rattle.cell_world.specs.Valid.{Valid, CanSet}
+use Rattle.cell_world.specs.Inner.Replaces.{Replaces}
 use Rattle.cell_world.specs.Limits.{most_weight}
 use Rattle.cell_world.specs.World.{Cells, World, with_cells, put, put_cell, weight}
 use Rattle.cell_world.proofs.Places.{ant-clear, clear_inside, holds_id-own}
 use Rattle.cell_world.proofs.Puts.{put_cell-other}
-use Rattle.cell_world.proofs.Valids.{put_cell-all, Valid-put}
+use Rattle.cell_world.proofs.ValidLemmas.{put_cell-all, Valid-put}
 use Rattle.cell_world.proofs.Weights.{weight-put_two}
 use Rattle.brain_read.specs.declared.instr.Instr.{Instr}
 use Rattle.brain_read.specs.declared.instr.Instr.TheVariants.{Drop}
@@ -24,10 +25,10 @@ use Rattle.ant_turn.specs.Kills.{check_all, check_around_at, places_around}
 use Rattle.ant_turn.specs.Minds.{Minds, Fits, AreSound, mind_of}
 use Rattle.ant_turn.specs.Sheet.{Sheet}
 use Rattle.ant_turn.specs.Turn.{Outcome, arrived, execute, has_ant, instruction_at, is_blocked, left_by_ant, stepped, turn, with_ant}
-use Rattle.ant_turn.proofs.Kept.{Outlives, check_all-outlives, check_all-holds_id, check_all-Valid, check_all-weight, check_all-Fits}
-use Rattle.ant_turn.proofs.Keeping.{Keeps-self, Keeps-then, Keeps-put, Fits-put}
+use Rattle.ant_turn.proofs.KeptByChecks.{Outlives, check_all-outlives, check_all-holds_id, check_all-Valid, check_all-weight, check_all-Fits}
+use Rattle.ant_turn.proofs.KeepsLemmas.{Keeps-self, Keeps-then, Keeps-put, Fits-put}
 use Rattle.ant_turn.proofs.OwnCells.{Stays, stays_replaces}
-use Rattle.ant_turn.proofs.Parts.{Does, execute_parts, turn_parts}
+use Rattle.ant_turn.proofs.TurnParts.{Does, execute_parts, turn_parts}
 
 -- neither of two tests holds where not one of them does
 pub neither : (a b : Bool) → (a || b) ≡ false → (a ≡ false) × (b ≡ false)

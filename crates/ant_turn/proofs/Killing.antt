@@ -12,9 +12,9 @@ use Rattle.cell_world.specs.Valid.{Valid}
 use Rattle.cell_world.specs.World.{World, place_in, put, put_cell, with_cells}
 use Rattle.cell_world.proofs.Places.{Holder, ant-clear, holds_id-own, place_in-ant, place_in-found, place_in-holds, place_in-put_new, place_in-put_other}
 use Rattle.cell_world.proofs.Puts.{put_cell-other}
-use Rattle.cell_world.proofs.Valids.{CanSet-replaces, Valid-put}
+use Rattle.cell_world.proofs.ValidLemmas.{CanSet-replaces, Valid-put}
 use Rattle.brain_read.specs.declared.instr.Instr.{Instr}
-use Rattle.ant_turn.specs.FoodLaws.{killed_in, world_after}
+use Rattle.ant_turn.specs.FoodLaws.{killed_in, world_after_turn}
 use Rattle.ant_turn.specs.KillLaws.{KillsAlone}
 use Rattle.ant_turn.specs.Kills.{check_all, places_around}
 use Rattle.ant_turn.specs.Minds.{Minds, mind_of}
@@ -23,8 +23,8 @@ use Rattle.ant_turn.specs.Turn.{Outcome, acts, arrived, instruction_at, is_block
 use Rattle.ant_turn.proofs.Deaths.{check_all-place_in, killed_all-alive, killed_all-differ, killed_all-gone}
 use Rattle.ant_turn.proofs.KeptByTurns.{CanSet-arrived, Replaces-left_by_ant, free_apart, free_empty}
 use Rattle.ant_turn.proofs.OwnCells.{Stays}
-use Rattle.ant_turn.proofs.Parts.{Does, acts_parts, turn_parts}
-use Rattle.ant_turn.proofs.Kept.{check_all-holds_id}
+use Rattle.ant_turn.proofs.TurnParts.{Does, acts_parts, turn_parts}
+use Rattle.ant_turn.proofs.KeptByChecks.{check_all-holds_id}
 use Rattle.ant_turn.proofs.Turns.{turn-acts}
 
 -- what an outcome does to who is alive, and where
@@ -115,7 +115,7 @@ own_id w t p ant found is =
 -- who dies in a turn, and who stays where
 pub turn-KillsAlone : (minds : Minds) (seed : ℕ) (w : World) (place t : ℕ) → minds.sheet.corpse ≤ 9 → Valid w → KillsAlone minds seed w place t
 turn-KillsAlone minds seed w place t light valid =
-    let it : Spares w t (world_after minds seed w place t) (killed_in minds seed w place t) = elim (turn_parts minds seed w place t) [
+    let it : Spares w t (world_after_turn minds seed w place t) (killed_in minds seed w place t) = elim (turn_parts minds seed w place t) [
       | inl nothing ↦ subst (λ (o : Outcome). Spares w t (with_cells w o.cells) o.killed) (sym nothing) (Spares-all w t w (λ _. refl))
       | inr acted ↦ does-Spares minds.sheet w t acted.p acted.ant (instruction_at (mind_of minds acted.ant.colour) acted.ant.state) (turn minds seed w place t) light valid acted.place acted.is (own_id w t acted.p acted.ant acted.place acted.is) acted.does
     ] in
@@ -142,7 +142,7 @@ does-own sheet w t p ant instruction outcome q valid found is id (inr went) now 
     inr (check_all-own sheet (places_around ahead) there t ahead q (step-Valid sheet w p ant ahead went.next valid is went.free) own (subst (λ (o : Outcome). place_in (with_cells w o.cells) t ≡ Some q) went.is now))
 
 -- where an ant is after its turn
-pub turn-own : (minds : Minds) (seed : ℕ) (w : World) (place t : ℕ) (p : Pos) (ant : Ant) (q : Pos) → Valid w → place_in w t ≡ Some p → (w.cells p).ant ≡ Some ant → place_in (world_after minds seed w place t) t ≡ Some q →
+pub turn-own : (minds : Minds) (seed : ℕ) (w : World) (place t : ℕ) (p : Pos) (ant : Ant) (q : Pos) → Valid w → place_in w t ≡ Some p → (w.cells p).ant ≡ Some ant → place_in (world_after_turn minds seed w place t) t ≡ Some q →
     (q ≡ p) ⊎ (q ≡ adjacent_pos p ant.facing)
 turn-own minds seed w place t p ant q valid found is now =
     does-own minds.sheet w t p ant (instruction_at (mind_of minds ant.colour) ant.state) (acts ant.resting minds seed w.cells place p ant) q valid found is (own_id w t p ant found is)

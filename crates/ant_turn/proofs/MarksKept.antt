@@ -8,15 +8,15 @@ use Rattle.cell_world.specs.declared.ant.Colour.TheVariants.{Red, Black}
 use Rattle.cell_world.specs.Cell.{marks_of}
 use Rattle.cell_world.specs.Colour.{foe_of}
 use Rattle.cell_world.specs.World.{Cells, World, place_in, put}
-use Rattle.cell_world.proofs.Valids.{put_cell-all}
+use Rattle.cell_world.proofs.ValidLemmas.{put_cell-all}
 use Rattle.brain_read.specs.declared.instr.Instr.{Instr}
 use Rattle.ant_turn.specs.Kills.{check_all, places_around}
 use Rattle.ant_turn.specs.Minds.{Minds, mind_of}
 use Rattle.ant_turn.specs.Sheet.{Sheet}
 use Rattle.ant_turn.specs.Turn.{Outcome, acts, arrived, instruction_at, left_by_ant, stepped, turn, with_ant}
-use Rattle.ant_turn.proofs.Kept.{Outlives, check_all-outlives}
+use Rattle.ant_turn.proofs.KeptByChecks.{Outlives, check_all-outlives}
 use Rattle.ant_turn.proofs.OwnCells.{same_marks}
-use Rattle.ant_turn.proofs.Parts.{Does, acts_parts}
+use Rattle.ant_turn.proofs.TurnParts.{Does, acts_parts}
 use Rattle.ant_turn.proofs.Turns.{turn-acts}
 
 -- the other colour is the foe's

@@ -10,7 +10,7 @@ use Rattle.cell_world.specs.declared.ant.Colour.TheVariants.{Red, Black}
 use Rattle.cell_world.specs.declared.cell.Cell.{Cell}
 use Rattle.cell_world.specs.Cell.{is_ant, cell_weight, ant_weight, marks_of, one_if}
 use Rattle.cell_world.specs.Colour.{foe_of}
-use Rattle.cell_world.specs.Valid.{Replaces}
+use Rattle.cell_world.specs.Inner.Replaces.{Replaces}
 use Rattle.brain_read.specs.declared.instr.Cond.{Cond}
 use Rattle.brain_read.specs.declared.instr.Instr.{Instr}
 use Rattle.brain_read.specs.declared.instr.Instr.TheVariants.{Sense, Mark, Unmark, PickUp, Drop, Turn, Move, Flip}

@@ -14,7 +14,7 @@ use Rattle.cell_world.specs.World.{Cells, World, place_in, put_cell, with_cells}
 use Rattle.cell_world.proofs.Puts.{cases_pos, put_cell-other, put_cell-same}
 use Rattle.brain_read.specs.declared.instr.Instr.{Instr}
 use Rattle.brain_read.specs.declared.instr.Instr.TheVariants.{Sense, Mark, Unmark, PickUp, Drop, Turn, Move, Flip}
-use Rattle.brain_read.specs.BrainText.{states_of}
+use Rattle.brain_read.specs.Grammar.{states_of}
 use Rattle.ant_random.specs.Stream.{drawn}
 use Rattle.ant_turn.specs.Conditions.{meets}
 use Rattle.ant_turn.specs.Kills.{after_kill, check_all, check_at, places_around}
@@ -22,7 +22,7 @@ use Rattle.ant_turn.specs.Minds.{Minds, mind_of}
 use Rattle.ant_turn.specs.Renumber.{Numbers, Carries, AreNumbered, number_of, redirected, renumbered, renumbered_ant, renumbered_cells, renumbered_moment, renumbered_outcome, renumbered_world, side_states, with_mind}
 use Rattle.ant_turn.specs.Rounds.{Moment, after_round, after_rounds, after_turn, after_turns, moment_of}
 use Rattle.ant_turn.specs.Sheet.{Sheet}
-use Rattle.ant_turn.specs.Turn.{Outcome, acts, arrived, execute, in_state, instruction_at, is_blocked, left_by_ant, marked, stepped, turn, turn_from, turn_of, unmarked, with_ant}
+use Rattle.ant_turn.specs.Turn.{Outcome, acts, arrived, execute, in_state, instruction_at, is_blocked, left_by_ant, marked, stepped, turn, turn_from, turn_at, unmarked, with_ant}
 use Rattle.ant_turn.proofs.Checks.{check_at-cases}
 use Rattle.ant_turn.proofs.RenumberLemmas.{after, becomes-renumbered, execute-renumbered, place_in-renumbered}
 
@@ -117,15 +117,15 @@ module _ (f : Colour → ℕ → ℕ) (minds : Minds) (red black : List Instr) w
       ∙ execute-renumbered f minds.sheet seed cells place p ant (instruction_at (mind_of minds ant.colour) ant.state)
   acts-renumbered (suc left) seed cells place p ant same = becomes-renumbered f false cells p (with_ant (cells p) (record ant { resting = left }))
 
-  turn_of-renumbered : (seed : ℕ) (cells : Cells) (place : ℕ) (p : Pos) (o : Option Ant) → (cells p).ant ≡ o → Follows f minds other cells →
-      turn_of other seed (renumbered_cells f cells) place p (option_map (renumbered_ant f) o) ≡ after f (turn_of minds seed cells place p o)
-  turn_of-renumbered seed cells place p None is follows = refl
-  turn_of-renumbered seed cells place p (Some ant) is follows = acts-renumbered ant.resting seed cells place p ant (follows p ant is)
+  turn_at-renumbered : (seed : ℕ) (cells : Cells) (place : ℕ) (p : Pos) (o : Option Ant) → (cells p).ant ≡ o → Follows f minds other cells →
+      turn_at other seed (renumbered_cells f cells) place p (option_map (renumbered_ant f) o) ≡ after f (turn_at minds seed cells place p o)
+  turn_at-renumbered seed cells place p None is follows = refl
+  turn_at-renumbered seed cells place p (Some ant) is follows = acts-renumbered ant.resting seed cells place p ant (follows p ant is)
 
   turn_from-renumbered : (seed : ℕ) (cells : Cells) (place : ℕ) (o : Option Pos) → Follows f minds other cells →
       turn_from other seed (renumbered_cells f cells) place o ≡ after f (turn_from minds seed cells place o)
   turn_from-renumbered seed cells place None follows = refl
-  turn_from-renumbered seed cells place (Some p) follows = turn_of-renumbered seed cells place p (cells p).ant refl follows
+  turn_from-renumbered seed cells place (Some p) follows = turn_at-renumbered seed cells place p (cells p).ant refl follows
 
   -- a turn
   turn-follows : (seed : ℕ) (w : World) (place t : ℕ) → Follows f minds other w.cells → turn other seed (renumbered_world f w) place t ≡ after f (turn minds seed w place t)
@@ -138,13 +138,13 @@ module _ (P : Colour → ℕ → Type 0) (minds : Minds) (onward : (colour : Col
   acts-have zero seed cells place p ant all holds = execute-have P minds.sheet seed cells place p ant (instruction_at (mind_of minds ant.colour) ant.state) all (onward ant.colour ant.state holds)
   acts-have (suc left) seed cells place p ant all holds = goes_on P cells p (with_ant (cells p) (record ant { resting = left })) (record ant { resting = left }) all refl holds
 
-  turn_of-have : (seed : ℕ) (cells : Cells) (place : ℕ) (p : Pos) (o : Option Ant) → (cells p).ant ≡ o → AllHave P cells → AllHave P (turn_of minds seed cells place p o).cells
-  turn_of-have seed cells place p None is all = all
-  turn_of-have seed cells place p (Some ant) is all = acts-have ant.resting seed cells place p ant all (all.each p ant is)
+  turn_at-have : (seed : ℕ) (cells : Cells) (place : ℕ) (p : Pos) (o : Option Ant) → (cells p).ant ≡ o → AllHave P cells → AllHave P (turn_at minds seed cells place p o).cells
+  turn_at-have seed cells place p None is all = all
+  turn_at-have seed cells place p (Some ant) is all = acts-have ant.resting seed cells place p ant all (all.each p ant is)
 
   turn_from-have : (seed : ℕ) (cells : Cells) (place : ℕ) (o : Option Pos) → AllHave P cells → AllHave P (turn_from minds seed cells place o).cells
   turn_from-have seed cells place None all = all
-  turn_from-have seed cells place (Some p) all = turn_of-have seed cells place p (cells p).ant refl all
+  turn_from-have seed cells place (Some p) all = turn_at-have seed cells place p (cells p).ant refl all
 
   -- a turn
   turn-have : (seed : ℕ) (w : World) (place t : ℕ) → AllHave P w.cells → AllHave P (turn minds seed w place t).cells

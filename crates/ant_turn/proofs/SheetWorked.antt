@@ -12,7 +12,7 @@ use Rattle.cell_world.specs.Score.{hill_food_of, score_of}
 use Rattle.cell_world.specs.World.{Cells, World, place_in, put_cell}
 use Rattle.brain_read.specs.declared.instr.Instr.TheVariants.{Drop, Move}
 use Rattle.ant_turn.specs.declared.brains.Brains.{Brains}
-use Rattle.ant_turn.specs.FoodLaws.{killed_in, world_after}
+use Rattle.ant_turn.specs.FoodLaws.{killed_in, world_after_turn}
 use Rattle.ant_turn.specs.Kills.{check_around_at, check_at, is_surrounded, killed_around, killed_at, places_around}
 use Rattle.ant_turn.specs.Minds.{Minds, minds_of}
 use Rattle.ant_turn.specs.Sheet.{Sheet}
@@ -94,9 +94,9 @@ gap_kills = (refl, refl, refl)
 
 -- what they leave lies on their hills
 gap_scores :
-    (score_of (world_after (rules (sheet 4 3 14)) 1 gap 0 2) ≡ record { red = 3; black = 3 })
-    × (score_of (world_after (rules (sheet 5 0 14)) 1 gap 0 2) ≡ record { red = 0; black = 0 })
-    × (score_of (world_after (rules (sheet 5 9 14)) 1 gap 0 2) ≡ record { red = 0; black = 9 })
+    (score_of (world_after_turn (rules (sheet 4 3 14)) 1 gap 0 2) ≡ record { red = 3; black = 3 })
+    × (score_of (world_after_turn (rules (sheet 5 0 14)) 1 gap 0 2) ≡ record { red = 0; black = 0 })
+    × (score_of (world_after_turn (rules (sheet 5 9 14)) 1 gap 0 2) ≡ record { red = 0; black = 9 })
 unfolding score_of hill_food_of turn place_in stepped is_surrounded check_at places_around put_cell same_pos neighbours_of adjacent_pos directions opening cell_in rock floor
 gap_scores = (refl, refl, refl)
 
@@ -109,7 +109,7 @@ lane = world_of (opening 4 3 (
 
 -- after its Move it rests for as many turns as the sheet says
 lane_rests :
-    (((world_after (rules (sheet 5 3 0)) 1 lane 0 0).cells (record { x = 2; y = 1 })).ant ≡ Some (new_ant Red 0))
-    × (((world_after (rules (sheet 5 3 255)) 1 lane 0 0).cells (record { x = 2; y = 1 })).ant ≡ Some (record (new_ant Red 0) { resting = 255 }))
+    (((world_after_turn (rules (sheet 5 3 0)) 1 lane 0 0).cells (record { x = 2; y = 1 })).ant ≡ Some (new_ant Red 0))
+    × (((world_after_turn (rules (sheet 5 3 255)) 1 lane 0 0).cells (record { x = 2; y = 1 })).ant ≡ Some (record (new_ant Red 0) { resting = 255 }))
 unfolding turn place_in stepped is_surrounded check_at places_around put_cell same_pos neighbours_of adjacent_pos directions opening cell_in rock floor
 lane_rests = (refl, refl)

@@ -8,7 +8,7 @@ use Rattle.cell_world.specs.World.{World, place_in}
 use Rattle.brain_read.specs.declared.instr.Instr.{Instr}
 use Rattle.brain_read.specs.declared.instr.Instr.TheVariants.{Drop}
 use Rattle.ant_turn.specs.Minds.{Minds, mind_of}
-use Rattle.ant_turn.specs.Turn.{idle, ant_becomes, execute, acts, turn_of, turn_from, turn}
+use Rattle.ant_turn.specs.Turn.{idle, ant_becomes, execute, acts, turn_at, turn_from, turn}
 
 -- nothing happens in the turn of an id that has no place
 pub turn-dead : (minds : Minds) (seed : ℕ) (w : World) (place t : ℕ) → place_in w t ≡ None → turn minds seed w place t ≡ idle w.cells
@@ -18,12 +18,12 @@ turn-dead minds seed w place t dead = ap (turn_from minds seed w.cells place) de
 -- nor where nobody stands at its place
 pub turn-empty : (minds : Minds) (seed : ℕ) (w : World) (place t : ℕ) (p : Pos) → place_in w t ≡ Some p → (w.cells p).ant ≡ None → turn minds seed w place t ≡ idle w.cells
 unfolding turn
-turn-empty minds seed w place t p found none = ap (turn_from minds seed w.cells place) found ∙ ap (turn_of minds seed w.cells place p) none
+turn-empty minds seed w place t p found none = ap (turn_from minds seed w.cells place) found ∙ ap (turn_at minds seed w.cells place p) none
 
 -- the turn of an id is that of the ant at its place
 pub turn-acts : (minds : Minds) (seed : ℕ) (w : World) (place t : ℕ) (p : Pos) (ant : Ant) → place_in w t ≡ Some p → (w.cells p).ant ≡ Some ant → turn minds seed w place t ≡ acts ant.resting minds seed w.cells place p ant
 unfolding turn
-turn-acts minds seed w place t p ant found is = ap (turn_from minds seed w.cells place) found ∙ ap (turn_of minds seed w.cells place p) is
+turn-acts minds seed w place t p ant found is = ap (turn_from minds seed w.cells place) found ∙ ap (turn_at minds seed w.cells place p) is
 
 -- the turn of an ant that rests
 pub turn-rests : (minds : Minds) (seed : ℕ) (w : World) (place t : ℕ) (p : Pos) (ant : Ant) (left : ℕ) → place_in w t ≡ Some p → (w.cells p).ant ≡ Some ant → ant.resting ≡ left + 1 → turn minds seed w place t ≡ ant_becomes w.cells p (record ant { resting = left })

@@ -3,7 +3,7 @@ use Rattle.std.specs.Prelude.{◌≡◌, ◌≢◌, ℕ, ◌≤◌, None, IsSome
 use Rattle.std.specs.List.{AllPairs, Contains}
 use Rattle.cell_world.specs.Valid.{Valid}
 use Rattle.cell_world.specs.World.{World, place_in}
-use Rattle.ant_turn.specs.FoodLaws.{killed_in, world_after}
+use Rattle.ant_turn.specs.FoodLaws.{killed_in, world_after_turn}
 use Rattle.ant_turn.specs.Minds.{Minds}
 
 -- what the turn of id t does to who is alive, and where
@@ -11,15 +11,15 @@ pub record KillsAlone (minds : Minds) (seed : ℕ) (w : World) (place t : ℕ) :
   -- the killed were alive
   pub were_alive : (u : ℕ) → Contains (killed_in minds seed w place t) u → IsSome (place_in w u)
   -- they are gone
-  pub are_gone : (u : ℕ) → Contains (killed_in minds seed w place t) u → place_in (world_after minds seed w place t) u ≡ None
+  pub are_gone : (u : ℕ) → Contains (killed_in minds seed w place t) u → place_in (world_after_turn minds seed w place t) u ≡ None
   -- and pairwise different
   pub differ : AllPairs ◌≢◌ (killed_in minds seed w place t)
   -- every other ant stays where it is, or dead, but that t itself may move
-  pub others_stay : (u : ℕ) → u ≢ t → (Contains (killed_in minds seed w place t) u → ⊥) → place_in (world_after minds seed w place t) u ≡ place_in w u
+  pub others_stay : (u : ℕ) → u ≢ t → (Contains (killed_in minds seed w place t) u → ⊥) → place_in (world_after_turn minds seed w place t) u ≡ place_in w u
   -- t itself stays alive where it isn't killed
-  pub own_lives : (Contains (killed_in minds seed w place t) t → ⊥) → IsSome (place_in w t) → IsSome (place_in (world_after minds seed w place t) t)
+  pub own_lives : (Contains (killed_in minds seed w place t) t → ⊥) → IsSome (place_in w t) → IsSome (place_in (world_after_turn minds seed w place t) t)
   -- and dead where it was
-  pub dead_stay : place_in w t ≡ None → place_in (world_after minds seed w place t) t ≡ None
+  pub dead_stay : place_in w t ≡ None → place_in (world_after_turn minds seed w place t) t ≡ None
 
 -- each turn does so
 abbrev pub TurnsKillAlone : Type 0

@@ -1,5 +1,6 @@
 pub mod Conditions
 pub mod FoodLaws
+pub mod Inner
 pub mod Keeps
 pub mod KillLaws
 pub mod Kills
@@ -9,6 +10,5 @@ pub mod Renumber
 pub mod RenumberLaws
 pub mod Rounds
 pub mod Sheet
-pub mod Stands
 pub mod Turn
 pub mod TurnLaws

@@ -10,7 +10,7 @@ use Rattle.cell_world.specs.Colour.{same_colour}
 use Rattle.cell_world.specs.World.{Cells, World, with_cells}
 use Rattle.brain_read.specs.declared.instr.Instr.{Instr}
 use Rattle.brain_read.specs.declared.instr.Instr.TheVariants.{Sense, Mark, Unmark, PickUp, Drop, Turn, Move, Flip}
-use Rattle.brain_read.specs.BrainText.{states_of}
+use Rattle.brain_read.specs.Grammar.{states_of}
 use Rattle.ant_turn.specs.Minds.{Minds}
 use Rattle.ant_turn.specs.Rounds.{Moment}
 use Rattle.ant_turn.specs.Turn.{Outcome, instruction_at}

@@ -120,14 +120,14 @@ acts zero minds seed cells place p ant = execute minds.sheet seed cells place p 
 acts (suc left) minds seed cells place p ant = ant_becomes cells p (record ant { resting = left })
 
 -- the turn at a position that may hold an ant
-abbrev pub turn_of : Minds → ℕ → Cells → ℕ → Pos → Option Ant → Outcome
-turn_of minds seed cells place p None = idle cells
-turn_of minds seed cells place p (Some ant) = acts ant.resting minds seed cells place p ant
+abbrev pub turn_at : Minds → ℕ → Cells → ℕ → Pos → Option Ant → Outcome
+turn_at minds seed cells place p None = idle cells
+turn_at minds seed cells place p (Some ant) = acts ant.resting minds seed cells place p ant
 
 -- the turn of an ant that has a place, or is dead
 abbrev pub turn_from : Minds → ℕ → Cells → ℕ → Option Pos → Outcome
 turn_from minds seed cells place None = idle cells
-turn_from minds seed cells place (Some p) = turn_of minds seed cells place p (cells p).ant
+turn_from minds seed cells place (Some p) = turn_at minds seed cells place p (cells p).ant
 
 -- the turn of an id in a world at a place of the stream
 unfoldable pub turn : Minds → ℕ → World → ℕ → ℕ → Outcome

@@ -16,12 +16,15 @@ OpeningsFit = (width height : ℕ) (kinds : List Kind) (minds : Minds) → 1 ≤
 
 -- a turn keeps a world that sound brains fit
 abbrev pub TurnsKeep : Type 0
-TurnsKeep = (minds : Minds) (seed : ℕ) (w : World) (place t : ℕ) → AreSound minds → Valid w → Fits w minds → Keeps minds w (with_cells w (turn minds seed w place t).cells)
+TurnsKeep = (minds : Minds) (seed : ℕ) (w : World) (place t : ℕ) → AreSound minds → Valid w → Fits w minds
+    → Keeps minds w (with_cells w (turn minds seed w place t).cells)
 
 -- so do rounds
 abbrev pub RoundsKeep : Type 0
-RoundsKeep = (minds : Minds) (seed : ℕ) (m : Moment) (r : ℕ) → AreSound minds → Valid m.world → Fits m.world minds → Keeps minds m.world (after_rounds minds seed m r).world
+RoundsKeep = (minds : Minds) (seed : ℕ) (m : Moment) (r : ℕ) → AreSound minds → Valid m.world → Fits m.world minds
+    → Keeps minds m.world (after_rounds minds seed m r).world
 
 -- so many turns use from none to as many numbers
 abbrev pub TurnsDraw : Type 0
-TurnsDraw = (minds : Minds) (seed : ℕ) (m : Moment) (from n : ℕ) → (m.place ≤ (after_turns minds seed m from n).place) × ((after_turns minds seed m from n).place ≤ m.place + n)
+TurnsDraw = (minds : Minds) (seed : ℕ) (m : Moment) (from n : ℕ)
+    → (m.place ≤ (after_turns minds seed m from n).place) × ((after_turns minds seed m from n).place ≤ m.place + n)

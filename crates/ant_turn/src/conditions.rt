@@ -44,10 +44,7 @@ pub(crate) fn meets(cell: &Cell, cond: Cond, colour: Colour) -> bool
 fn is_rock(cond: Cond) -> bool
     ensures { result ≡ condition.is_rock_condition cond }
 {
-    match cond {
-        Cond::Rock => true,
-        _ => false,
-    }
+    matches!(cond, Cond::Rock)
 }
 
 // Whether a clear cell meets a condition for an ant of this colour.

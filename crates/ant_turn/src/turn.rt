@@ -1,12 +1,13 @@
 // One turn of an ant.
 ghost use Rattle.std.specs.Prelude.{◌≡◌, ◌+◌, ◌<◌, ◌≤◌, ◌^◌, ℕ, [], false};
 ghost use Rattle.cell_world.specs.Cell.{one_if};
-ghost use Rattle.cell_world.specs.Valid.{Valid, CanThink, Replaces};
+ghost use Rattle.cell_world.specs.Valid.{Valid, CanThink};
+ghost use Rattle.cell_world.specs.Inner.Replaces.{Replaces};
 ghost use Rattle.cell_world.specs.World.{put, with_cells};
 ghost use Rattle.brain_read.specs.Soundness.{IsSound};
 ghost use Rattle.ant_turn.specs.Minds.{Fits, minds_of};
 ghost use Rattle.ant_turn.specs.Sheet.{sheet_of};
-ghost use Rattle.ant_turn.specs.Stands.{Stands};
+ghost use Rattle.ant_turn.specs.Inner.Stands.{Stands};
 ghost use Rattle.ant_turn.specs.Turn as turn;
 
 use crate::brains::Brains;

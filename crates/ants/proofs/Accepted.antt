@@ -1,10 +1,10 @@
 -- What was accepted of the files of a game can be played.
 use Rattle.std.proofs.Common.{List, [], ◌∷◌, ℕ, sym, subst}
 use Rattle.ant_base.specs.Fetched.{Fetched}
-use Rattle.ant_turn.specs.Minds.{Fits, Minds}
+use Rattle.ant_turn.specs.Minds.{Fits}
 use Rattle.ant_turn.proofs.Fitting.{Fits-opening}
 use Rattle.brain_read.specs.declared.instr.Instr.{Instr}
-use Rattle.brain_read.proofs.Sound.{brain_of}
+use Rattle.brain_read.proofs.SoundnessLemmas.{brain_of}
 use Rattle.ant_turn.specs.Sheet.{Sheet}
 use Rattle.cell_world.specs.Grid.{Grid, world_of}
 use Rattle.ants.specs.Files.{AreAccepted, IsAccepted}

@@ -9,16 +9,20 @@ use Rattle.ant_base.specs.Sink.{SinkState, PushedAll, PushedFront}
 use Rattle.ant_base.specs.declared.shelf.FetchFault.{FetchFault}
 use Rattle.ant_base.specs.declared.shelf.FetchFault.TheVariants as answer
 use Rattle.command_words.specs.Command.{PlainCommand, IsCommand}
+use Rattle.match_run.specs.declared.fault.PlayFault.{PlayFault}
+use Rattle.match_run.specs.declared.fault.PlayFault.TheVariants as play
+use Rattle.match_run.specs.Play.{PushedSome, StoppedBy}
 use Rattle.ants.specs.declared.stop.FileFault.{FileFault}
-use Rattle.ants.specs.declared.stop.FileFault.TheVariants.{TooLong, World, Brain}
+use Rattle.ants.specs.declared.stop.FileFault.TheVariants.{TooLong, World, Brain, Breaks}
 use Rattle.ants.specs.declared.stop.Stop.{Stop}
 use Rattle.ants.specs.declared.stop.Stop.TheVariants as stop
 use Rattle.ants.specs.Files.{File, Content, AreAccepted, AreBegun, IsRefused, Refuses, StopsAt}
+use Rattle.ants.specs.Inner.Planning.{stop_of}
 use Rattle.ants.specs.Inner.Reading.{CarriesOut, CarriesOutWords, ComesTo, Outcome, ReadingStops, ReadsFiles, ReadsText, TextStops, ending_of, fetch_reason, outcome_of}
 use Rattle.ants.specs.Inner.Reading.Outcome.{Contents, Stopped}
 use Rattle.ants.specs.Jobs.{files_of, IsJobText}
 use Rattle.ants.specs.Judged.{IsRefusedAs}
-use Rattle.ants.specs.Performing.{EndsBy, IsUnsure, StopsFor}
+use Rattle.ants.specs.Performing.{EndsBy, IsUnsure, StopsFor, WritesInPlay}
 use Rattle.ants.specs.Running.{Ends}
 use Rattle.ants.specs.Stopping.{Reason, reason_of}
 use Rattle.ants.specs.Stopping.Reason.{AtWord, AtFile, AtOutput, AtInput, AtRoom, AtMemory}
@@ -63,6 +67,13 @@ begun_later [] b fetches more contents one two = rw one.0 two
 begun_later (file ∷ a) b [] more contents one two = absurd one
 begun_later (file ∷ a) b (fetch ∷ fetches) more [] one two = absurd one
 begun_later (file ∷ a) b (fetch ∷ fetches) more (content ∷ contents) one two = inr (content, one.0, begun_later a b fetches more contents one.1 two)
+
+-- files that were accepted are begun
+accepted_begun : (files : List File) (fetches : List Fetched) (contents : List Content) → AreAccepted files fetches contents → AreBegun files fetches
+accepted_begun [] fetches contents are = are.0
+accepted_begun (file ∷ files) [] contents are = tt
+accepted_begun (file ∷ files) (fetch ∷ fetches) [] are = absurd are
+accepted_begun (file ∷ files) (fetch ∷ fetches) (content ∷ contents) are = inr (content, are.0, accepted_begun files fetches contents are.1)
 
 -- the files a were begun, and those of b were not fetched
 begun_first : (a b : List File) (fetches : List Fetched) → AreBegun a fetches → AreBegun (a ++ b) fetches
@@ -134,11 +145,17 @@ pub reads_stopped : (first second : ShelfState) (a b : List File) (reason : Reas
 reads_stopped first second a b reason reads =
     record { fetches = reads.fetches; fetched = reads.fetched; comes = reading_stops_first first second a b reads.fetches reason reads.comes }
 
+-- files were read, and then memory was wanting
+pub reads_wanting : (first second : ShelfState) (files : List File) (contents : List Content) → ReadsFiles first second files (Contents contents) → ReadsFiles first second files (Stopped AtMemory)
+reads_wanting first second files contents reads =
+    record { fetches = reads.fetches; fetched = reads.fetched; comes = accepted_begun files reads.fetches contents reads.comes }
+
 -- a file whose bytes are refused is
 pub refused_text : (file : File) (fetch : Fetched) (bytes : List ℕ) (fault : FileFault) → fetch ≡ record { name = file.name; answer = Ok bytes } → Refuses file.kind bytes fault → IsRefused file fetch fault
 refused_text file fetch bytes TooLong got refuses = absurd (never_long file.kind bytes refuses)
 refused_text file fetch bytes (World fault) got refuses = record { bytes = bytes; got = got; refuses = refuses }
 refused_text file fetch bytes (Brain fault) got refuses = record { bytes = bytes; got = got; refuses = refuses }
+refused_text file fetch bytes (Breaks fault) got refuses = record { bytes = bytes; got = got; refuses = refuses }
 
 text_stops : (shelf new_shelf : ShelfState) (file : File) (fetch : Fetched) (bytes : List ℕ) (reason : Reason) → fetch ≡ record { name = file.name; answer = Ok bytes } → TextStops file.kind bytes file.name reason
     → ReadingStops shelf new_shelf (file ∷ []) (fetch ∷ []) reason
@@ -179,7 +196,7 @@ stops_for command shelf new_shelf fetches out (AtFile name) stops = record { sto
 stops_for command shelf new_shelf fetches out AtOutput stops = absurd stops
 stops_for command shelf new_shelf fetches out (AtInput name fault) stops = record { stopped = stops; unwritten = refl }
 stops_for command shelf new_shelf fetches out (AtRoom element) stops = absurd stops
-stops_for command shelf new_shelf fetches out AtMemory stops = record { begun = stops; unwritten = refl }
+stops_for command shelf new_shelf fetches out AtMemory stops = inl (record { begun = stops; unwritten = refl })
 
 -- a command stopped at its files, with nothing written
 pub carries_stopped : (command : PlainCommand) (shelf new_shelf : ShelfState) (out : SinkState) (reason : Reason) → ReadsFiles shelf new_shelf (files_of command) (Stopped reason) → CarriesOut command shelf new_shelf out out (Some reason)
@@ -198,9 +215,15 @@ pub carries_cut : (command : PlainCommand) (shelf new_shelf : ShelfState) (out n
 carries_cut command shelf new_shelf out new_out contents reads text is pushed =
     record { fetches = reads.fetches; fetched = reads.fetched; ends = record { contents = contents; accepted = reads.comes; text = text; is_text = is; cut = pushed } }
 
+-- a command's files were read, and a front of its text was written before memory was wanting
+carries_broken : (command : PlainCommand) (shelf new_shelf : ShelfState) (out new_out : SinkState) (contents : List Content) → ReadsFiles shelf new_shelf (files_of command) (Contents contents)
+    → (text : List ℕ) → IsJobText command contents text → PushedSome out new_out text → WritesInPlay command → CarriesOut command shelf new_shelf out new_out (Some AtMemory)
+carries_broken command shelf new_shelf out new_out contents reads text is pushed in_play =
+    record { fetches = reads.fetches; fetched = reads.fetched; ends = inr (record { contents = contents; accepted = reads.comes; text = text; is_text = is; broken = pushed; in_play = in_play }) }
+
 -- memory was wanting before a file was fetched
 pub carries_nothing : (command : PlainCommand) (shelf : ShelfState) (out : SinkState) → CarriesOut command shelf shelf out out (Some AtMemory)
-carries_nothing command shelf out = record { fetches = []; fetched = fetches_none shelf; ends = record { begun = begun_none (files_of command); unwritten = refl } }
+carries_nothing command shelf out = record { fetches = []; fetched = fetches_none shelf; ends = inl (record { begun = begun_none (files_of command); unwritten = refl }) }
 
 ends_as : (words : List (List ℕ)) (command : PlainCommand) (shelf new_shelf : ShelfState) (fetches : List Fetched) (out new_out : SinkState) (ending : Option Reason) → IsCommand words command
     → EndsBy command shelf new_shelf fetches out new_out ending → Ends words shelf new_shelf fetches out new_out ending
@@ -219,7 +242,7 @@ carries_words words command shelf new_shelf out new_out ending is carried =
     record { fetches = carried.fetches; fetched = carried.fetched; ends = ends_as words command shelf new_shelf carried.fetches out new_out ending is carried.ends }
 
 -- the outcome of a call that answers with a stop
-outcome_stopped : {V : Type 0} (contents_of : V → List Content) (result : Result V Stop) (why : Stop) → IsErrAnd result (λ other. other ≡ why) → Stopped (reason_of why) ≡ outcome_of contents_of result
+pub outcome_stopped : {V : Type 0} (contents_of : V → List Content) (result : Result V Stop) (why : Stop) → IsErrAnd result (λ other. other ≡ why) → Stopped (reason_of why) ≡ outcome_of contents_of result
 outcome_stopped contents_of (Ok value) why same = absurd same
 outcome_stopped contents_of (Err other) why same = ap (λ s. Stopped (reason_of s)) (sym same)
 
@@ -251,9 +274,23 @@ pub carries_failure : {U : Type 0} (command : PlainCommand) (shelf new_shelf : S
 carries_failure command shelf new_shelf out new_out contents result same reads text is pushed =
     subst (CarriesOut command shelf new_shelf out new_out) (ending_stopped result stop.Write same) (carries_cut command shelf new_shelf out new_out contents reads text is pushed)
 
+-- a command that answers with the fault of a play
+pub carries_fault : {U : Type 0} (command : PlainCommand) (shelf new_shelf : ShelfState) (out new_out : SinkState) (contents : List Content) (result : Result U Stop) (fault : PlayFault) → IsErrAnd result (λ other. other ≡ stop_of fault)
+    → ReadsFiles shelf new_shelf (files_of command) (Contents contents) → (text : List ℕ) → IsJobText command contents text → StoppedBy out new_out text fault → WritesInPlay command
+    → CarriesOut command shelf new_shelf out new_out (ending_of result)
+carries_fault command shelf new_shelf out new_out contents result play.WriteFault same reads text is pushed in_play = carries_failure command shelf new_shelf out new_out contents result same reads text is pushed
+carries_fault command shelf new_shelf out new_out contents result play.OutOfMemory same reads text is pushed in_play =
+    subst (CarriesOut command shelf new_shelf out new_out) (ending_stopped result stop.Memory same) (carries_broken command shelf new_shelf out new_out contents reads text is pushed in_play)
+
 -- a command that answers with want of memory before a file was fetched
 pub carries_wanting : {U : Type 0} (command : PlainCommand) (shelf : ShelfState) (out : SinkState) (result : Result U Stop) → IsErrAnd result (λ other. other ≡ stop.Memory) → CarriesOut command shelf shelf out out (ending_of result)
 carries_wanting command shelf out result same = subst (CarriesOut command shelf shelf out out) (ending_stopped result stop.Memory same) (carries_nothing command shelf out)
+
+-- a command that answers with want of memory after its files were read
+pub carries_wanting_later : {U : Type 0} (command : PlainCommand) (shelf new_shelf : ShelfState) (out : SinkState) (contents : List Content) (result : Result U Stop) → IsErrAnd result (λ other. other ≡ stop.Memory)
+    → ReadsFiles shelf new_shelf (files_of command) (Contents contents) → CarriesOut command shelf new_shelf out out (ending_of result)
+carries_wanting_later command shelf new_shelf out contents result same reads =
+    carries_stop command shelf new_shelf out result stop.Memory same (reads_wanting shelf new_shelf (files_of command) contents reads)
 
 -- words that answer with want of memory before a file was fetched
 pub carries_want : {U : Type 0} (words : List (List ℕ)) (command : PlainCommand) (shelf : ShelfState) (out : SinkState) (result : Result U Stop) → IsErrAnd result (λ other. other ≡ stop.Memory) → IsCommand words command

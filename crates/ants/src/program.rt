@@ -1,8 +1,11 @@
 // The whole program, over any shelf and any sinks.
-ghost use Rattle.std.specs.Prelude.{◌≡◌, ◌↔◌, Some};
-ghost use Rattle.command_words.specs.Command.PlainCommand.{RunCommand};
+ghost use Rattle.std.specs.Prelude.{◌≡◌, ◌↔◌, ◌≤◌, Some};
+ghost use Rattle.command_words.specs.Command.PlainCommand.{RunCommand, WorkloadCommand};
 ghost use Rattle.command_words.specs.Laws.{SetupWithin};
 ghost use Rattle.command_words.specs.Words.{plain_setup, texts};
+ghost use Rattle.match_run.specs.Run.{most_rounds};
+ghost use Rattle.round_book.specs.Book.{CanBegin};
+ghost use Rattle.round_book.specs.Led.{IsWindow};
 ghost use Rattle.ants.specs.Inner.Planning.{IsPlanned};
 ghost use Rattle.ants.specs.Inner.Reading.{CarriesOut, CarriesOutWords, ending_of};
 ghost use Rattle.ants.specs.Running.{IsComplete, IsCrowding, IsNoCommand, IsOrderly, NeverUnread, IsRefusing, IsRun, IsRunTo, Reports};
@@ -12,16 +15,21 @@ ghost use Rattle.ants.specs.Stopping.Reason.{AtMemory};
 ghost use Rattle.std.specs.Process.{exit_status};
 
 use crate::brain::brain;
+use crate::cup::{Entry, cup};
 use crate::generating::gen_world;
 use crate::minimise::minimise;
 use crate::run::{Names, dumps_of, run};
 use crate::show::show;
 use crate::status::Status;
 use crate::stop::Stop;
+use crate::view::view;
+use crate::workload::workload;
 use ant_base::{Gate, Layout, Shelf, Sink};
 use ant_turn::Sheet;
 use command_words::{Command, RunOptions, read_words};
-use match_run::Plan;
+use match_run::{OutOfMemory, Plan};
+use round_book::{Counts, Field, Led};
+use round_workers::PieceCrew;
 use std::alloc::Global;
 use std::process::ExitCode;
 use std::thread::Threads;
@@ -40,28 +48,64 @@ fn plan_of<'w>(alloc: Global, options: RunOptions<'_>) -> Result<Plan, Stop<'w>>
     })
 }
 
-// Plays the game that the words ask for.
-fn carry_out_run<'w, S: Shelf, K: Sink>(
+// Plays the game that the words ask for, by as many workers as they say.
+fn carry_out_run<'w, R: Threads + Sync, S: Shelf, K: Sink, G: Gate>(
+    rt: &R,
     alloc: Global,
     names: Names<'w>,
     options: RunOptions<'w>,
     shelf: &mut S,
     out: &mut K,
+    gate: &G,
 ) -> Result<(), Stop<'w>>
-    requires { SetupWithin (plain_setup options) }
+    requires within { SetupWithin (plain_setup options) }
     ensures { CarriesOut (RunCommand names.entry.world.now names.entry.red.now names.entry.black.now (plain_setup options.entry)) (S.state shelf.old) (S.state shelf.new) (K.state out.old) (K.state out.new) (ending_of result) }
 {
     let sheet = Sheet::new(options.surround, options.corpse, options.rest);
+    let mut pieces = PieceCrew::new(rt, options.workers, gate);
     let plan = plan_of(alloc, options)?;
-    run(alloc, names, sheet, &plan, shelf, out)
+    let mut crew = Led::by(
+        |field: &mut Field<'_>, from: u32, to: u32| -> Result<Counts, OutOfMemory>
+            requires { CanBegin field.now from to }
+            ensures { IsWindow result field.entry.now from to field.exit.now }
+        { pieces.window(alloc, field, from, to) },
+    );
+    run(alloc, &mut crew, names, sheet, &plan, shelf, out)
+}
+
+// Plays the workload that the words ask for, by as many workers as they say.
+fn carry_out_workload<'w, R: Threads + Sync, S: Shelf, K: Sink, G: Gate>(
+    rt: &R,
+    alloc: Global,
+    seed: u32,
+    rounds: u32,
+    workers: u32,
+    shelf: &mut S,
+    out: &mut K,
+    gate: &G,
+) -> Result<(), Stop<'w>>
+    requires few_rounds { rounds ≤ most_rounds }
+    requires workers { (1 ≤ workers) × (workers ≤ 16) }
+    ensures { CarriesOut (WorkloadCommand seed rounds workers) (S.state shelf.old) (S.state shelf.new) (K.state out.old) (K.state out.new) (ending_of result) }
+{
+    let mut pieces = PieceCrew::new(rt, workers, gate);
+    let mut crew = Led::by(
+        |field: &mut Field<'_>, from: u32, to: u32| -> Result<Counts, OutOfMemory>
+            requires { CanBegin field.now from to }
+            ensures { IsWindow result field.entry.now from to field.exit.now }
+        { pieces.window(alloc, field, from, to) },
+    );
+    workload(alloc, &mut crew, seed, rounds, shelf, out)
 }
 
 // Carries out the command that the words are.
-fn carry_out<'w, S: Shelf, K: Sink>(
+fn carry_out<'w, R: Threads + Sync, S: Shelf, K: Sink, G: Gate>(
+    rt: &R,
     alloc: Global,
     words: &'w [String],
     shelf: &mut S,
     out: &mut K,
+    gate: &G,
 ) -> Result<(), Stop<'w>>
     ensures { CarriesOutWords (texts words.now) (S.state shelf.old) (S.state shelf.new) (K.state out.old) (K.state out.new) (ending_of result) }
 {
@@ -77,12 +121,62 @@ fn carry_out<'w, S: Shelf, K: Sink>(
                 black,
                 options,
             },
-        ) => carry_out_run(alloc, Names { world, red, black }, options, shelf, out),
+        ) => carry_out_run(
+            rt,
+            alloc,
+            Names { world, red, black },
+            options,
+            shelf,
+            out,
+            gate,
+        ),
         Ok(Command::Gen { seed, shape }) => gen_world(alloc, seed, shape, shelf, out),
-        // The table of commands knows no others, so no words are one of them.
-        Ok(Command::Cup { .. } | Command::View { .. } | Command::Workload { .. }) => {
-            Err(Stop::Memory)
-        }
+        Ok(
+            Command::Cup {
+                worlds,
+                brains,
+                seed,
+                rounds,
+                workers,
+            },
+        ) => cup(
+            rt,
+            alloc,
+            Entry {
+                worlds,
+                brains,
+                seed,
+                rounds,
+                workers,
+            },
+            shelf,
+            out,
+        ),
+        Ok(
+            Command::View {
+                world,
+                red,
+                black,
+                breaks,
+                seed,
+                rounds,
+            },
+        ) => view(
+            alloc,
+            Names { world, red, black },
+            breaks,
+            seed,
+            rounds,
+            shelf,
+            out,
+        ),
+        Ok(
+            Command::Workload {
+                seed,
+                rounds,
+                workers,
+            },
+        ) => carry_out_workload(rt, alloc, seed, rounds, workers, shelf, out, gate),
     }
 }
 
@@ -97,20 +191,21 @@ fn carry_out<'w, S: Shelf, K: Sink>(
 /// - `Write`: all files were fetched and accepted, the output failed, and got a front of the text.
 /// - `Input`: the last file that was fetched is too long or not in its grammar, and each before it was accepted; or an element of the world
 ///   to be generated has no room; the output got nothing.
-/// - `Memory`: memory could not be had; no fetch failed or was too long, each file but perhaps the last was accepted, and the output got
-///   nothing.
+/// - `Memory`: memory could not be had; no fetch failed or was too long. Either each file but perhaps the last was accepted, and the output
+///   got nothing; or all files of a `run`, which writes while it plays, were accepted, and the output got a front of the text.
 ///
 /// At each but `Done` the errors got one line, which names the word (from 1) or the file and the place in it; or a front of that line,
 /// where they failed. The shelf keeps its contents and all of which it is sure, its log grows by the fetches, and its count of faults rises
-/// only where it isn't sure of each name that was fetched. The runtime and the gate serve looks made at the same time; no command uses them.
+/// only where it isn't sure of each name that was fetched. The runtime serves the workers of a game and of a cup; a game's workers call the
+/// gate before each look.
 pub fn run_ants<R: Threads + Sync, S: Shelf, K: Sink, E: Sink, G: Gate>(
-    _rt: &R,
+    rt: &R,
     alloc: Global,
     words: &[String],
     shelf: &mut S,
     out: &mut K,
     err: &mut E,
-    _gate: &G,
+    gate: &G,
 ) -> Status
     ensures run { IsRun (texts words.now) (S.state shelf.old) (S.state shelf.new) (K.state out.old) (K.state out.new) (E.state err.old) (E.state err.new) result }
     ensures words { (result ≡ Status.Words) ↔ IsNoCommand (texts words.now) }
@@ -120,7 +215,7 @@ pub fn run_ants<R: Threads + Sync, S: Shelf, K: Sink, E: Sink, G: Gate>(
     ensures refusing { IsRefusing (texts words.now) (S.state shelf.old) (S.state shelf.new) result }
     ensures read { NeverUnread (texts words.now) (S.state shelf.old) result }
 {
-    match carry_out(alloc, words, shelf, out) {
+    match carry_out(rt, alloc, words, shelf, out, gate) {
         Ok(()) => Status::Done,
         Err(stop) => report(&stop, err),
     }

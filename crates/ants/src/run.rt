@@ -1,25 +1,26 @@
 // The command `run`.
-ghost use Rattle.std.specs.Prelude.{◌≡◌, ◌≤◌, IfOk};
-ghost use Rattle.ant_base.specs.Sink.{Pushed};
+ghost use Rattle.std.specs.Prelude.{◌≡◌, IfOk};
 ghost use Rattle.ant_turn.specs.Minds.{Fits};
 ghost use Rattle.ant_turn.specs.Sheet.{sheet_of};
 ghost use Rattle.cell_world.specs.Grid.{world_of};
 ghost use Rattle.command_words.specs.Command.PlainCommand.{RunCommand};
 ghost use Rattle.command_words.specs.Command.{RunSetup};
 ghost use Rattle.command_words.specs.Words.{plain_dumps};
-ghost use Rattle.match_run.specs.Run.{run_text};
-ghost use Rattle.ants.specs.Inner.Planning.{IsSheetOf, Plans, setting_contents};
+ghost use Rattle.match_run.specs.Counts.{whole_text};
+ghost use Rattle.match_run.specs.Play.{PushedBy};
+ghost use Rattle.ants.specs.Inner.Planning.{CanPlay, IsSheetOf, Plans, setting_contents};
 ghost use Rattle.ants.specs.Inner.Reading.{CarriesOut, ReadsFiles, ending_of, outcome_of};
 ghost use Rattle.ants.specs.Jobs.{chosen_rounds, game_files};
 
 use crate::fetching::read_file;
 use crate::stop::Stop;
-use ant_base::{Failed, Shelf, Sink};
+use ant_base::{Shelf, Sink};
 use ant_turn::{Brains, Sheet};
 use brain_read::Brain;
 use cell_world::World;
 use command_words::{DumpWord, Numbers};
-use match_run::{Dumps, OutOfMemory, Plan, Rounds, play_alone};
+use match_run::{Dumps, OutOfMemory, Plan, PlayFault, Rounds, play};
+use round_book::Crew;
 use std::alloc::Global;
 
 // The names of the files of a game.
@@ -32,10 +33,10 @@ pub struct Names<'w> {
 
 // What the files of a game were read as.
 #[derive(Drop)]
-struct Setting {
-    world: World,
-    red: Brain,
-    black: Brain,
+pub struct Setting {
+    pub world: World,
+    pub red: Brain,
+    pub black: Brain,
 }
 
 // The rounds of a list.
@@ -61,7 +62,7 @@ pub fn dumps_of(alloc: Global, word: DumpWord<'_>) -> Result<Dumps, OutOfMemory>
 }
 
 // The files of a game, in the order in which its words name them.
-fn setting_of<'w, S: Shelf>(
+pub fn setting_of<'w, S: Shelf>(
     alloc: Global,
     names: Names<'w>,
     shelf: &mut S,
@@ -74,12 +75,20 @@ fn setting_of<'w, S: Shelf>(
     Ok(Setting { world, red, black })
 }
 
-// Plays a game, and pushes its text.
-fn play<K: Sink>(setting: Setting, sheet: Sheet, plan: &Plan, out: &mut K) -> Result<(), Failed>
+// Plays a game by a crew, and pushes its text.
+fn play_setting<C: Crew, K: Sink>(
+    alloc: Global,
+    crew: &mut C,
+    setting: Setting,
+    sheet: Sheet,
+    plan: &Plan,
+    out: &mut K,
+) -> Result<(), PlayFault>
+    requires ready { C.ready crew.old }
     requires fit { Fits (world_of setting.world) (record { red = setting.red; black = setting.black; sheet = sheet_of sheet }) }
-    requires few_rounds { plan.now.rounds ≤ 1000000 }
-    ensures { Pushed (K.state out.old) (K.state out.new)
-        (run_text (record { red = setting.red; black = setting.black; sheet = sheet_of sheet }) plan.now.seed plan.now.rounds plan.now.dumps (world_of setting.world)) result }
+    requires planned { CanPlay plan.now }
+    ensures { PushedBy (K.state out.old) (K.state out.new)
+        (whole_text (record { red = setting.red; black = setting.black; sheet = sheet_of sheet }) plan.now.seed plan.now.rounds plan.now.dumps plan.now.window plan.now.stats (world_of setting.world)) result }
 {
     let Setting { world, red, black } = setting;
     let brains = Brains {
@@ -87,25 +96,27 @@ fn play<K: Sink>(setting: Setting, sheet: Sheet, plan: &Plan, out: &mut K) -> Re
         black: &black,
         sheet,
     };
-    match play_alone(world, brains, plan, out) {
+    match play(alloc, crew, world, brains, plan, out) {
         Ok(_) => Ok(()),
-        Err(Failed) => Err(Failed),
+        Err(fault) => Err(fault),
     }
 }
 
-/// Plays a game of at most 1,000,000 rounds, and writes its text.
-pub fn run<'w, S: Shelf, K: Sink>(
+/// Plays a game of at most 1,000,000 rounds by a crew, in windows of at least one turn, and writes its text.
+pub fn run<'w, C: Crew, S: Shelf, K: Sink>(
     alloc: Global,
+    crew: &mut C,
     names: Names<'w>,
     sheet: Sheet,
     plan: &Plan,
     shelf: &mut S,
     out: &mut K,
 ) -> Result<(), Stop<'w>>
-    requires { plan.now.rounds ≤ 1000000 }
+    requires ready { C.ready crew.old }
+    requires planned { CanPlay plan.now }
     ensures { (setup : RunSetup) → Plans setup plan.now → IsSheetOf setup sheet → CarriesOut (RunCommand names.entry.world.now names.entry.red.now names.entry.black.now setup) (S.state shelf.old) (S.state shelf.new) (K.state out.old) (K.state out.new) (ending_of result) }
 {
     let setting = setting_of(alloc, names, shelf)?;
-    play(setting, sheet, plan, out)?;
+    play_setting(alloc, crew, setting, sheet, plan, out)?;
     Ok(())
 }

@@ -1,14 +1,21 @@
 // What no clause says: that commands succeed, and the exact bytes that they write. Each file has tables of cases, and a loop for each.
 mod brains;
+mod counts;
+mod cups;
+mod games;
 mod generated;
 mod outside;
 mod runs;
+mod settling;
 mod shown;
+mod viewed;
 mod words;
+mod workers;
+mod workloads;
 
 use crate::program::run_ants;
 use crate::status::Status;
-use ant_base::{Calls, Files, MemShelf, MemSink, NoGate};
+use ant_base::{Calls, Files, Gate, MemShelf, MemSink, NoGate};
 use std::alloc::Global;
 use std::process::Abort;
 use std::test::Fail;
@@ -24,14 +31,16 @@ const CLOSED: &str = "3\n3\n# # #\n # + #\n# # #\n";
 const CLOSING: &str =
     "7\n6\n# # # # # # #\n # . . . . . #\n# . . - # . #\n # - . + - # #\n# + . - - # #\n # # # # # # #\n";
 
-// A command over a world in the files w and -, a red brain in r and a black one in b; the fetch and the push to out that fail, if there
-// are calls of these numbers; and the room of out and of err, in bytes.
+// A command over a world in the files w and -, a red brain in r, a black one in b, breaks in k, and more files by name; the fetch and the
+// push to out that fail, if there are calls of these numbers; and the room of out and of err, in bytes.
 #[derive(Clone, Copy, Debug)]
 struct Job<'t> {
     line: &'t str,
     world: &'t str,
     red: &'t str,
     black: &'t str,
+    breaks: &'t str,
+    more: &'t [(&'t str, &'t str)],
     failing_fetch: u64,
     failing_push: u64,
     room: u64,
@@ -44,6 +53,8 @@ const NO_JOB: Job<'static> = Job {
     world: "",
     red: "",
     black: "",
+    breaks: "",
+    more: &[],
     failing_fetch: 0,
     failing_push: 0,
     room: ROOM,
@@ -85,17 +96,32 @@ fn files_of(alloc: Global, job: &Job<'_>) -> Result<Files, Fail> {
     let world = with_file(Files::new(alloc), "w", job.world)?;
     let both = with_file(world, "-", job.world)?;
     let red = with_file(both, "r", job.red)?;
-    with_file(red, "b", job.black)
+    let black = with_file(red, "b", job.black)?;
+    let mut files = with_file(black, "k", job.breaks)?;
+    for (name, text) in job.more {
+        files.add(name, text.as_bytes())?;
+    }
+    Ok(files)
 }
 
 // Carries out a command.
 fn answer<R: Threads + Sync>(rt: &R, alloc: Global, job: &Job<'_>) -> Result<Outcome, Fail> {
+    answer_by(rt, alloc, job, &NoGate)
+}
+
+// Carries out a command, whose workers call this gate.
+fn answer_by<R: Threads + Sync, G: Gate>(
+    rt: &R,
+    alloc: Global,
+    job: &Job<'_>,
+    gate: &G,
+) -> Result<Outcome, Fail> {
     let words = split(alloc, job.line)?;
     let files = files_of(alloc, job)?;
     let mut shelf = MemShelf::new(files, only(alloc, job.failing_fetch)?);
     let mut out = MemSink::with_room(alloc, job.room, only(alloc, job.failing_push)?)?;
     let mut err = MemSink::with_room(alloc, job.err_room, Calls::new(alloc))?;
-    let status = run_ants(rt, alloc, &words, &mut shelf, &mut out, &mut err, &NoGate);
+    let status = run_ants(rt, alloc, &words, &mut shelf, &mut out, &mut err, gate);
     Ok(Outcome { status, out, err })
 }
 
@@ -123,6 +149,7 @@ enum Given {
     Line,
     World,
     Black,
+    Breaks,
 }
 
 impl<'t> Job<'t> {
@@ -136,6 +163,10 @@ impl<'t> Job<'t> {
             },
             Given::Black => Job {
                 black: text,
+                ..self
+            },
+            Given::Breaks => Job {
+                breaks: text,
                 ..self
             },
         }

@@ -4,7 +4,7 @@ use Rattle.std.specs.Prelude.{◌==◌, nat_lt}
 use Rattle.std.specs.List.{AllByRecursion}
 use Rattle.std.proofs.lemmas.Bool.{and_from, and_parts, eq-eqb, eqb-true, lt-ltb, ltb-true}
 use Rattle.brain_read.specs.declared.instr.Instr.{Instr}
-use Rattle.brain_read.specs.BrainText.{states_of}
+use Rattle.brain_read.specs.Grammar.{states_of}
 use Rattle.brain_read.specs.Soundness.{IsBrain}
 use Rattle.ant_turn.specs.Renumber.{redirected}
 use Rattle.ant_turn.specs.Turn.{instruction_at}

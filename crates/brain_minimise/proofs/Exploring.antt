@@ -6,7 +6,7 @@ use Rattle.std.proofs.lemmas.List.{get_or-replicate, get_or-set_same, get_or-set
 use Rattle.std.proofs.lemmas.List.Elements.{Contains-append_left, Contains-push, Contains-push_cases}
 use Rattle.brain_read.specs.declared.instr.Instr.{Instr}
 use Rattle.brain_read.specs.declared.instr.Instr.TheVariants.{Sense, Mark, Unmark, PickUp, Drop, Turn, Move, Flip}
-use Rattle.brain_read.specs.BrainText.{states_of}
+use Rattle.brain_read.specs.Grammar.{states_of}
 use Rattle.brain_read.specs.Soundness.{IsSound}
 use Rattle.ant_turn.specs.Turn.{instruction_at}
 use Rattle.brain_minimise.specs.Reach.{IsReachable}

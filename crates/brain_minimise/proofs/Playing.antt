@@ -17,7 +17,7 @@ use Rattle.cell_world.specs.World.{World, with_cells}
 use Rattle.cell_world.proofs.OpeningLaws.{opening-new}
 use Rattle.brain_read.specs.declared.instr.Instr.{Instr}
 use Rattle.brain_read.specs.declared.instr.Instr.TheVariants.{Drop}
-use Rattle.brain_read.specs.BrainText.{states_of}
+use Rattle.brain_read.specs.Grammar.{states_of}
 use Rattle.ant_turn.specs.Minds.{Minds, mind_of}
 use Rattle.ant_turn.specs.Renumber.{AreNumbered, Carries, Numbers, number_of, redirected, renumbered, renumbered_ant, renumbered_moment, side_states, with_mind}
 use Rattle.ant_turn.specs.Rounds.{Moment, after_rounds, start_of}

@@ -5,7 +5,7 @@ use Rattle.std.specs.List.{AllByRecursion, Contains}
 use Rattle.std.proofs.lemmas.Option.{slice_get-get_or}
 use Rattle.brain_read.specs.declared.instr.Instr.{Instr}
 use Rattle.brain_read.specs.declared.instr.Instr.TheVariants.{Sense, Mark, Unmark, PickUp, Drop, Turn, Move, Flip}
-use Rattle.brain_read.specs.BrainText.{states_of}
+use Rattle.brain_read.specs.Grammar.{states_of}
 use Rattle.brain_read.specs.Soundness.{IsBrain, IsSound}
 use Rattle.ant_turn.specs.Renumber.{redirected}
 use Rattle.ant_turn.specs.Turn.{instruction_at}

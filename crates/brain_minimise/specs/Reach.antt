@@ -2,7 +2,7 @@
 use Rattle.std.specs.Prelude.{ℕ, List}
 use Rattle.std.specs.List.{Contains}
 use Rattle.brain_read.specs.declared.instr.Instr.{Instr}
-use Rattle.brain_read.specs.BrainText.{states_of}
+use Rattle.brain_read.specs.Grammar.{states_of}
 use Rattle.ant_turn.specs.Turn.{instruction_at}
 
 -- state 0 can be reached, and from a state that can be each state that its instruction names

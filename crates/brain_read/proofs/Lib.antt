@@ -1,9 +1,12 @@
-pub mod Cursor
-pub mod Examples
-pub mod Faulted
-pub mod Progress
-pub mod Rewritten
-pub mod Sound
-pub mod Spelled
-pub mod Vocabulary
-pub mod Whole
+pub mod CanonicalLemmas
+pub mod FaultyLemmas
+mod FirstFaults
+pub mod FormsLemmas
+pub mod JudgingLemmas
+pub mod PlacesLemmas
+pub mod SoundnessLemmas
+pub mod TokensLemmas
+pub mod Unwanting
+pub mod VerdictLemmas
+pub mod Worked
+pub mod WorkedTexts

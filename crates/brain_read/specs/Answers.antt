@@ -1,33 +1,21 @@
--- What the private calls that read a text answer. A stepping stone of the reader: no clause of a public call rests on it (this project's own).
-use Rattle.std.specs.Prelude.{◌≡◌, ℕ, List, length, Result, Ok, Err}
-use Rattle.brain_read.specs.declared.draft.Draft.{Draft}
+-- What a reading of a text may answer (this project's own).
+use Rattle.std.specs.Prelude.{◌≡◌, ◌⊎◌, ℕ, List, Result, Ok, Err}
 use Rattle.brain_read.specs.declared.fault.BrainFault.{BrainFault}
 use Rattle.brain_read.specs.declared.fault.BrainFault.TheVariants.{OutOfMemory}
 use Rattle.brain_read.specs.declared.instr.Instr.{Instr}
-use Rattle.brain_read.specs.declared.read.DraftLine.{DraftLine}
-use Rattle.brain_read.specs.Draft.{drafted}
-use Rattle.brain_read.specs.BrainText.{token_lines}
-use Rattle.brain_read.specs.Verdict.{Placed, Judged, with_front, read_lines}
+use Rattle.brain_read.specs.Faulty.{IsBrainFault}
 
--- the instruction of a draft, beside its line
-abbrev pub placed_of : DraftLine → Placed
-placed_of d = record { line = d.line; instruction = drafted d.draft }
+-- a fault that is answered is the text's; want of memory says nothing of the text
+abbrev pub IsFaultOf : List ℕ → BrainFault → Type 0
+IsFaultOf text OutOfMemory = Unit {0}
+IsFaultOf text fault = IsBrainFault text fault
 
--- a fault that is answered is the one that was judged; want of memory says nothing
-abbrev pub FailsAs : {A : Type 0} → BrainFault → Judged A → Type 0
-FailsAs OutOfMemory judged = Unit {0}
-FailsAs fault judged = judged ≡ Err fault
+-- the answer is this brain, or want of memory
+abbrev pub AnswersBrain : Result (List Instr) BrainFault → List Instr → Type 0
+AnswersBrain (Ok answered) brain = answered ≡ brain
+AnswersBrain (Err fault) brain = fault ≡ OutOfMemory
 
--- an answer, seen by view, is what was judged
-abbrev pub Gives : {X A : Type 0} → (X → A) → Result X BrainFault → Judged A → Type 0
-Gives view (Ok x) judged = judged ≡ Ok (view x)
-Gives view (Err fault) judged = FailsAs fault judged
-
--- what a reader of a line answered
-abbrev pub as_judged : Result Draft BrainFault → Judged Instr
-as_judged (Ok draft) = Ok (drafted draft)
-as_judged (Err fault) = Err fault
-
--- what is read of these lines, the first of which has this number, behind what was read before
-unfoldable pub reading_from : List Placed → ℕ → List (List ℕ) → Judged (List Placed)
-reading_from front number lines = with_front front (read_lines (length front) (token_lines number lines))
+-- the answer is this fault, or want of memory
+abbrev pub AnswersFault : Result (List Instr) BrainFault → BrainFault → Type 0
+AnswersFault (Ok answered) fault = ⊥
+AnswersFault (Err answered) fault = (answered ≡ fault) ⊎ (answered ≡ OutOfMemory)

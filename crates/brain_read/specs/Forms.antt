@@ -65,7 +65,8 @@ sides = Left ∷ Right ∷ []
 
 -- the words that begin a condition, in the order of their table
 abbrev pub conditions : List ConditionWord
-conditions = ConditionWord.Friend ∷ ConditionWord.Foe ∷ ConditionWord.FriendWithFood ∷ ConditionWord.FoeWithFood ∷ ConditionWord.Food ∷ ConditionWord.Rock ∷ ConditionWord.Marker ∷ ConditionWord.FoeMarker ∷ ConditionWord.Home ∷ ConditionWord.FoeHome ∷ []
+conditions = ConditionWord.Friend ∷ ConditionWord.Foe ∷ ConditionWord.FriendWithFood ∷ ConditionWord.FoeWithFood ∷ ConditionWord.Food
+    ∷ ConditionWord.Rock ∷ ConditionWord.Marker ∷ ConditionWord.FoeMarker ∷ ConditionWord.Home ∷ ConditionWord.FoeHome ∷ []
 
 -- the table of the words of forms
 unfoldable pub form_words : List (List ℕ)

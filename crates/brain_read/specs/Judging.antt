@@ -64,4 +64,5 @@ first_fault line [] [] = None
 first_fault line [] (position ∷ positions) = Some (MissingToken line)
 first_fault line (token ∷ tokens) [] = Some (if has_bad_byte token then BadByte line else ExtraToken line)
 first_fault line (token ∷ tokens) (position ∷ positions) =
-    if has_bad_byte token then Some (BadByte line) else judged (accepted position token) (fault_of position line) (λ brings. first_fault line tokens (brings ++ positions))
+    if has_bad_byte token then Some (BadByte line)
+    else judged (accepted position token) (fault_of position line) (λ brings. first_fault line tokens (brings ++ positions))

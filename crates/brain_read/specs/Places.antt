@@ -5,12 +5,7 @@ use Rattle.hex_geometry.specs.declared.direction.Side.{Side}
 use Rattle.hex_geometry.specs.declared.direction.Side.TheVariants.{Left, Right}
 use Rattle.hex_geometry.specs.declared.neighbourhood.Sight.{Sight}
 use Rattle.hex_geometry.specs.declared.neighbourhood.Sight.TheVariants.{Here, Ahead, LeftAhead, RightAhead}
-use Rattle.brain_read.specs.declared.form.Form.{Form}
 use Rattle.brain_read.specs.declared.form.ConditionWord.{ConditionWord}
-
--- the form of the word at a place of its table
-abbrev pub form_at : ℕ → Form
-form_at i = if i == 0 then Form.Sense else (if i == 1 then Form.Mark else (if i == 2 then Form.Unmark else (if i == 3 then Form.PickUp else (if i == 4 then Form.Drop else (if i == 5 then Form.Turn else (if i == 6 then Form.Move else Form.Flip))))))
 
 -- the sight of the word at a place of its table
 abbrev pub sight_at : ℕ → Sight
@@ -22,40 +17,8 @@ side_at i = if i == 0 then Left else Right
 
 -- what the word of a condition at a place of its table names
 abbrev pub condition_word_at : ℕ → ConditionWord
-condition_word_at i = if i == 0 then ConditionWord.Friend else (if i == 1 then ConditionWord.Foe else (if i == 2 then ConditionWord.FriendWithFood else (if i == 3 then ConditionWord.FoeWithFood else (if i == 4 then ConditionWord.Food else (if i == 5 then ConditionWord.Rock else (if i == 6 then ConditionWord.Marker else (if i == 7 then ConditionWord.FoeMarker else (if i == 8 then ConditionWord.Home else ConditionWord.FoeHome))))))))
-
--- the place of a form's word in its table
-abbrev pub place_of_form : Form → ℕ
-place_of_form Form.Sense = 0
-place_of_form Form.Mark = 1
-place_of_form Form.Unmark = 2
-place_of_form Form.PickUp = 3
-place_of_form Form.Drop = 4
-place_of_form Form.Turn = 5
-place_of_form Form.Move = 6
-place_of_form Form.Flip = 7
-
--- the place of a sight's word in its table
-abbrev pub place_of_sight : Sight → ℕ
-place_of_sight Here = 0
-place_of_sight Ahead = 1
-place_of_sight LeftAhead = 2
-place_of_sight RightAhead = 3
-
--- the place of a side's word in its table
-abbrev pub place_of_side : Side → ℕ
-place_of_side Left = 0
-place_of_side Right = 1
-
--- the place of the word of a condition in its table
-abbrev pub place_of_condition : ConditionWord → ℕ
-place_of_condition ConditionWord.Friend = 0
-place_of_condition ConditionWord.Foe = 1
-place_of_condition ConditionWord.FriendWithFood = 2
-place_of_condition ConditionWord.FoeWithFood = 3
-place_of_condition ConditionWord.Food = 4
-place_of_condition ConditionWord.Rock = 5
-place_of_condition ConditionWord.Marker = 6
-place_of_condition ConditionWord.FoeMarker = 7
-place_of_condition ConditionWord.Home = 8
-place_of_condition ConditionWord.FoeHome = 9
+condition_word_at i = if i == 0 then ConditionWord.Friend else (if i == 1 then ConditionWord.Foe
+    else (if i == 2 then ConditionWord.FriendWithFood else (if i == 3 then ConditionWord.FoeWithFood
+    else (if i == 4 then ConditionWord.Food else (if i == 5 then ConditionWord.Rock
+    else (if i == 6 then ConditionWord.Marker else (if i == 7 then ConditionWord.FoeMarker
+    else (if i == 8 then ConditionWord.Home else ConditionWord.FoeHome))))))))

@@ -1,16 +1,17 @@
 -- One token after another: what is read of the tokens of a line, or why the first position at fault refuses. The clauses of `Tokens` and
 -- `positions` rest on it; those of `read_brain` don't (this project's own).
-use Rattle.std.specs.Prelude.{ℕ, false, List, [], ◌∷◌, Option, Some, None, Result, Ok, Err}
+use Rattle.std.specs.Prelude.{ℕ, ◌+◌, false, List, [], ◌∷◌, length, Option, Some, None, Result, Ok, Err}
 use Rattle.hex_geometry.specs.declared.direction.Side.{Side}
 use Rattle.hex_geometry.specs.declared.neighbourhood.Sight.{Sight}
 use Rattle.ant_base.specs.Number.{number_within}
-use Rattle.word_table.specs.Words.{place_in}
+use Rattle.word_table.specs.Words.{word_place}
 use Rattle.brain_read.specs.declared.fault.LineFault.{LineFault}
 use Rattle.brain_read.specs.declared.fault.LineFault.TheVariants.{UnknownWord, MissingToken, BadNumber, ExtraToken}
 use Rattle.brain_read.specs.declared.fault.Refusal.{Refusal}
 use Rattle.brain_read.specs.declared.form.ConditionWord.{ConditionWord}
 use Rattle.brain_read.specs.declared.instr.Cond.{Cond}
 use Rattle.brain_read.specs.declared.instr.Cond.TheVariants.{Friend, Foe, FriendWithFood, FoeWithFood, Food, Rock, Marker, FoeMarker, Home, FoeHome}
+use Rattle.brain_read.specs.Judging.{positions_of_condition}
 use Rattle.brain_read.specs.Tokens.{has_bad_byte}
 use Rattle.brain_read.specs.Forms.{sight_words, side_words, condition_words, most_bound}
 use Rattle.brain_read.specs.Places.{sight_at, side_at, condition_word_at}
@@ -49,7 +50,7 @@ or_refused None rest token fault = Err (refused token fault)
 -- a word of a table, as its place there
 abbrev pub take_word : List (List ℕ) → List (List ℕ) → Step ℕ
 take_word words [] = Err missing
-take_word words (token ∷ rest) = or_refused (place_in words token) rest token UnknownWord
+take_word words (token ∷ rest) = or_refused (word_place words token) rest token UnknownWord
 
 -- a number from the least to the greatest that are accepted
 abbrev pub take_number : ℕ → ℕ → List (List ℕ) → Step ℕ
@@ -105,3 +106,12 @@ unfoldable pub take_condition : List (List ℕ) → Step Cond
 take_condition tokens = do
   word ← take_word condition_words tokens
   condition_from (condition_word_at word.0) word.1
+
+-- how many tokens a condition takes: its first, and those that its word brings
+abbrev pub taken_with : Step ℕ → ℕ
+taken_with (Ok word) = 1 + length (positions_of_condition (condition_word_at word.0))
+taken_with (Err refusal) = 1
+
+-- how many tokens the condition takes with which these begin: two where the first is the word Marker, and else one
+abbrev pub condition_tokens : List (List ℕ) → ℕ
+condition_tokens tokens = taken_with (take_word condition_words tokens)

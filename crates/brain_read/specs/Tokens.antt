@@ -33,12 +33,3 @@ is_bad_byte byte = not ((byte == 9) || (byte == 10) || (byte == 13) || (nat_le 3
 -- whether a token has a bad byte
 abbrev pub has_bad_byte : List ℕ → Bool
 has_bad_byte token = list_any is_bad_byte token
-
--- whether a byte of a line belongs to a token: it is no separator and begins no comment
-abbrev pub is_token_byte : ℕ → Bool
-is_token_byte byte = not (is_separator byte || begins_comment byte)
-
--- whether a token stands at the front of a line
-abbrev pub begins_token : List ℕ → Bool
-begins_token [] = false
-begins_token (byte ∷ line) = is_token_byte byte

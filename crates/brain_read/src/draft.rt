@@ -4,7 +4,7 @@ ghost use Rattle.std.specs.Prelude.{◌≡◌, ◌≤◌, nat_lt, if◌then◌el
 use crate::instr::{Cond, Instr};
 use hex_geometry::{Side, Sight};
 
-/// An instruction as it was read, before its states are held against the number of instructions (this project's own).
+/// An instruction as it was read, before its states are held against the number of instructions.
 #[derive(Clone, Copy)]
 pub enum Draft {
     Sense {
@@ -44,8 +44,8 @@ pub enum Draft {
 }
 
 impl Draft {
-    ghost use Rattle.brain_read.specs.Draft.{drafted};
-    ghost use Rattle.brain_read.specs.Verdict.{settled};
+    ghost use Rattle.brain_read.specs.Inner.Draft.{drafted};
+    ghost use Rattle.brain_read.specs.Inner.Verdict.{settled};
 
     /// The instruction of a brain of so many states, at most 65,536; or the first of its states that isn't below their number.
     pub fn settled(self, states: u64) -> Result<Instr, u64>

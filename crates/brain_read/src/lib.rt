@@ -5,6 +5,8 @@
 //! fault, and that [`write_brain`] pushes the one canonical text, which is read as that brain again. What other texts of lines and
 //! tokens share stands public here: [`Tokens`], the [`positions`] and the tables of words. It stands on the sinks, lines and numbers of
 //! `ant_base`, the tables of `word_table` and the sides and sights of `hex_geometry`.
+//!
+//! What names no section of the contest's task is this project's own.
 #![tactic(auto)]
 
 mod brain;
@@ -16,7 +18,6 @@ mod laws;
 mod line;
 pub mod positions;
 mod read;
-mod steps;
 mod tokens;
 mod write;
 
@@ -25,7 +26,9 @@ pub use fault::{BrainFault, LineFault, Refusal};
 pub use form::{ConditionWord, Form, condition_table, form_table, side_table, sight_table};
 pub use hex_geometry::{OutOfMemory, Side, Sight};
 pub use instr::{Cond, Instr};
-pub use laws::{canonical_text_is_read, one_brain_or_one_fault};
+pub use laws::{
+    canonical_text_is_read, no_text_wants_memory, one_brain_or_one_fault, texts_make_brains,
+};
 pub use read::read_brain;
 pub use tokens::Tokens;
 pub use write::write_brain;

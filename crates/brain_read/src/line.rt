@@ -1,8 +1,8 @@
 // One instruction from the tokens of a line.
 ghost use Rattle.std.specs.Prelude.{◌≡◌};
-ghost use Rattle.brain_read.specs.Places as places;
-ghost use Rattle.brain_read.specs.Reading as reading;
-ghost use Rattle.brain_read.specs.Draft.{as_read};
+ghost use Rattle.brain_read.specs.Inner.Places as places;
+ghost use Rattle.brain_read.specs.Inner.Reading as reading;
+ghost use Rattle.brain_read.specs.Inner.Draft.{as_read};
 ghost use Rattle.brain_read.specs.declared.instr.Instr.TheVariants.{Mark, Unmark, PickUp, Move};
 
 use crate::draft::Draft;
@@ -13,7 +13,7 @@ use crate::tokens::Tokens;
 use word_table::word_arms;
 
 /// The instruction of a line.
-#[tactic(auto, unfolding(crate::specs::Reading::read_line))]
+#[tactic(auto, unfolding(crate::specs::Inner::Reading::read_line))]
 pub fn instruction(tokens: &mut Tokens) -> Result<Draft, Refusal>
     ensures { reading.read_line tokens.old ≡ as_read result }
 {
@@ -40,7 +40,7 @@ fn form_at(place: usize) -> Form
     )
 }
 
-#[tactic(auto, unfolding(crate::specs::Reading::read_sense))]
+#[tactic(auto, unfolding(crate::specs::Inner::Reading::read_sense))]
 fn sense(tokens: &mut Tokens) -> Result<Draft, Refusal>
     ensures { reading.read_sense tokens.old ≡ as_read result }
 {
@@ -57,7 +57,7 @@ fn sense(tokens: &mut Tokens) -> Result<Draft, Refusal>
     })
 }
 
-#[tactic(auto, unfolding(crate::specs::Reading::read_marked))]
+#[tactic(auto, unfolding(crate::specs::Inner::Reading::read_marked))]
 fn mark(tokens: &mut Tokens) -> Result<Draft, Refusal>
     ensures { reading.read_marked Mark tokens.old ≡ as_read result }
 {
@@ -67,7 +67,7 @@ fn mark(tokens: &mut Tokens) -> Result<Draft, Refusal>
     Ok(Draft::Mark { mark, next })
 }
 
-#[tactic(auto, unfolding(crate::specs::Reading::read_marked))]
+#[tactic(auto, unfolding(crate::specs::Inner::Reading::read_marked))]
 fn unmark(tokens: &mut Tokens) -> Result<Draft, Refusal>
     ensures { reading.read_marked Unmark tokens.old ≡ as_read result }
 {
@@ -77,7 +77,7 @@ fn unmark(tokens: &mut Tokens) -> Result<Draft, Refusal>
     Ok(Draft::Unmark { mark, next })
 }
 
-#[tactic(auto, unfolding(crate::specs::Reading::read_branches))]
+#[tactic(auto, unfolding(crate::specs::Inner::Reading::read_branches))]
 fn pick_up(tokens: &mut Tokens) -> Result<Draft, Refusal>
     ensures { reading.read_branches PickUp tokens.old ≡ as_read result }
 {
@@ -87,7 +87,7 @@ fn pick_up(tokens: &mut Tokens) -> Result<Draft, Refusal>
     Ok(Draft::PickUp { yes, no })
 }
 
-#[tactic(auto, unfolding(crate::specs::Reading::read_drop))]
+#[tactic(auto, unfolding(crate::specs::Inner::Reading::read_drop))]
 fn drop_food(tokens: &mut Tokens) -> Result<Draft, Refusal>
     ensures { reading.read_drop tokens.old ≡ as_read result }
 {
@@ -96,7 +96,7 @@ fn drop_food(tokens: &mut Tokens) -> Result<Draft, Refusal>
     Ok(Draft::Drop { next })
 }
 
-#[tactic(auto, unfolding(crate::specs::Reading::read_turn))]
+#[tactic(auto, unfolding(crate::specs::Inner::Reading::read_turn))]
 fn turn(tokens: &mut Tokens) -> Result<Draft, Refusal>
     ensures { reading.read_turn tokens.old ≡ as_read result }
 {
@@ -106,7 +106,7 @@ fn turn(tokens: &mut Tokens) -> Result<Draft, Refusal>
     Ok(Draft::Turn { side, next })
 }
 
-#[tactic(auto, unfolding(crate::specs::Reading::read_branches))]
+#[tactic(auto, unfolding(crate::specs::Inner::Reading::read_branches))]
 fn step(tokens: &mut Tokens) -> Result<Draft, Refusal>
     ensures { reading.read_branches Move tokens.old ≡ as_read result }
 {
@@ -116,7 +116,7 @@ fn step(tokens: &mut Tokens) -> Result<Draft, Refusal>
     Ok(Draft::Move { yes, no })
 }
 
-#[tactic(auto, unfolding(crate::specs::Reading::read_flip))]
+#[tactic(auto, unfolding(crate::specs::Inner::Reading::read_flip))]
 fn flip(tokens: &mut Tokens) -> Result<Draft, Refusal>
     ensures { reading.read_flip tokens.old ≡ as_read result }
 {

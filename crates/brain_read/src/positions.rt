@@ -1,8 +1,9 @@
 //! The positions of an instruction's line (the task's neurology). Each call takes the next token and gives what it stands for, or refuses:
-//! `MissingToken` where no token is left, `UnknownWord` and `BadNumber` where the token is none of the position. Which tokens are left after
-//! a refusal isn't told.
-ghost use Rattle.std.specs.Prelude.{◌≡◌};
-ghost use Rattle.brain_read.specs.Steps.{with_rest};
+//! `MissingToken` where no token is left, `UnknownWord` and `BadNumber` where the token is none of the position. A token that is refused is passed, and
+//! those behind it are left.
+ghost use Rattle.std.specs.Prelude.{◌≡◌, drop, length};
+ghost use Rattle.brain_read.specs.Judging.{positions_of_condition};
+ghost use Rattle.brain_read.specs.Steps.{condition_tokens, with_rest};
 ghost use Rattle.brain_read.specs.Steps as steps;
 ghost use Rattle.brain_read.specs.Places as places;
 
@@ -16,7 +17,8 @@ use word_table::word_arms;
 /// The next token, which should be the word of a sight, in any ASCII case (the task's geometry).
 #[tactic(auto, unfolding(crate::specs::Steps::take_sight))]
 pub fn sight(tokens: &mut Tokens) -> Result<Sight, Refusal>
-    ensures { steps.take_sight tokens.old ≡ with_rest tokens.new result }
+    ensures step { steps.take_sight tokens.old ≡ with_rest tokens.new result }
+    ensures passed { tokens.new ≡ drop 1 tokens.old }
 {
     let place = tokens.word(&sight_table())?;
     Ok(sight_at(place))
@@ -31,7 +33,8 @@ fn sight_at(place: usize) -> Sight
 /// The next token, which should be the word of a side, in any ASCII case (the task's geometry).
 #[tactic(auto, unfolding(crate::specs::Steps::take_side))]
 pub fn side(tokens: &mut Tokens) -> Result<Side, Refusal>
-    ensures { steps.take_side tokens.old ≡ with_rest tokens.new result }
+    ensures step { steps.take_side tokens.old ≡ with_rest tokens.new result }
+    ensures passed { tokens.new ≡ drop 1 tokens.old }
 {
     let place = tokens.word(&side_table())?;
     Ok(side_at(place))
@@ -46,7 +49,8 @@ fn side_at(place: usize) -> Side
 /// The next token, which should be a state: any number of 1 to 10 digits, from 0 to 9,999,999,999 (the task's neurology).
 #[tactic(auto, unfolding(crate::specs::Steps::take_state))]
 pub fn state(tokens: &mut Tokens) -> Result<u64, Refusal>
-    ensures { steps.take_state tokens.old ≡ with_rest tokens.new result }
+    ensures step { steps.take_state tokens.old ≡ with_rest tokens.new result }
+    ensures passed { tokens.new ≡ drop 1 tokens.old }
 {
     tokens.number(0, 9_999_999_999)
 }
@@ -54,7 +58,8 @@ pub fn state(tokens: &mut Tokens) -> Result<u64, Refusal>
 /// The next token, which should be a marker, from 0 to 5 (the task's chemistry).
 #[tactic(auto, unfolding(crate::specs::Steps::take_marker))]
 pub fn marker(tokens: &mut Tokens) -> Result<u8, Refusal>
-    ensures { steps.take_marker tokens.old ≡ with_rest tokens.new result }
+    ensures step { steps.take_marker tokens.old ≡ with_rest tokens.new result }
+    ensures passed { tokens.new ≡ drop 1 tokens.old }
 {
     let number = tokens.number(0, 5)?;
     Ok(number as u8)
@@ -63,7 +68,8 @@ pub fn marker(tokens: &mut Tokens) -> Result<u8, Refusal>
 /// The next token, which should be a bound, from 1 to 4,294,967,295 (the task's neurology; the largest bound is this project's own).
 #[tactic(auto, unfolding(crate::specs::Steps::take_bound))]
 pub fn bound(tokens: &mut Tokens) -> Result<u32, Refusal>
-    ensures { steps.take_bound tokens.old ≡ with_rest tokens.new result }
+    ensures step { steps.take_bound tokens.old ≡ with_rest tokens.new result }
+    ensures passed { tokens.new ≡ drop 1 tokens.old }
 {
     let number = tokens.number(1, 4_294_967_295)?;
     Ok(number as u32)
@@ -73,7 +79,8 @@ pub fn bound(tokens: &mut Tokens) -> Result<u32, Refusal>
 /// the marker, from 0 to 5 (the task's phenomenology).
 #[tactic(auto, unfolding(crate::specs::Steps::take_condition))]
 pub fn condition(tokens: &mut Tokens) -> Result<Cond, Refusal>
-    ensures { steps.take_condition tokens.old ≡ with_rest tokens.new result }
+    ensures step { steps.take_condition tokens.old ≡ with_rest tokens.new result }
+    ensures passed { tokens.new ≡ drop (condition_tokens tokens.old) tokens.old }
 {
     let place = tokens.word(&condition_table())?;
     condition_from(condition_word_at(place), tokens)
@@ -91,7 +98,8 @@ fn condition_word_at(place: usize) -> ConditionWord
 }
 
 fn condition_from(word: ConditionWord, tokens: &mut Tokens) -> Result<Cond, Refusal>
-    ensures { steps.condition_from word tokens.old ≡ with_rest tokens.new result }
+    ensures step { steps.condition_from word tokens.old ≡ with_rest tokens.new result }
+    ensures passed { tokens.new ≡ drop (length (positions_of_condition word)) tokens.old }
 {
     match word {
         ConditionWord::Friend => Ok(Cond::Friend),

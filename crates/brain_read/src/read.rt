@@ -2,12 +2,14 @@
 ghost use Rattle.std.specs.Prelude.{◌≡◌, ℕ, List, ◌+◌, ◌<◌, ◌≤◌, ◌∷◌, length, map, vec_len, OnOk, IfOk, IfErr};
 ghost use Rattle.ant_base.specs.Shelf.{longest};
 ghost use Rattle.brain_read.specs.Soundness.{most_states};
-ghost use Rattle.brain_read.specs.BrainText.{BrainText, BrainVerdict, IsFaultOf, lines_with_tokens};
+ghost use Rattle.brain_read.specs.Grammar.{IsBrainText, lines_with_tokens};
+ghost use Rattle.brain_read.specs.Faulty.{IsBrainFault};
+ghost use Rattle.brain_read.specs.Answers.{IsFaultOf};
 ghost use Rattle.brain_read.specs.declared.fault.BrainFault.{BrainFault};
 ghost use Rattle.brain_read.specs.declared.instr.Instr.{Instr};
-ghost use Rattle.brain_read.specs.Verdict.{judged_line, read_lines, settle_all, settle, read_text};
-ghost use Rattle.brain_read.specs.Answers.{placed_of, FailsAs, Gives, as_judged, reading_from};
-ghost use Rattle.brain_read.specs.Reads.{AnswersBrain, AnswersFault};
+ghost use Rattle.brain_read.specs.Inner.Verdict.{judged_line, read_lines, settle_all, settle, read_text};
+ghost use Rattle.brain_read.specs.Inner.Answered.{placed_of, FailsAs, Gives, as_judged, reading_from};
+ghost use Rattle.brain_read.specs.Answers.{AnswersBrain, AnswersFault};
 
 use crate::brain::Brain;
 use crate::draft::Draft;
@@ -33,16 +35,16 @@ pub struct DraftLine {
 /// has one brain or one fault.
 pub fn read_brain(alloc: Global, text: &[u8]) -> Result<Brain, BrainFault>
     requires { length text.now ≤ longest }
-    ensures brain { IfOk result (λ brain. BrainText text.now brain) }
+    ensures brain { IfOk result (λ brain. IsBrainText text.now brain) }
     ensures fault { IfErr result (λ fault. IsFaultOf text.now fault) }
-    ensures every_brain { (brain : List Instr) → BrainText text.now brain → AnswersBrain result brain }
-    ensures every_fault { (fault : BrainFault) → BrainVerdict text.now fault → AnswersFault result fault }
+    ensures every_brain { (brain : List Instr) → IsBrainText text.now brain → AnswersBrain result brain }
+    ensures every_fault { (fault : BrainFault) → IsBrainFault text.now fault → AnswersFault result fault }
 {
     let list = read_instructions(alloc, text)?;
     Ok(Brain::from_list(list))
 }
 
-#[tactic(auto, unfolding(crate::specs::Verdict::read_text))]
+#[tactic(auto, unfolding(crate::specs::Inner::Verdict::read_text))]
 fn read_instructions(alloc: Global, text: &[u8]) -> Result<Vec<Instr>, BrainFault>
     requires { length text.now ≤ longest }
     ensures { Gives (λ list. list.items) result (read_text text.now) }
@@ -90,7 +92,7 @@ fn read_line(line: &[u8], number: u32, drafts: &mut Vec<DraftLine>) -> Result<()
 }
 
 // The instruction of a line before which so many stand.
-#[tactic(auto, unfolding(crate::specs::Verdict::judged_line))]
+#[tactic(auto, unfolding(crate::specs::Inner::Verdict::judged_line))]
 fn draft_of(tokens: &mut Tokens, line: u32, before: usize) -> Result<Draft, BrainFault>
     ensures read { judged_line before line tokens.old ≡ as_judged result }
     ensures few { IfOk result (λ draft. before < most_states) }

@@ -1,7 +1,11 @@
 // The tokens of a line, one after another.
-ghost use Rattle.std.specs.Prelude.{◌≡◌, ◌≤◌, ◌∷◌, [], length, IfNone, MatchOption};
+ghost use Rattle.std.specs.Prelude.{◌≡◌, ◌≤◌, length};
+ghost use Rattle.std.specs.Iterator.{YieldsFirstRef, item_count};
 ghost use Rattle.std.specs.List.{prefix_len};
-ghost use Rattle.brain_read.specs.Tokens.{is_token_byte, begins_token, has_token, tokens_of};
+ghost use Rattle.brain_read.specs.Inner.Scan.{is_token_byte, begins_token};
+ghost use Rattle.brain_read.specs.Tokens.{has_token, tokens_of};
+
+mod steps;
 
 use ant_base::{after_separators, is_separator};
 use std::marker::Model;
@@ -31,19 +35,22 @@ impl<'t> Tokens<'t> {
         Tokens { rest: line }
     }
 
-    /// Whether there is a token left (this project's own).
+    /// Whether there is a token left.
     pub fn has_next(&self) -> bool
         ensures { result ≡ has_token self.now }
     {
         begins_token(after_separators(self.rest))
     }
+}
 
-    /// The next token; None where none is left (this project's own).
-    pub fn next(&mut self) -> Option<&'t [u8]>
-        ensures token { MatchOption result (self.old ≡ [])
-            (λ token. self.old ≡ token.now ∷ self.new) }
-        ensures end { IfNone result (self.new ≡ []) }
-    {
+impl<'t> Iterator for Tokens<'t> {
+    type Item = &'t [u8];
+
+    ghost next_gives = { YieldsFirstRef (λ tokens. tokens) };
+
+    ghost remaining = { item_count (λ tokens. tokens) };
+
+    fn next(&mut self) -> Option<&'t [u8]> {
         let start = after_separators(self.rest);
         let (token, rest) = start.split_at(token_length(start));
         self.rest = rest;

@@ -6,8 +6,8 @@ ghost use Rattle.brain_read.specs.Forms.{word_of_form, word_of_sight, word_of_si
 ghost use Rattle.brain_read.specs.Forms.Field.{Word, Number};
 ghost use Rattle.brain_read.specs.declared.instr.Cond.TheVariants.{Marker};
 ghost use Rattle.brain_read.specs.declared.instr.Instr.TheVariants.{Sense, Drop, Turn, Flip};
-ghost use Rattle.brain_read.specs.Places.{place_of_form, place_of_sight, place_of_side, place_of_condition};
-ghost use Rattle.brain_read.specs.BrainText.{BrainText};
+ghost use Rattle.brain_read.specs.Inner.Places.{place_of_form, place_of_sight, place_of_side, place_of_condition};
+ghost use Rattle.brain_read.specs.Grammar.{IsBrainText};
 ghost use Rattle.brain_read.specs.Canonical.{line_text, further_text, instruction_text, brain_text};
 
 use crate::brain::Brain;
@@ -16,12 +16,12 @@ use crate::instr::{Cond, Instr};
 use ant_base::{Failed, Layout, Sink, layout};
 use hex_geometry::{Side, Sight};
 
-/// Pushes the canonical text of a brain: one line for each instruction, its words as the tables spell them and its numbers
-/// without leading zeros, one space between tokens, LF at the end (this project's own). At `Failed` a front of it was appended, and the
-/// sink's count of faults rose. It takes no memory.
+/// Pushes the canonical text of a brain: one line for each instruction, its words as the tables spell them and its numbers without leading
+/// zeros, one space between tokens, LF at the end. At `Failed` a front of it was appended, and the sink's count of faults rose. It takes no
+/// memory.
 pub fn write_brain<K: Sink>(brain: &Brain, sink: &mut K) -> Result<(), Failed>
     ensures pushed { Pushed (K.state sink.old) (K.state sink.new) (brain_text brain.now) result }
-    ensures again { OnOk result (BrainText (brain_text brain.now) brain.now) }
+    ensures again { OnOk result (IsBrainText (brain_text brain.now) brain.now) }
 {
     push_lines(brain.instructions(), sink)
 }
@@ -152,7 +152,7 @@ struct FormText(Form);
 impl Layout for FormText {
     ghost text = { λ form. word_of_form form.0 };
 
-    #[tactic(auto, using(crate::proofs::Spelled::form_stands))]
+    #[tactic(auto, using(crate::proofs::FormsLemmas::form_stands))]
     fn push_to<K: Sink>(&self, sink: &mut K) -> Result<(), Failed> {
         form_table().word(form_place(self.0)).push_to(sink)
     }
@@ -171,7 +171,7 @@ struct SightText(Sight);
 impl Layout for SightText {
     ghost text = { λ sight. word_of_sight sight.0 };
 
-    #[tactic(auto, using(crate::proofs::Spelled::sight_stands))]
+    #[tactic(auto, using(crate::proofs::FormsLemmas::sight_stands))]
     fn push_to<K: Sink>(&self, sink: &mut K) -> Result<(), Failed> {
         sight_table().word(sight_place(self.0)).push_to(sink)
     }
@@ -190,7 +190,7 @@ struct SideText(Side);
 impl Layout for SideText {
     ghost text = { λ side. word_of_side side.0 };
 
-    #[tactic(auto, using(crate::proofs::Spelled::side_stands))]
+    #[tactic(auto, using(crate::proofs::FormsLemmas::side_stands))]
     fn push_to<K: Sink>(&self, sink: &mut K) -> Result<(), Failed> {
         side_table().word(side_place(self.0)).push_to(sink)
     }
@@ -209,7 +209,7 @@ struct ConditionText(ConditionWord);
 impl Layout for ConditionText {
     ghost text = { λ word. word_of_condition word.0 };
 
-    #[tactic(auto, using(crate::proofs::Spelled::condition_stands))]
+    #[tactic(auto, using(crate::proofs::FormsLemmas::condition_stands))]
     fn push_to<K: Sink>(&self, sink: &mut K) -> Result<(), Failed> {
         condition_table()
             .word(condition_place(self.0))

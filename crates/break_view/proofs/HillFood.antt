@@ -20,7 +20,7 @@ use Rattle.brain_read.specs.declared.instr.Instr.TheVariants.{Sense, Mark, Unmar
 use Rattle.ant_turn.specs.Kills.{check_at, check_all, killed_at, killed_all, places_around}
 use Rattle.ant_turn.specs.Minds.{Minds, mind_of}
 use Rattle.ant_turn.specs.Sheet.{Sheet}
-use Rattle.ant_turn.specs.Turn.{acts, ant_becomes, arrived, checked, execute, in_state, instruction_at, is_blocked, left_by_ant, marked, stepped, turn, turn_from, turn_of, unmarked, with_ant}
+use Rattle.ant_turn.specs.Turn.{acts, ant_becomes, arrived, checked, execute, in_state, instruction_at, is_blocked, left_by_ant, marked, stepped, turn, turn_from, turn_at, unmarked, with_ant}
 use Rattle.ant_turn.proofs.Checks.{check_at-cases}
 use Rattle.ant_turn.proofs.KeptByTurns.{free_apart, free_clear}
 use Rattle.break_view.specs.Inner.Feeding.{is_feeding, feeds_on, feeds_at, feeds}
@@ -113,13 +113,13 @@ module _ (w : World) (valid : Valid w) (p : Pos) (ant : Ant) (here : (w.cells p)
   acts-keeps minds seed place (suc left) quiet none = ant-keeps w p _ inside
 
 module _ (minds : Minds) (seed place : ℕ) (w : World) (valid : Valid w) where
-  turn_of-keeps : (p : Pos) → IsInside w.width w.height p → (o : Option Ant) → (w.cells p).ant ≡ o → feeds_on minds (w.cells p).hill o ≡ false → (turn_of minds seed w.cells place p o).killed ≡ [] → KeepsHills w (turn_of minds seed w.cells place p o).cells
-  turn_of-keeps p inside None here quiet none = λ colour. refl
-  turn_of-keeps p inside (Some ant) here quiet none = acts-keeps w valid p ant here inside minds seed place ant.resting quiet none
+  turn_at-keeps : (p : Pos) → IsInside w.width w.height p → (o : Option Ant) → (w.cells p).ant ≡ o → feeds_on minds (w.cells p).hill o ≡ false → (turn_at minds seed w.cells place p o).killed ≡ [] → KeepsHills w (turn_at minds seed w.cells place p o).cells
+  turn_at-keeps p inside None here quiet none = λ colour. refl
+  turn_at-keeps p inside (Some ant) here quiet none = acts-keeps w valid p ant here inside minds seed place ant.resting quiet none
 
   turn_from-keeps : (t : ℕ) (o : Option Pos) → place_in w t ≡ o → feeds_at minds w o ≡ false → (turn_from minds seed w.cells place o).killed ≡ [] → KeepsHills w (turn_from minds seed w.cells place o).cells
   turn_from-keeps t None found quiet none = λ colour. refl
-  turn_from-keeps t (Some p) found quiet none = turn_of-keeps p (place_in-inside w t p found) (w.cells p).ant refl quiet none
+  turn_from-keeps t (Some p) found quiet none = turn_at-keeps p (place_in-inside w t p found) (w.cells p).ant refl quiet none
 
 -- the score after a turn without a PickUp or Drop on a hill and without a kill is that before it
 pub turn-keeps-score : (minds : Minds) (seed : ℕ) (w : World) (place t : ℕ) → Valid w → feeds minds w t ≡ false → (turn minds seed w place t).killed ≡ [] → score_of (with_cells w (turn minds seed w place t).cells) ≡ score_of w

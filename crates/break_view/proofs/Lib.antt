@@ -1,13 +1,15 @@
-pub mod Faulted
+pub mod FaultyLemmas
+mod FirstFaults
 pub mod FirstStops
+pub mod FormsLemmas
 pub mod HillFood
+pub mod JudgingLemmas
 pub mod Meeting
-pub mod Progress
-pub mod Spelled
 pub mod Stopping
+pub mod VerdictLemmas
 pub mod ViewLaws
 pub mod Viewing
-pub mod Whole
 pub mod WorkedBreaks
+pub mod WorkedEdges
 pub mod WorkedGame
 pub mod WorkedTexts

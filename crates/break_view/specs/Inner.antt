@@ -1,5 +1,6 @@
-pub mod Answers
+pub mod Answered
 pub mod Feeding
+pub mod FirstFault
 pub mod Places
 pub mod Reading
 pub mod Rounds

@@ -1,12 +1,22 @@
--- What holds of all games with breaks (this project's own).
-use Rattle.std.specs.Prelude.{◌≡◌, ℕ, ◌≤◌, List, [], Option}
+-- What holds of all texts of breaks and of all games with breaks (this project's own).
+use Rattle.std.specs.Prelude.{◌≡◌, ◌⊎◌, ℕ, ◌≤◌, List, [], Option}
 use Rattle.std.specs.List.{Contains}
 use Rattle.cell_world.specs.World.{World}
 use Rattle.ant_turn.specs.Minds.{Minds}
 use Rattle.break_view.specs.declared.breaks.Break.{Break}
+use Rattle.break_view.specs.declared.fault.BreakFault.{BreakFault}
 use Rattle.break_view.specs.declared.stop.Stop.{Stop}
+use Rattle.break_view.specs.Faulty.{IsBreakFault}
+use Rattle.break_view.specs.Grammar.{IsBreakText}
 use Rattle.break_view.specs.Stops.{IsBefore, IsFirstStop, HasNoStop, EndsAt, end_of, first_stop}
 use Rattle.break_view.specs.Texts.{IsViewText, view_of, view_text}
+
+-- every text has one list of breaks or one fault, and never both
+pub record OneListOrOneFault : Type 0 where
+  pub some : (text : List ℕ) → ((list : List Break) × IsBreakText text list) ⊎ ((fault : BreakFault) × IsBreakFault text fault)
+  pub one_list : (text : List ℕ) (a b : List Break) → IsBreakText text a → IsBreakText text b → a ≡ b
+  pub one_fault : (text : List ℕ) (a b : BreakFault) → IsBreakFault text a → IsBreakFault text b → a ≡ b
+  pub never_both : (text : List ℕ) (list : List Break) (fault : BreakFault) → IsBreakText text list → IsBreakFault text fault → ⊥
 
 -- every break of one list stands in the other
 abbrev pub StandIn : List Break → List Break → Type 0
@@ -33,12 +43,18 @@ LaterRoundsAddNothing = (minds : Minds) (seed rounds more : ℕ) (w : World) (it
 
 -- a game has one first stop, or none; it has one end, and one text of its view
 pub record OneFirstStop : Type 0 where
-  pub one : (minds : Minds) (seed rounds : ℕ) (w : World) (items : List Break) (a b : Stop) → IsFirstStop minds seed rounds w items a → IsFirstStop minds seed rounds w items b → a ≡ b
-  pub never_both : (minds : Minds) (seed rounds : ℕ) (w : World) (items : List Break) (stop : Stop) → IsFirstStop minds seed rounds w items stop → HasNoStop minds seed rounds w items → ⊥
-  pub one_end : (minds : Minds) (seed rounds : ℕ) (w : World) (items : List Break) (a b : Option Stop) (u v : World) → EndsAt minds seed rounds w items a u → EndsAt minds seed rounds w items b v → (a ≡ b) × (u ≡ v)
-  pub one_view : (minds : Minds) (seed rounds : ℕ) (w : World) (items : List Break) (text other : List ℕ) → IsViewText minds seed rounds w items text → IsViewText minds seed rounds w items other → text ≡ other
+  pub one : (minds : Minds) (seed rounds : ℕ) (w : World) (items : List Break) (a b : Stop) → IsFirstStop minds seed rounds w items a
+      → IsFirstStop minds seed rounds w items b → a ≡ b
+  pub never_both : (minds : Minds) (seed rounds : ℕ) (w : World) (items : List Break) (stop : Stop) → IsFirstStop minds seed rounds w items stop
+      → HasNoStop minds seed rounds w items → ⊥
+  pub one_end : (minds : Minds) (seed rounds : ℕ) (w : World) (items : List Break) (a b : Option Stop) (u v : World)
+      → EndsAt minds seed rounds w items a u → EndsAt minds seed rounds w items b v → (a ≡ b) × (u ≡ v)
+  pub one_view : (minds : Minds) (seed rounds : ℕ) (w : World) (items : List Break) (text other : List ℕ) → IsViewText minds seed rounds w items text
+      → IsViewText minds seed rounds w items other → text ≡ other
 
 -- searching finds the end of a game, and so each end is the one that is found, and its view is the one text
 pub record EndsAreFound : Type 0 where
-  pub found : (minds : Minds) (seed rounds : ℕ) (w : World) (items : List Break) → EndsAt minds seed rounds w items (first_stop minds seed w items rounds) (end_of minds seed rounds w (first_stop minds seed w items rounds))
-  pub view : (minds : Minds) (seed rounds : ℕ) (w : World) (items : List Break) (stop : Option Stop) (end : World) → EndsAt minds seed rounds w items stop end → view_text end seed rounds stop ≡ view_of minds seed rounds w items
+  pub found : (minds : Minds) (seed rounds : ℕ) (w : World) (items : List Break)
+      → EndsAt minds seed rounds w items (first_stop minds seed w items rounds) (end_of minds seed rounds w (first_stop minds seed w items rounds))
+  pub view : (minds : Minds) (seed rounds : ℕ) (w : World) (items : List Break) (stop : Option Stop) (end : World)
+      → EndsAt minds seed rounds w items stop end → view_text end seed rounds stop ≡ view_of minds seed rounds w items

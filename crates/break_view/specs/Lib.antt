@@ -1,9 +1,10 @@
-pub mod BreakText
+pub mod Answers
+pub mod Faulty
 pub mod Forms
+pub mod Grammar
 pub mod Inner
 pub mod Judging
 pub mod Laws
 pub mod Met
-pub mod Reads
 pub mod Stops
 pub mod Texts

@@ -5,7 +5,7 @@ ghost use Rattle.cell_world.specs.Grid.{world_of};
 ghost use Rattle.cell_world.specs.Score.{hill_food_of, score_of};
 ghost use Rattle.cell_world.specs.World.{place_in};
 ghost use Rattle.cell_world.specs.World as worlds;
-ghost use Rattle.break_view.specs.BreakText.{most_breaks};
+ghost use Rattle.break_view.specs.Grammar.{most_breaks};
 ghost use Rattle.break_view.specs.Met as met;
 
 use crate::breaks::Break;

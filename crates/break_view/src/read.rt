@@ -3,10 +3,12 @@ ghost use Rattle.std.specs.Prelude.{◌≡◌, ℕ, List, ◌+◌, ◌<◌, ◌�
 ghost use Rattle.ant_base.specs.Shelf.{longest};
 ghost use Rattle.break_view.specs.declared.breaks.Break.{Break};
 ghost use Rattle.break_view.specs.declared.fault.BreakFault.{BreakFault};
-ghost use Rattle.break_view.specs.BreakText.{most_breaks, BreakText, BreakVerdict, IsFaultOf};
-ghost use Rattle.break_view.specs.Reads.{AnswersBreaks, AnswersFault};
+ghost use Rattle.break_view.specs.Grammar.{most_breaks, IsBreakText};
+ghost use Rattle.break_view.specs.Faulty.{IsBreakFault};
+ghost use Rattle.break_view.specs.Answers.{IsFaultOf};
+ghost use Rattle.break_view.specs.Answers.{AnswersBreaks, AnswersFault};
 ghost use Rattle.break_view.specs.Inner.Verdict.{judged_line, read_text};
-ghost use Rattle.break_view.specs.Inner.Answers.{FailsAs, Gives, reading_from};
+ghost use Rattle.break_view.specs.Inner.Answered.{FailsAs, Gives, reading_from};
 
 use crate::breaks::{Break, Breaks};
 use crate::fault::{BreakFault, fault_at};
@@ -18,14 +20,14 @@ use std::alloc::Global;
 // The most breaks of a text.
 const MOST_BREAKS: usize = 256;
 
-/// The breaks of a text of at most 4,194,304 bytes, or the text's fault (this project's own). `OutOfMemory` may be answered at any text
-/// with a break; every other answer follows from the text alone, since every text has one list of breaks or one fault.
+/// The breaks of a text of at most 4,194,304 bytes, or the text's fault. `OutOfMemory` may be answered at any text with a break; every
+/// other answer follows from the text alone, since every text has one list of breaks or one fault.
 pub fn read_breaks(alloc: Global, text: &[u8]) -> Result<Breaks, BreakFault>
     requires { length text.now ≤ longest }
-    ensures breaks { IfOk result (λ list. BreakText text.now list) }
+    ensures breaks { IfOk result (λ list. IsBreakText text.now list) }
     ensures fault { IfErr result (λ fault. IsFaultOf text.now fault) }
-    ensures every_list { (list : List Break) → BreakText text.now list → AnswersBreaks result list }
-    ensures every_fault { (fault : BreakFault) → BreakVerdict text.now fault → AnswersFault result fault }
+    ensures every_list { (list : List Break) → IsBreakText text.now list → AnswersBreaks result list }
+    ensures every_fault { (fault : BreakFault) → IsBreakFault text.now fault → AnswersFault result fault }
 {
     let list = read_list(alloc, text)?;
     Ok(Breaks::from_list(list))

@@ -7,8 +7,9 @@ ghost use Rattle.cell_world.specs.Grid.{world_of};
 ghost use Rattle.cell_world.specs.Limits.{most_ants};
 ghost use Rattle.cell_world.specs.Score.{score_of};
 ghost use Rattle.cell_world.specs.World.{with_cells};
-ghost use Rattle.match_run.specs.Run.{LastsARound, moment_of, most_rounds};
-ghost use Rattle.break_view.specs.BreakText.{most_breaks};
+ghost use Rattle.match_run.specs.Inner.Sequential.{LastsARound, moment_of};
+ghost use Rattle.match_run.specs.Run.{most_rounds};
+ghost use Rattle.break_view.specs.Grammar.{most_breaks};
 ghost use Rattle.break_view.specs.Stops.{EndsAt};
 ghost use Rattle.break_view.specs.Inner.Rounds.{RoundEnds};
 
@@ -19,7 +20,7 @@ use ant_random::Stream;
 use ant_turn::{Brains, take_turn};
 use cell_world::{Score, World};
 
-/// A stop of a game: the turn after which a break held, and which break (this project's own).
+/// A stop of a game: the turn after which a break held, and which break.
 #[derive(Clone, Copy, Debug, PartialEq, Eq)]
 pub struct Stop {
     /// The round of the turn, counted from 1.

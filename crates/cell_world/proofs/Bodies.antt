@@ -6,8 +6,8 @@ use Rattle.hex_geometry.specs.declared.position.Pos.{Pos}
 use Rattle.cell_world.specs.declared.ant.Ant.{Ant}
 use Rattle.cell_world.specs.declared.body.Body.{Body}
 use Rattle.cell_world.specs.Cell.{is_ant}
-use Rattle.cell_world.specs.Places.{IsKnown, IsMade, Moved, came, gone}
-use Rattle.cell_world.specs.Stored.{ant_from, ant_named, body_at, id_of, no_body, nobody, occupant_id, occupant_of, places_of}
+use Rattle.cell_world.specs.Inner.Bodies.{IsKnown, IsMade, Moved, came, gone}
+use Rattle.cell_world.specs.Inner.Stored.{ant_from, ant_named, body_at, id_of, no_body, nobody, occupant_id, occupant_of, places_of}
 
 -- the number that stands for nobody is no id
 pub occupant_id-of : (o : Option Ant) → IsKnown nobody o → occupant_id (occupant_of o) ≡ id_of o

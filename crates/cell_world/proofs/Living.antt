@@ -13,14 +13,15 @@ use Rattle.cell_world.specs.declared.cell.Cell.{Cell}
 use Rattle.cell_world.specs.declared.tile.Tile.{Tile}
 use Rattle.cell_world.specs.Cell.{holds_id, is_ant, is_ant_of, one_if}
 use Rattle.cell_world.specs.Colour.{same_colour}
-use Rattle.cell_world.specs.Grid.{IsIndex, IsWorld, cell_in, world_of}
+use Rattle.cell_world.specs.Inner.Index.{IsIndex}
+use Rattle.cell_world.specs.Grid.{IsWorld, cell_in, world_of}
 use Rattle.cell_world.specs.Score.{alive_in, alive_of}
-use Rattle.cell_world.specs.Stored.{grid_from, is_living, no_body, places_of}
+use Rattle.cell_world.specs.Inner.Stored.{grid_from, is_living, no_body, places_of}
 use Rattle.cell_world.specs.World.{place_in, pos_at, sum_over}
 use Rattle.cell_world.proofs.Bodies.{ant_named-body}
-use Rattle.cell_world.proofs.Counts.{one_if-cond}
-use Rattle.cell_world.proofs.Placed.{held_once, is_below, is_below-next, is_below-zero, sum_over-zero}
-use Rattle.cell_world.proofs.Stores.{ant-read}
+use Rattle.cell_world.proofs.GridSums.{one_if-cond}
+use Rattle.cell_world.proofs.AliveArePlaced.{held_once, is_below, is_below-next, is_below-zero, sum_over-zero}
+use Rattle.cell_world.proofs.StoredLemmas.{ant-read}
 use Rattle.cell_world.proofs.Totals.{sum_over-both, sum_over-same}
 
 -- one more id: the ants of a colour below it, and that one where it is of the colour

@@ -13,9 +13,10 @@ use Rattle.cell_world.specs.declared.tile.Tile.{Tile}
 use Rattle.cell_world.specs.Cell.{rock, one_if}
 use Rattle.cell_world.specs.Grid.{Grid}
 use Rattle.cell_world.specs.Limits.{most_ants}
-use Rattle.cell_world.specs.Opening.{floor, hill_count, hill_places, is_hill, opening, opening_cell, opening_cells, opening_places}
-use Rattle.cell_world.specs.Places.{IsKnown}
-use Rattle.cell_world.specs.Stored.{ant_from, ant_named, cell_from, grid_from, hill_of, id_of, nobody, new_bodies, new_body, no_body, opening_bodies, opening_tiles, places_of}
+use Rattle.cell_world.specs.Opening.{floor, hill_count, is_hill, opening, opening_cell, opening_cells}
+use Rattle.cell_world.specs.Inner.OpeningPlaces.{hill_places, opening_places}
+use Rattle.cell_world.specs.Inner.Bodies.{IsKnown}
+use Rattle.cell_world.specs.Inner.Stored.{ant_from, ant_named, cell_from, grid_from, hill_of, id_of, nobody, new_bodies, new_body, no_body, opening_bodies, opening_tiles, places_of}
 use Rattle.cell_world.specs.World.{pos_at}
 use Rattle.cell_world.proofs.Bodies.{occupant_id-of}
 use Rattle.cell_world.proofs.OpeningPlaces.{length-opening_places}

@@ -14,7 +14,7 @@ use Rattle.cell_world.specs.Cell.{cell_weight, holds_id, rock}
 use Rattle.cell_world.specs.Grid.{IsWorld, cell_in, index_of, world_of}
 use Rattle.cell_world.specs.Opening.{IsFed, IsPlan, hill_count, is_hill, is_rock, hills_before, kind_at, opening, opening_cell}
 use Rattle.cell_world.specs.World.{pos_at}
-use Rattle.cell_world.proofs.Grids.{cell_in-beyond, cell_in-column, pos_at-index_of}
+use Rattle.cell_world.proofs.GridLemmas.{cell_in-beyond, cell_in-column, pos_at-index_of}
 use Rattle.cell_world.proofs.OpeningWeight.{weight-light}
 use Rattle.cell_world.proofs.Openings.{ant-opening_cell, cell_weight-opening_cell, get_or-opening_cells, hill_count-later, hill_count-take, holds_id-opening_cell, length-opening_cells, opening_cell-rocky, rocky-opening_cell}
 use Rattle.cell_world.proofs.Places.{holds_id-rock}

@@ -7,7 +7,7 @@ use Rattle.hex_geometry.specs.Position.{IsInner}
 use Rattle.cell_world.specs.Cell.{rock, cell_weight}
 use Rattle.cell_world.specs.Limits.{most_weight}
 use Rattle.cell_world.specs.World.{World, sum_over, weight}
-use Rattle.cell_world.proofs.Grids.{pos_at-index_of}
+use Rattle.cell_world.proofs.GridLemmas.{pos_at-index_of}
 use Rattle.cell_world.proofs.Weights.{cell_weight-rock}
 
 -- what rises by at most m at each of n steps

@@ -12,7 +12,7 @@ use Rattle.cell_world.specs.Cell.{rock, holds_id, is_ant}
 use Rattle.cell_world.specs.Grid.{index_of}
 use Rattle.cell_world.specs.World.{World, first_of, or_here, pos_at, place_in, area, put, put_cell}
 use Rattle.cell_world.specs.Valid.{Valid, CanSet}
-use Rattle.cell_world.proofs.Grids.{index_of-inside, pos_at-index_of}
+use Rattle.cell_world.proofs.GridLemmas.{index_of-inside, pos_at-index_of}
 use Rattle.cell_world.proofs.Puts.{put_cell-same, put_cell-other, cases_pos}
 
 -- a search that finds nothing anywhere

@@ -11,7 +11,7 @@ use Rattle.cell_world.specs.Grid.{index_of}
 use Rattle.cell_world.specs.Limits.{most_ants}
 use Rattle.cell_world.specs.Opening.{IsFed, IsPlan, hill_count, is_rock}
 use Rattle.cell_world.specs.World.{pos_at}
-use Rattle.cell_world.proofs.Grids.{index_of-inside, pos_at-index_of}
+use Rattle.cell_world.proofs.GridLemmas.{index_of-inside, pos_at-index_of}
 
 -- whether food is in range
 abbrev pub is_fed : Kind → Bool

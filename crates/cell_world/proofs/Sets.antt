@@ -9,13 +9,14 @@ use Rattle.hex_geometry.specs.Position.{IsInside}
 use Rattle.hex_geometry.proofs.Places.{pos_same}
 use Rattle.cell_world.specs.declared.cell.Cell.{Cell}
 use Rattle.cell_world.specs.Cell.{rock, holds_id}
-use Rattle.cell_world.specs.Grid.{Grid, cell_in, index_of, world_of, IsIndex, IsWorld}
+use Rattle.cell_world.specs.Grid.{Grid, cell_in, index_of, world_of, IsWorld}
+use Rattle.cell_world.specs.Inner.Index.{IsIndex}
 use Rattle.cell_world.specs.World.{put, put_cell, place_in, with_cells}
 use Rattle.cell_world.specs.Valid.{Valid, CanSet}
-use Rattle.cell_world.proofs.Grids.{cell_in-column, cell_in-beyond, index_of-early}
+use Rattle.cell_world.proofs.GridLemmas.{cell_in-column, cell_in-beyond, index_of-early}
 use Rattle.cell_world.proofs.Places.{place_in-put}
 use Rattle.cell_world.proofs.Puts.{put_cell-same, put_cell-other, cases_pos}
-use Rattle.cell_world.proofs.Valids.{Valid-put}
+use Rattle.cell_world.proofs.ValidLemmas.{Valid-put}
 
 -- the grid with this cell at p
 abbrev pub grid_set : Grid → Pos → Cell → Grid

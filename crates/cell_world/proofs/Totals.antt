@@ -6,7 +6,7 @@ use Rattle.hex_geometry.specs.Position.{IsInside}
 use Rattle.cell_world.specs.declared.cell.Cell.{Cell}
 use Rattle.cell_world.specs.Grid.{index_of}
 use Rattle.cell_world.specs.World.{World, sum_over, pos_at, area, put, put_cell, total}
-use Rattle.cell_world.proofs.Grids.{index_of-inside, index_of-pos_at, pos_at-index_of}
+use Rattle.cell_world.proofs.GridLemmas.{index_of-inside, index_of-pos_at, pos_at-index_of}
 use Rattle.cell_world.proofs.Puts.{put_cell-same, put_cell-other}
 
 -- what agrees at the first n positions has one sum over them

@@ -1,9 +1,9 @@
 -- A world as its cells in row order, and how it reads as a function from positions to cells.
-use Rattle.std.specs.Prelude.{◌≡◌, ℕ, ◌+◌, ◌*◌, ◌<◌, cond, nat_lt, List, length, slice_index_or, Option}
+use Rattle.std.specs.Prelude.{◌≡◌, ℕ, ◌+◌, ◌*◌, cond, nat_lt, List, length, slice_index_or}
 use Rattle.hex_geometry.specs.declared.position.Pos.{Pos}
 use Rattle.cell_world.specs.declared.cell.Cell.{Cell}
 use Rattle.cell_world.specs.Cell.{rock}
-use Rattle.cell_world.specs.World.{World, Cells, place_in}
+use Rattle.cell_world.specs.World.{World, Cells}
 use Rattle.cell_world.specs.Valid.{Valid}
 
 -- a world's sizes, the number of ids ever made and its cells, row by row from the top, each row from left to right
@@ -24,11 +24,6 @@ cell_in g p = cond (nat_lt p.x g.width) (slice_index_or g.cells (index_of g.widt
 -- the world that a grid stands for
 abbrev pub world_of : Grid → World
 world_of g = record { width = g.width; height = g.height; ids = g.ids; cells = cell_in g }
-
--- where each ant stands, by id, as the cells have it
-pub record IsIndex (g : Grid) (places : List (Option Pos)) : Type 0 where
-  pub all_ids : length places ≡ g.ids
-  pub agrees : (t : ℕ) (none : Option Pos) → t < g.ids → slice_index_or places t none ≡ place_in (world_of g) t
 
 -- what every grid keeps: it has its cells, and its world is valid
 pub record IsWorld (g : Grid) : Type 0 where

@@ -1,10 +1,9 @@
-pub mod Catching
 pub mod Cell
 pub mod Colour
 pub mod CountLaws
 pub mod Grid
 pub mod GroundLaws
-pub mod Inside
+pub mod Inner
 pub mod Limits
 pub mod Marks
 pub mod MarksLaws
@@ -12,8 +11,6 @@ pub mod Opening
 pub mod OpeningLaws
 pub mod PartLaws
 pub mod Parts
-pub mod Places
 pub mod Score
-pub mod Stored
 pub mod Valid
 pub mod World

@@ -1,5 +1,5 @@
 -- The world at the start of a game (the task's geography and biology).
-use Rattle.std.specs.Prelude.{◌≡◌, ℕ, ◌+◌, ◌*◌, ◌≤◌, Bool, true, false, cond, List, [], ◌∷◌, ◌++◌, length, slice_index_or, take, Option, Some, None}
+use Rattle.std.specs.Prelude.{◌≡◌, ℕ, ◌+◌, ◌*◌, ◌≤◌, Bool, true, false, List, [], ◌∷◌, length, slice_index_or, take, Some, None}
 use Rattle.std.specs.List.{All}
 use Rattle.hex_geometry.specs.declared.position.Pos.{Pos}
 use Rattle.hex_geometry.specs.Position.{IsInside, IsInner}
@@ -14,7 +14,6 @@ use Rattle.cell_world.specs.Cell.{rock, one_if}
 use Rattle.cell_world.specs.Grid.{Grid, index_of}
 use Rattle.cell_world.specs.Limits.{least_size, most_size, most_ants}
 use Rattle.cell_world.specs.Marks.{no_marks}
-use Rattle.cell_world.specs.World.{pos_at}
 
 -- a clear cell without food, marks, ant or hill
 unfoldable pub floor : Cell
@@ -57,15 +56,6 @@ opening_cells t (kind ∷ kinds) = opening_cell t kind ∷ opening_cells (t + on
 -- the world of these kinds at the start: each hill cell holds an ant of its colour, whose id is the number of hill cells before it
 unfoldable pub opening : ℕ → ℕ → List Kind → Grid
 opening width height kinds = record { width = width; height = height; ids = hill_count kinds; cells = opening_cells 0 kinds }
-
--- the place of the ant that begins on a cell of this kind at p, if there is one
-abbrev pub hill_places : Kind → Pos → List (Option Pos)
-hill_places kind p = cond (is_hill kind) (Some p ∷ []) []
-
--- where the ants of these kinds begin, by id, where the first kind is that of the cell with number i in row order
-abbrev pub opening_places : ℕ → ℕ → List Kind → List (Option Pos)
-opening_places width i [] = []
-opening_places width i (kind ∷ kinds) = hill_places kind (pos_at width i) ++ opening_places width (i + 1) kinds
 
 -- whether it is rock
 abbrev pub is_rock : Kind → Bool

@@ -1,19 +1,24 @@
 -- What an opening world is like, in the task's own words (the task's geography, chemistry and biology).
-use Rattle.std.specs.Prelude.{◌≡◌, ℕ, ◌<◌, true, List, Some, IsSome, option_map}
+use Rattle.std.specs.Prelude.{◌≡◌, ℕ, ◌<◌, ◌≤◌, true, List, Some, IsSome, option_map}
 use Rattle.hex_geometry.specs.declared.position.Pos.{Pos}
 use Rattle.cell_world.specs.declared.ant.Ant.{Ant}
 use Rattle.cell_world.specs.declared.kind.Kind.{Kind}
+use Rattle.cell_world.specs.Cell.{rock}
 use Rattle.cell_world.specs.Grid.{IsWorld, cell_in, world_of}
 use Rattle.cell_world.specs.Marks.{no_marks}
-use Rattle.cell_world.specs.Opening.{IsPlan, hill_count, hills_before, is_hill, kind_at, new_ant, opening}
+use Rattle.cell_world.specs.Opening.{IsPlan, hill_count, hills_before, is_hill, kind_at, new_ant, opening, opening_cell}
 use Rattle.cell_world.specs.World.{place_in}
 
 -- the opening world of a plan keeps what every world keeps
 abbrev pub PlansOpen : Type 0
 PlansOpen = (width height : ℕ) (kinds : List Kind) → IsPlan width height kinds → IsWorld (opening width height kinds)
 
--- who stands where at the start
+-- what and who is where at the start
 pub record HillsAreManned : Type 0 where
+  -- each cell is what its kind says: rock is rock, food is so many particles, and a red hill cell is of the red hill
+  pub cell : (width height : ℕ) (kinds : List Kind) (p : Pos) → p.x < width → cell_in (opening width height kinds) p ≡ opening_cell (hills_before width kinds p) (kind_at width kinds p)
+  -- right of the rows there is rock; below them it is the kind of the cells that are missing
+  pub beyond : (width height : ℕ) (kinds : List Kind) (p : Pos) → width ≤ p.x → cell_in (opening width height kinds) p ≡ rock
   -- on each hill cell an ant of its colour, and on no other cell one
   pub manned : (width height : ℕ) (kinds : List Kind) (p : Pos) → (cell_in (opening width height kinds) p).hill ≡ option_map (λ (ant : Ant). ant.colour) (cell_in (opening width height kinds) p).ant
   -- each ant is new, and its id is the number of hill cells before its own

@@ -5,7 +5,7 @@ use Rattle.hex_geometry.specs.declared.position.Pos.{Pos}
 use Rattle.hex_geometry.specs.Position.{IsInside, IsInner}
 use Rattle.cell_world.specs.declared.ant.Ant.{Ant}
 use Rattle.cell_world.specs.declared.cell.Cell.{Cell}
-use Rattle.cell_world.specs.Cell.{rock, holds_id, cell_weight}
+use Rattle.cell_world.specs.Cell.{rock, holds_id}
 use Rattle.cell_world.specs.Limits.{least_size, most_size, most_ants, most_weight}
 use Rattle.cell_world.specs.World.{World, put, weight}
 
@@ -39,13 +39,6 @@ pub record CanSet (w : World) (room : ℕ) (p : Pos) (cell : Cell) : Type 0 wher
   pub ant_known : (ant : Ant) → cell.ant ≡ Some ant → ant.id < w.ids
   pub ant_nowhere_else : (ant : Ant) → cell.ant ≡ Some ant → (q : Pos) → q ≢ p → holds_id ant.id (w.cells q) ≡ false
   pub light_enough : weight (put w p cell) ≤ most_weight
-
--- the new cell may replace the old one: it is of the same kind and hill, has the same ant or none, and is no heavier
-pub record Replaces (old new : Cell) : Type 0 where
-  pub same_kind : new.rocky ≡ old.rocky
-  pub same_hill : new.hill ≡ old.hill
-  pub same_ant : (t : ℕ) → holds_id t new ≡ true → holds_id t old ≡ true
-  pub no_heavier : cell_weight new ≤ cell_weight old
 
 -- two ants of one body: their id, their colour and their load are the same, whatever their state, their rest and their direction
 pub record SameBody (one other : Ant) : Type 0 where

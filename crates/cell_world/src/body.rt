@@ -1,6 +1,6 @@
 // What a world keeps of an ant.
 ghost use Rattle.std.specs.Prelude.{◌≡◌};
-ghost use Rattle.cell_world.specs.Stored.{ant_from, body_at, is_living};
+ghost use Rattle.cell_world.specs.Inner.Stored.{ant_from, body_at, is_living};
 
 use crate::ant::{Ant, Colour};
 use hex_geometry::{Dir, Pos};

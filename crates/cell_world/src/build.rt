@@ -3,7 +3,7 @@ ghost use Rattle.std.specs.Prelude.{◌≡◌, ◌+◌, ◌*◌, ◌++◌, ◌�
 ghost use Rattle.cell_world.specs.Limits.{most_ants};
 ghost use Rattle.cell_world.specs.World.{pos_at};
 ghost use Rattle.cell_world.specs.Opening.{floor, hill_cell, hill_count, opening_cell};
-ghost use Rattle.cell_world.specs.Stored.{hill_of, new_bodies, new_body, opening_bodies, opening_tiles, tile_of};
+ghost use Rattle.cell_world.specs.Inner.Stored.{hill_of, new_bodies, new_body, opening_bodies, opening_tiles, tile_of};
 
 use crate::ant::{Ant, Colour};
 use crate::body::Body;

@@ -1,7 +1,7 @@
 // Who stands on a cell, in two bytes.
 ghost use Rattle.std.specs.Prelude.{◌≡◌};
-ghost use Rattle.cell_world.specs.Places.{IsKnown};
-ghost use Rattle.cell_world.specs.Stored.{occupant_id, occupant_of};
+ghost use Rattle.cell_world.specs.Inner.Bodies.{IsKnown};
+ghost use Rattle.cell_world.specs.Inner.Stored.{occupant_id, occupant_of};
 
 use crate::ant::Ant;
 

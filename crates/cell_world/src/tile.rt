@@ -1,7 +1,7 @@
 // What a world keeps of a cell.
 ghost use Rattle.std.specs.Prelude.{◌≡◌, ◌<◌, length};
-ghost use Rattle.cell_world.specs.Places.{IsKnown, IsMade};
-ghost use Rattle.cell_world.specs.Stored.{ant_named, tile_food, tile_of};
+ghost use Rattle.cell_world.specs.Inner.Bodies.{IsKnown, IsMade};
+ghost use Rattle.cell_world.specs.Inner.Stored.{ant_named, tile_food, tile_of};
 
 use crate::ant::{Ant, Colour};
 use crate::body::Body;
@@ -50,7 +50,7 @@ impl Tile {
 
 // The ant of this id as its body has it, if there is an id.
 #[inline]
-#[tactic(auto, unfolding(crate::specs::Stored::ant_named))]
+#[tactic(auto, unfolding(crate::specs::Inner::Stored::ant_named))]
 pub fn ant_named(bodies: &[Body], id: Option<u16>) -> Option<Ant>
     requires { IsMade (length bodies.now) id }
     ensures { result ≡ ant_named bodies.now id }

@@ -35,11 +35,12 @@ pub struct World {
 
 impl Model for World {
     ghost use Rattle.std.specs.Prelude.{length};
-    ghost use Rattle.cell_world.specs.Grid.{Grid, IsWorld, IsIndex};
+    ghost use Rattle.cell_world.specs.Grid.{Grid, IsWorld};
+    ghost use Rattle.cell_world.specs.Inner.Index.{IsIndex};
 
     ghost Value = { Grid };
 
-    ghost use Rattle.cell_world.specs.Inside.{grid_of, IsKept};
+    ghost use Rattle.cell_world.specs.Inner.Inside.{grid_of, IsKept};
 
     ghost view = { grid_of };
 
@@ -68,7 +69,7 @@ impl World {
         })
     }
 
-    /// An equal world of its own (this project's own). It is refused for want of memory alone.
+    /// An equal world of its own. It is refused for want of memory alone.
     pub fn copy(&self, alloc: Global) -> Result<World, OutOfMemory>
         ensures { IfOk result (λ w. w ≡ self.now) }
     {

@@ -14,7 +14,7 @@ use Rattle.command_words.specs.declared.table.Choice.TheVariants.{Seed, Rounds, 
 
 -- all commands that are known
 abbrev pub kinds : List CommandKind
-kinds = Show ∷ Brain ∷ Minimise ∷ Run ∷ Gen ∷ []
+kinds = Show ∷ Brain ∷ Minimise ∷ Run ∷ Gen ∷ Cup ∷ View ∷ Workload ∷ []
 
 -- a command's first word
 abbrev pub word_of : CommandKind → List ℕ
@@ -43,7 +43,7 @@ abbrev pub choices_of : CommandKind → List Choice
 choices_of Show = []
 choices_of Brain = []
 choices_of Minimise = []
-choices_of Run = Seed ∷ Rounds ∷ Dump ∷ Surround ∷ Corpse ∷ Rest ∷ []
+choices_of Run = Seed ∷ Rounds ∷ Dump ∷ Workers ∷ Window ∷ Surround ∷ Corpse ∷ Rest ∷ Stats ∷ []
 choices_of Gen = Width ∷ Height ∷ Rocks ∷ Blobs ∷ []
 choices_of Cup = Seed ∷ Rounds ∷ Workers ∷ []
 choices_of View = Seed ∷ Rounds ∷ []

@@ -95,6 +95,9 @@ pub(crate) fn kinds() -> &'static [CommandKind]
         CommandKind::Minimise,
         CommandKind::Run,
         CommandKind::Gen,
+        CommandKind::Cup,
+        CommandKind::View,
+        CommandKind::Workload,
     ]
 }
 
@@ -164,9 +167,12 @@ impl CommandKind {
                 Choice::Seed,
                 Choice::Rounds,
                 Choice::Dump,
+                Choice::Workers,
+                Choice::Window,
                 Choice::Surround,
                 Choice::Corpse,
                 Choice::Rest,
+                Choice::Stats,
             ],
             CommandKind::Gen => &[Choice::Width, Choice::Height, Choice::Rocks, Choice::Blobs],
             CommandKind::Cup => &[Choice::Seed, Choice::Rounds, Choice::Workers],

@@ -6,7 +6,7 @@ use Rattle.cell_world.specs.declared.cell.Cell.{Cell}
 use Rattle.cell_world.specs.World.{World}
 use Rattle.ant_base.specs.Layout.{numbered}
 use Rattle.ant_base.proofs.Numbered.{numbered-same}
-use Rattle.dump_print.specs.Breaks.{line_body, row_tail, broken_line, broken_row}
+use Rattle.dump_print.specs.Inner.Breaks.{line_body, row_tail, broken_line, broken_row}
 use Rattle.dump_print.specs.Texts.{cell_line, row_text, cells_text}
 
 -- a text may be moved from the front of all parts to their end, where it may at each part

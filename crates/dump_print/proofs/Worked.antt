@@ -1,4 +1,4 @@
--- Lines of dumps and a score, written out.
+-- Lines of dumps, a score and counts, written out.
 use Rattle.std.proofs.Common.{◌≡◌, true, false, codes, Some, refl}
 use Rattle.std.specs.Fmt.{digits}
 use Rattle.ant_base.specs.Layout.{numbered}
@@ -10,12 +10,12 @@ use Rattle.cell_world.specs.Grid.{cell_in}
 use Rattle.cell_world.specs.Marks.{no_marks, with_mark}
 use Rattle.cell_world.specs.Opening.{floor, opening}
 use Rattle.cell_world.proofs.OpeningWorked.{one_hill}
-use Rattle.dump_print.specs.Content.{clear_text, content_text, standing_text}
-use Rattle.dump_print.specs.Texts.{cell_line, score_text}
+use Rattle.dump_print.specs.Content.{clear_text, content_text, standing_ant_text}
+use Rattle.dump_print.specs.Texts.{cell_line, score_text, stats_text}
 
 -- the one hill cell of a small opening world
 line-hill : cell_line 1 1 (cell_in (opening 3 3 one_hill) (record { x = 1; y = 1 })) ≡ codes "cell (1, 1): red hill; red ant of id 0, dir 0, food 0, state 0, resting 0\n"
-unfolding digits cell_line content_text clear_text standing_text cell_in opening floor rock
+unfolding digits cell_line content_text clear_text standing_ant_text cell_in opening floor rock
 line-hill = refl
 
 -- a cell of its rim
@@ -40,10 +40,15 @@ full = record {
 }
 
 line-full : cell_line 1 12 full ≡ codes "cell (1, 12): 20 food; black hill; red marks: 03; black marks: 5; red ant of id 107, dir 5, food 1, state 9999, resting 14\n"
-unfolding digits cell_line content_text clear_text standing_text numbered
+unfolding digits cell_line content_text clear_text standing_ant_text numbered
 line-full = refl
 
 -- an empty line comes before a score
 score-three : score_text (record { red = 3; black = 0 }) ≡ codes "\nscore: red 3 black 0\n"
 unfolding digits score_text
 score-three = refl
+
+-- the counts of a game of seven turns
+stats-seven : stats_text (record { turns = 7; taken = 5; redone = 2 }) ≡ codes "turns 7 taken 5 redone 2\n"
+unfolding digits stats_text
+stats-seven = refl

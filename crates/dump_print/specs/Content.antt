@@ -37,15 +37,15 @@ abbrev pub load_text : Bool → List ℕ
 load_text laden = if laden then codes "1" else codes "0"
 
 -- an ant
-unfoldable pub standing_text : Ant → List ℕ
-standing_text ant =
+unfoldable pub standing_ant_text : Ant → List ℕ
+standing_ant_text ant =
     colour_text ant.colour +++ codes " ant of id " +++ decimal ant.id +++ codes ", dir " +++ decimal (number_of ant.facing)
     +++ codes ", food " +++ load_text ant.laden +++ codes ", state " +++ decimal ant.state +++ codes ", resting " +++ decimal ant.resting
 
 -- the ant, where one stands there
 abbrev pub ant_text : Option Ant → List ℕ
 ant_text None = []
-ant_text (Some ant) = standing_text ant
+ant_text (Some ant) = standing_ant_text ant
 
 -- the content of a clear cell: its parts in this order, each only where it applies
 unfoldable pub clear_text : Cell → List ℕ

@@ -1,3 +1,3 @@
-pub mod Breaks
 pub mod Content
+pub mod Inner
 pub mod Texts

@@ -1,9 +1,10 @@
--- The texts of dumps and scores (this project's own layout).
+-- The texts of dumps, scores and counts (this project's own layout).
 use Rattle.std.specs.Prelude.{ℕ, List, codes, decimal}
 use Rattle.cell_world.specs.declared.cell.Cell.{Cell}
 use Rattle.cell_world.specs.declared.score.Score.{Score}
 use Rattle.cell_world.specs.World.{World}
 use Rattle.ant_base.specs.Layout.{numbered, ◌+++◌}
+use Rattle.dump_print.specs.declared.totals.Totals.{Totals}
 use Rattle.dump_print.specs.Content.{content_text}
 
 -- the line of a cell
@@ -29,3 +30,8 @@ seed_text seed = codes "random seed: " +++ decimal seed +++ codes "\n"
 -- an empty line and the line of a score
 unfoldable pub score_text : Score → List ℕ
 score_text score = codes "\nscore: red " +++ decimal score.red +++ codes " black " +++ decimal score.black +++ codes "\n"
+
+-- the line of the counts of turns and looks
+unfoldable pub stats_text : Totals → List ℕ
+stats_text totals =
+    codes "turns " +++ decimal totals.turns +++ codes " taken " +++ decimal totals.taken +++ codes " redone " +++ decimal totals.redone +++ codes "\n"

@@ -1,6 +1,6 @@
 // What a cell's line says of its content.
 ghost use Rattle.std.specs.Prelude.{decimal};
-ghost use Rattle.dump_print.specs.Content.{food_text, hill_text, digit_text, marks_text, ant_text, clear_text, content_text, colour_text, load_text, standing_text};
+ghost use Rattle.dump_print.specs.Content.{food_text, hill_text, digit_text, marks_text, ant_text, clear_text, content_text, colour_text, load_text, standing_ant_text};
 ghost use Rattle.hex_geometry.specs.Direction.{number_of};
 
 use ant_base::{Each, Failed, Layout, Parts, Sink, layout};
@@ -123,9 +123,9 @@ impl Layout for Facing {
 pub struct Standing(pub Ant);
 
 impl Layout for Standing {
-    ghost text = { λ standing. standing_text standing.0 };
+    ghost text = { λ standing. standing_ant_text standing.0 };
 
-    #[tactic(auto, unfolding(crate::specs::Content::standing_text))]
+    #[tactic(auto, unfolding(crate::specs::Content::standing_ant_text))]
     fn push_to<K: Sink>(&self, sink: &mut K) -> Result<(), Failed> {
         let ant = self.0;
         layout!(

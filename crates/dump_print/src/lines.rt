@@ -2,7 +2,7 @@
 ghost use Rattle.std.specs.Prelude.{◌≡◌, ◌<◌, codes, decimal};
 ghost use Rattle.cell_world.specs.Grid.{world_of};
 ghost use Rattle.ant_base.specs.Layout.{◌+++◌};
-ghost use Rattle.dump_print.specs.Breaks.{line_break, row_tail, broken_line, broken_row};
+ghost use Rattle.dump_print.specs.Inner.Breaks.{line_break, row_tail, broken_line, broken_row};
 ghost use Rattle.dump_print.specs.Content.{content_text};
 ghost use Rattle.dump_print.specs.Texts.{cells_text};
 
@@ -14,7 +14,7 @@ use hex_geometry::Pos;
 use itoa::Buffer;
 
 // What stands between the column and the content of each cell of row `y`, as `, 7): `: it is made once for a row.
-#[tactic(auto, unfolding(crate::specs::Breaks::row_tail))]
+#[tactic(auto, unfolding(crate::specs::Inner::Breaks::row_tail))]
 fn row_tail(y: u16) -> ArrayString<16>
     ensures { result.bytes ≡ row_tail y }
 {
@@ -68,7 +68,7 @@ impl Parts for Row<'_> {
         self.world.width() as usize
     }
 
-    #[tactic(auto, unfolding(crate::specs::Breaks::line_body))]
+    #[tactic(auto, unfolding(crate::specs::Inner::Breaks::line_body))]
     fn push_part<K: Sink>(&self, at: usize, sink: &mut K) -> Result<(), Failed> {
         let world = self.world;
         let columns = world.width();
@@ -94,7 +94,7 @@ impl Parts for Rows<'_> {
         self.0.height() as usize
     }
 
-    #[tactic(auto, unfolding(crate::specs::Breaks::broken_row))]
+    #[tactic(auto, unfolding(crate::specs::Inner::Breaks::broken_row))]
     fn push_part<K: Sink>(&self, at: usize, sink: &mut K) -> Result<(), Failed> {
         let world = self.0;
         let rows = world.height();

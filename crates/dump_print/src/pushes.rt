@@ -1,9 +1,10 @@
 // The public calls, each of which pushes one text.
 ghost use Rattle.ant_base.specs.Sink.{Pushed};
 ghost use Rattle.cell_world.specs.Grid.{world_of};
-ghost use Rattle.dump_print.specs.Texts.{cells_text, dump_text, score_text, seed_text};
+ghost use Rattle.dump_print.specs.Texts.{cells_text, dump_text, score_text, seed_text, stats_text};
 
 use crate::lines::Cells;
+use crate::totals::Totals;
 use ant_base::{Failed, Layout, Sink, layout};
 use cell_world::{Score, World};
 
@@ -39,4 +40,22 @@ pub fn push_score<K: Sink>(score: Score, sink: &mut K) -> Result<(), Failed>
     ensures { Pushed (K.state sink.old) (K.state sink.new) (score_text score) result }
 {
     layout!("\nscore: red ", score.red, " black ", score.black, "\n").push_to(sink)
+}
+
+/// Pushes the line of a game's counts, as `turns 7 taken 5 redone 2` (this project's own layout). Where the sink failed, a front of the line
+/// was pushed.
+#[tactic(auto, unfolding(crate::specs::Texts::stats_text))]
+pub fn push_stats<K: Sink>(totals: Totals, sink: &mut K) -> Result<(), Failed>
+    ensures { Pushed (K.state sink.old) (K.state sink.new) (stats_text totals) result }
+{
+    layout!(
+        "turns ",
+        totals.turns,
+        " taken ",
+        totals.taken,
+        " redone ",
+        totals.redone,
+        "\n"
+    )
+    .push_to(sink)
 }

@@ -13,7 +13,7 @@ use Rattle.hex_geometry.specs.declared.position.Pos.{Pos}
 use Rattle.std.proofs.Common.{◌≡◌, ◌≢◌, ℕ, zero, suc, ◌%◌, ◌≤◌, ◌<◌, length, refl, sym, ◌∙◌, ap, arith, subst}
 use Rattle.std.proofs.lemmas.Bool.{cond_both, eqb-true, eqb-false}
 use Rattle.std.proofs.lemmas.Int.{ints}
-use Rattle.std.specs.Prelude.{ℤ, pos, ◌==◌, AllPairs, Contains, slice_index_or}
+use Rattle.std.specs.Prelude.{ℤ, pos, ◌==◌, AllPairs, Contains, slice_get, slice_index_or, Some}
 
 -- a pair of whole numbers
 abbrev pair : ℤ → ℤ → Point
@@ -115,6 +115,17 @@ neighbours_of_at p (suc (suc (suc zero))) z below = refl
 neighbours_of_at p (suc (suc (suc (suc zero)))) z below = refl
 neighbours_of_at p (suc (suc (suc (suc (suc zero))))) z below = refl
 neighbours_of_at p (suc (suc (suc (suc (suc (suc k)))))) z below = absurd (omega arith)
+
+-- so the list has it at that place
+pub neighbours_of_get : (p : Pos) (k : ℕ) → k < 6 → slice_get (neighbours_of p) k ≡ Some (adjacent_pos p (dir_of k))
+unfolding neighbours_of directions
+neighbours_of_get p zero below = refl
+neighbours_of_get p (suc zero) below = refl
+neighbours_of_get p (suc (suc zero)) below = refl
+neighbours_of_get p (suc (suc (suc zero))) below = refl
+neighbours_of_get p (suc (suc (suc (suc zero)))) below = refl
+neighbours_of_get p (suc (suc (suc (suc (suc zero))))) below = refl
+neighbours_of_get p (suc (suc (suc (suc (suc (suc k)))))) below = absurd (omega arith)
 
 -- the neighbour in each direction is among them
 pub neighbours_of_contains : (p : Pos) (d : Dir) → Contains (neighbours_of p) (adjacent_pos p d)

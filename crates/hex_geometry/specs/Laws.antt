@@ -1,7 +1,7 @@
 -- How neighbours and turns lie to each other (the task's geometry).
-use Rattle.std.specs.Prelude.{◌≡◌, ◌≢◌, ℕ, ◌≤◌, AllPairs, Contains}
+use Rattle.std.specs.Prelude.{◌≡◌, ◌≢◌, ℕ, ◌<◌, ◌≤◌, AllPairs, Contains, slice_get, Some}
 use Rattle.std.specs.Fn.{iterate}
-use Rattle.hex_geometry.specs.Direction.{opposite, turned_by}
+use Rattle.hex_geometry.specs.Direction.{dir_of, number_of, opposite, turned_by}
 use Rattle.hex_geometry.specs.Neighbourhood.{adjacent_pos, neighbours_of}
 use Rattle.hex_geometry.specs.Position.{IsInner, IsInside}
 use Rattle.hex_geometry.specs.declared.direction.Dir.{Dir}
@@ -22,8 +22,14 @@ pub record NeighboursAreMutual : Type 0 where
   -- the neighbours of a position of a world that isn't on the rim are positions of that world
   pub inside : (width height : ℕ) (p : Pos) (d : Dir) → IsInner width height p → IsInside width height (adjacent_pos p d)
 
--- how turns follow on each other
+-- how directions are numbered, and how turns follow on each other
 pub record TurnsGoRound : Type 0 where
+  -- each direction is the one of its number
+  pub dir_of_number : (d : Dir) → dir_of (number_of d) ≡ d
+  -- each number below six is that of its direction, so there are six directions
+  pub number_of_dir : (k : ℕ) → k < 6 → number_of (dir_of k) ≡ k
+  -- the list of the six neighbours has the one in direction k at place k
+  pub neighbour_at : (p : Pos) (k : ℕ) → k < 6 → slice_get (neighbours_of p) k ≡ Some (adjacent_pos p (dir_of k))
   -- a turn to the one side undoes one to the other
   pub left_then_right : (d : Dir) → turned_by (turned_by d Left) Right ≡ d
   pub right_then_left : (d : Dir) → turned_by (turned_by d Right) Left ≡ d

@@ -18,8 +18,8 @@ pub fn neighbours_are_mutual()
     ensures { NeighboursAreMutual }
 {}
 
-/// A law: a turn to the one side undoes one to the other, six turns to a side are none, and three lead to the opposite direction
-/// (the task's geometry).
+/// A law: directions are numbered from 0 to 5, and the neighbours are listed by the number of their direction; a turn to the one side
+/// undoes one to the other, six turns to a side are none, and three lead to the opposite direction (the task's geometry).
 pub fn turns_go_round()
     ensures { TurnsGoRound }
 {}

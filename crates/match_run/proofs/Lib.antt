@@ -1,3 +1,11 @@
-pub mod Playing
+pub mod CountLaws
+pub mod CountLemmas
+pub mod CountWorked
+pub mod GameLemmas
+pub mod LoneWindows
+pub mod PlayLemmas
 pub mod RunLaws
-pub mod Chosen
+pub mod RunLemmas
+pub mod RunWorked
+pub mod SequentialLemmas
+pub mod WindowLemmas

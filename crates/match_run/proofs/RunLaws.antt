@@ -14,7 +14,7 @@ use Rattle.dump_print.specs.Texts.{dump_text, score_text, seed_text}
 use Rattle.match_run.specs.declared.dumps.Dumps.TheVariants.{Chosen}
 use Rattle.match_run.specs.Dumps.{has_round}
 use Rattle.match_run.specs.Run.{chosen_dump, dumps_text, run_text, world_after}
-use Rattle.match_run.specs.Laws.{AllDumps, NoDumps, SameRounds, RepeatAddsNothing, LaterAddsNothing, GoesOn}
+use Rattle.match_run.specs.RunLaws.{AllDumps, NoDumps, SameRounds, RepeatAddsNothing, LaterAddsNothing, GoesOn}
 
 pub all_dumps : AllDumps
 unfolding run_text dumps_text

@@ -1,12 +1,9 @@
 -- The text of a run (the task's game play; the layout is this project's own).
-use Rattle.std.specs.Prelude.{ℕ, ◌+◌, ◌<◌, ◌^◌, List, [], if◌then◌else◌, Result, Ok, Err}
+use Rattle.std.specs.Prelude.{ℕ, ◌+◌, List, [], if◌then◌else◌, Result, Ok, Err}
 use Rattle.ant_base.specs.Layout.{numbered, ◌+++◌}
 use Rattle.ant_base.specs.declared.sink.Failed.{Failed}
-use Rattle.ant_random.specs.Stream.{SeedAndPlace}
 use Rattle.ant_turn.specs.Minds.{Minds}
-use Rattle.ant_turn.specs.Rounds.{Moment, after_rounds, start_of}
-use Rattle.cell_world.specs.Grid.{Grid, world_of}
-use Rattle.cell_world.specs.Limits.{most_ants}
+use Rattle.ant_turn.specs.Rounds.{after_rounds, start_of}
 use Rattle.cell_world.specs.Score.{score_of}
 use Rattle.cell_world.specs.declared.score.Score.{Score}
 use Rattle.cell_world.specs.World.{World}
@@ -30,7 +27,7 @@ chosen_dump dumps w round = if chooses dumps round then dump_text w round else [
 unfoldable pub dumps_text : Minds → ℕ → Dumps → World → ℕ → List ℕ
 dumps_text minds seed dumps w n = numbered (λ round. chosen_dump dumps (world_after minds seed w round) round) n
 
--- the text of a run: the line of the seed, the dump after each round that is chosen, from 0 to the number of rounds in order, and the score
+-- the text of a run without its counts: the line of the seed, the dump after each round that is chosen, from 0 to the number of rounds in order, and the score
 unfoldable pub run_text : Minds → ℕ → ℕ → Dumps → World → List ℕ
 run_text minds seed rounds dumps w =
     seed_text seed
@@ -41,11 +38,3 @@ run_text minds seed rounds dumps w =
 abbrev pub ended : Result Score Failed → Result (Unit {0}) Failed
 ended (Ok _) = Ok tt
 ended (Err failed) = Err failed
-
--- the moment of a world and the stream of its game (the task's kinetics)
-abbrev pub moment_of : Grid → SeedAndPlace → Moment
-moment_of grid stream = record { world = world_of grid; place = stream.place }
-
--- a stream has a random number left for each turn of one more round
-abbrev pub LastsARound : SeedAndPlace → Type 0
-LastsARound stream = stream.place + most_ants < 2 ^ 63

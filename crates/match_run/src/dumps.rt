@@ -1,7 +1,13 @@
-// Which rounds are dumped.
+// Which rounds are dumped, and their dumps.
 ghost use Rattle.std.specs.Prelude.{◌≡◌, [], ◌∷◌, ◌++◌, OnOk, OnErr};
+ghost use Rattle.ant_base.specs.Sink.{Pushed};
+ghost use Rattle.cell_world.specs.Grid.{world_of};
 ghost use Rattle.match_run.specs.Dumps.{chooses, has_round};
+ghost use Rattle.match_run.specs.Run.{chosen_dump};
 
+use ant_base::{Failed, Sink};
+use cell_world::World;
+use dump_print::push_dump;
 use hex_geometry::OutOfMemory;
 use std::alloc::Global;
 use std::marker::Model;
@@ -71,5 +77,21 @@ impl Dumps {
             Dumps::All => true,
             Dumps::Chosen(rounds) => rounds.has(round),
         }
+    }
+}
+
+// Pushes the dump of the world after a round, if that round is chosen.
+pub(crate) fn push_chosen<K: Sink>(
+    world: &World,
+    dumps: &Dumps,
+    round: u32,
+    sink: &mut K,
+) -> Result<(), Failed>
+    ensures { Pushed (K.state sink.old) (K.state sink.new) (chosen_dump dumps.now (world_of world.now) round) result }
+{
+    if dumps.chooses(round) {
+        push_dump(world, round, sink)
+    } else {
+        Ok(())
     }
 }

@@ -1,25 +1,162 @@
-// Rounds, played one after another.
-ghost use Rattle.std.specs.Prelude.{◌≡◌, ◌+◌, ◌≤◌};
-ghost use Rattle.ant_turn.specs.Minds.{Fits, minds_of};
-ghost use Rattle.ant_turn.specs.Rounds.{after_round};
-ghost use Rattle.cell_world.specs.Grid.{world_of};
-ghost use Rattle.cell_world.specs.Limits.{most_ants};
-ghost use Rattle.match_run.specs.Run.{LastsARound, moment_of};
+// A game that is played window by window.
+ghost use Rattle.std.specs.Prelude.{◌≡◌, ◌-◌, ◌<◌, ◌≤◌, ◌^◌, ◌↔◌, IsTrue, OnOk, OnErr, true};
+ghost use Rattle.round_book.specs.Book.{FieldValue};
+ghost use Rattle.match_run.specs.Game.{IsGame, IsRoundPlayed, IsRoundRefused, beginning, counted_on};
+ghost use Rattle.match_run.specs.Run.{most_rounds};
 
-use ant_random::Stream;
-use ant_turn::{Brains, take_turn};
+use crate::windows::play_windows;
 use cell_world::World;
+use dump_print::Totals;
+use hex_geometry::OutOfMemory;
+use round_book::{Crew, Field};
+use std::alloc::Global;
+use std::marker::Model;
 
-// Plays one round: a turn of each id in rising order.
-pub(crate) fn play_round(world: &mut World, brains: Brains<'_>, stream: &mut Stream)
-    requires fit { Fits (world_of world.old) (minds_of brains) }
-    requires place { LastsARound stream.old }
-    ensures moment { moment_of world.new stream.new ≡ after_round (minds_of brains.entry) stream.old.seed (moment_of world.old stream.old) }
-    ensures seed { stream.new.seed ≡ stream.old.seed }
-    ensures place { stream.new.place ≤ stream.old.place + most_ants }
-    ensures fit { Fits (world_of world.new) (minds_of brains.entry) }
-{
-    for id in 0..world.ant_count() {
-        let _deed = take_turn(world, brains, stream, id);
+/// A game that is played round by round, each round window by window, by whatever crew is at hand (the task's game play; windows are this
+/// project's own). It knows its field, which is whole, how many turns a window has, how many rounds are done, the next turn of the round
+/// that isn't, and what came of the turns so far.
+#[derive(Drop)]
+pub struct Game<'b> {
+    field: Field<'b>,
+    window: u32,
+    first_place: u64,
+    done: u32,
+    next: u32,
+    totals: Totals,
+}
+
+impl<'b> Model for Game<'b> {
+    ghost use Rattle.match_run.specs.Game.{GameValue, IsGame};
+
+    ghost Value = { GameValue };
+
+    ghost view = { λ game. record {
+      field = game.field;
+      window = game.window;
+      first_place = game.first_place;
+      done = game.done;
+      next = game.next;
+      totals = game.totals;
+    } };
+
+    ghost invariant = { λ game. IsGame (record {
+      field = game.field;
+      window = game.window;
+      first_place = game.first_place;
+      done = game.done;
+      next = game.next;
+      totals = game.totals;
+    }) };
+}
+
+impl<'b> Game<'b> {
+    /// A game that begins on this field: no round is done, the next turn is that of id 0, and no turn is counted (the task's game play). The
+    /// field is whole, its place is below 2^62, and a window has at least one turn. It takes no memory.
+    pub fn begin(field: Field<'b>, window: u32) -> Game<'b>
+        requires whole { field.whole ≡ true }
+        requires place { field.place < 2 ^ 62 }
+        requires sized { 1 ≤ window }
+        ensures { result ≡ beginning field.entry window }
+    {
+        let first_place = field.place();
+        Game {
+            field,
+            window,
+            first_place,
+            done: 0,
+            next: 0,
+            totals: Totals {
+                turns: 0,
+                taken: 0,
+                redone: 0,
+            },
+        }
+    }
+
+    /// Plays the round that isn't done to its end, window by window (the task's kinetics): the turns from the next one to that of the last
+    /// id, in order. Fewer than 1,000,000 rounds are done. At Ok one more round is done, and the next turn is that of id 0.
+    ///
+    /// It is refused for want of memory alone, where the crew refuses a window. The turns before that window are played then, and counted;
+    /// no further round is done; the window's first turn is the next one, with which the next call goes on. In both cases the crew's count
+    /// of turns has risen as much as that of the totals, or stands at its last value.
+    pub fn round<C: Crew>(&mut self, alloc: Global, crew: &mut C) -> Result<(), OutOfMemory>
+        requires ready { C.ready crew.old }
+        requires few { self.old.done < most_rounds }
+        ensures ready { C.ready crew.new }
+        ensures played { OnOk result (IsRoundPlayed self.old self.new) }
+        ensures refused { OnErr result (IsRoundRefused self.old self.new) }
+        ensures turns { C.played crew.new ≡ counted_on (C.played crew.old) (self.new.totals.turns - self.old.totals.turns) }
+    {
+        let ids = self.field.world().ant_count();
+        let progress = play_windows(
+            alloc,
+            crew,
+            &mut self.field,
+            self.window,
+            self.next,
+            self.totals,
+        );
+        self.totals = progress.totals;
+        if progress.next < ids {
+            self.next = progress.next;
+            return Err(OutOfMemory);
+        }
+        self.next = 0;
+        self.done += 1;
+        Ok(())
+    }
+
+    /// The world as it is (the task's geography).
+    pub fn world(&self) -> &World
+        ensures { result.now ≡ self.now.field.world }
+    {
+        self.field.world()
+    }
+
+    /// The field, which is whole (this project's own).
+    pub fn field(&self) -> &Field<'b>
+        ensures field { result.now ≡ self.now.field }
+        ensures whole { self.now.field.whole ≡ true }
+    {
+        &self.field
+    }
+
+    /// How many rounds are done, at most 1,000,000 (the task's kinetics).
+    pub fn done(&self) -> u32
+        ensures done { result ≡ self.now.done }
+        ensures few { self.now.done ≤ most_rounds }
+    {
+        self.done
+    }
+
+    /// How many turns a window has, at least one (this project's own).
+    pub fn window(&self) -> u32
+        ensures window { result ≡ self.now.window }
+        ensures sized { 1 ≤ self.now.window }
+    {
+        self.window
+    }
+
+    /// What came of the turns so far: they are those of the rounds that are done and of the windows since, each taken or redone (this
+    /// project's own).
+    pub fn totals(&self) -> Totals
+        ensures totals { result ≡ self.now.totals }
+        ensures game { IsGame self.now }
+    {
+        self.totals
+    }
+
+    /// How many random numbers were drawn from the start of the stream on (the task's random numbers).
+    pub fn place(&self) -> u64
+        ensures { result ≡ self.now.field.place }
+    {
+        self.field.place()
+    }
+
+    /// Whether no turn of the round that isn't done was played (this project's own).
+    pub fn at_round_end(&self) -> bool
+        ensures { IsTrue result ↔ (self.now.next ≡ 0) }
+    {
+        self.next == 0
     }
 }

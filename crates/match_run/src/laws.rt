@@ -1,5 +1,6 @@
 // What holds of all games and runs, as laws of their definitions.
-ghost use Rattle.match_run.specs.Laws.{AllDumps, NoDumps, SameRounds, RepeatAddsNothing, LaterAddsNothing, GoesOn};
+ghost use Rattle.match_run.specs.CountLaws.{BrokenRoundsGoOn, CountsComeLast, LoneWindowsAreTaken, RoundsGoOn, TotalsAddUp, WholeRounds};
+ghost use Rattle.match_run.specs.RunLaws.{AllDumps, NoDumps, SameRounds, RepeatAddsNothing, LaterAddsNothing, GoesOn};
 
 /// The text of a run with `Dumps::All` is the line of the seed, the dump after each round from 0 to the number of rounds in order, and the
 /// score (the task's game play; the layout is this project's own). The call does nothing: its clause is the law.
@@ -33,4 +34,39 @@ pub fn later_adds_nothing()
 /// they were (the task's game play and kinetics). The call does nothing: its clause is the law.
 pub fn goes_on()
     ensures { GoesOn }
+{}
+
+/// Rounds go on: some rounds and those after them lead where all of them lead, and their turns are the turns of all (this project's own; rounds
+/// are the task's kinetics). The call does nothing: its clause is the law.
+pub fn rounds_go_on()
+    ensures { RoundsGoOn }
+{}
+
+/// A game's rounds have a turn for each id, and each turn is taken or executed anew, however many turns a window has (this project's own). The
+/// call does nothing: its clause is the law.
+pub fn totals_add_up()
+    ensures { TotalsAddUp }
+{}
+
+/// Where a window has one turn, every turn of a game's rounds is taken (this project's own). The call does nothing: its clause is the law.
+pub fn lone_windows_are_taken()
+    ensures { LoneWindowsAreTaken }
+{}
+
+/// The counts stand on the last line alone: without that line the text of a run is the same, however many turns a window has (this project's
+/// own). The call does nothing: its clause is the law.
+pub fn counts_come_last()
+    ensures { CountsComeLast }
+{}
+
+/// A `round` of a game that begins with the turn of id 0 leads where a round leads, and has its turns (the task's kinetics). The call does
+/// nothing: its clause is the law.
+pub fn whole_rounds()
+    ensures { WholeRounds }
+{}
+
+/// A `round` that was refused and is then gone on with leads where it leads at once, with the same counts (this project's own). The call does
+/// nothing: its clause is the law.
+pub fn broken_rounds_go_on()
+    ensures { BrokenRoundsGoOn }
 {}

@@ -10,8 +10,8 @@ pub struct Plan {
     pub rounds: u32,
     /// After which rounds the world is dumped.
     pub dumps: Dumps,
-    /// How many turns a window of looks has, from 1 to 16,384; no call reads it yet.
+    /// How many turns a window of looks has, from 1 to 16,384.
     pub window: u32,
-    /// Whether the counts of looks are printed; no call reads it yet.
+    /// Whether the line of the counts is printed.
     pub stats: bool,
 }

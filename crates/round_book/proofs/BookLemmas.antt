@@ -1,13 +1,11 @@
 -- What a look is worth in a book.
-use Rattle.std.proofs.Common.{◌≡◌, ◌≢◌, ◌⊎◌, inl, inr, ⊎_elim, ◌↔◌, ℕ, zero, suc, ◌+◌, ◌-◌, ◌<◌, ◌≤◌, ◌^◌, Bool, true, false, List, [], ◌∷◌, ◌++◌, length, map, Option, Some, None, refl, sym, ◌∙◌, ap, ap₂, subst, arith}
+use Rattle.std.proofs.Common.{◌≡◌, ◌≢◌, inl, inr, ⊎_elim, ℕ, suc, ◌+◌, ◌-◌, ◌<◌, ◌≤◌, false, List, [], ◌∷◌, ◌++◌, map, refl, sym, ◌∙◌, ap, subst, arith}
 use Rattle.std.specs.List.{AllByRecursion, Contains}
 use Rattle.std.proofs.lemmas.List.Elements.{Contains-append_right}
 use Rattle.hex_geometry.specs.declared.position.Pos.{Pos}
-use Rattle.cell_world.specs.declared.cell.Cell.{Cell}
-use Rattle.cell_world.specs.declared.part.Part.{Part}
 use Rattle.cell_world.specs.Cell.{one_if}
-use Rattle.cell_world.specs.Grid.{Grid, world_of}
-use Rattle.cell_world.specs.Parts.{Agree, Alike, has_part, part}
+use Rattle.cell_world.specs.Grid.{world_of}
+use Rattle.cell_world.specs.Parts.{Agree, has_part, part}
 use Rattle.cell_world.specs.Valid.{Valid}
 use Rattle.cell_world.specs.World.{Cells, World, with_cells}
 use Rattle.cell_world.proofs.Places.{clear_inside}
@@ -15,38 +13,27 @@ use Rattle.ant_turn.specs.Keeps.{Keeps}
 use Rattle.ant_turn.specs.Minds.{AreSound, Fits, Minds}
 use Rattle.ant_turn.specs.Rounds.{Moment, after_turn}
 use Rattle.ant_turn.specs.Turn.{Outcome, turn}
-use Rattle.spec_record.specs.Claims.{Claim, Sighting, with_cells_at}
-use Rattle.spec_record.specs.Holds.{Holds, LookHolds}
+use Rattle.spec_record.specs.Claims.{Claim, Sighting, with_cells_at, places_of}
+use Rattle.spec_record.specs.Holds.{Holds}
 use Rattle.spec_record.specs.Locality.{GoesOn, outcome_by}
 use Rattle.spec_record.specs.Look.{LookValue, look_of}
-use Rattle.spec_record.specs.Patching.{patched_cells}
 use Rattle.spec_record.specs.Reads.{reads}
 use Rattle.spec_record.specs.Writes.{writes}
-use Rattle.spec_record.proofs.Claiming as claiming
 use Rattle.spec_record.proofs.Flips.{LookHolds-Holds, look-drew}
 use Rattle.spec_record.proofs.Patched.{turn-patched}
-use Rattle.spec_record.proofs.Settling.{Makes, places_of}
+use Rattle.spec_record.proofs.Settling.{Makes}
 use Rattle.spec_record.proofs.SettlingTurns.{look-CanSetWrites, settles}
 use Rattle.round_book.specs.declared.verdict.Cause.{Cause}
 use Rattle.round_book.specs.declared.verdict.Cause.TheVariants as cause
 use Rattle.round_book.specs.declared.verdict.Verdict.{Verdict}
 use Rattle.round_book.specs.declared.verdict.Verdict.TheVariants.{Taken, Redone}
-use Rattle.round_book.specs.Book.{AgreesUnwritten, BookValue, CanPatchIn, CanTake, EachOnce, FieldValue, HoldsInBook, IsCause, IsChanged, IsEnded, IsMoved, IsRedone, IsSameWindow, IsTaken, Settles, Stands, StandsOn, Wrote, moment_of, window_of}
+use Rattle.round_book.specs.Book.{AgreesUnwritten, BookValue, CanPatchIn, CanTake, HoldsInBook, IsCause, IsEnded, IsRedone, IsSameWindow, IsTaken, Stands, Wrote, moment_of}
 use Rattle.round_book.specs.Machine.{taken}
-use Rattle.round_book.specs.Window.{HoldsIn, IsElsewhere, IsOther, IsPlayable, IsVerdict, AreVerdicts, Window, guess_for, look_for, moment_before}
+use Rattle.round_book.specs.Window.{HoldsIn, IsPlayable, IsVerdict, AreVerdicts, Window, guess_for, look_for, moment_before}
 use Rattle.round_book.proofs.MachineLemmas.{Keeps-moment_before, moment_before-suc}
 use Rattle.round_book.proofs.MarkLemmas.{Contains-cons, none_contained}
 use Rattle.round_book.proofs.PassLemmas.{patched_cells-other}
 use Rattle.round_book.proofs.WindowLemmas.{GoesOn-Keeps, LookIsTurn-window}
-
--- the positions of writes, each once
-once_apart : (writes : List Sighting) (q : Pos) → AllByRecursion (λ p. p ≢ q) (places_of writes) → AllByRecursion (λ other. other.0 ≢ q) writes
-once_apart [] q all = tt
-once_apart (write ∷ writes) q all = (all.0, once_apart writes q all.1)
-
-once_each : (writes : List Sighting) → claiming.EachOnce (places_of writes) → EachOnce writes
-once_each [] once = tt
-once_each (write ∷ writes) once = (once_apart writes write.0 once.0, once_each writes once.1)
 
 -- each can be patched
 each_patched : (now : World) (wanted : Cells) (writes : List Sighting) → Valid now → AllByRecursion (Makes now.cells wanted) writes → AllByRecursion (λ write. (now.cells write.0).rocky ≡ false) writes → AllByRecursion (CanPatchIn now) writes
@@ -60,7 +47,6 @@ pub look-CanTake : (minds : Minds) (seed : ℕ) (base : World) (guess : ℕ) (no
 look-CanTake minds seed base guess now place t sound valid_base valid fits goes holds =
     let may = settles minds seed base guess now place t sound valid_base valid fits goes holds in
     record {
-      once = once_each (look_of minds seed base guess t).writes may.once;
       each = each_patched now (turn minds seed now place t).cells (look_of minds seed base guess t).writes valid may.made may.clear;
       in_order = look-CanSetWrites minds seed base guess now place t sound valid_base valid fits goes holds 9 (omega arith);
     }
@@ -140,7 +126,7 @@ module _ (window : Window) (book : BookValue) (playable : IsPlayable window) (st
       look-CanTake window.minds window.seed window.base (guess_for window t) (world_of book.world) book.place t playable.sound playable.valid keeps.valid keeps.fits (GoesOn-Keeps window (world_of book.world) t playable keeps) (look_for-holds t holds)
 
 -- what isn't contained is apart
-apart_from : (writes : List Sighting) (p : Pos) → ¬ Contains (places_of writes) p → AllByRecursion (λ write. write.0 ≢ p) writes
+apart_from : (writes : List Sighting) (p : Pos) → ¬ Contains (places_of writes) p → AllByRecursion (λ q. q ≢ p) (places_of writes)
 apart_from [] p none = tt
 apart_from (write ∷ writes) p none = (
   λ same. none (subst (λ q. Contains (write.0 ∷ places_of writes) q) same (0, omega arith, refl)),

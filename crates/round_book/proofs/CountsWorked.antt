@@ -1,7 +1,6 @@
 -- Windows, worked out.
-use Rattle.std.proofs.Common.{◌≡◌, ℕ, true, false, List, [], ◌∷◌, Some, None, refl, arith}
+use Rattle.std.proofs.Common.{◌≡◌, false, [], ◌∷◌, None, refl}
 use Rattle.hex_geometry.specs.declared.neighbourhood.Sight.TheVariants.{LeftAhead}
-use Rattle.hex_geometry.specs.declared.position.Pos.{Pos}
 use Rattle.hex_geometry.specs.Direction.{directions, turned_by}
 use Rattle.hex_geometry.specs.Neighbourhood.{adjacent_pos, neighbours_of, sensed_pos}
 use Rattle.hex_geometry.specs.Position.{same_pos}
@@ -9,7 +8,7 @@ use Rattle.cell_world.specs.declared.kind.Kind.TheVariants as kind
 use Rattle.cell_world.specs.Cell.{rock}
 use Rattle.cell_world.specs.Grid.{cell_in, world_of}
 use Rattle.cell_world.specs.Opening.{floor, opening}
-use Rattle.cell_world.specs.World.{World, place_in, put_cell}
+use Rattle.cell_world.specs.World.{place_in, put_cell}
 use Rattle.brain_read.specs.declared.instr.Cond.{Cond}
 use Rattle.brain_read.specs.declared.instr.Cond.TheVariants as condition
 use Rattle.brain_read.specs.declared.instr.Instr.TheVariants.{Mark, Sense}
@@ -24,7 +23,7 @@ use Rattle.spec_record.specs.Look.{look_of}
 use Rattle.spec_record.specs.Reads.{reads}
 use Rattle.spec_record.specs.Writes.{writes}
 use Rattle.spec_record.proofs.LooksWorked.{field, minds}
-use Rattle.round_book.specs.Counts.{Counted, counts_of, is_taken}
+use Rattle.round_book.specs.Counts.{counts_of, is_taken}
 use Rattle.round_book.specs.Window.{Window, guess_for, look_for, moment_before}
 
 -- a window of all seven turns: red ants flip, a black one moves and kills the red ant of id 2

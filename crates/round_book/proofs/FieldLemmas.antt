@@ -1,13 +1,10 @@
 -- Books on fields: where one begins, goes on, and ends.
-use Rattle.std.proofs.Common.{◌≡◌, ◌≢◌, ℕ, ◌+◌, ◌-◌, ◌<◌, ◌≤◌, ◌^◌, Bool, true, false, List, [], length, Option, Some, None, refl, sym, ◌∙◌, ap, ap₂, subst, arith}
+use Rattle.std.proofs.Common.{◌≡◌, ℕ, ◌+◌, ◌-◌, ◌<◌, ◌≤◌, true, false, [], length, Option, Some, None, refl, sym, ◌∙◌, ap, ap₂, subst, arith}
 use Rattle.std.specs.Prelude.{IfOk, OnOk, Result, Ok, Err}
-use Rattle.std.specs.List.{AllByRecursion, Contains, count_by}
-use Rattle.hex_geometry.specs.declared.position.Pos.{Pos}
-use Rattle.cell_world.specs.Grid.{Grid, IsWorld, world_of}
-use Rattle.cell_world.specs.World.{World}
+use Rattle.std.specs.List.{AllByRecursion, count_by}
+use Rattle.cell_world.specs.Grid.{IsWorld, world_of}
 use Rattle.ant_turn.specs.Keeps.{Keeps}
 use Rattle.ant_turn.specs.Minds.{AreSound, Fits, Minds}
-use Rattle.ant_turn.specs.Rounds.{Moment}
 use Rattle.spec_record.specs.Look.{LookValue}
 use Rattle.round_book.specs.declared.verdict.Cause.{Cause}
 use Rattle.round_book.specs.Book.{AgreesUnwritten, BookValue, CanBegin, CanTake, FieldValue, HoldsInBook, IsCause, IsPlayed, IsRedone, IsSameWindow, IsTaken, Settles, Stands, StandsOn, begun, moment_of, window_of}

@@ -1,11 +1,11 @@
 -- Windows of one turn.
-use Rattle.std.proofs.Common.{◌≡◌, ℕ, ◌+◌, ◌-◌, true, refl, sym, ◌∙◌, ap, ap₂, subst, arith}
+use Rattle.std.proofs.Common.{◌≡◌, ℕ, ◌+◌, ◌-◌, true, sym, ◌∙◌, ap, subst, arith}
 use Rattle.cell_world.specs.Cell.{one_if}
 use Rattle.ant_turn.specs.Rounds.{Moment}
 use Rattle.spec_record.specs.Holds.{Holds}
 use Rattle.round_book.specs.CountLaws.{LoneTurnsAreTaken}
 use Rattle.round_book.specs.Counts.{Counted, counts_of, is_taken, taken_among}
-use Rattle.round_book.specs.Window.{HoldsIn, Window, guess_for, moment_before}
+use Rattle.round_book.specs.Window.{HoldsIn, Window, moment_before}
 use Rattle.round_book.proofs.BookLemmas.{Holds-itself}
 use Rattle.round_book.proofs.CountLemmas.{is_taken-test}
 use Rattle.round_book.proofs.MachineLemmas.{moment_before-from}

@@ -1,17 +1,15 @@
 -- What lawful events lead to.
-use Rattle.std.proofs.Common.{◌≡◌, ◌≢◌, ◌⊎◌, inl, inr, ⊎_elim, ℕ, zero, suc, ◌+◌, ◌-◌, ◌<◌, ◌≤◌, Bool, true, false, cond, nat_eq, List, [], ◌∷◌, ◌++◌, refl, sym, ◌∙◌, ap, ap₂, subst, arith}
+use Rattle.std.proofs.Common.{◌≡◌, ◌≢◌, ⊎_elim, ℕ, suc, ◌+◌, ◌-◌, ◌<◌, ◌≤◌, nat_eq, List, [], ◌∷◌, ◌++◌, refl, sym, ◌∙◌, ap, subst, arith}
 use Rattle.std.proofs.lemmas.Bool.{cond-false, cond-true, cases_eq, eq-eqb, ne_eqb}
 use Rattle.std.specs.List.{Contains}
 use Rattle.std.proofs.lemmas.List.Elements.{Contains-append_left, Contains-push_cases}
 use Rattle.cell_world.specs.Cell.{one_if}
-use Rattle.cell_world.specs.World.{World}
 use Rattle.ant_turn.specs.Keeps.{Keeps}
 use Rattle.ant_turn.specs.Rounds.{Moment, after_turn, after_turns}
 use Rattle.ant_turn.proofs.KeptByRounds.{Keeps-after_turns}
-use Rattle.round_book.specs.declared.verdict.Cause.{Cause}
 use Rattle.round_book.specs.declared.verdict.Verdict.{Verdict}
 use Rattle.round_book.specs.declared.verdict.Verdict.TheVariants.{Taken, Redone}
-use Rattle.round_book.specs.Machine.{AreDealt, AreLawful, CanPut, CanSettle, Event, IsPut, IsReached, Put, State, dealt, first_state, happens, run, settled, taken, times}
+use Rattle.round_book.specs.Machine.{AreDealt, AreLawful, CanSettle, Event, IsReached, State, dealt, first_state, happens, run, settled, taken, times}
 use Rattle.round_book.specs.Machine.Event.{Draws, Puts, Settles}
 use Rattle.round_book.specs.Machine.{IsLawful}
 use Rattle.round_book.specs.Window.{Window, AreVerdicts, HoldsIn, IsPlayable, IsVerdict, look_for, moment_before}

@@ -1,5 +1,5 @@
 -- Positions that are marked, or whose marks are taken off, one after another.
-use Rattle.std.proofs.Common.{◌≡◌, ◌≢◌, ◌⊎◌, inl, inr, ⊎_elim, ◌↔◌, ℕ, zero, suc, ◌+◌, ◌*◌, ◌<◌, ◌≤◌, Bool, true, false, List, [], ◌∷◌, ◌++◌, length, map, drop, slice_index_or, slice_set, refl, sym, ◌∙◌, ap, subst, arith, Option, Some, None}
+use Rattle.std.proofs.Common.{◌≡◌, ◌⊎◌, inl, inr, ⊎_elim, ◌↔◌, ℕ, zero, suc, ◌+◌, ◌*◌, ◌<◌, ◌≤◌, Bool, true, false, List, [], ◌∷◌, length, drop, slice_index_or, slice_set, refl, sym, ◌∙◌, ap, subst, arith, Some, None}
 use Rattle.std.specs.List.{AllByRecursion, Contains}
 use Rattle.std.proofs.lemmas.Bool.{cases_eq, false≢true}
 use Rattle.std.proofs.lemmas.List.{at_drop_all, drop_more, get_or-set_other, get_or-set_same, length-set}
@@ -9,14 +9,13 @@ use Rattle.hex_geometry.specs.Position.{IsInside}
 use Rattle.cell_world.specs.Grid.{Grid, index_of}
 use Rattle.cell_world.specs.Parts.{Agree}
 use Rattle.cell_world.specs.World.{Cells}
-use Rattle.cell_world.proofs.Grids.{index_of-inside}
-use Rattle.spec_record.specs.Claims.{Sighting}
+use Rattle.cell_world.proofs.GridLemmas.{index_of-inside}
+use Rattle.spec_record.specs.Claims.{Sighting, places_of}
 use Rattle.round_book.specs.declared.verdict.Cause.{Cause}
 use Rattle.round_book.specs.declared.verdict.Cause.TheVariants as cause
-use Rattle.round_book.specs.Book.{IsChanged, Wrote}
+use Rattle.round_book.specs.Book.{Wrote}
 use Rattle.round_book.specs.Inner.Changes.{AgreesIfUnwritten, Changes}
 use Rattle.round_book.specs.Inner.Workspace.{AreMarked}
-use Rattle.round_book.proofs.WorkspaceLemmas.{index_of-same}
 
 -- nothing is in the empty list
 pub none_contained : {A : Type 0} {B : Type 0} (x : A) → Contains [] x → B
@@ -34,10 +33,6 @@ Contains-first y xs = (0, omega arith, refl)
 
 Contains-later : {A : Type 0} (y : A) (xs : List A) (x : A) → Contains xs x → Contains (y ∷ xs) x
 Contains-later y xs x held = Contains-append_right (y ∷ []) xs x held
-
--- the positions of writes
-abbrev pub places_of : List Sighting → List Pos
-places_of writes = map (λ write. write.0) writes
 
 Contains-place : (writes : List Sighting) (i : ℕ) (d : Sighting) → i < length writes → Contains (places_of writes) (slice_index_or writes i d).0
 Contains-place [] i d early = absurd (omega arith)

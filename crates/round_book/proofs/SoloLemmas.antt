@@ -1,25 +1,22 @@
 -- Guesses, one after another, and the looks that are made at them.
-use Rattle.std.proofs.Common.{◌≡◌, ℕ, zero, suc, ◌+◌, ◌-◌, ◌<◌, ◌≤◌, ◌^◌, Bool, true, false, refl, sym, ◌∙◌, ap, ap₂, subst, arith}
+use Rattle.std.proofs.Common.{◌≡◌, ℕ, zero, suc, ◌+◌, ◌-◌, ◌<◌, ◌≤◌, ◌^◌, sym, ◌∙◌, ap, ap₂, arith}
 use Rattle.cell_world.specs.Cell.{one_if}
 use Rattle.cell_world.specs.Grid.{Grid, world_of}
 use Rattle.cell_world.specs.World.{World}
 use Rattle.ant_turn.specs.Minds.{Minds}
 use Rattle.spec_record.specs.Guess.{flips, flips_among, guess}
 use Rattle.spec_record.specs.Look.{LookValue, look_of}
+use Rattle.spec_record.proofs.Flipping.{one_if-small}
 use Rattle.spec_record.proofs.Flips.{look-drew}
 use Rattle.round_book.specs.Book.{BookValue, FieldValue, IsSameWindow, StandsOn, window_of}
 use Rattle.round_book.specs.Window.{Window, guess_for, look_for}
-
-pub one_if-le : (b : Bool) → one_if b ≤ 1
-one_if-le true = omega arith
-one_if-le false = omega arith
 
 -- no more turns draw than there are
 flips_among-le : (minds : Minds) (w : World) (from n : ℕ) → flips_among minds w from n ≤ n
 flips_among-le minds w from zero = omega arith
 flips_among-le minds w from (suc n) =
     let rest : flips_among minds w from n ≤ n = flips_among-le minds w from n in
-    let one : one_if (flips minds w (from + n)) ≤ 1 = one_if-le (flips minds w (from + n)) in
+    let one : one_if (flips minds w (from + n)) ≤ 1 = one_if-small (flips minds w (from + n)) in
     omega arith
 
 -- the first guess, and the next one
@@ -29,7 +26,7 @@ guess_for-from window =
     let none : window.from - window.from ≡ 0 = omega arith in
     ap (λ n. window.place + flips_among window.minds window.base window.from n) none ∙ (let e : window.place + 0 ≡ window.place = omega arith in e)
 
-guess_for-next : (window : Window) (t : ℕ) → window.from ≤ t → guess_for window (t + 1) ≡ guess_for window t + one_if (flips window.minds window.base t)
+pub guess_for-next : (window : Window) (t : ℕ) → window.from ≤ t → guess_for window (t + 1) ≡ guess_for window t + one_if (flips window.minds window.base t)
 unfolding guess_for guess
 guess_for-next window t before =
     let more : t + 1 - window.from ≡ suc (t - window.from) = omega arith in

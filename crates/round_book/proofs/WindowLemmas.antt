@@ -1,15 +1,14 @@
 -- A look that holds is worth its turn.
-use Rattle.std.proofs.Common.{◌≡◌, ℕ, ◌+◌, ◌<◌, Option, Some, None, false, refl, sym, ◌∙◌, ap, ap₂, subst, arith}
+use Rattle.std.proofs.Common.{◌≡◌, ℕ, ◌+◌, sym, ap}
 use Rattle.cell_world.specs.Cell.{one_if}
 use Rattle.cell_world.proofs.Places.{place_in-none, place_in-nowhere}
-use Rattle.cell_world.specs.World.{World, Cells, place_in, with_cells}
+use Rattle.cell_world.specs.World.{World, with_cells}
 use Rattle.ant_turn.specs.Keeps.{Keeps}
-use Rattle.ant_turn.specs.Rounds.{Moment, after_turn}
+use Rattle.ant_turn.specs.Rounds.{after_turn}
 use Rattle.ant_turn.specs.Turn.{Outcome, turn}
 use Rattle.spec_record.specs.Locality.{GoesOn, outcome_by}
 use Rattle.spec_record.proofs.Patched.{turn-patched}
-use Rattle.round_book.specs.Machine.{taken}
-use Rattle.round_book.specs.Window.{Window, HoldsIn, IsPlayable, guess_for, look_for}
+use Rattle.round_book.specs.Window.{Window, IsPlayable, guess_for, look_for}
 use Rattle.round_book.proofs.MachineLemmas.{LookIsTurn}
 
 -- what turns keep is what a look's turn depends on besides what it reads

@@ -1,5 +1,5 @@
 -- Fields and books: a game's world, and a window of its turns that is being settled (this project's own).
-use Rattle.std.specs.Prelude.{◌≡◌, ◌≢◌, ◌⊎◌, ◌↔◌, ℕ, ◌+◌, ◌-◌, ◌<◌, ◌≤◌, ◌^◌, Bool, true, false, ⊤, List, ◌∷◌, [], ◌++◌, map, Option, Some, None}
+use Rattle.std.specs.Prelude.{◌≡◌, ◌≢◌, ◌⊎◌, ◌↔◌, ℕ, ◌+◌, ◌-◌, ◌<◌, ◌≤◌, ◌^◌, Bool, true, false, List, ◌∷◌, [], ◌++◌, map, Option, Some, None}
 use Rattle.std.specs.List.{AllByRecursion, Contains}
 use Rattle.hex_geometry.specs.declared.position.Pos.{Pos}
 use Rattle.hex_geometry.specs.Position.{IsInside}
@@ -96,19 +96,13 @@ IsCause look now (cause.Place guessed actual) = IsMoved look now guessed actual
 abbrev pub AgreesUnwritten : BookValue → Sighting → Type 0
 AgreesUnwritten book read = ¬ Contains book.written read.0 → Agree read.1 read.2 ((world_of book.world).cells read.0)
 
--- no two writes name one position
-abbrev pub EachOnce : List Sighting → Type 0
-EachOnce [] = ⊤
-EachOnce (write ∷ writes) = AllByRecursion (λ other. other.0 ≢ write.0) writes × EachOnce writes
-
 -- a write can be patched into the cell of its position, which is inside
 abbrev pub CanPatchIn : World → Sighting → Type 0
 CanPatchIn w write = IsInside w.width w.height write.0 × CanPatch (w.cells write.0) write.2 write.1
 
--- writes may be set in a world: each at a position of its own, where it can be patched; and the patched cells may be set one after another,
--- first those that don't raise the weight of their cell, then the others
+-- writes may be set in a world: each can be patched at its position; and the patched cells may be set one after another, first those that
+-- don't raise the weight of their cell, then the others
 pub record CanTake (w : World) (writes : List Sighting) : Type 0 where
-  pub once : EachOnce writes
   pub each : AllByRecursion (CanPatchIn w) writes
   pub in_order : CanSetWrites w 9 writes
 

@@ -8,7 +8,6 @@ use Rattle.cell_world.specs.declared.part.Part.TheVariants.{Who, Mind, Load, Foo
 use Rattle.cell_world.specs.declared.part.Parts.{Parts}
 use Rattle.cell_world.specs.Cell.{one_if}
 use Rattle.cell_world.specs.Colour.{same_colour}
-use Rattle.cell_world.specs.Parts.{has_part}
 use Rattle.cell_world.specs.World.{Cells}
 use Rattle.spec_record.specs.Claims.{Sighting}
 use Rattle.spec_record.specs.Look.{LookValue}

@@ -1,5 +1,5 @@
 -- Workers on one window, as events one after another (this project's own): tickets are drawn, looks are put, turns are settled in order.
-use Rattle.std.specs.Prelude.{◌≡◌, ◌≢◌, ◌⊎◌, ℕ, ◌+◌, ◌-◌, ◌<◌, ◌≤◌, Bool, ⊤, cond, nat_eq, List, [], ◌∷◌, ◌++◌}
+use Rattle.std.specs.Prelude.{◌≡◌, ◌≢◌, ℕ, ◌+◌, ◌-◌, ◌<◌, ◌≤◌, ⊤, cond, nat_eq, List, [], ◌∷◌, ◌++◌}
 use Rattle.std.specs.List.{Contains}
 use Rattle.cell_world.specs.Cell.{one_if}
 use Rattle.cell_world.specs.World.{with_cells}

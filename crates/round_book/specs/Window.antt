@@ -13,7 +13,6 @@ use Rattle.spec_record.specs.Guess.{flips, guess}
 use Rattle.spec_record.specs.Holds.{Holds}
 use Rattle.spec_record.specs.Look.{LookValue, look_of}
 use Rattle.spec_record.specs.Reads.{reads}
-use Rattle.round_book.specs.declared.verdict.Cause.{Cause}
 use Rattle.round_book.specs.declared.verdict.Cause.TheVariants as cause
 use Rattle.round_book.specs.declared.verdict.Verdict.{Verdict}
 use Rattle.round_book.specs.declared.verdict.Verdict.TheVariants.{Taken, Redone}

@@ -8,7 +8,7 @@ ghost use Rattle.cell_world.specs.World.{with_cells};
 ghost use Rattle.spec_record.specs.Patching.{patched_cells};
 ghost use Rattle.round_book.specs.Book.{CanPatchIn, CanTake};
 ghost use Rattle.round_book.specs.Inner.Passes.{CanSetInPass, CanSetPass, after_pass, is_in_pass, with_pass};
-ghost use Rattle.round_book.specs.Book as book;
+ghost use Rattle.spec_record.specs.Claims.{EachOnce, places_of};
 ghost use Rattle.std.specs.List.{AllByRecursion};
 
 use cell_world::{Ant, Cell, Ground, Parts, World};
@@ -17,7 +17,8 @@ use hex_geometry::Pos;
 // Sets the named parts of each write: first where that doesn't raise the weight of the cell, then at the others, so that the world is
 // light enough at every step.
 pub(crate) fn set_writes(world: &mut World, writes: &[(Pos, Parts, Cell)])
-    requires { CanTake (world_of world.old) writes.now }
+    requires once { EachOnce (places_of writes.now) }
+    requires may { CanTake (world_of world.old) writes.now }
     ensures { world_of world.new ≡ with_cells (world_of world.old) (patched_cells (world_of world.old).cells writes.now) }
 {
     set_pass(world, writes, false);
@@ -26,7 +27,7 @@ pub(crate) fn set_writes(world: &mut World, writes: &[(Pos, Parts, Cell)])
 
 // Sets those writes that raise the weight of their cell, or those that don't.
 fn set_pass(world: &mut World, writes: &[(Pos, Parts, Cell)], heavier: bool)
-    requires once { book.EachOnce writes.now }
+    requires once { EachOnce (places_of writes.now) }
     requires each { AllByRecursion (CanPatchIn (world_of world.old)) writes.now }
     requires set { CanSetPass heavier (world_of world.old) writes.now }
     ensures { world_of world.new ≡ after_pass heavier (world_of world.old) writes.now }

@@ -5,6 +5,7 @@ ghost use Rattle.std.specs.Vec.{vec_capacity, vec_len};
 ghost use Rattle.hex_geometry.specs.Position.{IsInside};
 ghost use Rattle.cell_world.specs.Grid.{Grid, IsWorld, index_of, world_of};
 ghost use Rattle.cell_world.specs.World.{with_cells};
+ghost use Rattle.spec_record.specs.Claims.{EachOnce, places_of};
 ghost use Rattle.spec_record.specs.Patching.{patched_cells};
 ghost use Rattle.round_book.specs.Book.{CanTake, Wrote};
 ghost use Rattle.round_book.specs.Inner.Changes.{AgreesIfUnwritten, Changes};
@@ -128,6 +129,7 @@ impl Workspace {
     // Sets the named parts of writes, and marks their cells.
     pub(crate) fn write(&mut self, writes: &[(Pos, Parts, Cell)])
         requires marks { AreMarked self.old.world self.old.marked.items self.old.written.items }
+        requires once { EachOnce (places_of writes.now) }
         requires writes { CanTake (world_of self.old.world) writes.now }
         requires room { vec_len self.old.written + length writes.now ≤ vec_capacity self.old.written }
         ensures world { world_of self.new.world ≡ with_cells (world_of self.old.world) (patched_cells (world_of self.old.world).cells writes.now) }

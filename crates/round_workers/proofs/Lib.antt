@@ -9,3 +9,5 @@ pub mod BoardSteps
 pub mod BoardTickets
 pub mod BoardTotalLemmas
 pub mod BoardWorking
+pub mod PieceLemmas
+pub mod ShareLemmas

@@ -1,5 +1,5 @@
 -- How many cells a Move that goes reads and writes at most.
-use Rattle.std.proofs.Common.{◌≡◌, ◌≢◌, ℕ, ◌≤◌, if◌then◌else◌, Bool, true, false, List, [], ◌∷◌, ◌++◌, length, refl, sym, ◌∙◌, ap, subst, arith}
+use Rattle.std.proofs.Common.{◌≡◌, ◌≢◌, ◌≤◌, if◌then◌else◌, Bool, true, false, List, [], ◌∷◌, ◌++◌, length, refl, ◌∙◌, ap, subst, arith}
 use Rattle.std.specs.List.{AllByRecursion, flat_map}
 use Rattle.std.proofs.lemmas.Bool.{cond-false}
 use Rattle.hex_geometry.specs.declared.position.Pos.{Pos}
@@ -11,7 +11,6 @@ use Rattle.hex_geometry.specs.declared.direction.Dir.TheVariants.{East, SouthEas
 use Rattle.hex_geometry.proofs.Beside.{adjacent_pos_back}
 use Rattle.hex_geometry.proofs.Places.{same_pos_apart}
 use Rattle.cell_world.specs.declared.part.Part.TheVariants as part
-use Rattle.cell_world.specs.declared.part.Parts.{Parts}
 use Rattle.cell_world.specs.Parts.{only, union}
 use Rattle.cell_world.specs.Valid.{Valid}
 use Rattle.cell_world.specs.World.{Cells, World}

@@ -6,18 +6,16 @@ use Rattle.hex_geometry.specs.declared.position.Pos.{Pos}
 use Rattle.hex_geometry.specs.Neighbourhood.{neighbours_of}
 use Rattle.cell_world.specs.declared.ant.Ant.{Ant}
 use Rattle.cell_world.specs.declared.ant.Colour.{Colour}
-use Rattle.cell_world.specs.declared.cell.Cell.{Cell}
-use Rattle.cell_world.specs.declared.part.Part.{Part}
 use Rattle.cell_world.specs.declared.part.Part.TheVariants.{Who, Load, Food}
 use Rattle.cell_world.specs.Cell.{is_ant_of}
 use Rattle.cell_world.specs.Colour.{foe_of, same_colour}
 use Rattle.cell_world.specs.Parts.{Alike, Identity, identity_of}
-use Rattle.cell_world.specs.World.{Cells, put_cell}
+use Rattle.cell_world.specs.World.{Cells}
 use Rattle.ant_turn.specs.Kills.{after_kill, ants_among, check_all, check_at, has_foes, id_of, is_surrounded, killed_all, killed_at}
 use Rattle.ant_turn.specs.Sheet.{Sheet}
 use Rattle.ant_turn.specs.Turn.{has_ant}
 use Rattle.ant_turn.proofs.Checks.{check_at-spared, check_at-struck}
-use Rattle.ant_turn.proofs.Kept.{check_all-ant}
+use Rattle.ant_turn.proofs.KeptByChecks.{check_all-ant}
 use Rattle.spec_record.specs.Claims.{Claim, claim}
 use Rattle.spec_record.specs.Reads.{ant_and_food, emptied}
 use Rattle.spec_record.proofs.OwnSteps.{kill_step}

@@ -6,14 +6,14 @@ use Rattle.std.proofs.lemmas.List.Kept.{AllPairs-cons}
 use Rattle.std.proofs.lemmas.Bool.{cases_Bool, cond-true, cond-false, or_cases, or_left, or_right}
 use Rattle.hex_geometry.specs.declared.position.Pos.{Pos}
 use Rattle.hex_geometry.specs.Position.{same_pos}
-use Rattle.hex_geometry.proofs.Places.{same_pos_apart, same_pos_equal, same_pos_false, same_pos_self, same_pos_true}
+use Rattle.hex_geometry.proofs.Places.{same_pos_apart, same_pos_equal, same_pos_false, same_pos_true}
 use Rattle.cell_world.specs.declared.cell.Cell.{Cell}
 use Rattle.cell_world.specs.declared.part.Part.{Part}
 use Rattle.cell_world.specs.declared.part.Part.TheVariants.{Who, Mind, Load, Food, RedMarks, BlackMarks}
 use Rattle.cell_world.specs.declared.part.Parts.{Parts}
 use Rattle.cell_world.specs.Parts.{Agree, has_part, no_parts, union}
 use Rattle.cell_world.specs.World.{Cells}
-use Rattle.spec_record.specs.Claims.{Claim, claim, joined, merged, merged_onto}
+use Rattle.spec_record.specs.Claims.{Claim, EachOnce, claim, joined, merged, merged_onto, places_of, with_cells_at}
 use Rattle.spec_record.specs.Patching.{parts_at, parts_there}
 
 -- a part is in a union where it is in one of the two
@@ -174,11 +174,6 @@ pub AgreeInAll-merged : (v w : Cells) (claims : List Claim) → AgreeInAll v w (
 unfolding merged
 AgreeInAll-merged v w claims all = (AgreeInAll-merged_onto v w claims [] all).1
 
--- each position once
-abbrev pub EachOnce : List Pos → Type 0
-EachOnce [] = Unit {0}
-EachOnce (p ∷ places) = AllByRecursion (λ q. q ≢ p) places × EachOnce places
-
 -- the positions of claims
 abbrev pub positions : List Claim → List Pos
 positions claims = map (λ c. c.at) claims
@@ -208,6 +203,15 @@ EachOnce-merged_onto (new ∷ more) claims once = EachOnce-merged_onto more (joi
 pub EachOnce-merged : (claims : List Claim) → EachOnce (positions (merged claims))
 unfolding merged
 EachOnce-merged claims = EachOnce-merged_onto claims [] tt
+
+-- claims with their cells are at the positions of the claims
+pub places_of-claims : (cells : Cells) (claims : List Claim) → positions claims ≡ places_of (with_cells_at cells claims)
+places_of-claims cells [] = refl
+places_of-claims cells (c ∷ claims) = ap (λ l. c.at ∷ l) (places_of-claims cells claims)
+
+-- so merged claims with their cells have each position once
+pub EachOnce-sightings : (cells : Cells) (claims : List Claim) → EachOnce (places_of (with_cells_at cells (merged claims)))
+EachOnce-sightings cells claims = subst EachOnce (places_of-claims cells (merged claims)) (EachOnce-merged claims)
 
 -- at a position that isn't among those of claims nothing is claimed
 pub parts_at-fresh : (claims : List Claim) (p : Pos) → AllByRecursion (λ q. q ≢ p) (positions claims) → parts_at claims p ≡ no_parts

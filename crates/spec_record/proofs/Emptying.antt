@@ -1,5 +1,5 @@
 -- Which cells the checks empty: those that held an ant before and hold none at last.
-use Rattle.std.proofs.Common.{◌≡◌, ◌≢◌, ◌≤◌, inl, inr, ℕ, Bool, true, false, cond, if◌then◌else◌, ◌||◌, ◌&&◌, not, List, [], ◌∷◌, ◌++◌, Option, Some, None, refl, sym, ◌∙◌, ap}
+use Rattle.std.proofs.Common.{◌≡◌, ◌≢◌, ◌≤◌, inl, inr, ℕ, Bool, true, false, if◌then◌else◌, ◌||◌, ◌&&◌, not, List, [], ◌∷◌, ◌++◌, refl, sym, ◌∙◌, ap}
 use Rattle.std.specs.List.{AllByRecursion, flat_map}
 use Rattle.std.proofs.Math.Path.{fun_ext}
 use Rattle.std.proofs.lemmas.Bool.{cases_Bool, cond-true, cond-false}
@@ -10,7 +10,7 @@ use Rattle.hex_geometry.specs.Position.{same_pos}
 use Rattle.hex_geometry.specs.declared.direction.Dir.{Dir}
 use Rattle.hex_geometry.specs.declared.direction.Dir.TheVariants.{East, SouthEast, SouthWest, West, NorthWest, NorthEast}
 use Rattle.hex_geometry.proofs.Beside.{adjacent_pos_moves, adjacent_pos_one}
-use Rattle.hex_geometry.proofs.Places.{same_pos_true, same_pos_false, same_pos_apart, same_pos_self}
+use Rattle.hex_geometry.proofs.Places.{same_pos_true, same_pos_false, same_pos_apart}
 use Rattle.cell_world.specs.declared.ant.Ant.{Ant}
 use Rattle.cell_world.specs.declared.cell.Cell.{Cell}
 use Rattle.cell_world.specs.World.{Cells, put_cell}
@@ -20,7 +20,7 @@ use Rattle.ant_turn.specs.Sheet.{Sheet}
 use Rattle.ant_turn.specs.Turn.{arrived, has_ant, left_by_ant, stepped, with_ant}
 use Rattle.ant_turn.proofs.Checks.{Struck, check_at-cases, check_at-spared, check_at-struck, is_surrounded-true, killed_at-struck}
 use Rattle.spec_record.specs.Reads.{emptied, neighbours_if_manned, seen_around}
-use Rattle.spec_record.specs.Inner.Going.{beyond, fallen, fallen_at, has_fallen, is_manned, seen_from}
+use Rattle.spec_record.specs.Inner.Going.{beyond, fallen, is_manned, seen_from}
 
 -- pairwise two
 abbrev pub Distinct : List Pos → Type 0

@@ -1,5 +1,5 @@
 -- A turn draws a random number where its ant is at a Flip; and a look in hand holds where the definition says so.
-use Rattle.std.proofs.Common.{◌≡◌, ℕ, zero, suc, Bool, true, false, if◌then◌else◌, Option, Some, None, List, [], ◌∷◌, map, refl, sym, ◌∙◌, ap, subst}
+use Rattle.std.proofs.Common.{◌≡◌, ℕ, zero, suc, Bool, true, false, if◌then◌else◌, Option, Some, None, List, [], ◌∷◌, refl, sym, ◌∙◌}
 use Rattle.std.specs.List.{AllByRecursion}
 use Rattle.hex_geometry.specs.declared.position.Pos.{Pos}
 use Rattle.hex_geometry.specs.Neighbourhood.{adjacent_pos}
@@ -10,7 +10,7 @@ use Rattle.brain_read.specs.declared.instr.Instr.{Instr}
 use Rattle.brain_read.specs.declared.instr.Instr.TheVariants.{Sense, Mark, Unmark, PickUp, Drop, Turn, Move, Flip}
 use Rattle.ant_turn.specs.Minds.{Minds, mind_of}
 use Rattle.ant_turn.specs.Sheet.{Sheet}
-use Rattle.ant_turn.specs.Turn.{Outcome, acts, ant_becomes, checked, execute, in_state, instruction_at, is_blocked, stepped, turn, turn_from, turn_of}
+use Rattle.ant_turn.specs.Turn.{Outcome, acts, ant_becomes, checked, execute, in_state, instruction_at, is_blocked, stepped, turn, turn_from, turn_at}
 use Rattle.spec_record.specs.Claims.{Claim, with_cells_at}
 use Rattle.spec_record.specs.Guess.{ant_flips, flips, flips_from, flips_now, is_flip}
 use Rattle.spec_record.specs.Holds.{Holds, LookHolds}
@@ -38,13 +38,13 @@ acts-drew : (minds : Minds) (seed : ℕ) (cells : Cells) (place : ℕ) (p : Pos)
 acts-drew minds seed cells place p ant zero = execute-drew minds.sheet seed cells place p ant (instruction_at (mind_of minds ant.colour) ant.state)
 acts-drew minds seed cells place p ant (suc left) = refl
 
-turn_of-drew : (minds : Minds) (seed : ℕ) (cells : Cells) (place : ℕ) (p : Pos) (o : Option Ant) → (turn_of minds seed cells place p o).drew ≡ ant_flips minds o
-turn_of-drew minds seed cells place p None = refl
-turn_of-drew minds seed cells place p (Some ant) = acts-drew minds seed cells place p ant ant.resting
+turn_at-drew : (minds : Minds) (seed : ℕ) (cells : Cells) (place : ℕ) (p : Pos) (o : Option Ant) → (turn_at minds seed cells place p o).drew ≡ ant_flips minds o
+turn_at-drew minds seed cells place p None = refl
+turn_at-drew minds seed cells place p (Some ant) = acts-drew minds seed cells place p ant ant.resting
 
 turn_from-drew : (minds : Minds) (seed : ℕ) (cells : Cells) (place : ℕ) (o : Option Pos) → (turn_from minds seed cells place o).drew ≡ flips_from minds cells o
 turn_from-drew minds seed cells place None = refl
-turn_from-drew minds seed cells place (Some p) = turn_of-drew minds seed cells place p (cells p).ant
+turn_from-drew minds seed cells place (Some p) = turn_at-drew minds seed cells place p (cells p).ant
 
 -- a turn draws a random number exactly where its ant is alive, not resting and at a Flip
 pub turn-drew : (minds : Minds) (seed : ℕ) (w : World) (place t : ℕ) → (turn minds seed w place t).drew ≡ flips minds w t

@@ -1,5 +1,5 @@
 -- Looks that hold after a turn of another ant, and one that doesn't.
-use Rattle.std.proofs.Common.{◌≡◌, ℕ, true, false, List, [], ◌∷◌, refl, sym, ◌∙◌, ap}
+use Rattle.std.proofs.Common.{◌≡◌, ℕ, [], ◌∷◌, refl, ap}
 use Rattle.std.proofs.lemmas.Bool.{false≢true}
 use Rattle.hex_geometry.specs.declared.neighbourhood.Sight.TheVariants.{LeftAhead}
 use Rattle.hex_geometry.specs.declared.position.Pos.{Pos}
@@ -8,19 +8,16 @@ use Rattle.hex_geometry.specs.Neighbourhood.{adjacent_pos, sensed_pos}
 use Rattle.hex_geometry.specs.Position.{same_pos}
 use Rattle.cell_world.specs.declared.kind.Kind.TheVariants.{BlackHill, Clear, RedHill, Rock}
 use Rattle.cell_world.specs.declared.marks.Marks.{Marks}
-use Rattle.cell_world.specs.declared.part.Part.{Part}
 use Rattle.cell_world.specs.declared.part.Part.TheVariants as part
-use Rattle.cell_world.specs.declared.part.Parts.{Parts}
 use Rattle.cell_world.specs.Cell.{rock}
 use Rattle.cell_world.specs.Grid.{cell_in, world_of}
 use Rattle.cell_world.specs.Marks.{has_mark}
 use Rattle.cell_world.specs.Opening.{floor, opening}
-use Rattle.cell_world.specs.Parts.{Agree, Alike, has_part, no_parts, only, with_part}
+use Rattle.cell_world.specs.Parts.{Agree, no_parts, only, with_part}
 use Rattle.cell_world.specs.World.{World, place_in, put_cell, with_cells}
 use Rattle.brain_read.specs.declared.instr.Cond.{Cond}
 use Rattle.brain_read.specs.declared.instr.Cond.TheVariants as condition
 use Rattle.brain_read.specs.declared.instr.Instr.TheVariants.{Mark, Sense}
-use Rattle.ant_turn.specs.Conditions.{meets}
 use Rattle.ant_turn.specs.Minds.{Minds, contest_minds}
 use Rattle.ant_turn.specs.Turn.{turn}
 use Rattle.spec_record.specs.Claims.{claim, merged}

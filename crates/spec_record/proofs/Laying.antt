@@ -1,5 +1,5 @@
 -- What is found in cells that were set.
-use Rattle.std.proofs.Common.{◌≡◌, inl, inr, ℕ, suc, ◌+◌, ◌<◌, Bool, true, false, cond, List, [], ◌∷◌, ◌++◌, length, drop, slice_index_or, add-one, Option, Some, None, refl, sym, ap, ◌∙◌}
+use Rattle.std.proofs.Common.{◌≡◌, inl, inr, ℕ, ◌+◌, ◌<◌, Bool, true, false, cond, [], ◌∷◌, ◌++◌, length, drop, slice_index_or, add-one, Option, Some, None, refl, sym, ap, ◌∙◌}
 use Rattle.std.proofs.Math.Seq.{drop-cons}
 use Rattle.std.proofs.lemmas.Bool.{cases_Bool, cond-true, cond-false, false_from_ne_true, both_ways}
 use Rattle.hex_geometry.specs.declared.position.Pos.{Pos}
@@ -7,9 +7,9 @@ use Rattle.hex_geometry.specs.Position.{same_pos}
 use Rattle.hex_geometry.proofs.Places.{same_pos_true}
 use Rattle.cell_world.specs.declared.cell.Cell.{Cell}
 use Rattle.cell_world.specs.Cell.{holds_id}
-use Rattle.cell_world.specs.Grid.{Grid, world_of}
+use Rattle.cell_world.specs.Grid.{world_of}
 use Rattle.cell_world.specs.Valid.{Valid}
-use Rattle.cell_world.specs.World.{Cells, World, place_in, put, put_cell, with_cells}
+use Rattle.cell_world.specs.World.{Cells, place_in, put_cell}
 use Rattle.cell_world.proofs.Places.{place_in-found, place_in-none, place_in-nowhere}
 use Rattle.spec_record.specs.Trail.{Sets, TrailValue, laid, trail_world}
 use Rattle.spec_record.specs.Inner.Laid.{first_held, found_holds, newest}

@@ -1,6 +1,7 @@
 pub mod Bounds
 pub mod CheckSteps
 pub mod Claiming
+pub mod EdgesWorked
 pub mod Emptying
 pub mod Flipping
 pub mod Flips
@@ -11,6 +12,7 @@ pub mod LooksWorked
 pub mod Noting
 pub mod OwnSteps
 pub mod Patched
+pub mod PlacesLemmas
 pub mod Raising
 pub mod Ring
 pub mod RoundsWorked

@@ -1,42 +1,35 @@
 -- The look at a turn, by where its ant is and what it does.
-use Rattle.std.proofs.Common.{◌≡◌, ◌≢◌, ◌≤◌, ℕ, suc, Bool, true, false, cond, if◌then◌else◌, ◌||◌, List, [], ◌∷◌, ◌++◌, map, length, slice_get, Option, Some, None, refl, sym, ◌∙◌, ap, ap₂, subst, arith}
-use Rattle.std.specs.List.{AllByRecursion, flat_map}
-use Rattle.std.proofs.lemmas.Bool.{cases_Bool, cond-true, cond-false}
-use Rattle.std.proofs.lemmas.Option.{get_or_from_slice_get}
+use Rattle.std.proofs.Common.{◌≡◌, ◌≢◌, ◌≤◌, ℕ, suc, Bool, true, false, if◌then◌else◌, ◌||◌, List, [], ◌∷◌, ◌++◌, map, length, Option, Some, None, refl, sym, ◌∙◌, ap, ap₂, subst}
+use Rattle.std.proofs.lemmas.Bool.{cond-true, cond-false}
 use Rattle.hex_geometry.specs.declared.position.Pos.{Pos}
-use Rattle.hex_geometry.specs.Direction.{directions, opposite}
-use Rattle.hex_geometry.specs.Neighbourhood.{adjacent_pos, neighbours_of, sensed_pos}
-use Rattle.hex_geometry.specs.Position.{HasNeighbours, IsInner, IsInside, same_pos}
-use Rattle.hex_geometry.specs.declared.direction.Dir.{Dir}
-use Rattle.hex_geometry.specs.declared.direction.Dir.TheVariants.{East, SouthEast, SouthWest, West, NorthWest, NorthEast}
+use Rattle.hex_geometry.specs.Neighbourhood.{adjacent_pos, sensed_pos}
+use Rattle.hex_geometry.specs.Position.{HasNeighbours, IsInner, IsInside}
 use Rattle.hex_geometry.proofs.Beside.{adjacent_pos_inside, adjacent_pos_moves, sensed_pos_inside}
 use Rattle.hex_geometry.proofs.Places.{inner_inside, same_pos_apart, same_pos_self}
 use Rattle.cell_world.specs.declared.ant.Ant.{Ant}
-use Rattle.cell_world.specs.declared.ant.Colour.{Colour}
-use Rattle.cell_world.specs.declared.ant.Colour.TheVariants.{Red, Black}
 use Rattle.cell_world.specs.declared.cell.Cell.{Cell}
-use Rattle.cell_world.specs.declared.part.Part.{Part}
 use Rattle.cell_world.specs.declared.part.Part.TheVariants as part
 use Rattle.cell_world.specs.declared.part.Parts.{Parts}
 use Rattle.cell_world.specs.Parts.{no_parts, only, union}
-use Rattle.cell_world.specs.World.{Cells, World, place_in, put_cell}
+use Rattle.cell_world.specs.World.{Cells, World, place_in}
 use Rattle.cell_world.specs.Valid.{Valid}
 use Rattle.cell_world.proofs.Places.{ant-clear, clear_has_neighbours}
 use Rattle.cell_world.proofs.Puts.{put_cell-same}
 use Rattle.brain_read.specs.declared.instr.Instr.{Instr}
 use Rattle.brain_read.specs.declared.instr.Instr.TheVariants.{Sense, Mark, Unmark, PickUp, Drop, Turn, Move, Flip}
-use Rattle.ant_turn.specs.Kills.{check_all, killed_all, places_around}
+use Rattle.ant_turn.specs.Kills.{check_all, places_around}
 use Rattle.ant_turn.specs.Minds.{Minds, mind_of}
 use Rattle.ant_turn.specs.Sheet.{Sheet}
-use Rattle.ant_turn.specs.Turn.{Outcome, acts, checked, execute, has_ant, instruction_at, is_blocked, stepped, turn, turn_from, turn_of, with_ant}
+use Rattle.ant_turn.specs.Turn.{Outcome, acts, checked, execute, has_ant, instruction_at, is_blocked, stepped, turn, turn_from, turn_at, with_ant}
 use Rattle.ant_turn.proofs.Turns.{turn-acts}
-use Rattle.spec_record.specs.Claims.{Claim, Sighting, claim, merged, with_cells_at}
+use Rattle.spec_record.specs.Claims.{Claim, EachOnce, Sighting, claim, merged, places_of, with_cells_at}
 use Rattle.spec_record.specs.Look.{LookValue, look_of, look_with}
 use Rattle.spec_record.specs.Reads.{ant_and_food, asked, emptied, marks_part, load_and_food, reads, reads_acting, reads_besides, reads_from, reads_going, reads_of, seen_around, who_and_mind, whole_ant}
 use Rattle.spec_record.specs.Writes.{writes, writes_acting, writes_besides, writes_from, writes_going, writes_of}
 use Rattle.spec_record.specs.Inner.Going.{destination, fallen, going_reads, going_writes, seen_from}
 use Rattle.spec_record.specs.Inner.Sightings.{all_sighted, sighted, sights}
 use Rattle.spec_record.specs.Inner.Standing.{blank_look, read_at, rested_look, staying_reads, staying_writes}
+use Rattle.spec_record.proofs.Claiming.{EachOnce-sightings}
 use Rattle.spec_record.proofs.Bounds.{going_reads-fit, going_writes-fit}
 use Rattle.spec_record.proofs.Emptying.{emptied-fallen, emptied-none, seen_around-from}
 use Rattle.spec_record.proofs.Sighting.{all_sighted-append, claims-append, claims-sights, with_cells_at-merged}
@@ -55,7 +48,7 @@ look_of-from minds seed w guess t = refl
 
 -- by the ant there, if there is one
 abbrev look_at : Minds → ℕ → Cells → ℕ → ℕ → Pos → Option Ant → LookValue
-look_at minds seed cells guess t p o = look_claiming cells t guess (turn_of minds seed cells guess p o) (reads_of minds cells p o) (writes_of minds cells p o)
+look_at minds seed cells guess t p o = look_claiming cells t guess (turn_at minds seed cells guess p o) (reads_of minds cells p o) (writes_of minds cells p o)
 
 -- by its resting count
 abbrev look_acting : Minds → ℕ → Cells → ℕ → ℕ → Pos → Ant → ℕ → LookValue
@@ -260,12 +253,25 @@ module _ {minds : Minds} {seed : ℕ} {w : World} {guess t : ℕ} {p : Pos} {ant
   acting-look : look_of minds seed w guess t ≡ look_by minds.sheet seed w.cells guess t p ant instruction
   acting-look = look_of-executes minds seed w guess t p ant acting.found acting.holds acting.ready ∙ ap (look_by minds.sheet seed w.cells guess t p ant) (sym acting.at)
 
+  -- a look lists each position once
+  reads-once : (seen left : List Sighting) → look_of minds seed w guess t ≡ look_with t guess outcome seen left → EachOnce (places_of seen)
+  unfolding look_of reads
+  reads-once seen left is = subst (λ (l : LookValue). EachOnce (places_of l.reads)) is (EachOnce-sightings w.cells (reads_from minds w.cells (place_in w t)))
+
+  writes-once : (seen left : List Sighting) → look_of minds seed w guess t ≡ look_with t guess outcome seen left → EachOnce (places_of left)
+  unfolding look_of writes
+  writes-once seen left is =
+      subst (λ (l : LookValue). EachOnce (places_of l.writes)) is (EachOnce-sightings (turn minds seed w guess t).cells (writes_from minds w.cells (place_in w t)))
+
   -- the look at it where it stays
   pub look-stays : (last : Cells) → last ≡ outcome.cells → destination w.cells p ant instruction ≡ None →
       look_of minds seed w guess t ≡ look_with t guess outcome (staying_reads w.cells p ant instruction) (staying_writes last p ant instruction)
   look-stays last left stays =
       acting-look ∙ look_by-stays minds.sheet seed w.cells guess t p ant instruction outcome stays acting-executes
       ∙ ap (λ (cells : Cells). look_with t guess outcome (staying_reads w.cells p ant instruction) (staying_writes cells p ant instruction)) (sym left)
+
+  pub stays-once : (last : Cells) → last ≡ outcome.cells → destination w.cells p ant instruction ≡ None → EachOnce (places_of (staying_reads w.cells p ant instruction))
+  stays-once last left stays = reads-once (staying_reads w.cells p ant instruction) (staying_writes last p ant instruction) (look-stays last left stays)
 
   module _ {q : Pos} (way : destination w.cells p ant instruction ≡ Some q) where
     there : Goes minds.sheet seed w.cells guess p ant instruction q
@@ -300,6 +306,12 @@ module _ {minds : Minds} {seed : ℕ} {w : World} {guess t : ℕ} {p : Pos} {ant
         ∙ ap₂ (look_with t guess outcome)
         (reads-goes minds.sheet w.cells last p ant q there.next inner-there.from_left inner-there.from_top (last-there last left))
         (writes-goes minds.sheet w.cells last p ant q there.next inner-there.from_left inner-there.from_top other-there (last-there last left))
+
+    pub goes-reads_once : (last : Cells) → last ≡ outcome.cells → EachOnce (places_of (going_reads w.cells last p q))
+    goes-reads_once last left = reads-once (going_reads w.cells last p q) (going_writes w.cells last p q) (look-goes last left)
+
+    pub goes-writes_once : (last : Cells) → last ≡ outcome.cells → EachOnce (places_of (going_writes w.cells last p q))
+    goes-writes_once last left = writes-once (going_reads w.cells last p q) (going_writes w.cells last p q) (look-goes last left)
 
     -- it has room
     pub reads-there : (last : Cells) → length (going_reads w.cells last p q) ≤ 19

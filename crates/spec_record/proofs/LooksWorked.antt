@@ -1,21 +1,18 @@
 -- Looks and guesses, worked out.
-use Rattle.std.proofs.Common.{◌≡◌, ℕ, true, false, List, [], ◌∷◌, ◌++◌, map, Some, None, refl}
+use Rattle.std.proofs.Common.{◌≡◌, ℕ, true, false, List, [], ◌∷◌, map, Some, refl}
 use Rattle.hex_geometry.specs.declared.position.Pos.{Pos}
 use Rattle.hex_geometry.specs.Direction.{directions}
 use Rattle.hex_geometry.specs.Neighbourhood.{adjacent_pos, neighbours_of, sensed_pos}
 use Rattle.hex_geometry.specs.Position.{same_pos}
 use Rattle.hex_geometry.specs.declared.neighbourhood.Sight.TheVariants.{Ahead, Here}
-use Rattle.cell_world.specs.declared.ant.Ant.{Ant}
-use Rattle.cell_world.specs.declared.ant.Colour.{Colour}
-use Rattle.cell_world.specs.declared.ant.Colour.TheVariants.{Red, Black}
+use Rattle.cell_world.specs.declared.ant.Colour.TheVariants.{Red}
 use Rattle.cell_world.specs.declared.kind.Kind.{Kind}
 use Rattle.cell_world.specs.declared.kind.Kind.TheVariants.{Rock, Clear, RedHill, BlackHill}
-use Rattle.cell_world.specs.declared.part.Part.TheVariants as part
 use Rattle.cell_world.specs.declared.part.Parts.{Parts}
 use Rattle.cell_world.specs.Cell.{rock}
 use Rattle.cell_world.specs.Grid.{cell_in, world_of}
 use Rattle.cell_world.specs.Opening.{floor, hill_cell, new_ant, opening}
-use Rattle.cell_world.specs.Parts.{no_parts, only, with_part}
+use Rattle.cell_world.specs.Parts.{no_parts}
 use Rattle.cell_world.specs.World.{World, place_in, put, put_cell}
 use Rattle.brain_read.specs.declared.instr.Cond.{Cond}
 use Rattle.brain_read.specs.declared.instr.Cond.TheVariants as condition
@@ -24,7 +21,7 @@ use Rattle.ant_random.specs.Stream.{drawn, random_at, state_at}
 use Rattle.ant_turn.specs.Kills.{check_at, is_surrounded, killed_at, places_around}
 use Rattle.ant_turn.specs.Minds.{Minds, contest_minds}
 use Rattle.ant_turn.specs.Turn.{stepped, turn}
-use Rattle.spec_record.specs.Claims.{Claim, claim, merged}
+use Rattle.spec_record.specs.Claims.{claim, merged}
 use Rattle.spec_record.specs.Guess.{flips, guess, guesses_of}
 use Rattle.spec_record.specs.Look.{look_of}
 use Rattle.spec_record.specs.Reads.{asked, reads}

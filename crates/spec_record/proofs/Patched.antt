@@ -1,5 +1,5 @@
 -- The turn of a look that holds, as patches of the cells.
-use Rattle.std.proofs.Common.{◌≡◌, ◌≢◌, inl, inr, ℕ, Bool, true, false, ◌||◌, Option, Some, None, List, [], ◌∷◌, refl, sym, ◌∙◌, ap, ap₂, subst}
+use Rattle.std.proofs.Common.{◌≡◌, inl, inr, ℕ, Bool, true, false, ◌||◌, Option, Some, None, List, [], ◌∷◌, refl, sym, ◌∙◌, ap, ap₂}
 use Rattle.std.specs.List.{AllByRecursion}
 use Rattle.std.proofs.Math.Path.{fun_ext}
 use Rattle.std.proofs.lemmas.Bool.{or_left, or_right}
@@ -7,22 +7,21 @@ use Rattle.hex_geometry.specs.declared.position.Pos.{Pos}
 use Rattle.cell_world.specs.declared.ant.Ant.{Ant}
 use Rattle.cell_world.specs.declared.cell.Cell.{Cell}
 use Rattle.cell_world.specs.declared.part.Part.{Part}
-use Rattle.cell_world.specs.declared.part.Parts.{Parts}
-use Rattle.cell_world.specs.Parts.{Agree, Alike, CanPatch, has_part, no_parts, patched, patched_ant, union}
+use Rattle.cell_world.specs.Parts.{Agree, Alike, has_part, no_parts, patched, patched_ant, union}
 use Rattle.cell_world.specs.World.{Cells, World, place_in, put_cell}
 use Rattle.cell_world.proofs.Patches.{patched-only}
 use Rattle.cell_world.proofs.Puts.{cases_pos, put_cell-other, put_cell-same}
 use Rattle.ant_turn.specs.Minds.{Minds}
 use Rattle.ant_turn.specs.Turn.{Outcome, turn}
-use Rattle.spec_record.specs.Claims.{Claim, Sighting, merged, with_cells_at}
+use Rattle.spec_record.specs.Claims.{Claim, EachOnce, with_cells_at}
 use Rattle.spec_record.specs.Holds.{Holds}
 use Rattle.spec_record.specs.Locality.{GoesOn, IsLater, IsLookedAt, outcome_by}
-use Rattle.spec_record.specs.Look.{LookValue, look_of, look_with}
-use Rattle.spec_record.specs.Patching.{parts_at, parts_there, patched_cells, with_write}
+use Rattle.spec_record.specs.Look.{look_of}
+use Rattle.spec_record.specs.Patching.{parts_at, parts_there, patched_cells}
 use Rattle.spec_record.specs.Writes.{writes, writes_from}
-use Rattle.spec_record.proofs.Claiming.{EachOnce, EachOnce-merged, has_part-none, has_part-union, parts_at-fresh, parts_at-merged, parts_there-elsewhere, parts_there-here, positions, union-none}
+use Rattle.spec_record.proofs.Claiming.{EachOnce-merged, has_part-none, has_part-union, parts_at-fresh, parts_at-merged, parts_there-elsewhere, parts_there-here, positions, union-none}
 use Rattle.spec_record.proofs.Steps.{CellStep, InStep, InStep-same}
-use Rattle.spec_record.proofs.TurnSteps.{SameOutcome, turn_both}
+use Rattle.spec_record.proofs.TurnSteps.{turn_both}
 
 -- a patch of no part is none
 pub patched-none : (cell source : Cell) → patched cell source no_parts ≡ cell

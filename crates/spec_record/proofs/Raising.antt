@@ -1,25 +1,25 @@
 -- A turn raises the weight of one cell at most.
-use Rattle.std.proofs.Common.{◌≡◌, ◌≢◌, inl, inr, ℕ, ◌+◌, ◌≤◌, Option, Some, None, refl, sym, ◌∙◌, ap, subst, arith}
+use Rattle.std.proofs.Common.{◌≡◌, ◌≢◌, inl, inr, ℕ, ◌≤◌, Option, Some, None, refl, sym, ◌∙◌, ap, subst, arith}
 use Rattle.std.proofs.lemmas.Bool.{false≢true}
 use Rattle.hex_geometry.specs.declared.position.Pos.{Pos}
 use Rattle.hex_geometry.specs.Neighbourhood.{adjacent_pos}
 use Rattle.cell_world.specs.declared.ant.Ant.{Ant}
 use Rattle.cell_world.specs.declared.cell.Cell.{Cell}
-use Rattle.cell_world.specs.Cell.{ant_weight, cell_weight, holds_id, one_if}
-use Rattle.cell_world.specs.Valid.{Replaces, Valid}
-use Rattle.cell_world.specs.World.{Cells, World, put, put_cell}
+use Rattle.cell_world.specs.Cell.{ant_weight, cell_weight}
+use Rattle.cell_world.specs.Inner.Replaces.{Replaces}
+use Rattle.cell_world.specs.World.{Cells, World, put_cell}
 use Rattle.cell_world.proofs.Puts.{put_cell-other, put_cell-same}
-use Rattle.cell_world.proofs.Valids.{put_cell-all}
+use Rattle.cell_world.proofs.ValidLemmas.{put_cell-all}
 use Rattle.brain_read.specs.declared.instr.Instr.{Instr}
 use Rattle.ant_turn.specs.Kills.{after_kill, check_all, places_around}
 use Rattle.ant_turn.specs.Minds.{Minds, mind_of}
 use Rattle.ant_turn.specs.Sheet.{Sheet}
 use Rattle.ant_turn.specs.Turn.{Outcome, arrived, instruction_at, left_by_ant, stepped, turn, with_ant}
 use Rattle.ant_turn.proofs.Corpses.{Replaces-after_kill}
-use Rattle.ant_turn.proofs.Kept.{check_all-cell}
+use Rattle.ant_turn.proofs.KeptByChecks.{check_all-cell}
 use Rattle.ant_turn.proofs.KeptByTurns.{Replaces-left_by_ant, free_empty}
 use Rattle.ant_turn.proofs.OwnCells.{stays_replaces}
-use Rattle.ant_turn.proofs.Parts.{Does, turn_parts}
+use Rattle.ant_turn.proofs.TurnParts.{Does, turn_parts}
 
 -- all cells but one are replaced, and that one too where it is no heavier
 pub record RaisesOne (v v' : Cells) : Type 0 where

@@ -1,12 +1,10 @@
 -- Looks and guesses after a round, worked out.
-use Rattle.std.proofs.Common.{◌≡◌, ℕ, true, false, List, [], ◌∷◌, Some, None, refl}
-use Rattle.hex_geometry.specs.declared.position.Pos.{Pos}
+use Rattle.std.proofs.Common.{◌≡◌, true, false, List, [], ◌∷◌, refl}
 use Rattle.hex_geometry.specs.Direction.{directions}
 use Rattle.hex_geometry.specs.Neighbourhood.{adjacent_pos, neighbours_of}
 use Rattle.hex_geometry.specs.Position.{same_pos}
 use Rattle.cell_world.specs.declared.kind.Kind.{Kind}
 use Rattle.cell_world.specs.declared.kind.Kind.TheVariants.{Rock, Clear, RedHill}
-use Rattle.cell_world.specs.declared.part.Parts.{Parts}
 use Rattle.cell_world.specs.Cell.{rock}
 use Rattle.cell_world.specs.Grid.{cell_in, world_of}
 use Rattle.cell_world.specs.Opening.{floor, opening}

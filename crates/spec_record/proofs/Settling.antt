@@ -1,29 +1,23 @@
 -- The writes of a look that holds may be set one after another: first those that don't raise the weight of their cell, then the others.
-use Rattle.std.proofs.Common.{◌≡◌, ◌≢◌, inl, inr, ℕ, ◌≤◌, ◌<◌, Bool, true, false, if◌then◌else◌, nat_lt, Option, Some, None, List, [], ◌∷◌, map, refl, sym, ◌∙◌, ap, ap₂, subst, arith}
+use Rattle.std.proofs.Common.{◌≡◌, ◌≢◌, inl, inr, ℕ, ◌≤◌, true, false, nat_lt, List, [], ◌∷◌, refl, sym, ◌∙◌, ap, subst, arith}
 use Rattle.std.specs.List.{AllByRecursion}
 use Rattle.std.proofs.Math.Path.{fun_ext}
-use Rattle.std.proofs.lemmas.Bool.{both_ways, cases_Bool, cond-true, cond-false, false_from_ne_true, ltb-false, ltb-true, le-ltb, true≢false}
+use Rattle.std.proofs.lemmas.Bool.{both_ways, cases_Bool, cond-true, cond-false, false_from_ne_true, ltb-false, le-ltb}
 use Rattle.hex_geometry.specs.declared.position.Pos.{Pos}
-use Rattle.cell_world.specs.declared.ant.Ant.{Ant}
 use Rattle.cell_world.specs.declared.cell.Cell.{Cell}
 use Rattle.cell_world.specs.declared.part.Part.TheVariants as part
 use Rattle.cell_world.specs.declared.part.Parts.{Parts}
 use Rattle.cell_world.specs.Cell.{cell_weight, holds_id}
-use Rattle.cell_world.specs.Limits.{most_weight}
 use Rattle.cell_world.specs.Parts.{CanPatch, patched}
-use Rattle.cell_world.specs.Valid.{CanSet, Replaces, Valid}
-use Rattle.cell_world.specs.World.{Cells, World, put, put_cell, weight, with_cells}
+use Rattle.cell_world.specs.Valid.{CanSet, Valid}
+use Rattle.cell_world.specs.Inner.Replaces.{Replaces}
+use Rattle.cell_world.specs.World.{Cells, World, put, put_cell, with_cells}
 use Rattle.cell_world.proofs.Patches.{CanPatch-alike, patched-named, patched-others, patched-unchanged}
 use Rattle.cell_world.proofs.Places.{clear_inside, holds_id-own}
-use Rattle.cell_world.proofs.Puts.{cases_pos, put_cell-other, put_cell-same, put_cell-unchanged}
-use Rattle.cell_world.proofs.Valids.{CanSet-replaces, Valid-put}
-use Rattle.spec_record.specs.Claims.{Sighting}
+use Rattle.cell_world.proofs.Puts.{cases_pos, put_cell-other, put_cell-same}
+use Rattle.cell_world.proofs.ValidLemmas.{CanSet-replaces, Valid-put}
+use Rattle.spec_record.specs.Claims.{EachOnce, Sighting, places_of}
 use Rattle.spec_record.specs.Patching.{CanSetHeavier, CanSetLighter, CanSetWrites, CanWrite, after_heavier, after_lighter, patched_by_write, raises, with_heavier, with_lighter}
-use Rattle.spec_record.proofs.Claiming.{EachOnce}
-
--- the positions of writes
-abbrev pub places_of : List Sighting → List Pos
-places_of writes = map (λ write. write.0) writes
 
 -- a write makes of its cell the one that is wanted there
 pub record Makes (cells wanted : Cells) (write : Sighting) : Type 0 where

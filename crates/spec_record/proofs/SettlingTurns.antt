@@ -1,33 +1,27 @@
 -- The writes of a look that holds may be set, one after another, and make the turn.
-use Rattle.std.proofs.Common.{◌≡◌, ◌≢◌, ℕ, ◌≤◌, false, List, [], ◌∷◌, map, refl, sym, ◌∙◌, ap, subst, arith}
+use Rattle.std.proofs.Common.{◌≡◌, ◌≢◌, ℕ, ◌≤◌, false, List, [], ◌∷◌, sym, ◌∙◌, ap, subst, arith}
 use Rattle.std.specs.List.{AllByRecursion}
 use Rattle.hex_geometry.specs.declared.position.Pos.{Pos}
-use Rattle.cell_world.specs.declared.cell.Cell.{Cell}
-use Rattle.cell_world.specs.Parts.{CanPatch, no_parts, patched}
+use Rattle.cell_world.specs.Parts.{no_parts}
 use Rattle.cell_world.specs.Valid.{Valid}
 use Rattle.cell_world.specs.World.{Cells, World, with_cells}
 use Rattle.cell_world.proofs.Patches.{patched-only}
 use Rattle.ant_turn.specs.Minds.{AreSound, Fits, Minds}
 use Rattle.ant_turn.specs.Turn.{Outcome, turn}
 use Rattle.ant_turn.proofs.KeptByTurns.{Keeps-turn}
-use Rattle.spec_record.specs.Claims.{Claim, Sighting, with_cells_at}
+use Rattle.spec_record.specs.Claims.{Claim, EachOnce, Sighting, with_cells_at}
 use Rattle.spec_record.specs.Holds.{Holds}
 use Rattle.spec_record.specs.Locality.{GoesOn}
 use Rattle.spec_record.specs.Look.{look_of}
 use Rattle.spec_record.specs.Patching.{CanSetWrites, after_heavier, after_lighter, parts_at, patched_cells}
 use Rattle.spec_record.specs.Writes.{writes}
 use Rattle.spec_record.proofs.CheckSteps.{all_map}
-use Rattle.spec_record.proofs.Claiming.{EachOnce, own_parts, parts_at-fresh, positions}
+use Rattle.spec_record.proofs.Claiming.{own_parts, parts_at-fresh, places_of-claims, positions}
 use Rattle.spec_record.proofs.Patched.{look_step, patched-none, turn-patched, written_once}
 use Rattle.spec_record.proofs.Raising.{RaisesOne, turn-raises}
-use Rattle.spec_record.proofs.Settling.{CanSetWrites-all, Makes, Settles, after_all, places_of}
+use Rattle.spec_record.proofs.Settling.{CanSetWrites-all, Makes, Settles, after_all}
 use Rattle.spec_record.proofs.Steps.{CellStep, InStep}
 use Rattle.spec_record.proofs.WritesClear.{writes-clear}
-
--- the positions of claims with cells
-places_of-claims : (after : Cells) (claims : List Claim) → positions claims ≡ places_of (with_cells_at after claims)
-places_of-claims after [] = refl
-places_of-claims after (c ∷ claims) = ap (λ l. c.at ∷ l) (places_of-claims after claims)
 
 -- what holds of claims holds of them with their cells
 pub all_with_cells : (P : Sighting → Type 0) (after : Cells) (claims : List Claim) → AllByRecursion (λ c. P (c.at, c.parts, after c.at)) claims → AllByRecursion P (with_cells_at after claims)

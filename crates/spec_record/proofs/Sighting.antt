@@ -1,12 +1,12 @@
 -- Lists of sightings: each position once, and how many they are at most.
-use Rattle.std.proofs.Common.{◌≡◌, ◌≢◌, inl, inr, ℕ, zero, suc, ◌+◌, ◌≤◌, ◌<◌, Bool, true, false, cond, ◌||◌, List, [], ◌∷◌, ◌++◌, length, drop, take, map, subst, slice_index_or, slice_set, refl, sym, ◌∙◌, ap, add-one, arith}
+use Rattle.std.proofs.Common.{◌≡◌, inl, inr, ℕ, zero, suc, ◌+◌, ◌≤◌, ◌<◌, Bool, true, false, cond, ◌||◌, List, [], ◌∷◌, ◌++◌, length, drop, take, map, subst, slice_index_or, slice_set, refl, sym, ◌∙◌, ap, add-one, arith}
 use Rattle.std.specs.List.{AllByRecursion, flat_map, refill}
 use Rattle.std.proofs.Math.Seq.{drop-cons, drop-length, take-length}
 use Rattle.std.proofs.lemmas.List.{append-nil, length-set}
 use Rattle.std.proofs.lemmas.Bool.{cases_Bool, cond-true, cond-false}
 use Rattle.hex_geometry.specs.declared.position.Pos.{Pos}
 use Rattle.hex_geometry.specs.Position.{same_pos}
-use Rattle.hex_geometry.proofs.Places.{same_pos_true, same_pos_self, same_pos_apart, same_pos_false}
+use Rattle.hex_geometry.proofs.Places.{same_pos_true}
 use Rattle.cell_world.specs.declared.part.Parts.{Parts}
 use Rattle.cell_world.specs.Parts.{union}
 use Rattle.cell_world.specs.World.{Cells}

@@ -1,17 +1,13 @@
 -- A look has at most 19 reads and 7 writes.
-use Rattle.std.proofs.Common.{◌≡◌, ◌≢◌, ◌⊎◌, inl, inr, ℕ, zero, suc, ◌+◌, ◌-◌, ◌%◌, ◌<◌, ◌≤◌, Bool, true, false, if◌then◌else◌, Option, Some, None, List, [], ◌∷◌, ◌++◌, map, length, refl, sym, ◌∙◌, ap, subst, arith}
-use Rattle.std.specs.List.{AllByRecursion, flat_map}
+use Rattle.std.proofs.Common.{◌≡◌, inl, inr, ℕ, zero, suc, ◌≤◌, Bool, true, false, if◌then◌else◌, Option, Some, None, List, [], ◌∷◌, ◌++◌, map, length, refl, sym, ap, subst, arith}
+use Rattle.std.specs.List.{AllByRecursion}
 use Rattle.std.proofs.lemmas.Bool.{cases_Bool, cond-true, cond-false, or_left, or_right}
-use Rattle.hex_geometry.specs.declared.direction.Dir.{Dir}
-use Rattle.hex_geometry.specs.declared.direction.Dir.TheVariants.{East, SouthEast, SouthWest, West, NorthWest, NorthEast}
 use Rattle.hex_geometry.specs.declared.position.Pos.{Pos}
-use Rattle.hex_geometry.specs.Direction.{directions}
-use Rattle.hex_geometry.specs.Neighbourhood.{adjacent_pos, neighbours_of, sensed_pos}
+use Rattle.hex_geometry.specs.Neighbourhood.{adjacent_pos}
 use Rattle.hex_geometry.specs.Position.{IsInner}
 use Rattle.hex_geometry.specs.Position.{same_pos}
 use Rattle.hex_geometry.proofs.Places.{same_pos_self}
 use Rattle.cell_world.specs.declared.ant.Ant.{Ant}
-use Rattle.cell_world.specs.declared.cell.Cell.{Cell}
 use Rattle.cell_world.specs.declared.part.Part.TheVariants as part
 use Rattle.cell_world.specs.declared.part.Parts.{Parts}
 use Rattle.cell_world.specs.Parts.{only}
@@ -23,12 +19,12 @@ use Rattle.brain_read.specs.declared.instr.Instr.TheVariants.{Sense, Mark, Unmar
 use Rattle.ant_turn.specs.Kills.{check_at, is_surrounded, places_around}
 use Rattle.ant_turn.specs.Minds.{Minds, mind_of}
 use Rattle.ant_turn.specs.Sheet.{Sheet}
-use Rattle.ant_turn.specs.Turn.{has_ant, instruction_at, is_blocked, stepped}
+use Rattle.ant_turn.specs.Turn.{instruction_at, is_blocked, stepped}
 use Rattle.ant_turn.proofs.KeptByTurns.{free_clear}
 use Rattle.cell_world.specs.Cell.{rock}
 use Rattle.spec_record.specs.Claims.{Claim, claim, merged, with_cells_at}
 use Rattle.spec_record.specs.Inner.Sightings.{all_sighted}
-use Rattle.spec_record.specs.Reads.{ant_and_food, emptied, load_and_food, neighbours_if_manned, reads, reads_acting, reads_besides, reads_from, reads_going, reads_of, seen_around, who_and_mind, whole_ant}
+use Rattle.spec_record.specs.Reads.{ant_and_food, emptied, load_and_food, reads, reads_acting, reads_besides, reads_from, reads_going, reads_of, seen_around, who_and_mind}
 use Rattle.spec_record.specs.Writes.{writes, writes_acting, writes_besides, writes_from, writes_going, writes_of}
 use Rattle.spec_record.proofs.Bounds.{from-beside, seen-ring}
 use Rattle.spec_record.proofs.CheckSteps.{all_map}

@@ -1,18 +1,18 @@
 -- A step of two worlds at once: in the claimed parts both come out alike, and every other part stays.
-use Rattle.std.proofs.Common.{◌≡◌, ◌⊎◌, inl, inr, Bool, true, false, ◌||◌, Option, Some, None, option_map, List, [], ◌∷◌, ◌++◌, refl, sym, ◌∙◌, ap, subst}
-use Rattle.std.proofs.lemmas.Bool.{cases_Bool, or_cases, or_left, or_right, or_parts, false≢true}
+use Rattle.std.proofs.Common.{◌≡◌, ◌⊎◌, inl, inr, Bool, true, false, ◌||◌, Option, Some, None, option_map, List, [], ◌∷◌, ◌++◌, refl, sym, ◌∙◌, subst}
+use Rattle.std.proofs.lemmas.Bool.{cases_Bool, or_left, or_right, or_parts, false≢true}
 use Rattle.hex_geometry.specs.declared.position.Pos.{Pos}
 use Rattle.cell_world.specs.declared.ant.Ant.{Ant}
 use Rattle.cell_world.specs.declared.cell.Cell.{Cell}
 use Rattle.cell_world.specs.declared.part.Part.{Part}
-use Rattle.cell_world.specs.declared.part.Part.TheVariants.{Who, Mind, Load, Food, RedMarks, BlackMarks}
+use Rattle.cell_world.specs.declared.part.Part.TheVariants.{Who}
 use Rattle.cell_world.specs.declared.part.Parts.{Parts}
 use Rattle.cell_world.specs.Parts.{Agree, Alike, CanPatch, IsSameAnt, has_part, identity_of, no_parts, union}
 use Rattle.cell_world.specs.World.{Cells, put_cell}
 use Rattle.cell_world.proofs.Patches.{CanPatch-alike}
 use Rattle.cell_world.proofs.Puts.{cases_pos, put_cell-other, put_cell-same}
 use Rattle.spec_record.specs.Claims.{Claim, claim}
-use Rattle.spec_record.specs.Patching.{parts_at, parts_there}
+use Rattle.spec_record.specs.Patching.{parts_at}
 use Rattle.spec_record.proofs.Claiming.{Agree-union, has_part-none, has_part-union, parts_at-append, parts_there-elsewhere, parts_there-here, union-none}
 
 -- a step of one cell of each: the base's from c to c', now's from d to d'

@@ -1,8 +1,8 @@
 -- A turn of two worlds at once.
-use Rattle.std.proofs.Common.{◌≡◌, ◌≢◌, inl, inr, ℕ, zero, suc, ◌+◌, ◌-◌, Bool, true, false, if◌then◌else◌, ◌||◌, ◌&&◌, nat_lt, Option, Some, None, option_map, List, [], ◌∷◌, ◌++◌, map, refl, sym, ◌∙◌, ap, ap₂, subst}
+use Rattle.std.proofs.Common.{◌≡◌, ◌≢◌, ℕ, zero, suc, ◌+◌, ◌-◌, Bool, true, false, if◌then◌else◌, ◌||◌, ◌&&◌, nat_lt, Option, Some, None, option_map, List, [], ◌∷◌, ◌++◌, map, refl, sym, ◌∙◌, ap, ap₂, subst}
 use Rattle.std.specs.Prelude.{◌==◌}
 use Rattle.std.specs.List.{AllByRecursion, flat_map}
-use Rattle.std.proofs.lemmas.Bool.{cond-true, cond-false, eq-eqb}
+use Rattle.std.proofs.lemmas.Bool.{cond-true, eq-eqb}
 use Rattle.hex_geometry.specs.declared.position.Pos.{Pos}
 use Rattle.hex_geometry.specs.Direction.{turned_by}
 use Rattle.hex_geometry.specs.Neighbourhood.{adjacent_pos, neighbours_of, sensed_pos}
@@ -11,14 +11,11 @@ use Rattle.cell_world.specs.declared.ant.Ant.{Ant}
 use Rattle.cell_world.specs.declared.ant.Colour.{Colour}
 use Rattle.cell_world.specs.declared.ant.Colour.TheVariants.{Red, Black}
 use Rattle.cell_world.specs.declared.cell.Cell.{Cell}
-use Rattle.cell_world.specs.declared.marks.Marks.{Marks}
-use Rattle.cell_world.specs.declared.part.Part.{Part}
 use Rattle.cell_world.specs.declared.part.Part.TheVariants as part
-use Rattle.cell_world.specs.declared.part.Parts.{Parts}
 use Rattle.cell_world.specs.Cell.{holds_id, is_ant, is_hill_of, marks_of, one_if}
 use Rattle.cell_world.specs.Colour.{foe_of}
 use Rattle.cell_world.specs.Marks.{has_any_mark, has_mark, with_mark, without_mark}
-use Rattle.cell_world.specs.Parts.{Agree, Alike, has_part, identity_of, only, posture_of, union}
+use Rattle.cell_world.specs.Parts.{Agree, Alike, identity_of, only, posture_of, union}
 use Rattle.cell_world.specs.World.{Cells, World, place_in, put_cell}
 use Rattle.cell_world.proofs.Patches.{same_parts_ant, some_one}
 use Rattle.cell_world.proofs.Places.{Holder, place_in-ant, place_in-inside, place_in-only}
@@ -29,16 +26,16 @@ use Rattle.brain_read.specs.declared.instr.Instr.{Instr}
 use Rattle.brain_read.specs.declared.instr.Instr.TheVariants.{Sense, Mark, Unmark, PickUp, Drop, Turn, Move, Flip}
 use Rattle.ant_random.specs.Stream.{drawn}
 use Rattle.ant_turn.specs.Conditions.{clear_meets, is_laden, is_rock_condition, meets}
-use Rattle.ant_turn.specs.Kills.{check_all, places_around}
+use Rattle.ant_turn.specs.Kills.{places_around}
 use Rattle.ant_turn.specs.Minds.{Minds, mind_of}
 use Rattle.ant_turn.specs.Sheet.{Sheet}
-use Rattle.ant_turn.specs.Turn.{Outcome, acts, ant_becomes, arrived, checked, execute, has_ant, idle, in_state, instruction_at, is_blocked, left_by_ant, marked, stepped, turn, turn_from, turn_of, unmarked, with_ant}
+use Rattle.ant_turn.specs.Turn.{Outcome, acts, ant_becomes, arrived, checked, execute, in_state, instruction_at, is_blocked, left_by_ant, marked, stepped, turn, turn_from, turn_at, unmarked, with_ant}
 use Rattle.ant_turn.proofs.KeptByTurns.{free_apart}
 use Rattle.spec_record.specs.Claims.{Claim, claim}
-use Rattle.spec_record.specs.Guess.{ant_flips, flips, flips_from, flips_now, is_flip}
+use Rattle.spec_record.specs.Guess.{flips, flips_from, flips_now, is_flip}
 use Rattle.spec_record.specs.Holds.{Holds}
 use Rattle.spec_record.specs.Locality.{GoesOn}
-use Rattle.spec_record.specs.Reads.{ant_and_food, asked, emptied, load_and_food, marks_part, neighbours_if_manned, reads, reads_acting, reads_besides, reads_from, reads_going, reads_of, seen_around, who_and_mind, whole_ant}
+use Rattle.spec_record.specs.Reads.{asked, emptied, load_and_food, marks_part, neighbours_if_manned, reads, reads_acting, reads_besides, reads_from, reads_going, reads_of, seen_around, whole_ant}
 use Rattle.spec_record.specs.Writes.{writes_acting, writes_besides, writes_from, writes_going, writes_of}
 use Rattle.spec_record.proofs.CheckSteps.{Checked, LeavesAlike, Sees, all_map, all_split, check_steps, claims_emptied, has_ant-alike, is_ant_of-alike}
 use Rattle.spec_record.proofs.Claiming.{AgreeInAll, AgreeInAll-merged, parts_at-both}
@@ -282,7 +279,7 @@ same_but_load a (Some b) who mind = (b.laden, ap Some (same_parts_ant b (record 
 module _ (minds : Minds) (seed : ℕ) (base : World) (guess : ℕ) (now : World) (place t : ℕ) (goes : GoesOn base now t) where
   -- an ant that stands at p in the base
   stands_both : (p : Pos) (a : Ant) → place_in base t ≡ Some p → (base.cells p).ant ≡ Some a → a.id ≡ t → AgreeInAll base.cells now.cells (reads_of minds base.cells p (Some a)) → (flips_now a.resting minds a ≡ true → place ≡ guess) →
-      SameOutcome (writes_of minds base.cells p (Some a)) base.cells now.cells (turn_of minds seed base.cells guess p (Some a)) (turn minds seed now place t)
+      SameOutcome (writes_of minds base.cells p (Some a)) base.cells now.cells (turn_at minds seed base.cells guess p (Some a)) (turn minds seed now place t)
   unfolding turn
   stands_both p a found is id agree guessed =
       let it : (laden : Bool) × ((now.cells p).ant ≡ Some (record a { laden = laden })) = same_but_load a (now.cells p).ant

@@ -1,5 +1,5 @@
 -- A turn that draws nothing is the same at every guess.
-use Rattle.std.proofs.Common.{◌≡◌, inl, inr, ℕ, zero, suc, true, false, Option, Some, None, refl, sym, ◌∙◌, ap}
+use Rattle.std.proofs.Common.{◌≡◌, inl, inr, ℕ, zero, suc, true, false, Option, Some, None, refl, ◌∙◌, ap}
 use Rattle.std.proofs.lemmas.Bool.{cases_Bool}
 use Rattle.hex_geometry.specs.declared.position.Pos.{Pos}
 use Rattle.cell_world.specs.declared.ant.Ant.{Ant}
@@ -8,10 +8,10 @@ use Rattle.brain_read.specs.declared.instr.Instr.{Instr}
 use Rattle.brain_read.specs.declared.instr.Instr.TheVariants.{Sense, Mark, Unmark, PickUp, Drop, Turn, Move, Flip}
 use Rattle.ant_turn.specs.Minds.{Minds, mind_of}
 use Rattle.ant_turn.specs.Sheet.{Sheet}
-use Rattle.ant_turn.specs.Turn.{Outcome, acts, execute, instruction_at, turn, turn_from, turn_of}
+use Rattle.ant_turn.specs.Turn.{Outcome, acts, execute, instruction_at, turn, turn_from, turn_at}
 use Rattle.spec_record.specs.Claims.{with_cells_at}
 use Rattle.spec_record.specs.Guess.{ant_flips, flips, flips_from, flips_now, is_flip}
-use Rattle.spec_record.specs.Look.{LookValue, look_of, look_with}
+use Rattle.spec_record.specs.Look.{look_of, look_with}
 use Rattle.spec_record.specs.Reads.{reads}
 use Rattle.spec_record.specs.Writes.{writes}
 
@@ -32,14 +32,14 @@ acts-unguessed zero minds seed cells one other p ant drawless = execute-unguesse
 acts-unguessed (suc left) minds seed cells one other p ant drawless = refl
 
 -- an ant, if there is one
-turn_of-unguessed : (minds : Minds) (seed : ℕ) (cells : Cells) (one other : ℕ) (p : Pos) (o : Option Ant) → ant_flips minds o ≡ false → turn_of minds seed cells one p o ≡ turn_of minds seed cells other p o
-turn_of-unguessed minds seed cells one other p None drawless = refl
-turn_of-unguessed minds seed cells one other p (Some ant) drawless = acts-unguessed ant.resting minds seed cells one other p ant drawless
+turn_at-unguessed : (minds : Minds) (seed : ℕ) (cells : Cells) (one other : ℕ) (p : Pos) (o : Option Ant) → ant_flips minds o ≡ false → turn_at minds seed cells one p o ≡ turn_at minds seed cells other p o
+turn_at-unguessed minds seed cells one other p None drawless = refl
+turn_at-unguessed minds seed cells one other p (Some ant) drawless = acts-unguessed ant.resting minds seed cells one other p ant drawless
 
 -- one that has a place, or is dead
 turn_from-unguessed : (minds : Minds) (seed : ℕ) (cells : Cells) (one other : ℕ) (o : Option Pos) → flips_from minds cells o ≡ false → turn_from minds seed cells one o ≡ turn_from minds seed cells other o
 turn_from-unguessed minds seed cells one other None drawless = refl
-turn_from-unguessed minds seed cells one other (Some p) drawless = turn_of-unguessed minds seed cells one other p (cells p).ant drawless
+turn_from-unguessed minds seed cells one other (Some p) drawless = turn_at-unguessed minds seed cells one other p (cells p).ant drawless
 
 -- the turn of an ant that isn't at a Flip
 turn-unguessed : (minds : Minds) (seed : ℕ) (w : World) (one other t : ℕ) → flips minds w t ≡ false → turn minds seed w one t ≡ turn minds seed w other t

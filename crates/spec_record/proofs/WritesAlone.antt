@@ -1,17 +1,13 @@
 -- A turn changes no part but those that it writes.
 use Rattle.std.proofs.Common.{◌≡◌, ℕ, false, List, [], ◌∷◌, refl}
 use Rattle.std.specs.List.{AllByRecursion}
-use Rattle.hex_geometry.specs.declared.position.Pos.{Pos}
 use Rattle.cell_world.specs.Parts.{Agree, has_part}
 use Rattle.cell_world.specs.Valid.{Valid}
 use Rattle.cell_world.specs.World.{Cells, World}
-use Rattle.cell_world.specs.declared.part.Part.{Part}
 use Rattle.ant_turn.specs.Minds.{Minds}
-use Rattle.ant_turn.specs.Turn.{turn}
-use Rattle.spec_record.specs.Claims.{Claim, with_cells_at}
+use Rattle.spec_record.specs.Claims.{Claim}
 use Rattle.spec_record.specs.Holds.{Holds}
-use Rattle.spec_record.specs.Locality.{GoesOn, IsLookedAt, WritesAlone}
-use Rattle.spec_record.specs.Look.{look_of}
+use Rattle.spec_record.specs.Locality.{GoesOn, WritesAlone}
 use Rattle.spec_record.specs.Reads.{reads}
 use Rattle.spec_record.specs.Writes.{writes}
 use Rattle.spec_record.proofs.Patched.{look_step, unclaimed}

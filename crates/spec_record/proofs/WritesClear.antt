@@ -1,15 +1,14 @@
 -- A turn writes clear cells alone.
-use Rattle.std.proofs.Common.{◌≡◌, inl, inr, ℕ, zero, suc, Bool, true, false, if◌then◌else◌, Option, Some, None, List, [], ◌∷◌, ◌++◌, map, refl, sym, ◌∙◌, ap, subst}
+use Rattle.std.proofs.Common.{◌≡◌, inl, inr, ℕ, zero, suc, Bool, true, false, if◌then◌else◌, Option, Some, None, List, [], ◌∷◌, map, refl, sym, ap, subst}
 use Rattle.std.specs.List.{AllByRecursion}
-use Rattle.std.proofs.lemmas.Bool.{cases_Bool, cond-true, cond-false, false≢true}
+use Rattle.std.proofs.lemmas.Bool.{cases_Bool, false≢true}
 use Rattle.hex_geometry.specs.declared.position.Pos.{Pos}
 use Rattle.hex_geometry.specs.Neighbourhood.{adjacent_pos}
 use Rattle.cell_world.specs.declared.ant.Ant.{Ant}
-use Rattle.cell_world.specs.declared.cell.Cell.{Cell}
 use Rattle.cell_world.specs.Valid.{Valid}
-use Rattle.cell_world.specs.World.{Cells, World, place_in, put, put_cell}
+use Rattle.cell_world.specs.World.{Cells, World, place_in, put}
 use Rattle.cell_world.proofs.Places.{ant-clear}
-use Rattle.cell_world.proofs.Valids.{put_cell-all}
+use Rattle.cell_world.proofs.ValidLemmas.{put_cell-all}
 use Rattle.brain_read.specs.declared.instr.Instr.{Instr}
 use Rattle.brain_read.specs.declared.instr.Instr.TheVariants.{Sense, Mark, Unmark, PickUp, Drop, Turn, Move, Flip}
 use Rattle.ant_turn.specs.Kills.{check_at, is_surrounded, places_around}
@@ -18,8 +17,8 @@ use Rattle.ant_turn.specs.Sheet.{Sheet}
 use Rattle.ant_turn.specs.Turn.{arrived, has_ant, instruction_at, is_blocked, left_by_ant, stepped, with_ant}
 use Rattle.ant_turn.proofs.Checks.{Struck, is_surrounded-true}
 use Rattle.ant_turn.proofs.KeptByTurns.{free_clear}
-use Rattle.spec_record.specs.Claims.{Claim, claim, joined, merged, merged_onto}
-use Rattle.spec_record.specs.Reads.{ant_and_food, emptied, whole_ant}
+use Rattle.spec_record.specs.Claims.{claim}
+use Rattle.spec_record.specs.Reads.{ant_and_food, emptied}
 use Rattle.spec_record.specs.Writes.{writes, writes_acting, writes_besides, writes_from, writes_going, writes_of}
 use Rattle.spec_record.proofs.CheckSteps.{all_map, no_new}
 use Rattle.spec_record.proofs.Claiming.{positions, positions-merged}

@@ -1,5 +1,6 @@
 -- Positions, each with parts of its cell.
-use Rattle.std.specs.Prelude.{ℕ, Bool, true, false, if◌then◌else◌, ◌||◌, List, [], ◌∷◌, map}
+use Rattle.std.specs.Prelude.{◌≢◌, ⊤, if◌then◌else◌, List, [], ◌∷◌, map}
+use Rattle.std.specs.List.{AllByRecursion}
 use Rattle.hex_geometry.specs.declared.position.Pos.{Pos}
 use Rattle.hex_geometry.specs.Position.{same_pos}
 use Rattle.cell_world.specs.declared.cell.Cell.{Cell}
@@ -32,6 +33,15 @@ merged claims = merged_onto [] claims
 -- a position, parts, and a cell that was seen or left there
 abbrev pub Sighting : Type 0
 Sighting = Pos × Parts × Cell
+
+-- the positions of sightings
+abbrev pub places_of : List Sighting → List Pos
+places_of sightings = map (λ sighting. sighting.0) sightings
+
+-- each position is there once
+abbrev pub EachOnce : List Pos → Type 0
+EachOnce [] = ⊤
+EachOnce (p ∷ places) = AllByRecursion (λ q. q ≢ p) places × EachOnce places
 
 -- the claims, each with what the cells hold there
 abbrev pub with_cells_at : Cells → List Claim → List Sighting

@@ -1,5 +1,5 @@
 -- When a look at a turn still says what the turn does (this project's own).
-use Rattle.std.specs.Prelude.{◌≡◌, ℕ, true, List}
+use Rattle.std.specs.Prelude.{◌≡◌, ℕ, true}
 use Rattle.std.specs.List.{AllByRecursion}
 use Rattle.cell_world.specs.Parts.{Agree}
 use Rattle.cell_world.specs.World.{Cells, World}

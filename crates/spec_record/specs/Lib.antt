@@ -5,6 +5,7 @@ pub mod Inner
 pub mod Locality
 pub mod Look
 pub mod Patching
+pub mod Places
 pub mod Reads
 pub mod Trail
 pub mod Writes

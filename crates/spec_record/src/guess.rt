@@ -4,7 +4,7 @@ ghost use Rattle.cell_world.specs.Grid.{world_of};
 ghost use Rattle.brain_read.specs.Soundness.{IsSound};
 ghost use Rattle.ant_turn.specs.Minds.{Fits, minds_of, mind_of};
 ghost use Rattle.ant_turn.specs.Turn.{instruction_at};
-ghost use Rattle.spec_record.specs.Guess.{ant_flips, flips, guesses_of, is_flip};
+ghost use Rattle.spec_record.specs.Guess.{ant_flips, flips, guess, guesses_of, is_flip};
 
 use ant_turn::Brains;
 use brain_read::Instr;
@@ -55,6 +55,26 @@ pub fn guesses(
         next += u64::from(at_flip(base, brains, id));
     }
     Ok(all)
+}
+
+/// The guess of turn `t` alone: at which random number it stands if each turn from `from` on before it draws as it would in the base (this
+/// project's own). Whoever looks at the turns from `t` on begins there. It takes no memory.
+///
+/// Each ant's state is below the length of its colour's brain, `from` is at most `t`, `t` at most the number of ids, and place + t - from is
+/// below 2^63.
+pub fn guess_at(base: &World, brains: Brains<'_>, place: u64, from: u32, t: u32) -> u64
+    requires fit { Fits (world_of base.now) (minds_of brains) }
+    requires order { from ≤ t }
+    requires ids { t ≤ base.now.ids }
+    requires room { place + (t - from) < 2 ^ 63 }
+    ensures guess { result ≡ guess (minds_of brains.entry) (world_of base.now) place from t }
+    ensures small { result ≤ place + (t - from) }
+{
+    let mut next = place;
+    for id in from..t {
+        next += u64::from(at_flip(base, brains, id));
+    }
+    next
 }
 
 // Whether an ant doesn't rest.

@@ -10,6 +10,7 @@ ghost use Rattle.spec_record.specs.Locality.{
   TurnsDrawAtFlips,
   TurnsWriteAlone,
 };
+ghost use Rattle.spec_record.specs.Places.{PlacesCountFlips};
 
 /// A look names each position once, with all parts that the turn reads or writes there (this project's own). The call does nothing: its
 /// clause is the law.
@@ -68,4 +69,10 @@ pub fn turns_are_small()
 /// its clause is the law.
 pub fn turns_draw_at_flips()
     ensures { TurnsDrawAtFlips }
+{}
+
+/// After any turns or rounds the place in the stream is the one before and one more for each Flip that was executed (the task's number
+/// generation). The call does nothing: its clause is the law.
+pub fn places_count_flips()
+    ensures { PlacesCountFlips }
 {}

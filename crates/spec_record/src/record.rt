@@ -1,5 +1,6 @@
 // A look at a turn.
 ghost use Rattle.std.specs.Prelude.{◌≡◌};
+ghost use Rattle.spec_record.specs.Claims.{EachOnce, places_of};
 
 use arrayvec::ArrayVec;
 use cell_world::{Cell, Parts};
@@ -20,7 +21,7 @@ pub struct Look {
 }
 
 impl Model for Look {
-    ghost use Rattle.spec_record.specs.Look.{LookValue};
+    ghost use Rattle.spec_record.specs.Look.{IsListedOnce, LookValue};
 
     ghost Value = { LookValue };
 
@@ -32,6 +33,8 @@ impl Model for Look {
       writes = look.writes.items;
       killed = look.killed.items;
     } };
+
+    ghost invariant = { λ look. IsListedOnce look.reads.items look.writes.items };
 }
 
 impl Look {
@@ -62,7 +65,8 @@ impl Look {
     /// The positions that the turn reads, each once, with the parts that it reads there and the cell of the base.
     #[inline]
     pub fn reads(&self) -> &ArrayVec<(Pos, Parts, Cell), 19>
-        ensures { result.now.items ≡ self.now.reads }
+        ensures reads { result.now.items ≡ self.now.reads }
+        ensures once { EachOnce (places_of self.now.reads) }
     {
         &self.reads
     }
@@ -70,7 +74,8 @@ impl Look {
     /// The positions that the turn writes, each once, with the parts that it writes there and the cell after the turn.
     #[inline]
     pub fn writes(&self) -> &ArrayVec<(Pos, Parts, Cell), 7>
-        ensures { result.now.items ≡ self.now.writes }
+        ensures writes { result.now.items ≡ self.now.writes }
+        ensures once { EachOnce (places_of self.now.writes) }
     {
         &self.writes
     }

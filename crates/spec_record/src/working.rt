@@ -1,5 +1,6 @@
 // A look at a turn of its own.
 ghost use Rattle.std.specs.Prelude.{◌≡◌, ◌+◌, ◌<◌, ◌≤◌, ◌^◌, true};
+ghost use Rattle.cell_world.specs.Cell.{one_if};
 ghost use Rattle.cell_world.specs.Grid.{world_of};
 ghost use Rattle.ant_turn.specs.Minds.{Fits, minds_of};
 ghost use Rattle.spec_record.specs.Guess.{flips};
@@ -23,9 +24,25 @@ pub fn look(base: &World, brains: Brains<'_>, seed: u32, guess: u64, id: u32) ->
     ensures { result ≡ look_of (minds_of brains.entry) seed (world_of base.now) guess id }
 {
     let mut stream = stream_for(base, brains, seed, guess, id);
-    let mut look = Look::blank(id, guess);
-    look.renew(base, brains, &mut stream, id);
+    let mut look = look_by(base, brains, &mut stream, id);
     look.set_guess(guess);
+    look
+}
+
+/// The same look, its random number guessed at the place of a stream that stands there already (this project's own). The stream goes on by
+/// one number where the turn draws one, so that looks at one turn after another are made at the guesses. It takes no memory.
+///
+/// Each ant's state is below the length of its colour's brain, the id is below the number of ids, and the stream stands below 2^63 - 1.
+#[inline]
+pub fn look_by(base: &World, brains: Brains<'_>, stream: &mut Stream, id: u32) -> Look
+    requires fit { Fits (world_of base.now) (minds_of brains) }
+    requires id { id < base.now.ids }
+    requires place { stream.old.place + 1 < 2 ^ 63 }
+    ensures look { result ≡ look_of (minds_of brains.entry) stream.old.seed (world_of base.now) stream.old.place id }
+    ensures stream { stream.new ≡ record stream.old { place = stream.old.place + one_if result.drew } }
+{
+    let mut look = Look::blank(id, stream.place());
+    look.renew(base, brains, stream, id);
     look
 }
 

@@ -7,6 +7,7 @@ use crate::games::{Game, Played};
 use crate::referee::Referee;
 use hex_geometry::OutOfMemory;
 use std::alloc::Global;
+use work_share::border;
 
 // A worker's games, rooms for what is played, and whether a game was refused.
 #[derive(Drop)]
@@ -66,22 +67,11 @@ pub fn dealt(alloc: Global, games: &[Game], workers: usize) -> Result<Vec<Piece>
     let count = games.len();
     let mut pieces = Vec::with_capacity(alloc, workers)?;
     for k in 0..workers {
-        let from = border(k, count, workers);
-        let to = border(k + 1, count, workers);
+        let from = border(workers, count, k);
+        let to = border(workers, count, k + 1);
         add_piece(&mut pieces, alloc, &games[from..to])?;
     }
     Ok(pieces)
-}
-
-// Where piece k begins, and where the one before it ends.
-#[tactic(auto, using(crate::proofs::PiecesLemmas::border_small, crate::proofs::PiecesLemmas::border_within))]
-fn border(k: usize, count: usize, workers: usize) -> usize
-    requires workers { (0 < workers) × (workers ≤ 16) × (k ≤ workers) }
-    requires few { count < 2 ^ 30 }
-    ensures value { result ≡ k * count / workers }
-    ensures within { result ≤ count }
-{
-    k * count / workers
 }
 
 // Adds the piece of these games, if there are any.

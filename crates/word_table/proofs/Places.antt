@@ -7,7 +7,7 @@ use Rattle.std.proofs.lemmas.Bool.{and_parts, lt-ltb, not-true, false≢true, fa
 use Rattle.std.proofs.lemmas.List.{drop_more, get_or-map, length-map}
 use Rattle.std.proofs.lemmas.Slice.Eq.{bytes_eq-Decides}
 use Rattle.std.specs.Str.{str_to_ascii_lowercase, str_eq_ignore_ascii_case}
-use Rattle.word_table.specs.Words.{IsSameWord, are_distinct, place_in, IsWordAt}
+use Rattle.word_table.specs.Words.{IsSameWord, are_distinct, word_place, IsWordAt}
 
 -- the test means that the texts are one word
 pub str_eq_ignore_ascii_case-true : (a b : List ℕ) → str_eq_ignore_ascii_case a b ≡ true → IsSameWord a b
@@ -17,23 +17,23 @@ pub IsSameWord-tested : (a b : List ℕ) → IsSameWord a b → str_eq_ignore_as
 IsSameWord-tested a b = (bytes_eq-Decides (str_to_ascii_lowercase a) (str_to_ascii_lowercase b)).1
 
 -- the word before it isn't the text, so the place counts from the next one
-pub place_in-later : (word : List ℕ) (words : List (List ℕ)) (text : List ℕ) → str_eq_ignore_ascii_case word text ≡ false → place_in (word ∷ words) text ≡ option_map suc (place_in words text)
-place_in-later word words text no_word = ap (λ b. cond b (Some 0) (option_map suc (place_in words text))) no_word
+pub word_place-later : (word : List ℕ) (words : List (List ℕ)) (text : List ℕ) → str_eq_ignore_ascii_case word text ≡ false → word_place (word ∷ words) text ≡ option_map suc (word_place words text)
+word_place-later word words text no_word = ap (λ b. cond b (Some 0) (option_map suc (word_place words text))) no_word
 
-pub place_in-first : (word : List ℕ) (words : List (List ℕ)) (text : List ℕ) → str_eq_ignore_ascii_case word text ≡ true → place_in (word ∷ words) text ≡ Some 0
-place_in-first word words text is_word = ap (λ b. cond b (Some 0) (option_map suc (place_in words text))) is_word
+pub word_place-first : (word : List ℕ) (words : List (List ℕ)) (text : List ℕ) → str_eq_ignore_ascii_case word text ≡ true → word_place (word ∷ words) text ≡ Some 0
+word_place-first word words text is_word = ap (λ b. cond b (Some 0) (option_map suc (word_place words text))) is_word
 
 -- the place is that of the first word that passes std's test
-pub place_in-position : (words : List (List ℕ)) (text : List ℕ) → place_in words text ≡ position (λ word. str_eq_ignore_ascii_case word text) words
-place_in-position [] text = refl
-place_in-position (word ∷ words) text = go (str_eq_ignore_ascii_case word text) (position_or_len (λ w. str_eq_ignore_ascii_case w text) words) (place_in-position words text)
+pub word_place-position : (words : List (List ℕ)) (text : List ℕ) → word_place words text ≡ position (λ word. str_eq_ignore_ascii_case word text) words
+word_place-position [] text = refl
+word_place-position (word ∷ words) text = go (str_eq_ignore_ascii_case word text) (position_or_len (λ w. str_eq_ignore_ascii_case w text) words) (word_place-position words text)
   where
     later : (b : Bool) (n : ℕ) → option_map suc (cond b (Some n) None) ≡ cond b (Some (suc n)) None
     later true n = refl
     later false n = refl
 
-    go : (b : Bool) (n : ℕ) → place_in words text ≡ cond (nat_lt n (length words)) (Some n) None
-        → cond b (Some 0) (option_map suc (place_in words text)) ≡ cond (nat_lt (cond (not b) (1 + n) 0) (suc (length words))) (Some (cond (not b) (1 + n) 0)) None
+    go : (b : Bool) (n : ℕ) → word_place words text ≡ cond (nat_lt n (length words)) (Some n) None
+        → cond b (Some 0) (option_map suc (word_place words text)) ≡ cond (nat_lt (cond (not b) (1 + n) 0) (suc (length words))) (Some (cond (not b) (1 + n) 0)) None
     go true n rest = rw (lt-ltb 0 (suc (length words)) (omega arith)) refl
     go false n rest = let next : 1 + n ≡ suc n = omega arith in rw (next, compare.suc-suc (suc n) (length words)) (ap (option_map suc) rest ∙ later (nat_lt n (length words)) n)
 
@@ -46,16 +46,16 @@ one_further : (word : List ℕ) (words : List (List ℕ)) (j : ℕ) (text : List
 one_further word words j text at = record { word = at.word; stands = at.stands; same = at.same }
 
 -- the word at the place that is found is the text
-pub place_in-found : (words : List (List ℕ)) (text : List ℕ) (i : ℕ) → place_in words text ≡ Some i → IsWordAt words i text
-place_in-found [] text i e = cc
-place_in-found (word ∷ words) text i e = go (str_eq_ignore_ascii_case word text) refl (place_in-found words text)
+pub word_place-found : (words : List (List ℕ)) (text : List ℕ) (i : ℕ) → word_place words text ≡ Some i → IsWordAt words i text
+word_place-found [] text i e = cc
+word_place-found (word ∷ words) text i e = go (str_eq_ignore_ascii_case word text) refl (word_place-found words text)
   where
-    go : (b : Bool) → str_eq_ignore_ascii_case word text ≡ b → ((j : ℕ) → place_in words text ≡ Some j → IsWordAt words j text) → IsWordAt (word ∷ words) i text
+    go : (b : Bool) → str_eq_ignore_ascii_case word text ≡ b → ((j : ℕ) → word_place words text ≡ Some j → IsWordAt words j text) → IsWordAt (word ∷ words) i text
     go true is_word rest =
-        let at : 0 ≡ i = (let e' : Some 0 ≡ Some i = sym (place_in-first word words text is_word) ∙ e in cc) in
+        let at : 0 ≡ i = (let e' : Some 0 ≡ Some i = sym (word_place-first word words text is_word) ∙ e in cc) in
         subst (λ k. IsWordAt (word ∷ words) k text) at (record { word = word; stands = refl; same = str_eq_ignore_ascii_case-true word text is_word })
     go false no_word rest =
-        let found = counted (place_in words text) i (sym (place_in-later word words text no_word) ∙ e) in
+        let found = counted (word_place words text) i (sym (word_place-later word words text no_word) ∙ e) in
         subst (λ k. IsWordAt (word ∷ words) k text) (sym found.2) (one_further word words found.0 text (rest found.0 found.1))
 
 -- a word that stands in the list makes the test of the whole list true
@@ -72,21 +72,21 @@ any_at word (first ∷ words) (suc i) text at is_word = go (str_eq_ignore_ascii_
     go false e rest = ap (λ b. b || list_any (str_eq_ignore_ascii_case word) words) e ∙ rest
 
 -- of distinct words only one is the text
-pub place_in-only : (words : List (List ℕ)) (text : List ℕ) (i : ℕ) → IsTrue (are_distinct words) → IsWordAt words i text → place_in words text ≡ Some i
-place_in-only [] text i distinct at = (let e : None ≡ Some at.word = at.stands in cc)
-place_in-only (word ∷ words) text zero distinct at =
+pub word_place-only : (words : List (List ℕ)) (text : List ℕ) (i : ℕ) → IsTrue (are_distinct words) → IsWordAt words i text → word_place words text ≡ Some i
+word_place-only [] text i distinct at = (let e : None ≡ Some at.word = at.stands in cc)
+word_place-only (word ∷ words) text zero distinct at =
     let here : word ≡ at.word = (let e : Some word ≡ Some at.word = at.stands in cc) in
-    place_in-first word words text (IsSameWord-tested word text (ap str_to_ascii_lowercase here ∙ at.same))
-place_in-only (word ∷ words) text (suc i) distinct at =
+    word_place-first word words text (IsSameWord-tested word text (ap str_to_ascii_lowercase here ∙ at.same))
+word_place-only (word ∷ words) text (suc i) distinct at =
     let parts = and_parts (not (list_any (str_eq_ignore_ascii_case word) words)) (are_distinct words) distinct in
     let later : IsWordAt words i text = record { word = at.word; stands = at.stands; same = at.same } in
     let differs : str_eq_ignore_ascii_case word text ≡ false = false_from_ne_true (str_eq_ignore_ascii_case word text) (λ is_word. false≢true (sym (not-true (list_any (str_eq_ignore_ascii_case word) words) parts.0) ∙ any_at word words i text later is_word)) in
-    place_in-later word words text differs ∙ ap (option_map suc) (place_in-only words text i parts.1 later)
+    word_place-later word words text differs ∙ ap (option_map suc) (word_place-only words text i parts.1 later)
 
 -- the place lies in the table
-pub place_in-below : (words : List (List ℕ)) (text : List ℕ) → IfSome (place_in words text) (λ i. i < length words)
-place_in-below [] text = tt
-place_in-below (word ∷ words) text = go (str_eq_ignore_ascii_case word text) (place_in words text) (place_in-below words text)
+pub word_place-below : (words : List (List ℕ)) (text : List ℕ) → IfSome (word_place words text) (λ i. i < length words)
+word_place-below [] text = tt
+word_place-below (word ∷ words) text = go (str_eq_ignore_ascii_case word text) (word_place words text) (word_place-below words text)
   where
     up : (o : Option ℕ) → IfSome o (λ i. i < length words) → IfSome (option_map suc o) (λ i. i < suc (length words))
     up None h = tt
@@ -97,26 +97,26 @@ place_in-below (word ∷ words) text = go (str_eq_ignore_ascii_case word text) (
     go false o h = up o h
 
 -- what is left of the table from place i on
-rest_at : {A : Type 0} (text_of : A → List ℕ) (xs : List A) (i : ℕ) (x : A) (text : List ℕ) → i < length xs → x ≡ get_or xs i x → option_map (λ j. i + j) (place_in (drop i (map text_of xs)) text) ≡ option_map (λ j. i + j) (place_in (text_of x ∷ drop (i + 1) (map text_of xs)) text)
+rest_at : {A : Type 0} (text_of : A → List ℕ) (xs : List A) (i : ℕ) (x : A) (text : List ℕ) → i < length xs → x ≡ get_or xs i x → option_map (λ j. i + j) (word_place (drop i (map text_of xs)) text) ≡ option_map (λ j. i + j) (word_place (text_of x ∷ drop (i + 1) (map text_of xs)) text)
 rest_at text_of xs i x text within is =
     let inside : i < length (map text_of xs) = (rw length-map within) in
     let here : get_or (map text_of xs) i (text_of x) ≡ text_of x = get_or-map text_of xs i x (text_of x) within ∙ ap text_of (sym is) in
-    ap (λ ws. option_map (λ j. i + j) (place_in ws text)) (drop_more (map text_of xs) i (text_of x) inside ∙ ap (λ w. w ∷ drop (i + 1) (map text_of xs)) here)
+    ap (λ ws. option_map (λ j. i + j) (word_place ws text)) (drop_more (map text_of xs) i (text_of x) inside ∙ ap (λ w. w ∷ drop (i + 1) (map text_of xs)) here)
 
 -- The search goes over the words in order, and this one isn't the text.
-pub search-more : {A : Type 0} (text_of : A → List ℕ) (xs : List A) (i : ℕ) (x : A) (text : List ℕ) → i < length xs → x ≡ get_or xs i x → str_eq_ignore_ascii_case (text_of x) text ≡ false → option_map (λ j. i + j) (place_in (drop i (map text_of xs)) text) ≡ option_map (λ j. i + 1 + j) (place_in (drop (i + 1) (map text_of xs)) text)
+pub search-more : {A : Type 0} (text_of : A → List ℕ) (xs : List A) (i : ℕ) (x : A) (text : List ℕ) → i < length xs → x ≡ get_or xs i x → str_eq_ignore_ascii_case (text_of x) text ≡ false → option_map (λ j. i + j) (word_place (drop i (map text_of xs)) text) ≡ option_map (λ j. i + 1 + j) (word_place (drop (i + 1) (map text_of xs)) text)
 search-more text_of xs i x text within is no_word =
     rest_at text_of xs i x text within is
-    ∙ ap (option_map (λ j. i + j)) (place_in-later (text_of x) (drop (i + 1) (map text_of xs)) text no_word)
-    ∙ shift (place_in (drop (i + 1) (map text_of xs)) text)
+    ∙ ap (option_map (λ j. i + j)) (word_place-later (text_of x) (drop (i + 1) (map text_of xs)) text no_word)
+    ∙ shift (word_place (drop (i + 1) (map text_of xs)) text)
   where
     shift : (o : Option ℕ) → option_map (λ j. i + j) (option_map suc o) ≡ option_map (λ j. i + 1 + j) o
     shift None = refl
     shift (Some j) = ap Some (omega arith)
 
 -- This one is the text.
-pub search-here : {A : Type 0} (text_of : A → List ℕ) (xs : List A) (i : ℕ) (x : A) (text : List ℕ) → i < length xs → x ≡ get_or xs i x → str_eq_ignore_ascii_case (text_of x) text ≡ true → option_map (λ j. i + j) (place_in (drop i (map text_of xs)) text) ≡ Some i
+pub search-here : {A : Type 0} (text_of : A → List ℕ) (xs : List A) (i : ℕ) (x : A) (text : List ℕ) → i < length xs → x ≡ get_or xs i x → str_eq_ignore_ascii_case (text_of x) text ≡ true → option_map (λ j. i + j) (word_place (drop i (map text_of xs)) text) ≡ Some i
 search-here text_of xs i x text within is is_word =
     rest_at text_of xs i x text within is
-    ∙ ap (option_map (λ j. i + j)) (place_in-first (text_of x) (drop (i + 1) (map text_of xs)) text is_word)
+    ∙ ap (option_map (λ j. i + j)) (word_place-first (text_of x) (drop (i + 1) (map text_of xs)) text is_word)
     ∙ ap Some (omega arith)

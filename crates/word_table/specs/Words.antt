@@ -13,9 +13,9 @@ are_distinct [] = true
 are_distinct (word ∷ words) = not (list_any (str_eq_ignore_ascii_case word) words) && are_distinct words
 
 -- the place, counted from 0, of the first word that is the text in some ASCII case
-abbrev pub place_in : List (List ℕ) → List ℕ → Option ℕ
-place_in [] text = None
-place_in (word ∷ words) text = if str_eq_ignore_ascii_case word text then Some 0 else option_map suc (place_in words text)
+abbrev pub word_place : List (List ℕ) → List ℕ → Option ℕ
+word_place [] text = None
+word_place (word ∷ words) text = if str_eq_ignore_ascii_case word text then Some 0 else option_map suc (word_place words text)
 
 -- the text is the word at this place of a table, in some ASCII case
 pub record IsWordAt (words : List (List ℕ)) (i : ℕ) (text : List ℕ) : Type 0 where

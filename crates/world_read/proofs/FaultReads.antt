@@ -11,15 +11,16 @@ use Rattle.cell_world.specs.declared.kind.Kind.{Kind}
 use Rattle.cell_world.specs.Grid.{index_of}
 use Rattle.cell_world.specs.Limits.{most_ants}
 use Rattle.cell_world.specs.Opening.{IsFed, hill_count, kind_at}
-use Rattle.cell_world.proofs.Grids.{index_of-pos_at, pos_at-index_of}
+use Rattle.cell_world.proofs.GridLemmas.{index_of-pos_at, pos_at-index_of}
 use Rattle.world_read.specs.declared.fault.WorldFault.{WorldFault}
 use Rattle.world_read.specs.declared.fault.WorldFault.TheVariants.{BadWidth, BadHeight, MissingRow, BadCell, ShortRow, LongRow, ExtraRow, OpenRim, TooManyAnts, OutOfMemory}
-use Rattle.world_read.specs.Bytes.{byte_of, kind_of, spelled}
-use Rattle.world_read.specs.Faulty.{BeginsWith, BeginsWithNoSize, HasRows, HasRowFault, HasSize, IsCellFault, IsComplete, IsNoCell, IsRowFault, IsWorldFault}
+use Rattle.world_read.specs.Bytes.{byte_of, spelled}
+use Rattle.world_read.specs.Inner.Reading.{kind_of}
+use Rattle.world_read.specs.Faulty.{BeginsWith, BeginsWithNoSize, HasRows, HasRowFault, HasSize, IsCellFault, HasWholeRows, IsNoCell, IsRowFault, IsWorldFault}
 use Rattle.world_read.specs.Grammar.{AreRows}
-use Rattle.world_read.specs.Reading.{Rows, after_height, after_width, cell_of, ended, first_size, is_open_at, limited, open_rim, plan_of, row_from, row_of, rows_from, with_cell, with_row}
-use Rattle.world_read.proofs.CellBytes.{Spells, kind_of-byte_of}
-use Rattle.world_read.proofs.Rims.{IsInner-closed, first_of-none, is_open-closed, open_rim-known, pos_at-within, rim-closed}
+use Rattle.world_read.specs.Inner.Reading.{Rows, after_height, after_width, cell_of, ended, first_size, is_open_at, limited, open_rim, plan_of, row_from, row_of, rows_from, with_cell, with_row}
+use Rattle.world_read.proofs.BytesLemmas.{Spells, kind_of-byte_of}
+use Rattle.world_read.proofs.ScanLemmas.{IsInner-closed, first_of-none, is_open-closed, open_rim-known, pos_at-within, rim-closed}
 use Rattle.world_read.proofs.RowReads.{IsRow, cell_of-known, row_from-known, rows_from-known}
 use Rattle.world_read.proofs.TextReads.{size_of-known, size_of-line}
 
@@ -40,10 +41,27 @@ one_more byte bytes kind cells rest spells begins =
 -- a fault after a cell is a fault of the bytes that begin with that cell
 cell_fault-more : (width y column byte : ℕ) (bytes : List ℕ) (kind : Kind) (fault : WorldFault) → Spells byte kind → IsCellFault width y (column + 1) bytes fault → IsCellFault width y column (byte ∷ bytes) fault
 cell_fault-more width y column byte bytes kind (BadCell row at) spells h =
-    (h.0, kind ∷ h.1, h.2, h.3, one_more byte bytes kind h.1 (h.2 ∷ h.3) spells h.4, omega (arith, h.5), h.6, h.7)
-cell_fault-more width y column byte bytes kind (ShortRow row) spells h = (h.0, kind ∷ h.1, one_more byte bytes kind h.1 [] spells h.2, omega (arith, h.3))
+    record {
+      same_row = h.same_row;
+      cells = kind ∷ h.cells;
+      byte = h.byte;
+      after = h.after;
+      begins = one_more byte bytes kind h.cells (h.byte ∷ h.after) spells h.begins;
+      is_at = omega (arith, h.is_at);
+      within = h.within;
+      wrong = h.wrong;
+    }
+cell_fault-more width y column byte bytes kind (ShortRow row) spells h =
+    record { same_row = h.same_row; cells = kind ∷ h.cells; are = one_more byte bytes kind h.cells [] spells h.are; few = omega (arith, h.few) }
 cell_fault-more width y column byte bytes kind (LongRow row) spells h =
-    (h.0, kind ∷ h.1, h.2, h.3, one_more byte bytes kind h.1 (h.2 ∷ h.3) spells h.4, omega (arith, h.5))
+    record {
+      same_row = h.same_row;
+      cells = kind ∷ h.cells;
+      byte = h.byte;
+      after = h.after;
+      begins = one_more byte bytes kind h.cells (h.byte ∷ h.after) spells h.begins;
+      whole = omega (arith, h.whole);
+    }
 cell_fault-more width y column byte bytes kind BadWidth spells h = h
 cell_fault-more width y column byte bytes kind BadHeight spells h = h
 cell_fault-more width y column byte bytes kind (MissingRow row) spells h = h
@@ -59,11 +77,21 @@ cell_of-fault width y column byte bytes fault le is = go (ltb column width) refl
   go false e told t is =
       let one : LongRow y ≡ fault = cc in
       let end : column + 0 ≡ width = omega (arith, ltb-false column width e) in
-      subst (IsCellFault width y column (byte ∷ bytes)) one (refl, [], byte, bytes, nothing_first (byte ∷ bytes), end)
+      subst (IsCellFault width y column (byte ∷ bytes)) one
+      (record { same_row = refl; cells = []; byte = byte; after = bytes; begins = nothing_first (byte ∷ bytes); whole = end })
   go true e None t is =
       let one : BadCell y column ≡ fault = cc in
       let here : column + 0 ≡ column = omega arith in
-      subst (IsCellFault width y column (byte ∷ bytes)) one (refl, [], byte, bytes, nothing_first (byte ∷ bytes), here, ltb-true column width e, IsNoCell-none byte t)
+      subst (IsCellFault width y column (byte ∷ bytes)) one (record {
+        same_row = refl;
+        cells = [];
+        byte = byte;
+        after = bytes;
+        begins = nothing_first (byte ∷ bytes);
+        is_at = here;
+        within = ltb-true column width e;
+        wrong = IsNoCell-none byte t;
+      })
   go true e (Some kind) t is = absurd (cc)
 
 -- the fault of a row is what is wrong with its bytes
@@ -74,7 +102,7 @@ row_from-fault width y column [] fault le is = go (ltb column width) refl is whe
   go true e is =
       let one : ShortRow y ≡ fault = cc in
       let few : column + 0 < width = omega (arith, ltb-true column width e) in
-      subst (IsCellFault width y column []) one (refl, [], nothing_first [], few)
+      subst (IsCellFault width y column []) one (record { same_row = refl; cells = []; are = nothing_first []; few = few })
 row_from-fault width y column (byte ∷ bytes) fault le is = go (cell_of width y column byte) refl (row_from width y (column + 1) bytes) (λ other early r. row_from-fault width y (column + 1) bytes other early r) is where
   go : (cell : Result Kind WorldFault) → cell_of width y column byte ≡ cell → (rest : Result (List Kind) WorldFault) → ((other : WorldFault) → column + 1 ≤ width → rest ≡ Err other → IsCellFault width y (column + 1) bytes other) → with_cell cell rest ≡ Err fault → IsCellFault width y column (byte ∷ bytes) fault
   go (Err other) e rest known is =
@@ -88,9 +116,9 @@ row_from-fault width y column (byte ∷ bytes) fault le is = go (cell_of width y
 
 -- a fault of a line is a fault of its row
 row_fault-line : (width y : ℕ) (line : List ℕ) (lines : List (List ℕ)) (fault : WorldFault) → IsCellFault width y 0 (spelled line) fault → IsRowFault width y (line ∷ lines) fault
-row_fault-line width y line lines (BadCell row column) h = (line, lines, refl, h)
-row_fault-line width y line lines (ShortRow row) h = (line, lines, refl, h)
-row_fault-line width y line lines (LongRow row) h = (line, lines, refl, h)
+row_fault-line width y line lines (BadCell row column) h = record { line = line; after = lines; are = refl; wrong = h }
+row_fault-line width y line lines (ShortRow row) h = record { line = line; after = lines; are = refl; wrong = h }
+row_fault-line width y line lines (LongRow row) h = record { line = line; after = lines; are = refl; wrong = h }
 row_fault-line width y line lines BadWidth h = h
 row_fault-line width y line lines BadHeight h = h
 row_fault-line width y line lines (MissingRow row) h = absurd h
@@ -144,7 +172,7 @@ rows_from-fault : (width y count : ℕ) (lines : List (List ℕ)) (fault : World
 rows_from-fault width y zero lines fault is = absurd (cc)
 rows_from-fault width y (suc count) [] fault is =
     let one : MissingRow y ≡ fault = cc in
-    subst (AreAtFault width y (suc count) []) one (at_fault-here width y count [] (MissingRow y) (refl, refl))
+    subst (AreAtFault width y (suc count) []) one (at_fault-here width y count [] (MissingRow y) (record { same_row = refl; none = refl }))
 rows_from-fault width y (suc count) (line ∷ lines) fault is = go (row_of width y line) refl (rows_from width (y + 1) count lines) (λ other b. rows_from-fault width (y + 1) count lines other b) is where
   go : (row : Result (List Kind) WorldFault) → row_of width y line ≡ row → (told : Result Rows WorldFault) → ((other : WorldFault) → told ≡ Err other → AreAtFault width (y + 1) count lines other) → with_row row told ≡ Err fault → AreAtFault width y (suc count) (line ∷ lines) fault
   go (Err other) e told known is =
@@ -256,10 +284,10 @@ module _ (text first second : List ℕ) (lines : List (List ℕ)) (width height 
         wrong = other.wrong;
       }
 
-  complete : (rows : Rows) → rows_from width 0 height lines ≡ Ok rows → list_all is_blank rows.rest ≡ true → IsComplete text width height rows.kinds
+  complete : (rows : Rows) → rows_from width 0 height lines ≡ Ok rows → list_all is_blank rows.rest ≡ true → HasWholeRows text width height rows.kinds
   complete rows told blank = record { rest = rows.rest; rows = read_rows rows told; blank = AllPass-from_list_all is_blank rows.rest blank }
 
-  open_rim_fault : (kinds : List Kind) (p : Pos) → IsComplete text width height kinds → open_rim width height kinds ≡ Some p → IsWorldFault text (OpenRim p.x p.y)
+  open_rim_fault : (kinds : List Kind) (p : Pos) → HasWholeRows text width height kinds → open_rim width height kinds ≡ Some p → IsWorldFault text (OpenRim p.x p.y)
   open_rim_fault kinds p whole found =
       let test = is_open_at width height kinds in
       let first = open_rim-known width height kinds p found in
@@ -278,7 +306,7 @@ module _ (text first second : List ℕ) (lines : List (List ℕ)) (width height 
             clear within;
       }
 
-  limits_fault : (kinds : List Kind) (fault : WorldFault) → IsComplete text width height kinds → limited width height kinds (open_rim width height kinds) ≡ Err fault → IsWorldFault text fault
+  limits_fault : (kinds : List Kind) (fault : WorldFault) → HasWholeRows text width height kinds → limited width height kinds (open_rim width height kinds) ≡ Err fault → IsWorldFault text fault
   limits_fault kinds fault whole is = go (open_rim width height kinds) refl (leb (hill_count kinds) most_ants) refl is where
     go : (found : Option Pos) → open_rim width height kinds ≡ found → (few : Bool) → leb (hill_count kinds) most_ants ≡ few → limited width height kinds found ≡ Err fault → IsWorldFault text fault
     go (Some p) f few e is =

@@ -8,8 +8,8 @@ use Rattle.cell_world.specs.Limits.{most_ants}
 use Rattle.cell_world.specs.Opening.{IsPlan, hill_count}
 use Rattle.world_read.specs.declared.fault.WorldFault.TheVariants.{BadWidth, BadHeight, TooManyAnts}
 use Rattle.world_read.specs.Grammar.{Plan}
-use Rattle.world_read.specs.Reading.{AreSizes, Rows, after_height, after_width, ended, first_size, limited, open_rim, opened, plan_of, rows_from, world_of_text}
-use Rattle.world_read.proofs.Rims.{rim-closed}
+use Rattle.world_read.specs.Inner.Reading.{AreSizes, Rows, after_height, after_width, ended, first_size, limited, open_rim, opened, plan_of, rows_from, world_of_text}
+use Rattle.world_read.proofs.ScanLemmas.{rim-closed}
 use Rattle.world_read.proofs.RowReads.{length-AreRows, rows_from-known}
 
 -- a text whose first line is no width

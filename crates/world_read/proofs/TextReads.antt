@@ -12,9 +12,9 @@ use Rattle.world_read.specs.declared.fault.WorldFault.{WorldFault}
 use Rattle.world_read.specs.declared.fault.WorldFault.TheVariants.{ExtraRow, TooManyAnts}
 use Rattle.world_read.specs.Faulty.{HasSize}
 use Rattle.world_read.specs.Grammar.{IsSizeLine, IsWorldText, Plan}
-use Rattle.world_read.specs.Reading.{AreSizes, Rows, after_height, after_width, ended, first_size, limited, open_rim, plan_of, rows_from, size_of}
+use Rattle.world_read.specs.Inner.Reading.{AreSizes, Rows, after_height, after_width, ended, first_size, limited, open_rim, plan_of, rows_from, size_of}
 use Rattle.world_read.proofs.PlanReads.{IsPlan-read, limited-known}
-use Rattle.world_read.proofs.Rims.{open_rim-closed}
+use Rattle.world_read.proofs.ScanLemmas.{open_rim-closed}
 use Rattle.world_read.proofs.RowReads.{rows_from-known, rows_from-rows}
 
 -- the size that is read from a line is that line's

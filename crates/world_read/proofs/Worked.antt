@@ -5,17 +5,17 @@ use Rattle.ant_base.specs.Layout.{numbered}
 use Rattle.ant_base.specs.Number.{number_of}
 use Rattle.cell_world.proofs.OpeningWorked.{one_hill, three_hills}
 use Rattle.world_read.specs.declared.fault.WorldFault.TheVariants.{BadCell, LongRow, ShortRow, ExtraRow, OpenRim}
-use Rattle.world_read.specs.Canonical.{canonical_text, cell_text, row_text}
-use Rattle.world_read.specs.Reading.{open_rim, plan_of}
+use Rattle.world_read.specs.Canonical.{canonical_text, cell_text, line_of_row}
+use Rattle.world_read.specs.Inner.Reading.{open_rim, plan_of}
 
 -- the canonical text of a small world
 text-one_hill : canonical_text 3 3 one_hill ≡ codes "3\n3\n# # #\n # + #\n# # #\n"
-unfolding digits canonical_text row_text cell_text numbered
+unfolding digits canonical_text line_of_row cell_text numbered
 text-one_hill = refl
 
 -- and of one in whose middle row ants of both colours begin
 text-three_hills : canonical_text 5 3 three_hills ≡ codes "5\n3\n# # # # #\n # + + - #\n# # # # #\n"
-unfolding digits canonical_text row_text cell_text numbered
+unfolding digits canonical_text line_of_row cell_text numbered
 text-three_hills = refl
 
 -- separators may stand anywhere, also CR, and blank lines after the last row

@@ -11,16 +11,17 @@ use Rattle.cell_world.specs.Grid.{index_of}
 use Rattle.cell_world.specs.Limits.{most_ants}
 use Rattle.cell_world.specs.Opening.{hill_count, kind_at}
 use Rattle.cell_world.specs.World.{pos_at}
-use Rattle.cell_world.proofs.Grids.{index_of-inside, index_of-pos_at}
+use Rattle.cell_world.proofs.GridLemmas.{index_of-inside, index_of-pos_at}
 use Rattle.world_read.specs.declared.fault.WorldFault.{WorldFault}
 use Rattle.world_read.specs.declared.fault.WorldFault.TheVariants.{BadWidth, BadHeight, MissingRow, BadCell, ShortRow, LongRow, ExtraRow, OpenRim, TooManyAnts, OutOfMemory}
-use Rattle.world_read.specs.Bytes.{kind_of, spelled}
-use Rattle.world_read.specs.Faulty.{BeginsWithNoSize, HasExtraRow, HasNoHeight, HasOpenRim, HasRowFault, HasRows, HasTooManyAnts, IsCellFault, IsComplete, IsNoCell, IsRowFault, IsWorldFault}
+use Rattle.world_read.specs.Inner.Reading.{kind_of}
+use Rattle.world_read.specs.Bytes.{spelled}
+use Rattle.world_read.specs.Faulty.{BeginsWithNoSize, HasExtraRow, HasNoHeight, HasOpenRim, HasRowFault, HasRows, HasTooManyAnts, IsCellFault, HasWholeRows, IsNoCell, IsRowFault, IsWorldFault}
 use Rattle.world_read.specs.Grammar.{Plan}
-use Rattle.world_read.specs.Reading.{after_height, after_width, cell_of, ended, first_size, is_open_at, limited, onto_row, open_rim, plan_of, row_from, rows_from, size_of, with_cell, with_row}
-use Rattle.world_read.specs.Scan.{IsClosedBefore}
-use Rattle.world_read.proofs.CellBytes.{kind_of-known}
-use Rattle.world_read.proofs.Rims.{IsInner-closed, first_of-closed, is_open-closed, open_rim-closed, open_rim-first, pos_at-within}
+use Rattle.world_read.specs.Inner.Reading.{after_height, after_width, cell_of, ended, first_size, is_open_at, limited, onto_row, open_rim, plan_of, row_from, rows_from, size_of, with_cell, with_row}
+use Rattle.world_read.specs.Inner.Scan.{IsClosedBefore}
+use Rattle.world_read.proofs.BytesLemmas.{kind_of-known}
+use Rattle.world_read.proofs.ScanLemmas.{IsInner-closed, first_of-closed, is_open-closed, open_rim-closed, open_rim-first, pos_at-within}
 use Rattle.world_read.proofs.RowReads.{row_from-cells, rows_from-front, rows_from-rows}
 use Rattle.world_read.proofs.TextReads.{size_of-known, size_of-line}
 
@@ -34,33 +35,33 @@ kind_of-none byte never = go (kind_of byte) refl where
 -- what is wrong with the bytes of a row is its fault
 row_from-wrong : (width y column : ℕ) (bytes : List ℕ) (fault : WorldFault) → IsCellFault width y column bytes fault → row_from width y column bytes ≡ Err fault
 row_from-wrong width y column bytes (BadCell row at) h =
-    let cells = h.1 in
-    let byte = h.2 in
-    let rest = h.3 in
+    let cells = h.cells in
+    let byte = h.byte in
+    let rest = h.after in
     let cell : cell_of width y at byte ≡ Err (BadCell row at) =
-    cond-true (ltb at width) (ok_or (kind_of byte) (BadCell y at)) (Err (LongRow y)) (lt-ltb at width h.6)
-    ∙ ap (λ o. ok_or o (BadCell y at)) (kind_of-none byte h.7)
-    ∙ ap (λ n. Err (BadCell n at)) (sym h.0) in
-    ap (row_from width y column) h.4.spelled
-    ∙ row_from-cells width y column cells (byte ∷ rest) (omega (arith, h.5, h.6)) h.4.fed
-    ∙ ap (λ n. onto_row cells (row_from width y n (byte ∷ rest))) h.5
+    cond-true (ltb at width) (ok_or (kind_of byte) (BadCell y at)) (Err (LongRow y)) (lt-ltb at width h.within)
+    ∙ ap (λ o. ok_or o (BadCell y at)) (kind_of-none byte h.wrong)
+    ∙ ap (λ n. Err (BadCell n at)) (sym h.same_row) in
+    ap (row_from width y column) h.begins.spelled
+    ∙ row_from-cells width y column cells (byte ∷ rest) (omega (arith, h.is_at, h.within)) h.begins.fed
+    ∙ ap (λ n. onto_row cells (row_from width y n (byte ∷ rest))) h.is_at
     ∙ ap (λ c. onto_row cells (with_cell c (row_from width y (at + 1) rest))) cell
 row_from-wrong width y column bytes (ShortRow row) h =
-    let cells = h.1 in
-    ap (row_from width y column) h.2.spelled
-    ∙ row_from-cells width y column cells [] (omega (arith, h.3)) h.2.fed
-    ∙ ap (onto_row cells) (cond-true (ltb (column + length cells) width) (Err (ShortRow y)) (Ok []) (lt-ltb (column + length cells) width h.3))
-    ∙ ap (λ n. Err (ShortRow n)) (sym h.0)
+    let cells = h.cells in
+    ap (row_from width y column) h.are.spelled
+    ∙ row_from-cells width y column cells [] (omega (arith, h.few)) h.are.fed
+    ∙ ap (onto_row cells) (cond-true (ltb (column + length cells) width) (Err (ShortRow y)) (Ok []) (lt-ltb (column + length cells) width h.few))
+    ∙ ap (λ n. Err (ShortRow n)) (sym h.same_row)
 row_from-wrong width y column bytes (LongRow row) h =
-    let cells = h.1 in
-    let byte = h.2 in
-    let rest = h.3 in
+    let cells = h.cells in
+    let byte = h.byte in
+    let rest = h.after in
     let at = column + length cells in
     let cell : cell_of width y at byte ≡ Err (LongRow row) =
-    cond-false (ltb at width) (ok_or (kind_of byte) (BadCell y at)) (Err (LongRow y)) (le-ltb at width (omega (arith, h.5)))
-    ∙ ap (λ n. Err (LongRow n)) (sym h.0) in
-    ap (row_from width y column) h.4.spelled
-    ∙ row_from-cells width y column cells (byte ∷ rest) (omega (arith, h.5)) h.4.fed
+    cond-false (ltb at width) (ok_or (kind_of byte) (BadCell y at)) (Err (LongRow y)) (le-ltb at width (omega (arith, h.whole)))
+    ∙ ap (λ n. Err (LongRow n)) (sym h.same_row) in
+    ap (row_from width y column) h.begins.spelled
+    ∙ row_from-cells width y column cells (byte ∷ rest) (omega (arith, h.whole)) h.begins.fed
     ∙ ap (λ c. onto_row cells (with_cell c (row_from width y (at + 1) rest))) cell
 row_from-wrong width y column bytes BadWidth h = absurd h
 row_from-wrong width y column bytes BadHeight h = absurd h
@@ -76,10 +77,10 @@ line_wrong width y count line lines after fault are h =
 
 -- what is wrong with the first row is the fault of the rows
 rows_from-wrong : (width y count : ℕ) (lines : List (List ℕ)) (fault : WorldFault) → IsRowFault width y lines fault → rows_from width y (suc count) lines ≡ Err fault
-rows_from-wrong width y count lines (MissingRow row) h = ap (rows_from width y (suc count)) h.1 ∙ ap (λ n. Err (MissingRow n)) (sym h.0)
-rows_from-wrong width y count lines (BadCell row column) h = line_wrong width y count h.0 lines h.1 (BadCell row column) h.2 h.3
-rows_from-wrong width y count lines (ShortRow row) h = line_wrong width y count h.0 lines h.1 (ShortRow row) h.2 h.3
-rows_from-wrong width y count lines (LongRow row) h = line_wrong width y count h.0 lines h.1 (LongRow row) h.2 h.3
+rows_from-wrong width y count lines (MissingRow row) h = ap (rows_from width y (suc count)) h.none ∙ ap (λ n. Err (MissingRow n)) (sym h.same_row)
+rows_from-wrong width y count lines (BadCell row column) h = line_wrong width y count h.line lines h.after (BadCell row column) h.are h.wrong
+rows_from-wrong width y count lines (ShortRow row) h = line_wrong width y count h.line lines h.after (ShortRow row) h.are h.wrong
+rows_from-wrong width y count lines (LongRow row) h = line_wrong width y count h.line lines h.after (LongRow row) h.are h.wrong
 rows_from-wrong width y count lines BadWidth h = absurd h
 rows_from-wrong width y count lines BadHeight h = absurd h
 rows_from-wrong width y count lines ExtraRow h = absurd h
@@ -132,7 +133,7 @@ extra_wrong text h =
     ∙ cond-false (list_all is_blank (h.before ++ h.line ∷ h.after)) (limited h.width h.height h.kinds (open_rim h.width h.height h.kinds)) (Err ExtraRow) other
 
 -- a text that is complete
-plan_of-complete : (text : List ℕ) (width height : ℕ) (kinds : List Kind) → IsComplete text width height kinds → plan_of text ≡ limited width height kinds (open_rim width height kinds)
+plan_of-complete : (text : List ℕ) (width height : ℕ) (kinds : List Kind) → HasWholeRows text width height kinds → plan_of text ≡ limited width height kinds (open_rim width height kinds)
 plan_of-complete text width height kinds c =
     plan_of-whole text width height kinds c.rest c.rows
     ∙ cond-true (list_all is_blank c.rest) (limited width height kinds (open_rim width height kinds)) (Err ExtraRow) (list_all-from_AllPass is_blank c.rest c.blank)

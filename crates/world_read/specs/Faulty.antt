@@ -54,23 +54,55 @@ pub record BeginsWith (bytes : List ℕ) (cells : List Kind) (rest : List ℕ) :
 abbrev pub IsNoCell : ℕ → Type 0
 IsNoCell byte = (kind : Kind) → IsFed kind → byte ≡ byte_of kind → ⊥
 
--- what is wrong with these bytes of row y, in front of which so many of its cells stand: a byte within the width is that of no cell,
--- all are cells and are too few, or one more follows a whole row
+-- after some of its cells, a byte of row y within the width is that of no cell
+pub record HasBadCell (width y column : ℕ) (bytes : List ℕ) (row at : ℕ) : Type 0 where
+  pub same_row : row ≡ y
+  pub cells : List Kind
+  pub byte : ℕ
+  pub after : List ℕ
+  pub begins : BeginsWith bytes cells (byte ∷ after)
+  pub is_at : column + length cells ≡ at
+  pub within : at < width
+  pub wrong : IsNoCell byte
+
+-- all bytes of row y are cells, and they are too few
+pub record HasShortRow (width y column : ℕ) (bytes : List ℕ) (row : ℕ) : Type 0 where
+  pub same_row : row ≡ y
+  pub cells : List Kind
+  pub are : BeginsWith bytes cells []
+  pub few : column + length cells < width
+
+-- a byte follows as many cells of row y as the width
+pub record HasLongRow (width y column : ℕ) (bytes : List ℕ) (row : ℕ) : Type 0 where
+  pub same_row : row ≡ y
+  pub cells : List Kind
+  pub byte : ℕ
+  pub after : List ℕ
+  pub begins : BeginsWith bytes cells (byte ∷ after)
+  pub whole : column + length cells ≡ width
+
+-- what is wrong with these bytes of row y, in front of which so many of its cells stand
 abbrev pub IsCellFault : ℕ → ℕ → ℕ → List ℕ → WorldFault → Type 0
-IsCellFault width y column bytes (BadCell row at) =
-    (row ≡ y) × (cells : List Kind) × (byte : ℕ) × (rest : List ℕ) × BeginsWith bytes cells (byte ∷ rest) × (column + length cells ≡ at) × (at < width) × IsNoCell byte
-IsCellFault width y column bytes (ShortRow row) = (row ≡ y) × (cells : List Kind) × BeginsWith bytes cells [] × (column + length cells < width)
-IsCellFault width y column bytes (LongRow row) =
-    (row ≡ y) × (cells : List Kind) × (byte : ℕ) × (rest : List ℕ) × BeginsWith bytes cells (byte ∷ rest) × (column + length cells ≡ width)
+IsCellFault width y column bytes (BadCell row at) = HasBadCell width y column bytes row at
+IsCellFault width y column bytes (ShortRow row) = HasShortRow width y column bytes row
+IsCellFault width y column bytes (LongRow row) = HasLongRow width y column bytes row
 IsCellFault width y column bytes _ = ⊥
 
 -- a line stands where row y should, and its bytes but for separators are at fault
-abbrev pub IsLineFault : ℕ → ℕ → List (List ℕ) → WorldFault → Type 0
-IsLineFault width y lines fault = (line : List ℕ) × (after : List (List ℕ)) × (lines ≡ line ∷ after) × IsCellFault width y 0 (spelled line) fault
+pub record IsLineFault (width y : ℕ) (lines : List (List ℕ)) (fault : WorldFault) : Type 0 where
+  pub line : List ℕ
+  pub after : List (List ℕ)
+  pub are : lines ≡ line ∷ after
+  pub wrong : IsCellFault width y 0 (spelled line) fault
+
+-- no line stands where row y should
+pub record HasNoLine (y : ℕ) (lines : List (List ℕ)) (row : ℕ) : Type 0 where
+  pub same_row : row ≡ y
+  pub none : lines ≡ []
 
 -- what is wrong with row y, where these lines are left
 abbrev pub IsRowFault : ℕ → ℕ → List (List ℕ) → WorldFault → Type 0
-IsRowFault width y lines (MissingRow row) = (row ≡ y) × (lines ≡ [])
+IsRowFault width y lines (MissingRow row) = HasNoLine y lines row
 IsRowFault width y lines (BadCell row column) = IsLineFault width y lines (BadCell row column)
 IsRowFault width y lines (ShortRow row) = IsLineFault width y lines (ShortRow row)
 IsRowFault width y lines (LongRow row) = IsLineFault width y lines (LongRow row)
@@ -99,7 +131,7 @@ pub record HasExtraRow (text : List ℕ) : Type 0 where
   pub wrong : is_blank line ≡ false
 
 -- all rows are whole, of these sizes and kinds, and blank lines alone come after them
-pub record IsComplete (text : List ℕ) (width height : ℕ) (kinds : List Kind) : Type 0 where
+pub record HasWholeRows (text : List ℕ) (width height : ℕ) (kinds : List Kind) : Type 0 where
   pub rest : List (List ℕ)
   pub rows : HasRows text width height height kinds rest
   pub blank : All (λ line. is_blank line ≡ true) rest
@@ -113,7 +145,7 @@ pub record HasOpenRim (text : List ℕ) (p : Pos) : Type 0 where
   pub width : ℕ
   pub height : ℕ
   pub kinds : List Kind
-  pub complete : IsComplete text width height kinds
+  pub complete : HasWholeRows text width height kinds
   pub inside : IsInside width height p
   pub wrong : IsClosed width height kinds p → ⊥
   pub first : (q : Pos) → IsInside width height q → index_of width q < index_of width p → IsClosed width height kinds q
@@ -123,7 +155,7 @@ pub record HasTooManyAnts (text : List ℕ) (count : ℕ) : Type 0 where
   pub width : ℕ
   pub height : ℕ
   pub kinds : List Kind
-  pub complete : IsComplete text width height kinds
+  pub complete : HasWholeRows text width height kinds
   pub rim : (p : Pos) → IsInside width height p → IsClosed width height kinds p
   pub is : count ≡ hill_count kinds
   pub wrong : most_ants < count

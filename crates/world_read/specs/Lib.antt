@@ -3,6 +3,6 @@ pub mod Bytes
 pub mod Canonical
 pub mod Faulty
 pub mod Grammar
+pub mod Inner
+pub mod Laws
 pub mod Opened
-pub mod Reading
-pub mod Scan

@@ -21,8 +21,7 @@ mod write;
 
 pub use fault::WorldFault;
 pub use laws::{
-    canonical_text_is_read_back, every_text_has_one_verdict, faults_are_what_is_wrong,
-    reading_is_the_grammar, written_worlds_are_read_back,
+    canonical_text_is_read_back, every_text_has_one_verdict, written_worlds_are_read_back,
 };
 pub use read::read_world;
 pub use write::write_world;

@@ -2,8 +2,8 @@
 ghost use Rattle.std.specs.Prelude.{◌≡◌, ◌≤◌, ◌<◌, ◌*◌, length};
 ghost use Rattle.cell_world.specs.Limits.{most_size};
 ghost use Rattle.cell_world.specs.Opening.{hill_count};
-ghost use Rattle.world_read.specs.Reading.{AreSizes, is_on_rim, is_open, leaving, limited, open_rim};
-ghost use Rattle.world_read.specs.Scan.{SearchesRow};
+ghost use Rattle.world_read.specs.Inner.Reading.{AreSizes, is_on_rim, is_open, leaving, limited, open_rim};
+ghost use Rattle.world_read.specs.Inner.Scan.{SearchesRow};
 
 use crate::fault::WorldFault;
 use cell_world::Kind;

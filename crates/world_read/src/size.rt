@@ -1,7 +1,7 @@
 // The sizes of a world text, which stand on its first two lines.
 ghost use Rattle.std.specs.Prelude.{◌≡◌, ◌≤◌, drop, IfSome};
 ghost use Rattle.cell_world.specs.Limits.{least_size, most_size};
-ghost use Rattle.world_read.specs.Reading.{first_size, size_of};
+ghost use Rattle.world_read.specs.Inner.Reading.{first_size, size_of};
 
 use ant_base::{Lines, read_number_within, trimmed};
 

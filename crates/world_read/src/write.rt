@@ -5,7 +5,7 @@ ghost use Rattle.hex_geometry.specs.declared.position.Pos.{Pos};
 ghost use Rattle.cell_world.specs.declared.kind.Kind.TheVariants.{Rock};
 ghost use Rattle.cell_world.specs.Grid.{world_of};
 ghost use Rattle.world_read.specs.Bytes.{byte_of};
-ghost use Rattle.world_read.specs.Canonical.{canonical_text, cell_text, row_text, space_if};
+ghost use Rattle.world_read.specs.Canonical.{canonical_text, cell_text, line_of_row, space_if};
 ghost use Rattle.world_read.specs.Opened.{IsOpeningWorld, kind_of_cell, kind_of_clear, kinds_of};
 
 use ant_base::{Each, Failed, Layout, Parts, Sink, layout};
@@ -40,13 +40,13 @@ struct Rows<'w> {
 impl Parts for Rows<'_> {
     ghost count = { λ rows. rows.world.now.height };
 
-    ghost part = { λ rows y. row_text rows.world.now.width (kinds_of rows.world.now) y };
+    ghost part = { λ rows y. line_of_row rows.world.now.width (kinds_of rows.world.now) y };
 
     fn count(&self) -> usize {
         self.world.height() as usize
     }
 
-    #[tactic(auto, unfolding(crate::specs::Canonical::row_text))]
+    #[tactic(auto, unfolding(crate::specs::Canonical::line_of_row))]
     fn push_part<K: Sink>(&self, at: usize, sink: &mut K) -> Result<(), Failed> {
         let world = self.world;
         let rows = world.height();

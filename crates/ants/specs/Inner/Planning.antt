@@ -1,9 +1,11 @@
 -- What the private functions that plan a game ensure.
-use Rattle.std.specs.Prelude.{◌≡◌, ℕ, List, [], ◌∷◌, Result, Ok, Err}
+use Rattle.std.specs.Prelude.{◌≡◌, ℕ, ◌≤◌, List, [], ◌∷◌, Result, Ok, Err}
 use Rattle.ant_turn.specs.declared.sheet.Sheet.{Sheet}
 use Rattle.ant_turn.specs.Sheet.{sheet_of}
 use Rattle.command_words.specs.Command.{RunSetup}
 use Rattle.cell_world.specs.Grid.{Grid}
+use Rattle.match_run.specs.declared.fault.PlayFault.{PlayFault}
+use Rattle.match_run.specs.declared.fault.PlayFault.TheVariants as play
 use Rattle.match_run.specs.declared.plan.Plan.{Plan}
 use Rattle.world_gen.specs.declared.shape.Shape.{Shape}
 use Rattle.world_gen.specs.Painting.{IsGenerated}
@@ -23,9 +25,19 @@ pub record Plans (setup : RunSetup) (plan : Plan) : Type 0 where
   pub window_is : plan.window ≡ setup.window
   pub stats_are : plan.stats ≡ setup.stats
 
+-- a plan that can be played: its rounds are at most 1,000,000, and its windows have turns
+pub record CanPlay (plan : Plan) : Type 0 where
+  pub few : plan.rounds ≤ 1000000
+  pub sized : 1 ≤ plan.window
+
 -- the sheet has the numbers that the words name
 abbrev pub IsSheetOf : RunSetup → Sheet → Type 0
 IsSheetOf setup sheet = sheet_of sheet ≡ sheet_named setup
+
+-- the stop of a play that stopped
+abbrev pub stop_of : PlayFault → Stop
+stop_of play.WriteFault = stop.Write
+stop_of play.OutOfMemory = stop.Memory
 
 -- a plan was made; only memory can be wanting
 abbrev pub IsPlanned : RunSetup → Result Plan Stop → Type 0

@@ -1,6 +1,7 @@
 // The command `run`.
 use crate::status::Status;
 use crate::tests::{CLOSED, CLOSING, Given, Job, NO_JOB, answer, check_rows};
+use std::alloc::Global;
 use std::test::Fail;
 
 // A red ant with an open cell before it.
@@ -16,11 +17,11 @@ const ROW: &str = "5\n3\n# # # # #\n # + + - #\n# # # # #\n";
 const SURROUNDED: &str = "5\n5\n# # # # #\n # - - . #\n# - + - #\n # - - . #\n# # # # #\n";
 
 // A black ant among four red ones, beside a red ant among five black ones; a red ant is about to stand beside both.
-const NEIGHBOURS: &str =
+pub const NEIGHBOURS: &str =
     "6\n6\n# # # # # #\n # . + + # #\n# + . - + #\n # - + - . #\n# . - - . #\n # # # # # #\n";
 
 // No hill, no ant.
-const EMPTY: &str = "4\n4\n# # # #\n # . . #\n# . . #\n # # # #\n";
+pub const EMPTY: &str = "4\n4\n# # # #\n # . . #\n# . . #\n # # # #\n";
 
 // A red ant dies after a black one's move: one round of `CLOSING` with the seed 12345, red `Flip 2 0 0`, black `Move 0 0`.
 pub const KILLED: &str = "random seed: 12345\n\
@@ -147,6 +148,35 @@ fn a_run_prints_its_seed_its_dumps_and_its_score(rt: HostRuntime) -> Result<(), 
         Status::Done,
         &killing,
     )
+}
+
+#[test]
+fn a_thousand_rounds_are_listed(rt: HostRuntime) -> Result<(), Fail> {
+    let later = ",1000000".repeat(rt.alloc(), 997)?;
+    let line = format!(in rt.alloc(); "run w r b --seed 12345 --rounds 1 --dump 9,1{later},0")?;
+    let rows = [(line.as_str(), TURNED)];
+    check_rows(&rt, rt.alloc(), TURNING, Given::Line, Status::Done, &rows)
+}
+
+// The text of a world without a hill, as wide as high, whose cells are clear but for the rim, and so many in each row.
+fn clear(alloc: Global, cells: u16) -> Result<String, Fail> {
+    let inner = usize::from(cells);
+    let size = inner + 2;
+    let rim = "#".repeat(alloc, size)?;
+    let row = format!(in alloc; "#{}#\n", ".".repeat(alloc, inner)?)?;
+    let rows = row.repeat(alloc, inner)?;
+    Ok(format!(in alloc; "{size}\n{size}\n{rim}\n{rows}{rim}")?)
+}
+
+#[test]
+fn a_world_has_up_to_512_by_512_cells(rt: HostRuntime) -> Result<(), Fail> {
+    let most = clear(rt.alloc(), 510)?;
+    let job = TURNING.with(Given::Line, "run w r b --seed 7 --rounds 5");
+    let rows = [(most.as_str(), UNPLAYED)];
+    check_rows(&rt, rt.alloc(), job, Given::World, Status::Done, &rows)?;
+    let more = clear(rt.alloc(), 511)?;
+    let rows = [(more.as_str(), "ants: w: bad width\n")];
+    check_rows(&rt, rt.alloc(), job, Given::World, Status::Input, &rows)
 }
 
 // A game, lines of its text in their order, others between them, and the end of its text.

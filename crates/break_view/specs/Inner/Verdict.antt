@@ -2,11 +2,11 @@
 use Rattle.std.specs.Prelude.{ℕ, ◌+◌, List, [], ◌∷◌, ◌++◌, Option, Some, None, Result, Ok, Err}
 use Rattle.brain_read.specs.declared.fault.LineFault.{LineFault}
 use Rattle.brain_read.specs.Steps.{Read}
-use Rattle.brain_read.specs.BrainText.{TokenLine, lines_with_tokens}
+use Rattle.brain_read.specs.Grammar.{TokenLine, lines_with_tokens}
 use Rattle.break_view.specs.declared.breaks.Break.{Break}
 use Rattle.break_view.specs.declared.fault.BreakFault.{BreakFault}
 use Rattle.break_view.specs.declared.fault.BreakFault.TheVariants.{UnknownWord, MissingToken, BadNumber, ExtraToken}
-use Rattle.break_view.specs.BreakText.{too_many}
+use Rattle.break_view.specs.Faulty.{too_many}
 use Rattle.break_view.specs.Inner.Reading.{read_line}
 
 -- what is read of a text, or its fault

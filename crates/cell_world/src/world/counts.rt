@@ -3,7 +3,7 @@ ghost use Rattle.std.specs.Prelude.{◌≡◌, ◌<◌, ◌^◌};
 ghost use Rattle.std.specs.List.{count_by, sum_by};
 ghost use Rattle.cell_world.specs.Grid.{IsWorld, world_of};
 ghost use Rattle.cell_world.specs.Score.{alive_of, hill_food_of, score_of};
-ghost use Rattle.cell_world.specs.Stored.{is_living, tile_food};
+ghost use Rattle.cell_world.specs.Inner.Stored.{is_living, tile_food};
 
 use crate::ant::Colour;
 use crate::body::Body;

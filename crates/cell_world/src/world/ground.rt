@@ -1,7 +1,7 @@
 // A world as a ground: its tiles in row order, changed together with the bodies of its ants.
 ghost use Rattle.std.specs.Prelude.{◌≡◌, length};
 ghost use Rattle.cell_world.specs.Grid.{world_of};
-ghost use Rattle.cell_world.specs.Places.{IsKnown, IsMade, Moved};
+ghost use Rattle.cell_world.specs.Inner.Bodies.{IsKnown, IsMade, Moved};
 
 use crate::ant::{Ant, Standing};
 use crate::body::Body;

@@ -1,5 +1,5 @@
 -- The writes of a look, set in two passes: first those that don't raise the weight of their cell, then the others.
-use Rattle.std.specs.Prelude.{◌≡◌, ℕ, Bool, true, false, ⊤, if◌then◌else◌, not, List, [], ◌∷◌}
+use Rattle.std.specs.Prelude.{◌≡◌, Bool, true, false, ⊤, if◌then◌else◌, not, List, [], ◌∷◌}
 use Rattle.cell_world.specs.Valid.{CanSet}
 use Rattle.cell_world.specs.World.{World, put}
 use Rattle.spec_record.specs.Claims.{Sighting}

@@ -10,6 +10,7 @@ ghost use Rattle.ant_turn.specs.Minds.{Fits, minds_of};
 ghost use Rattle.ant_turn.specs.Turn as turn;
 ghost use Rattle.spec_record.specs.Inner.Going.{fallen, going_reads, going_writes};
 ghost use Rattle.spec_record.specs.Inner.Standing.{blank_look, read_at, rested_look, staying_reads, staying_writes};
+ghost use Rattle.spec_record.specs.Claims.{EachOnce, places_of};
 ghost use Rattle.spec_record.specs.Look.{look_of};
 ghost use Rattle.spec_record.specs.Reads.{who_and_mind};
 ghost use Rattle.spec_record.specs.Trail.{trail_world};
@@ -173,6 +174,7 @@ impl Look {
         requires there { IsInside base.now.width base.now.height (read_at p ant.now instruction) }
         requires wide { (trail_world trail.now).width ≡ base.now.width }
         requires high { (trail_world trail.now).height ≡ base.now.height }
+        requires reads_once { EachOnce (places_of (staying_reads (world_of base.now).cells p ant.now instruction)) }
         ensures { self.new ≡ record self.old {
           reads = staying_reads (world_of base.now).cells p ant.now instruction;
           writes = staying_writes (trail_world trail.now).cells p ant.now instruction;
@@ -201,6 +203,8 @@ impl Look {
         requires wide { (trail_world trail.now).width ≡ base.now.width }
         requires high { (trail_world trail.now).height ≡ base.now.height }
         requires reads_room { length (going_reads (world_of base.now).cells (trail_world trail.now).cells p q) ≤ 19 }
+        requires reads_once { EachOnce (places_of (going_reads (world_of base.now).cells (trail_world trail.now).cells p q)) }
+        requires writes_once { EachOnce (places_of (going_writes (world_of base.now).cells (trail_world trail.now).cells p q)) }
         requires writes_room { length (going_writes (world_of base.now).cells (trail_world trail.now).cells p q) ≤ 7 }
         requires spared { self.old.killed ≡ [] → fallen (world_of base.now).cells (trail_world trail.now).cells p q ≡ [] }
         ensures { self.new ≡ record self.old {

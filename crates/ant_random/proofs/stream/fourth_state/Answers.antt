@@ -1,6 +1,7 @@
 use Rattle.std.proofs.Common.{ap, ◌∙◌, sym}
 use Rattle.std.proofs.Math.Nat.{mod-eq_of_lt}
-use Rattle.ant_random.specs.Stream.{state_at, next_state}
+use Rattle.ant_random.specs.Stream.{state_at}
+use Rattle.ant_random.specs.Inner.Jump.{next_state}
 use Rattle.ant_random.proofs.JumpLemmas.{next_state-low}
 use Rattle.ant_random.proofs.stream.fourth_state.Goals as goal
 

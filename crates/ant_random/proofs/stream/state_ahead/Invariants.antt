@@ -1,7 +1,7 @@
 use Rattle.std.proofs.Common.{◌≡◌, ◌+◌, ◌%◌, ◌^◌}
 use Rattle.std.specs.Fn.{iterate}
 use Rattle.ant_random.specs.Stream.{state_at}
-use Rattle.ant_random.specs.Jump.{landed}
+use Rattle.ant_random.specs.Inner.Jump.{landed}
 use Rattle.ant_random.proofs.StepLemmas.{IsWalked}
 use Rattle.ant_random.proofs.stream.state_ahead.Given as goal
 

@@ -4,7 +4,7 @@ use Rattle.cell_world.specs.Valid.{Valid}
 use Rattle.cell_world.specs.World.{put_cell, with_cells}
 use Rattle.ant_turn.proofs.Checks.{is_surrounded-none, is_surrounded-some, check_at-spared, check_at-struck, killed_at-spared, killed_at-struck}
 use Rattle.ant_turn.proofs.Corpses.{CanSet-after_kill}
-use Rattle.ant_turn.proofs.Standing.{food_is_light}
+use Rattle.ant_turn.proofs.StandsLemmas.{food_is_light}
 use Rattle.ant_turn.specs.Kills.{after_kill, check_at, is_surrounded}
 use Rattle.ant_turn.specs.Sheet.{sheet_of}
 use Rattle.ant_turn.proofs.kills.check.Goals as goal

@@ -2,7 +2,7 @@
 use Rattle.std.proofs.Common.{refl}
 use Rattle.hex_geometry.proofs.Beside.{sensed_pos_inside}
 use Rattle.ant_turn.proofs.OwnCells.{drop_stays, mark_stays, pick_up_stays, unmark_stays}
-use Rattle.ant_turn.proofs.Standing.{own_read, own_replaces}
+use Rattle.ant_turn.proofs.StandsLemmas.{own_read, own_replaces}
 use Rattle.ant_turn.proofs.turn.execute.Goals as goal
 
 pub cell_at-sensed_cell-requires : goal.cell_at-sensed_cell-requires

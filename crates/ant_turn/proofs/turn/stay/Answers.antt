@@ -1,5 +1,5 @@
 -- the cell may be set, since it replaces the one there
-use Rattle.cell_world.proofs.Valids.{CanSet-replaces}
+use Rattle.cell_world.proofs.ValidLemmas.{CanSet-replaces}
 use Rattle.ant_turn.proofs.turn.stay.Goals as goal
 
 pub set-requires : goal.set-requires

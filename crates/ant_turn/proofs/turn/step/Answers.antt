@@ -4,7 +4,7 @@ use Rattle.hex_geometry.proofs.Places.{inner_inside}
 use Rattle.cell_world.specs.World.{with_cells}
 use Rattle.ant_turn.specs.Sheet.{sheet_of}
 use Rattle.ant_turn.specs.Turn.{stepped}
-use Rattle.ant_turn.proofs.Standing.{CanSet-left, CanSet-next, own_read, stepped-put}
+use Rattle.ant_turn.proofs.StandsLemmas.{CanSet-left, CanSet-next, own_read, stepped-put}
 use Rattle.ant_turn.proofs.turn.step.Goals as goal
 
 pub cell_at-cell-requires : goal.cell_at-cell-requires

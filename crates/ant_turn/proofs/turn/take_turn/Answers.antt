@@ -12,7 +12,7 @@ use Rattle.ant_turn.specs.Sheet.{sheet_of}
 use Rattle.ant_turn.specs.Turn.{ant_becomes, execute, with_ant}
 use Rattle.ant_turn.proofs.KeptByTurns.{Keeps-stays, Keeps-execute}
 use Rattle.ant_turn.proofs.OwnCells.{rest_stays}
-use Rattle.ant_turn.proofs.Standing.{Stands-at, own_thinks}
+use Rattle.ant_turn.proofs.StandsLemmas.{Stands-at, own_thinks}
 use Rattle.ant_turn.proofs.Turns.{turn-dead, turn-rests, turn-executes}
 use Rattle.ant_turn.proofs.turn.take_turn.Goals as goal
 

@@ -1,4 +1,4 @@
-use Rattle.ant_turn.proofs.Quiet.{after_turn-dead, after_turn-rests}
+use Rattle.ant_turn.proofs.QuietLemmas.{after_turn-dead, after_turn-rests}
 use Rattle.ant_turn.proofs.turn_laws.idle_turns.Goals as goal
 
 pub returns : goal.returns

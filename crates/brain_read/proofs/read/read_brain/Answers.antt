@@ -1,14 +1,14 @@
 use Rattle.std.proofs.Common.{◌∙◌, sym, subst}
 use Rattle.std.proofs.lemmas.Result.{err_from_is_err_and}
-use Rattle.brain_read.specs.BrainText.{BrainText}
-use Rattle.brain_read.proofs.Whole.{brain_read_of, one_brain, never_both}
-use Rattle.brain_read.proofs.Sound.{brain_of}
-use Rattle.brain_read.proofs.Progress.{faults, failed_brain, failed_fault}
+use Rattle.brain_read.specs.Grammar.{IsBrainText}
+use Rattle.brain_read.proofs.FaultyLemmas.{brain_read_of, one_brain, never_both}
+use Rattle.brain_read.proofs.SoundnessLemmas.{brain_of}
+use Rattle.brain_read.proofs.VerdictLemmas.{faults, failed_brain, failed_fault}
 use Rattle.brain_read.proofs.read.read_brain.Goals as goal
 use Rattle.brain_read.proofs.read.read_brain.Goals.{In_ok-list}
 
 -- the list that was read is the text's brain
-read : (c : In_ok-list) → BrainText c.args.text.now c.in_ok-list.list.items
+read : (c : In_ok-list) → IsBrainText c.args.text.now c.in_ok-list.list.items
 read c = brain_read_of c.args.text.now c.in_ok-list.list.items c.in_ok-list.ensures
 
 pub returns-in_err-list-clause-fault : goal.returns-in_err-list-clause-fault
@@ -30,7 +30,7 @@ pub from_list-requires : goal.from_list-requires
 from_list-requires c = brain_of c.args.text.now c.in_ok-list.list.items (read c)
 
 pub returns-clause-brain : goal.returns-clause-brain
-returns-clause-brain c = subst (BrainText c.args.text.now) (sym c.from_list.ensures) (read (goal.at.returns-clause-brain c).In_ok-list)
+returns-clause-brain c = subst (IsBrainText c.args.text.now) (sym c.from_list.ensures) (read (goal.at.returns-clause-brain c).In_ok-list)
 
 pub returns-clause-every_brain : goal.returns-clause-every_brain
 returns-clause-every_brain c = λ brain text. c.from_list.ensures ∙ one_brain c.args.text.now c.in_ok-list.list.items brain (read (goal.at.returns-clause-every_brain c).In_ok-list) text

@@ -1,7 +1,7 @@
 use Rattle.std.proofs.Common.{map, sym, ap, ◌∙◌, subst}
 use Rattle.std.proofs.lemmas.Result.{err_from_is_err_and}
-use Rattle.brain_read.specs.Answers.{placed_of, FailsAs, reading_from}
-use Rattle.brain_read.proofs.Progress.{reading_from-start, reading_from-end}
+use Rattle.brain_read.specs.Inner.Answered.{placed_of, FailsAs, reading_from}
+use Rattle.brain_read.proofs.VerdictLemmas.{reading_from-start, reading_from-end}
 use Rattle.brain_read.proofs.read.read_drafts.Goals as goal
 
 pub returns-in_err-read_line-clause-lines : goal.returns-in_err-read_line-clause-lines

@@ -1,6 +1,6 @@
 use Rattle.std.proofs.Common.{map}
-use Rattle.brain_read.specs.Answers.{placed_of}
-use Rattle.brain_read.proofs.Progress.{IsUnderway}
+use Rattle.brain_read.specs.Inner.Answered.{placed_of}
+use Rattle.brain_read.proofs.VerdictLemmas.{IsUnderway}
 use Rattle.brain_read.proofs.read.read_drafts.Given as goal
 
 -- the lines before were read, and the others are still to be read

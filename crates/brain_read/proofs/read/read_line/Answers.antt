@@ -1,9 +1,9 @@
 use Rattle.std.proofs.Common.{◌≡◌, length, map, sym, ap, ◌∙◌}
 use Rattle.std.proofs.lemmas.Result.{err_from_is_err_and}
 use Rattle.brain_read.specs.Tokens.{tokens_of, has_token}
-use Rattle.brain_read.specs.Verdict.{judged_line}
-use Rattle.brain_read.specs.Answers.{placed_of}
-use Rattle.brain_read.proofs.Progress.{reading_from-skip, reading_from-more, reading_from-fault, fails}
+use Rattle.brain_read.specs.Inner.Verdict.{judged_line}
+use Rattle.brain_read.specs.Inner.Answered.{placed_of}
+use Rattle.brain_read.proofs.VerdictLemmas.{reading_from-skip, reading_from-more, reading_from-fault, fails}
 use Rattle.brain_read.proofs.read.read_line.Goals as goal
 use Rattle.brain_read.proofs.read.read_line.Goals.{After-has_next, After-draft_of}
 

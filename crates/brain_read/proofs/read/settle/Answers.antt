@@ -1,6 +1,6 @@
 use Rattle.std.proofs.Common.{sym, ◌∙◌, subst}
-use Rattle.brain_read.specs.Answers.{Gives}
-use Rattle.brain_read.proofs.Progress.{settle_of}
+use Rattle.brain_read.specs.Inner.Answered.{Gives}
+use Rattle.brain_read.proofs.VerdictLemmas.{settle_of}
 use Rattle.brain_read.proofs.read.settle.Goals as goal
 
 pub returns : goal.returns

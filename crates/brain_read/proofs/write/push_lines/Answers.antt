@@ -2,7 +2,7 @@ use Rattle.std.proofs.Common.{sym, subst}
 use Rattle.std.proofs.lemmas.Result.{err_from_is_err_and}
 use Rattle.ant_base.specs.Sink.{PushedFront}
 use Rattle.ant_base.proofs.Pushing.{front_then, front_more}
-use Rattle.brain_read.proofs.Rewritten.{brain_text-cut}
+use Rattle.brain_read.proofs.CanonicalLemmas.{brain_text-cut}
 use Rattle.brain_read.proofs.write.push_lines.Goals as goal
 
 pub returns-in_err-push_line-clause-pushed : goal.returns-in_err-push_line-clause-pushed

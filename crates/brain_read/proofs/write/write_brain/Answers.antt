@@ -2,7 +2,7 @@ use Rattle.std.proofs.Common.{subst}
 use Rattle.std.specs.List.{AllByRecursion}
 use Rattle.std.proofs.lemmas.Result.{on_ok_weaker}
 use Rattle.brain_read.specs.Forms.{HasBound}
-use Rattle.brain_read.proofs.Rewritten.{text_again}
+use Rattle.brain_read.proofs.CanonicalLemmas.{text_again}
 use Rattle.brain_read.proofs.write.write_brain.Goals as goal
 
 pub returns-clause-again : goal.returns-clause-again

@@ -1,4 +1,4 @@
-use Rattle.break_view.proofs.Whole.{some_answer, one_list, one_fault, never_both}
+use Rattle.break_view.proofs.FaultyLemmas.{some_answer, one_list, one_fault, never_both}
 use Rattle.break_view.proofs.laws.one_list_or_one_fault.Goals as goal
 
 pub returns : goal.returns

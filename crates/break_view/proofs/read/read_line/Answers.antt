@@ -2,7 +2,7 @@ use Rattle.std.proofs.Common.{◌≡◌, length, sym, ap, ◌∙◌}
 use Rattle.std.proofs.lemmas.Result.{err_from_is_err_and}
 use Rattle.brain_read.specs.Tokens.{tokens_of, has_token}
 use Rattle.break_view.specs.Inner.Verdict.{judged_line}
-use Rattle.break_view.proofs.Progress.{reading_from-skip, reading_from-more, reading_from-fault, fails}
+use Rattle.break_view.proofs.VerdictLemmas.{reading_from-skip, reading_from-more, reading_from-fault, fails}
 use Rattle.break_view.proofs.read.read_line.Goals as goal
 use Rattle.break_view.proofs.read.read_line.Goals.{After-has_next, After-item_of}
 

@@ -1,7 +1,7 @@
 use Rattle.std.proofs.Common.{sym, ap, ◌∙◌, subst}
 use Rattle.std.proofs.lemmas.Result.{err_from_is_err_and}
-use Rattle.break_view.specs.Inner.Answers.{FailsAs, reading_from}
-use Rattle.break_view.proofs.Progress.{reading_from-start, reading_from-end}
+use Rattle.break_view.specs.Inner.Answered.{FailsAs, reading_from}
+use Rattle.break_view.proofs.VerdictLemmas.{reading_from-start, reading_from-end}
 use Rattle.break_view.proofs.read.read_list.Goals as goal
 
 pub returns-in_err-read_line-clause-fault : goal.returns-in_err-read_line-clause-fault

@@ -1,4 +1,4 @@
-use Rattle.break_view.proofs.Progress.{IsUnderway}
+use Rattle.break_view.proofs.VerdictLemmas.{IsUnderway}
 use Rattle.break_view.proofs.read.read_list.Given as goal
 
 -- the lines before were read, and the others are still to be read

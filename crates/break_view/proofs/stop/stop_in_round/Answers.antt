@@ -1,7 +1,7 @@
 use Rattle.std.proofs.Common.{◌≡◌, ◌+◌, sym, ◌∙◌, subst, refl, arith}
 use Rattle.ant_turn.specs.Minds.{minds_of}
-use Rattle.match_run.specs.Run.{moment_of}
-use Rattle.match_run.proofs.Playing.{IsTaken, IsTaken-none, IsTaken-place, IsTaken-ids, IsTaken-more, IsTaken-all}
+use Rattle.match_run.specs.Inner.Sequential.{moment_of}
+use Rattle.match_run.proofs.SequentialLemmas.{IsTaken, IsTaken-none, IsTaken-place, IsTaken-ids, IsTaken-more, IsTaken-all}
 use Rattle.break_view.specs.Inner.Rounds.{IsQuiet}
 use Rattle.break_view.proofs.Stopping.{quiet-none, quiet-more, met-taken}
 use Rattle.break_view.proofs.stop.stop_in_round.Goals as goal

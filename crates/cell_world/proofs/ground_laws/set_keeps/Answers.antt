@@ -1,6 +1,6 @@
 -- what every world keeps, and the places, after a change
 use Rattle.cell_world.proofs.Places.{place_in-put_gone, place_in-put_new, place_in-put_other}
-use Rattle.cell_world.proofs.Valids.{Valid-put}
+use Rattle.cell_world.proofs.ValidLemmas.{Valid-put}
 use Rattle.cell_world.proofs.ground_laws.set_keeps.Goals as goal
 
 pub returns : goal.returns

@@ -1,5 +1,5 @@
 -- each marker is a bit
-use Rattle.cell_world.proofs.MarkBits.{has_any_mark-one, has_mark-empty, has_mark-six, has_mark-with_other, has_mark-with_same, has_mark-without_other, has_mark-without_same}
+use Rattle.cell_world.proofs.MarksLemmas.{has_any_mark-one, has_mark-empty, has_mark-six, has_mark-with_other, has_mark-with_same, has_mark-without_other, has_mark-without_same}
 use Rattle.cell_world.proofs.marks_laws.marks_are_sets.Goals as goal
 
 pub returns : goal.returns

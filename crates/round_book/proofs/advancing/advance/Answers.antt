@@ -1,4 +1,4 @@
-use Rattle.std.proofs.Common.{◌≡◌, ◌<◌, sym, ◌∙◌, ap, subst}
+use Rattle.std.proofs.Common.{sym, subst}
 use Rattle.cell_world.specs.Grid.{world_of}
 use Rattle.ant_turn.specs.Minds.{Fits, Minds, minds_of}
 use Rattle.round_book.specs.Book.{BookValue, IsRedone, IsSameWindow}

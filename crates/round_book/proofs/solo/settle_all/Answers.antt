@@ -1,9 +1,8 @@
-use Rattle.std.proofs.Common.{◌≡◌, ℕ, ◌+◌, ◌≤◌, ◌<◌, ◌^◌, ◌∙◌, ap, arith}
+use Rattle.std.proofs.Common.{◌+◌, ◌∙◌, ap, arith}
 use Rattle.cell_world.specs.Cell.{one_if}
 use Rattle.ant_random.specs.Stream.{SeedAndPlace}
 use Rattle.ant_turn.specs.Minds.{minds_of}
-use Rattle.round_book.specs.Book.{IsSameWindow}
-use Rattle.round_book.proofs.SoloLemmas.{Going, Going-next, Going-none, going-guess, going-look, one_if-le, same-then}
+use Rattle.round_book.proofs.SoloLemmas.{Going-next, Going-none, going-guess, going-look, same-then}
 use Rattle.round_book.proofs.solo.settle_all.Goals as goal
 
 pub look-look-requires-clause-guess : goal.look-look-requires-clause-guess

@@ -1,5 +1,5 @@
 -- where an ant is the cell isn't on the rim
-use Rattle.std.proofs.Common.{◌≡◌, sym, ◌∙◌}
+use Rattle.std.proofs.Common.{sym, ◌∙◌}
 use Rattle.cell_world.specs.Grid.{world_of}
 use Rattle.spec_record.proofs.Noting.{manned-inner, manned-near}
 use Rattle.spec_record.proofs.going.note_beyond.Goals as goal

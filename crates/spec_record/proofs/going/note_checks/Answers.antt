@@ -1,6 +1,5 @@
 -- the position, its neighbours, and those beyond one by one
-use Rattle.std.proofs.Common.{◌≡◌, ◌≤◌, ◌<◌, length, subst, ◌+◌, ℕ, drop, sym, ◌∙◌, ap}
-use Rattle.std.specs.List.{flat_map}
+use Rattle.std.proofs.Common.{◌<◌, subst, sym, ◌∙◌}
 use Rattle.hex_geometry.specs.Neighbourhood.{neighbours_of}
 use Rattle.hex_geometry.proofs.Beside.{neighbours_of_length}
 use Rattle.cell_world.specs.declared.part.Part.TheVariants as part

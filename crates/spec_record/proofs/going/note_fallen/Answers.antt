@@ -1,9 +1,7 @@
 -- the killed on the position and on its neighbours, one by one
-use Rattle.std.proofs.Common.{◌≡◌, ◌≤◌, ◌<◌, length, subst, ◌+◌, ℕ, drop, sym, ◌∙◌, ap}
-use Rattle.std.specs.List.{flat_map}
+use Rattle.std.proofs.Common.{◌<◌, subst, sym, ◌∙◌}
 use Rattle.hex_geometry.specs.Neighbourhood.{neighbours_of}
 use Rattle.hex_geometry.proofs.Beside.{neighbours_of_length}
-use Rattle.hex_geometry.proofs.Places.{inner_inside}
 use Rattle.cell_world.specs.Grid.{world_of}
 use Rattle.ant_turn.proofs.Foes.{neighbours_of-inside}
 use Rattle.spec_record.specs.Inner.Going.{fallen_at}

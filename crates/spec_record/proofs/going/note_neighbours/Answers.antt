@@ -1,12 +1,12 @@
 -- one neighbour more
-use Rattle.std.proofs.Common.{◌≡◌, ◌≤◌, ◌<◌, length, subst, ℕ, sym, ◌∙◌, ap}
+use Rattle.std.proofs.Common.{◌<◌, subst, sym}
 use Rattle.hex_geometry.specs.Neighbourhood.{neighbours_of}
 use Rattle.hex_geometry.proofs.Beside.{neighbours_of_length}
 use Rattle.cell_world.specs.declared.part.Part.TheVariants as part
 use Rattle.cell_world.specs.Grid.{world_of}
 use Rattle.cell_world.specs.Parts.{only}
 use Rattle.ant_turn.proofs.Foes.{neighbours_of-inside}
-use Rattle.spec_record.proofs.Sighting.{sights-next, sights-step_room}
+use Rattle.spec_record.proofs.Sighting.{sights-step_room}
 use Rattle.spec_record.proofs.going.note_neighbours.Goals as goal
 
 pub cell-requires : goal.cell-requires

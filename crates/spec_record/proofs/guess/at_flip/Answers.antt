@@ -1,7 +1,6 @@
 -- a dead ant, one that rests and one that acts
-use Rattle.std.proofs.Common.{◌≡◌, ◌≢◌, ◌+◌, ◌≤◌, Bool, true, false, nat_eq, Some, None, refl, sym, ◌∙◌, ap, arith}
+use Rattle.std.proofs.Common.{◌≡◌, ◌≢◌, ◌≤◌, sym, ◌∙◌, ap, arith}
 use Rattle.cell_world.specs.Grid.{world_of}
-use Rattle.cell_world.specs.declared.ant.Ant.{Ant}
 use Rattle.cell_world.specs.declared.cell.Cell.{Cell}
 use Rattle.cell_world.proofs.Places.{place_in-inside}
 use Rattle.ant_turn.specs.Minds.{minds_of}

@@ -1,11 +1,10 @@
 -- one guess more
-use Rattle.std.proofs.Common.{◌≡◌, ℕ, suc, Bool, true, false, append_assoc, add-one, ◌+◌, ◌-◌, ◌≤◌, List, [], ◌∷◌, ◌++◌, refl, sym, ◌∙◌, ap, arith}
-use mir.Val.{bool_byte}
+use Rattle.std.proofs.Common.{◌≡◌, ℕ, append_assoc, add-one, ◌+◌, ◌-◌, ◌≤◌, List, [], ◌∷◌, ◌++◌, sym, ◌∙◌, ap, arith}
 use Rattle.cell_world.specs.Grid.{world_of}
 use Rattle.cell_world.specs.Cell.{one_if}
 use Rattle.ant_turn.specs.Minds.{minds_of}
 use Rattle.spec_record.specs.Guess.{flips, guess, guesses_of}
-use Rattle.spec_record.proofs.Flipping.{guess-first, guess-next, guesses_of-next}
+use Rattle.spec_record.proofs.Flipping.{guess-first, guess-next, guesses_of-next, one_if-byte, one_if-small}
 use Rattle.spec_record.proofs.guess.guesses.Goals as goal
 
 pub loop-id-init : goal.loop-id-init
@@ -17,15 +16,6 @@ loop-id-init c =
       guessed = sym (guess-first minds w c.args.place c.args.from);
       small = omega arith;
     }
-
--- a truth as a number
-one_if-byte : (b : Bool) → bool_byte b ≡ one_if b
-one_if-byte true = refl
-one_if-byte false = refl
-
-one_if-small : (b : Bool) → one_if b ≤ 1
-one_if-small true = omega arith
-one_if-small false = omega arith
 
 pub loop-id-preserved : goal.loop-id-preserved
 loop-id-preserved c =

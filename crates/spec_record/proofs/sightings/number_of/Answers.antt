@@ -1,7 +1,6 @@
 -- it is the one here, or a later one
-use Rattle.std.proofs.Common.{◌≡◌, ℕ, zero, suc, ◌+◌, sym, ◌∙◌, ap, arith}
+use Rattle.std.proofs.Common.{sym, ◌∙◌, arith}
 use Rattle.std.proofs.lemmas.Bool.{cond-true, cond-false}
-use Rattle.spec_record.specs.Inner.Sightings.{number_of}
 use Rattle.spec_record.proofs.Sighting.{number_of-drop}
 use Rattle.spec_record.proofs.sightings.number_of.Goals as goal
 

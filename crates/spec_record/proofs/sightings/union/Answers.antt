@@ -1,5 +1,5 @@
 -- the parts one by one
-use Rattle.std.proofs.Common.{◌≡◌, Bool, true, false, if◌then◌else◌, ◌||◌, refl, sym, ◌∙◌, ap}
+use Rattle.std.proofs.Common.{◌≡◌, Bool, true, false, if◌then◌else◌, ◌||◌, refl, ◌∙◌, ap}
 use Rattle.cell_world.specs.declared.part.Parts.{Parts}
 use Rattle.cell_world.specs.declared.part.Part.{Part}
 use Rattle.cell_world.specs.declared.part.Part.TheVariants as part

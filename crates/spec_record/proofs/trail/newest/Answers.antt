@@ -1,5 +1,5 @@
 -- one set more is looked at
-use Rattle.std.proofs.Common.{◌≡◌, ◌+◌, Option, drop, sym, ◌∙◌, ap}
+use Rattle.std.proofs.Common.{◌+◌, Option, drop, sym, ◌∙◌, ap}
 use Rattle.cell_world.specs.declared.cell.Cell.{Cell}
 use Rattle.spec_record.specs.Inner.Laid.{newest}
 use Rattle.spec_record.proofs.Laying.{newest-next}

@@ -1,6 +1,6 @@
 use Rattle.std.proofs.Common.{refl}
-use Rattle.world_read.specs.Reading.{plan_of}
-use Rattle.world_read.proofs.Verdicts.{IsVerdict-read, plan_of-verdict}
+use Rattle.world_read.specs.Inner.Reading.{plan_of}
+use Rattle.world_read.proofs.VerdictLemmas.{IsVerdict-read, plan_of-verdict}
 use Rattle.world_read.proofs.laws.every_text_has_one_verdict.Goals as goal
 
 pub returns : goal.returns

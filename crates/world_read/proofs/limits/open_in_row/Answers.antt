@@ -1,5 +1,5 @@
 use Rattle.std.proofs.Common.{sym, ◌∙◌, arith}
-use Rattle.world_read.proofs.Rims.{closed_more, found_here, is_open-read}
+use Rattle.world_read.proofs.ScanLemmas.{closed_more, found_here, is_open-read}
 use Rattle.world_read.proofs.limits.open_in_row.Goals as goal
 
 pub returns-then-is_open : goal.returns-then-is_open

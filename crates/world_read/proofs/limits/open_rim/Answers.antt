@@ -1,7 +1,7 @@
 use Rattle.std.proofs.Common.{◌≡◌, ◌*◌, sym, ◌∙◌, subst, arith}
-use Rattle.world_read.specs.Reading.{open_rim}
-use Rattle.world_read.specs.Scan.{IsClosedBefore}
-use Rattle.world_read.proofs.Rims.{found_in_row}
+use Rattle.world_read.specs.Inner.Reading.{open_rim}
+use Rattle.world_read.specs.Inner.Scan.{IsClosedBefore}
+use Rattle.world_read.proofs.ScanLemmas.{found_in_row}
 use Rattle.world_read.proofs.limits.open_rim.Goals as goal
 
 pub returns-then-is_some : goal.returns-then-is_some

@@ -1,5 +1,5 @@
 use Rattle.std.proofs.Common.{◌*◌}
-use Rattle.world_read.specs.Scan.{IsClosedBefore}
+use Rattle.world_read.specs.Inner.Scan.{IsClosedBefore}
 use Rattle.world_read.proofs.limits.open_rim.Given as goal
 
 abbrev pub invariant-loop-y : goal.invariant-loop-y

@@ -1,6 +1,6 @@
 use Rattle.std.proofs.Common.{length, sym, ◌∙◌, ap, subst}
 use Rattle.cell_world.specs.Opening.{IsPlan}
-use Rattle.world_read.specs.Reading.{limited, open_rim}
+use Rattle.world_read.specs.Inner.Reading.{limited, open_rim}
 use Rattle.world_read.proofs.PlanReads.{IsPlan-read, length-rows_from}
 use Rattle.world_read.proofs.RowReads.{rows_from-all}
 use Rattle.world_read.proofs.read.open_world.Goals as goal

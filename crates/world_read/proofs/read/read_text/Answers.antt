@@ -1,5 +1,5 @@
 use Rattle.std.proofs.Common.{sym, subst}
-use Rattle.world_read.specs.Reading.{ReadsAs}
+use Rattle.world_read.specs.Inner.Reading.{ReadsAs}
 use Rattle.world_read.proofs.PlanReads.{world_of_text-height, world_of_text-rows, world_of_text-width}
 use Rattle.world_read.proofs.read.read_text.Goals as goal
 

@@ -1,4 +1,4 @@
-use Rattle.world_read.proofs.Told.{AnswersFault-answered, AnswersWorld-answered, IsFaultOf-answered, IsOpeningWorld-answered, OpensAs-answered}
+use Rattle.world_read.proofs.AnswersLemmas.{AnswersFault-answered, AnswersWorld-answered, IsFaultOf-answered, IsOpeningWorld-answered, OpensAs-answered}
 use Rattle.world_read.proofs.read.read_world.Goals as goal
 
 pub returns-clause-opening : goal.returns-clause-opening

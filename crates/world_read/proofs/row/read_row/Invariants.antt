@@ -1,6 +1,6 @@
 use Rattle.std.proofs.Common.{◌≡◌, ◌≤◌, drop}
 use Rattle.world_read.specs.Bytes.{spelled}
-use Rattle.world_read.specs.Reading.{onto_row, row_from}
+use Rattle.world_read.specs.Inner.Reading.{onto_row, row_from}
 use Rattle.world_read.proofs.row.read_row.Given as goal
 
 abbrev pub invariant-loop-byte : goal.invariant-loop-byte

@@ -1,5 +1,5 @@
 use Rattle.std.proofs.Common.{◌≡◌, ◌-◌, Ok}
-use Rattle.world_read.specs.Reading.{rows_from, with_row}
+use Rattle.world_read.specs.Inner.Reading.{rows_from, with_row}
 use Rattle.world_read.proofs.rows.read_rows.Given as goal
 
 abbrev pub invariant-loop-row : goal.invariant-loop-row

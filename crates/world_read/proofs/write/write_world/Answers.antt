@@ -1,4 +1,4 @@
-use Rattle.world_read.proofs.KindsRead.{food-begins}
+use Rattle.world_read.proofs.OpenedLemmas.{food-begins}
 use Rattle.world_read.proofs.write.write_world.Goals as goal
 
 pub invariant_of-layout : goal.invariant_of-layout

@@ -1,5 +1,6 @@
 use Rattle.std.proofs.Common.{◌≡◌, ℕ, ◌+◌, ◌%◌, ◌^◌, ap, ◌∙◌, arith}
-use Rattle.ant_random.specs.Stream.{state_at, drawn, next_state}
+use Rattle.ant_random.specs.Stream.{state_at, drawn}
+use Rattle.ant_random.specs.Inner.Jump.{next_state}
 use Rattle.ant_random.proofs.JumpLemmas.{next_state-low, read_off}
 use Rattle.ant_random.proofs.stream.Stream.draw.Goals as goal
 

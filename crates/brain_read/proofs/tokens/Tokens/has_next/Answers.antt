@@ -1,6 +1,7 @@
 use Rattle.std.proofs.Common.{◌∙◌, ap}
-use Rattle.brain_read.specs.Tokens.{begins_token, has_token}
-use Rattle.brain_read.proofs.Cursor.{has_next_of}
+use Rattle.brain_read.specs.Inner.Scan.{begins_token}
+use Rattle.brain_read.specs.Tokens.{has_token}
+use Rattle.brain_read.proofs.TokensLemmas.{has_next_of}
 use Rattle.brain_read.proofs.tokens.Tokens.has_next.Goals as goal
 
 pub returns : goal.returns

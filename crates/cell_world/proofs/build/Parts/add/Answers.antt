@@ -1,7 +1,7 @@
 -- the id of the ant is the number of bodies so far
 use Rattle.std.proofs.Common.{sym, subst, arith}
 use Rattle.cell_world.specs.declared.cell.Cell.{Cell}
-use Rattle.cell_world.specs.Places.{IsKnown}
+use Rattle.cell_world.specs.Inner.Bodies.{IsKnown}
 use Rattle.cell_world.proofs.OpeningStores.{IsKnown-opening_cell}
 use Rattle.cell_world.proofs.build.Parts.add.Goals as goal
 

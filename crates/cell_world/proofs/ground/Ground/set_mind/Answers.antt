@@ -1,5 +1,5 @@
 -- the cell with that ant may be set
-use Rattle.cell_world.proofs.Valids.{CanSet-mind_read}
+use Rattle.cell_world.proofs.ValidLemmas.{CanSet-mind_read}
 use Rattle.cell_world.proofs.ground.Ground.set_mind.Goals as goal
 
 pub set-requires : goal.set-requires

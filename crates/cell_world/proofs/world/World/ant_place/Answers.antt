@@ -2,7 +2,7 @@
 use Rattle.std.proofs.Common.{sym, ◌∙◌, ap, arith}
 use Rattle.cell_world.specs.Grid.{Grid, world_of}
 use Rattle.cell_world.specs.World.{place_in}
-use Rattle.cell_world.proofs.Fields.{body-place}
+use Rattle.cell_world.proofs.InsideLemmas.{body-place}
 use Rattle.cell_world.proofs.Places.{place_in-unknown}
 use Rattle.cell_world.proofs.world.World.ant_place.Goals as goal
 

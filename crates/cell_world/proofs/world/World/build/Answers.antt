@@ -1,7 +1,8 @@
 -- the built world is the opening world, which is a world, and its bodies are where its ants are
 use Rattle.std.proofs.Common.{sym, subst, ◌∙◌, ap}
-use Rattle.cell_world.specs.Grid.{Grid, IsIndex, IsWorld}
-use Rattle.cell_world.specs.Stored.{places_of}
+use Rattle.cell_world.specs.Grid.{Grid, IsWorld}
+use Rattle.cell_world.specs.Inner.Index.{IsIndex}
+use Rattle.cell_world.specs.Inner.Stored.{places_of}
 use Rattle.cell_world.proofs.OpeningPlaces.{IsIndex-opening}
 use Rattle.cell_world.proofs.OpeningStores.{places_of-opening, same_opening}
 use Rattle.cell_world.proofs.OpeningValid.{IsWorld-opening}

@@ -6,10 +6,10 @@ use Rattle.cell_world.specs.declared.cell.Cell.{Cell}
 use Rattle.std.specs.Prelude.{Option}
 use Rattle.hex_geometry.specs.declared.position.Pos.{Pos}
 use Rattle.cell_world.specs.Grid.{Grid, cell_in}
-use Rattle.cell_world.specs.Inside.{grid_of}
-use Rattle.cell_world.specs.Places.{IsMade}
-use Rattle.cell_world.specs.Stored.{ant_named, cell_from}
-use Rattle.cell_world.proofs.Stores.{cell_in-tile_is, tile-made}
+use Rattle.cell_world.specs.Inner.Inside.{grid_of}
+use Rattle.cell_world.specs.Inner.Bodies.{IsMade}
+use Rattle.cell_world.specs.Inner.Stored.{ant_named, cell_from}
+use Rattle.cell_world.proofs.StoredLemmas.{cell_in-tile_is, tile-made}
 use Rattle.cell_world.proofs.world.World.cell.Goals as goal
 
 -- the position is inside the grid for which the fields stand

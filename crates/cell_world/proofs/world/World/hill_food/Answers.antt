@@ -1,11 +1,11 @@
 -- the food on a hill is summed over the tiles, and a world is light enough for it
 use Rattle.std.proofs.Common.{sym, ◌∙◌, ◌≤◌, ap, sum_by, subst, arith}
 use Rattle.cell_world.specs.Grid.{Grid, world_of}
-use Rattle.cell_world.specs.Inside.{grid_of}
+use Rattle.cell_world.specs.Inner.Inside.{grid_of}
 use Rattle.cell_world.specs.Limits.{most_weight}
 use Rattle.cell_world.specs.Score.{hill_food_of}
-use Rattle.cell_world.specs.Stored.{tile_food}
-use Rattle.cell_world.proofs.Counts.{hill_food_in-light, hill_food_of-list, tile_food-cells}
+use Rattle.cell_world.specs.Inner.Stored.{tile_food}
+use Rattle.cell_world.proofs.GridSums.{hill_food_in-light, hill_food_of-list, tile_food-cells}
 use Rattle.cell_world.proofs.world.World.hill_food.Goals as goal
 
 pub food_in-requires : goal.food_in-requires

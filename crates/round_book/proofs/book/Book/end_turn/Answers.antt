@@ -1,4 +1,4 @@
-use Rattle.std.proofs.Common.{◌≡◌, ℕ, ◌+◌, List, [], ◌∷◌, ◌++◌, map, sym, ◌∙◌, ap, ap₂, refl, subst}
+use Rattle.std.proofs.Common.{◌≡◌, ℕ, ◌+◌, List, [], ◌∷◌, ◌++◌, map, ◌∙◌, ap, ap₂, refl, subst}
 use Rattle.cell_world.specs.Cell.{one_if}
 use Rattle.cell_world.specs.Grid.{world_of}
 use Rattle.cell_world.specs.World.{World, with_cells}
@@ -11,7 +11,7 @@ use Rattle.round_book.proofs.book.Book.end_turn.Goals as goal
 pub returns-clause-ended : goal.returns-clause-ended
 returns-clause-ended c =
     let fields = c.self.inside in
-    let writes : c.as_slice.result.now ≡ c.args.look.now.writes = c.as_slice.ensures.value ∙ c.writes.ensures in
+    let writes : c.as_slice.result.now ≡ c.args.look.now.writes = c.as_slice.ensures.value ∙ c.writes.ensures.writes in
     let join : World → ℕ → Moment = λ w n. record { world = w; place = n } in
     let w : World = world_of fields.work.world in
     let new : BookValue = record {

@@ -1,5 +1,5 @@
 use Rattle.std.proofs.Common.{false, sym, subst}
-use Rattle.round_book.specs.Book.{BookValue, FieldValue, StandsOn, begun}
+use Rattle.round_book.specs.Book.{BookValue, FieldValue, StandsOn}
 use Rattle.round_book.proofs.FieldLemmas.{ok_both, on-begun}
 use Rattle.round_book.proofs.field.Field.begin.Goals as goal
 

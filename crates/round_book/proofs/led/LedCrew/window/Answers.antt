@@ -1,5 +1,5 @@
 use Rattle.std.proofs.Common.{refl}
-use Rattle.std.specs.Prelude.{Ok, Err}
+use Rattle.std.specs.Prelude.{Err}
 use Rattle.round_book.proofs.LedLemmas.{IsWindow-called, IsWindow-err}
 use Rattle.round_book.proofs.led.LedCrew.window.Goals as goal
 

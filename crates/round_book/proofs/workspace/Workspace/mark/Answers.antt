@@ -1,4 +1,4 @@
-use Rattle.std.proofs.Common.{◌≡◌, ◌⊎◌, ◌↔◌, ◌+◌, ◌*◌, true, List, [], ◌∷◌, ◌++◌, slice_set, subst, sym, ap}
+use Rattle.std.proofs.Common.{◌≡◌, ◌⊎◌, ◌↔◌, ◌+◌, ◌*◌, true, [], ◌∷◌, ◌++◌, slice_set, subst, sym}
 use Rattle.std.specs.List.{Contains}
 use Rattle.round_book.specs.Inner.Workspace.{AreMarked}
 use Rattle.round_book.proofs.WorkspaceLemmas.{AreMarked-more, Contains-more}

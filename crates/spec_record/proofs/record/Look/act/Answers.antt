@@ -1,8 +1,6 @@
 -- the look at an ant that executes its instruction and stays, or goes
-use Rattle.std.proofs.Common.{◌≡◌, ◌+◌, ◌≤◌, ℕ, List, [], Some, None, refl, sym, ◌∙◌, ap, subst}
-use Rattle.hex_geometry.proofs.Beside.{adjacent_pos_inside, sensed_pos_inside}
+use Rattle.std.proofs.Common.{◌≡◌, [], sym, ◌∙◌, ap}
 use Rattle.hex_geometry.proofs.Places.{inner_inside}
-use Rattle.cell_world.specs.Cell.{one_if}
 use Rattle.cell_world.specs.Grid.{world_of}
 use Rattle.cell_world.specs.World.{Cells, World}
 use Rattle.ant_turn.specs.Minds.{minds_of}
@@ -11,7 +9,7 @@ use Rattle.spec_record.specs.Look.{LookValue}
 use Rattle.spec_record.specs.Trail.{trail_world}
 use Rattle.spec_record.specs.Inner.Going.{going_reads, going_writes}
 use Rattle.spec_record.specs.Inner.Standing.{staying_reads, staying_writes}
-use Rattle.spec_record.proofs.Looking.{Acting, acting-inner, acting-near, inner-there, look-goes, look-stays, near-there, reads-there, read_at-inside, spared-there, writes-there}
+use Rattle.spec_record.proofs.Looking.{Acting, acting-inner, acting-near, inner-there, goes-reads_once, goes-writes_once, look-goes, look-stays, near-there, reads-there, read_at-inside, spared-there, stays-once, writes-there}
 use Rattle.spec_record.proofs.record.Look.act.Goals as goal
 use Rattle.spec_record.proofs.record.Look.act.Goals.{After-execute-trail}
 
@@ -53,6 +51,16 @@ record_going-requires-clause-inner c = inner-there (acting (goal.at.record_going
 pub record_going-requires-clause-near : goal.record_going-requires-clause-near
 record_going-requires-clause-near c = near-there (acting (goal.at.record_going-requires-clause-near c).After-execute-trail) (sym c.destination.ensures ∙ c.in-Some.is)
 
+pub record_going-requires-clause-reads_once : goal.record_going-requires-clause-reads_once
+record_going-requires-clause-reads_once c =
+    let at = (goal.at.record_going-requires-clause-reads_once c).After-execute-trail in
+    goes-reads_once (acting at) (sym c.destination.ensures ∙ c.in-Some.is) (trail_world c.execute-trail.result).cells (left at)
+
+pub record_going-requires-clause-writes_once : goal.record_going-requires-clause-writes_once
+record_going-requires-clause-writes_once c =
+    let at = (goal.at.record_going-requires-clause-writes_once c).After-execute-trail in
+    goes-writes_once (acting at) (sym c.destination.ensures ∙ c.in-Some.is) (trail_world c.execute-trail.result).cells (left at)
+
 pub record_going-requires-clause-reads_room : goal.record_going-requires-clause-reads_room
 record_going-requires-clause-reads_room c = reads-there (acting (goal.at.record_going-requires-clause-reads_room c).After-execute-trail) (sym c.destination.ensures ∙ c.in-Some.is) (trail_world c.execute-trail.result).cells
 
@@ -69,6 +77,11 @@ record_staying-requires-clause-inside c = inner_inside (acting-inner (acting (go
 
 pub record_staying-requires-clause-near : goal.record_staying-requires-clause-near
 record_staying-requires-clause-near c = acting-near (acting (goal.at.record_staying-requires-clause-near c).After-execute-trail)
+
+pub record_staying-requires-clause-reads_once : goal.record_staying-requires-clause-reads_once
+record_staying-requires-clause-reads_once c =
+    let at = (goal.at.record_staying-requires-clause-reads_once c).After-execute-trail in
+    stays-once (acting at) (trail_world c.execute-trail.result).cells (left at) (sym c.destination.ensures ∙ c.in-None.is)
 
 pub record_staying-requires-clause-there : goal.record_staying-requires-clause-there
 record_staying-requires-clause-there c =

@@ -1,5 +1,5 @@
 -- there is room for whose ants decide the checks where there is for all
-use Rattle.std.proofs.Common.{◌≡◌, ◌≤◌, List, [], ◌∷◌, ◌++◌, refl, sym, ◌∙◌, ap}
+use Rattle.std.proofs.Common.{◌≡◌, [], ◌∷◌, refl, ◌∙◌, ap}
 use Rattle.cell_world.specs.declared.part.Part.TheVariants as part
 use Rattle.cell_world.specs.Grid.{world_of}
 use Rattle.cell_world.specs.Parts.{only}

@@ -2,9 +2,8 @@
 use Rattle.std.proofs.Common.{◌≡◌, Some, None, refl, sym, ◌∙◌, ap, subst}
 use Rattle.cell_world.specs.Grid.{world_of}
 use Rattle.cell_world.specs.Valid.{Valid}
-use Rattle.cell_world.specs.declared.cell.Cell.{Cell}
 use Rattle.spec_record.specs.Inner.Laid.{newest}
-use Rattle.spec_record.specs.Trail.{Sets, TrailValue, laid, trail_world}
+use Rattle.spec_record.specs.Trail.{TrailValue, trail_world}
 use Rattle.spec_record.proofs.Laying.{laid-newest, or_cell}
 use Rattle.spec_record.proofs.trail.Trail.cell.Goals as goal
 

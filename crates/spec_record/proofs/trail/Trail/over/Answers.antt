@@ -1,9 +1,9 @@
 -- nothing is laid over the base yet
-use Rattle.std.proofs.Common.{◌≡◌, sym, ◌∙◌, ap, subst}
+use Rattle.std.proofs.Common.{sym, ◌∙◌, ap, subst}
 use Rattle.cell_world.specs.Grid.{world_of}
 use Rattle.cell_world.specs.Valid.{Valid}
-use Rattle.cell_world.specs.World.{World, with_cells}
-use Rattle.spec_record.specs.Trail.{Sets, laid, trail_world}
+use Rattle.cell_world.specs.World.{with_cells}
+use Rattle.spec_record.specs.Trail.{Sets, laid}
 use Rattle.spec_record.proofs.Laying.{laid-nothing}
 use Rattle.spec_record.proofs.trail.Trail.over.Goals as goal
 

@@ -1,13 +1,12 @@
 -- on a cell that was set, on its cell of the base, or nowhere
-use Rattle.std.proofs.Common.{◌≡◌, ℕ, false, true, Some, None, sym, ◌∙◌, ap, subst}
-use Rattle.cell_world.specs.declared.cell.Cell.{Cell}
+use Rattle.std.proofs.Common.{◌≡◌, None, sym, ◌∙◌, ap, subst}
 use Rattle.cell_world.specs.Cell.{holds_id}
-use Rattle.cell_world.specs.Grid.{Grid, world_of}
+use Rattle.cell_world.specs.Grid.{world_of}
 use Rattle.cell_world.specs.Valid.{Valid}
 use Rattle.cell_world.specs.World.{place_in}
 use Rattle.cell_world.proofs.Places.{place_in-inside}
 use Rattle.spec_record.specs.Inner.Laid.{first_held}
-use Rattle.spec_record.specs.Trail.{Sets, TrailValue, laid, trail_world}
+use Rattle.spec_record.specs.Trail.{Sets, TrailValue, trail_world}
 use Rattle.spec_record.proofs.Laying.{place_in-set, place_in-left, place_in-was_dead, place_in-is_gone}
 use Rattle.spec_record.proofs.trail.TrailGround.place_of.Goals as goal
 use Rattle.spec_record.proofs.trail.TrailGround.place_of.Goals.{After-set_place, After-ant_place, After-cell}

@@ -1,9 +1,9 @@
 -- one cell more is laid over the base
-use Rattle.std.proofs.Common.{◌≡◌, ℕ, sym, ◌∙◌, ap, subst}
+use Rattle.std.proofs.Common.{◌≡◌, sym, ◌∙◌, ap, subst}
 use Rattle.cell_world.specs.Grid.{world_of}
-use Rattle.cell_world.specs.Valid.{CanSet, Valid}
-use Rattle.cell_world.specs.World.{World, put, with_cells}
-use Rattle.cell_world.proofs.Valids.{Valid-put}
+use Rattle.cell_world.specs.Valid.{Valid}
+use Rattle.cell_world.specs.World.{put, with_cells}
+use Rattle.cell_world.proofs.ValidLemmas.{Valid-put}
 use Rattle.spec_record.specs.Trail.{Sets, TrailValue, laid, trail_room, trail_world}
 use Rattle.spec_record.proofs.Laying.{laid-last}
 use Rattle.spec_record.proofs.trail.TrailGround.set.Goals as goal

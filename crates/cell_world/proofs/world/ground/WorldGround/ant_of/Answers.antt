@@ -3,9 +3,9 @@ use Rattle.std.proofs.Common.{◌≡◌, ◌∙◌, ◌<◌, length, ap, subst, 
 use Rattle.std.specs.Prelude.{Some, option_map}
 use Rattle.cell_world.specs.declared.ant.Standing.{Standing}
 use Rattle.cell_world.specs.Grid.{Grid, cell_in, world_of}
-use Rattle.cell_world.specs.Inside.{grid_of}
+use Rattle.cell_world.specs.Inner.Inside.{grid_of}
 use Rattle.cell_world.specs.World.{place_in}
-use Rattle.cell_world.proofs.Fields.{body-ant, body-place}
+use Rattle.cell_world.proofs.InsideLemmas.{body-ant, body-place}
 use Rattle.cell_world.proofs.Places.{place_in-holds}
 use Rattle.cell_world.proofs.world.ground.WorldGround.ant_of.Goals as goal
 use Rattle.cell_world.proofs.world.ground.WorldGround.ant_of.Goals.{After-index}

@@ -3,13 +3,13 @@ use Rattle.std.proofs.Common.{◌≡◌, ◌∙◌, ap, length, subst, sym}
 use Rattle.hex_geometry.specs.declared.position.Pos.{Pos}
 use Rattle.cell_world.specs.declared.cell.Cell.{Cell}
 use Rattle.cell_world.specs.Grid.{Grid, world_of}
-use Rattle.cell_world.specs.Inside.{grid_of}
-use Rattle.cell_world.specs.Places.{IsMade}
+use Rattle.cell_world.specs.Inner.Inside.{grid_of}
+use Rattle.cell_world.specs.Inner.Bodies.{IsMade}
 use Rattle.cell_world.specs.Valid.{CanSet}
 use Rattle.cell_world.specs.World.{put}
-use Rattle.cell_world.proofs.Fields.{FieldsChanged, fields_set, fields_set-changed, merged_tile}
+use Rattle.cell_world.proofs.InsideLemmas.{FieldsChanged, fields_set, fields_set-changed, merged_tile}
 use Rattle.cell_world.proofs.Sets.{grid_set, world_of-set}
-use Rattle.cell_world.proofs.Stores.{tile-made}
+use Rattle.cell_world.proofs.StoredLemmas.{tile-made}
 use Rattle.cell_world.proofs.world.ground.WorldGround.set.Goals as goal
 use Rattle.cell_world.proofs.world.ground.WorldGround.set.Goals.{After-note_change}
 

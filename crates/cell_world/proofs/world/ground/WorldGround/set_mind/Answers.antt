@@ -1,5 +1,5 @@
 -- the ant that was set is read from its body
-use Rattle.cell_world.proofs.Fields.{fields_minded-put}
+use Rattle.cell_world.proofs.InsideLemmas.{fields_minded-put}
 use Rattle.cell_world.proofs.world.ground.WorldGround.set_mind.Goals as goal
 
 pub invariant_of-self : goal.invariant_of-self

@@ -4,9 +4,10 @@ use Rattle.hex_geometry.specs.declared.position.Pos.{Pos}
 use Rattle.cell_world.specs.declared.ant.Ant.{Ant}
 use Rattle.cell_world.specs.declared.cell.Cell.{Cell}
 use Rattle.cell_world.specs.Cell.{ant_weight, cell_weight}
-use Rattle.cell_world.specs.Valid.{CanSet, Replaces, Valid}
+use Rattle.cell_world.specs.Valid.{CanSet, Valid}
+use Rattle.cell_world.specs.Inner.Replaces.{Replaces}
 use Rattle.cell_world.specs.World.{World}
-use Rattle.cell_world.proofs.Valids.{CanSet-replaces}
+use Rattle.cell_world.proofs.ValidLemmas.{CanSet-replaces}
 use Rattle.cell_world.proofs.Weights.{food-light}
 use Rattle.cell_world.proofs.world.ground.tests.fall.Goals as goal
 

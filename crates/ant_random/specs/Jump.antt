@@ -1,7 +1,0 @@
--- Affine steps of 32 bits, by which the code goes through the stream.
-use Rattle.std.specs.Prelude.{ℕ, ◌+◌, ◌*◌, ◌%◌, ◌^◌}
-use Rattle.ant_random.specs.declared.jump.Jump.{Jump}
-
--- the state after a jump from this one
-unfoldable pub landed : Jump → ℕ → ℕ
-landed jump state = (state * jump.times + jump.plus) % 2 ^ 32

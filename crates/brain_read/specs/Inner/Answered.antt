@@ -1,0 +1,33 @@
+-- What the calls that read parts of a text answer.
+use Rattle.std.specs.Prelude.{◌≡◌, ℕ, List, length, Result, Ok, Err}
+use Rattle.brain_read.specs.declared.draft.Draft.{Draft}
+use Rattle.brain_read.specs.declared.fault.BrainFault.{BrainFault}
+use Rattle.brain_read.specs.declared.fault.BrainFault.TheVariants.{OutOfMemory}
+use Rattle.brain_read.specs.declared.instr.Instr.{Instr}
+use Rattle.brain_read.specs.declared.read.DraftLine.{DraftLine}
+use Rattle.brain_read.specs.Inner.Draft.{drafted}
+use Rattle.brain_read.specs.Grammar.{token_lines}
+use Rattle.brain_read.specs.Inner.Verdict.{Placed, Judged, with_front, read_lines}
+
+-- the instruction of a draft, beside its line
+abbrev pub placed_of : DraftLine → Placed
+placed_of d = record { line = d.line; instruction = drafted d.draft }
+
+-- a fault that is answered is the one that was judged; want of memory says nothing
+abbrev pub FailsAs : {A : Type 0} → BrainFault → Judged A → Type 0
+FailsAs OutOfMemory judged = Unit {0}
+FailsAs fault judged = judged ≡ Err fault
+
+-- an answer, seen by view, is what was judged
+abbrev pub Gives : {X A : Type 0} → (X → A) → Result X BrainFault → Judged A → Type 0
+Gives view (Ok x) judged = judged ≡ Ok (view x)
+Gives view (Err fault) judged = FailsAs fault judged
+
+-- what a reader of a line answered
+abbrev pub as_judged : Result Draft BrainFault → Judged Instr
+as_judged (Ok draft) = Ok (drafted draft)
+as_judged (Err fault) = Err fault
+
+-- what is read of these lines, the first of which has this number, behind what was read before
+unfoldable pub reading_from : List Placed → ℕ → List (List ℕ) → Judged (List Placed)
+reading_from front number lines = with_front front (read_lines (length front) (token_lines number lines))

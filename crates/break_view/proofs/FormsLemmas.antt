@@ -1,0 +1,227 @@
+-- What is read of a line is spelled so, and what is spelled so is read.
+use Rattle.std.proofs.Common.{◌≡◌, ◌≤◌, ℕ, List, [], ◌∷◌, codes, Option, Some, None, Ok, Err, slice_get, refl, sym, ap, ◌∙◌, subst, arith}
+use Rattle.cell_world.specs.declared.ant.Colour.{Colour}
+use Rattle.cell_world.specs.declared.ant.Colour.TheVariants.{Red, Black}
+use Rattle.ant_base.specs.Number.{number_of, number_within}
+use Rattle.word_table.specs.Words.{IsSameWord, word_place}
+use Rattle.brain_read.specs.declared.fault.LineFault.{LineFault}
+use Rattle.brain_read.specs.declared.fault.LineFault.TheVariants.{UnknownWord, BadNumber, ExtraToken}
+use Rattle.brain_read.specs.Steps.{Read, Step, ◌>>=◌, missing, refused, or_refused, take_word, take_number, take_end}
+use Rattle.brain_read.specs.Forms.{Field, Spells, SpellsAll}
+use Rattle.brain_read.specs.Forms.Field.{Word, Number}
+use Rattle.brain_read.proofs.PlacesLemmas.{Names, word-found, word-again}
+use Rattle.brain_read.proofs.FormsLemmas.{IsTaken, Takes, then_taken, then_again, IsWithin, within-some, within-again, as_named}
+use Rattle.break_view.specs.declared.breaks.Break.{Break}
+use Rattle.break_view.specs.declared.breaks.Break.TheVariants.{Round, State, Stand, Food, Killed, Score}
+use Rattle.break_view.specs.declared.words.BreakWord.{BreakWord}
+use Rattle.break_view.specs.Forms.{word_of_break, word_of_colour, most_number, BreakLine}
+use Rattle.break_view.specs.Inner.Places.{break_words, colour_words}
+use Rattle.break_view.specs.Inner.Places.{break_at, colour_at, place_of_colour}
+use Rattle.break_view.specs.Inner.Steps.{take_colour, take_any}
+use Rattle.break_view.specs.Inner.Reading.{read_number, read_coloured, read_stand, read_food, read_form, read_line}
+
+pub break_names : Names break_words 6 (λ i. word_of_break (break_at i))
+unfolding break_words
+break_names = record { distinct = refl; good = refl; count = refl; named = refl }
+
+pub colour_names : Names colour_words 2 (λ i. word_of_colour (colour_at i))
+unfolding colour_words
+colour_names = record { distinct = refl; good = refl; count = refl; named = refl }
+
+ok_same : {A : Type 0} (p q : A × List (List ℕ)) → ◌≡◌ {A = Step A} (Ok p) (Ok q) → p ≡ q
+ok_same p q e = cc
+
+-- a token that is taken where it stands for something
+taken_some : {A : Type 0} (o : Option A) (token : List ℕ) (rest : List (List ℕ)) (fault : LineFault) (x : A) (left : List (List ℕ)) → or_refused o rest token fault ≡ Ok (x, left) → (o ≡ Some x) × (rest ≡ left)
+taken_some {A} None token rest fault x left e = (let never : ◌≡◌ {A = Step A} (Err (refused token fault)) (Ok (x, left)) = e in absurd (cc))
+taken_some (Some z) token rest fault x left e = let same = ok_same (z, rest) (x, left) e in (ap (λ p. Some p.0) same, ap (λ p. p.1) same)
+
+word_takes : {words : List (List ℕ)} {n : ℕ} {word : ℕ → List ℕ} → Names words n word → (tokens : List (List ℕ)) (i : ℕ) (rest : List (List ℕ)) → take_word words tokens ≡ Ok (i, rest) → IsTaken (λ j. IsSameWord (word j)) tokens i rest
+word_takes names [] i rest e = (let never : ◌≡◌ {A = Step ℕ} (Err missing) (Ok (i, rest)) = e in absurd (cc))
+word_takes {words} names (token ∷ tokens) i rest e =
+    let found = taken_some (word_place words token) token tokens UnknownWord i rest e in
+    record { token = token; front = ap (λ r. token ∷ r) found.1; spelled = word-found names token i found.0 }
+
+-- a number that a break may have
+abbrev pub IsAny : ℕ → List ℕ → Type 0
+IsAny = IsWithin 0 most_number
+
+pub any_takes : Takes take_any IsAny
+unfolding take_any
+any_takes = record { taken = taken; again = λ n token rest w. ap (λ o. or_refused o rest token BadNumber) (within-again 0 most_number n token w) }
+  where
+    taken : (tokens : List (List ℕ)) (n : ℕ) (rest : List (List ℕ)) → take_number 0 most_number tokens ≡ Ok (n, rest) → IsTaken IsAny tokens n rest
+    taken [] n rest e = (let never : ◌≡◌ {A = Step ℕ} (Err missing) (Ok (n, rest)) = e in absurd (cc))
+    taken (token ∷ tokens) n rest e =
+        let found = taken_some (number_within 0 most_number token) token tokens BadNumber n rest e in
+        record { token = token; front = ap (λ r. token ∷ r) found.1; spelled = within-some 0 most_number n token (number_of token) refl found.0 }
+
+pub colour_stands : (c : Colour) → slice_get colour_words (place_of_colour c) ≡ Some (word_of_colour c)
+unfolding colour_words
+colour_stands Red = refl
+colour_stands Black = refl
+
+colour_back : (c : Colour) → colour_at (place_of_colour c) ≡ c
+colour_back Red = refl
+colour_back Black = refl
+
+-- a colour's word
+abbrev pub IsColour : Colour → List ℕ → Type 0
+IsColour c = IsSameWord (word_of_colour c)
+
+pub colour_takes : Takes take_colour IsColour
+unfolding take_colour
+colour_takes = record { taken = taken; again = again }
+  where
+    taken : (tokens : List (List ℕ)) (c : Colour) (rest : List (List ℕ)) → (take_word colour_words tokens >>= as_named colour_at) ≡ Ok (c, rest) → IsTaken IsColour tokens c rest
+    taken tokens c rest e = go (take_word colour_words tokens) refl e
+      where
+        go : (r : Step ℕ) → take_word colour_words tokens ≡ r → (r >>= as_named colour_at) ≡ Ok (c, rest) → IsTaken IsColour tokens c rest
+        go (Ok p) is q =
+            let same = ok_same (colour_at p.0, p.1) (c, rest) q in
+            let t = word_takes colour_names tokens p.0 p.1 is in
+            subst (λ (v : Colour × List (List ℕ)). IsTaken IsColour tokens v.0 v.1) same (record { token = t.token; front = t.front; spelled = t.spelled })
+        go (Err refusal) is q = (let never : ◌≡◌ {A = Step Colour} (Err refusal) (Ok (c, rest)) = q in absurd (cc))
+
+    again : (c : Colour) (token : List ℕ) (rest : List (List ℕ)) → IsColour c token → (take_word colour_words (token ∷ rest) >>= as_named colour_at) ≡ Ok (c, rest)
+    again c token rest h =
+        ap (λ o. or_refused o rest token UnknownWord >>= as_named colour_at) (word-again colour_names (place_of_colour c) (word_of_colour c) token (colour_stands c) h)
+        ∙ ap (λ v. Ok (v, rest)) (colour_back c)
+
+-- the word that was taken, and what comes after it
+then_word : (tokens : List (List ℕ)) (f : ℕ × List (List ℕ) → Read Break) (y : Break) (P : List (List ℕ) → Type 0) → (take_word break_words tokens >>= f) ≡ Ok y → ((i : ℕ) (token : List ℕ) (rest : List (List ℕ)) → IsSameWord (word_of_break (break_at i)) token → f (i, rest) ≡ Ok y → P (token ∷ rest)) → P tokens
+then_word tokens f y P e k = go (take_word break_words tokens) refl e
+  where
+    go : (r : Step ℕ) → take_word break_words tokens ≡ r → (r >>= f) ≡ Ok y → P tokens
+    go (Ok p) is next = let t = word_takes break_names tokens p.0 p.1 is in subst P (sym t.front) (k p.0 t.token p.1 t.spelled next)
+    go (Err refusal) is next = (let never : ◌≡◌ {A = Read Break} (Err refusal) (Ok y) = next in absurd (cc))
+
+-- the end of the line
+then_end : (tokens : List (List ℕ)) (x y : Break) (P : List (List ℕ) → Type 0) → (take_end tokens >>= (λ end. Ok x)) ≡ Ok y → (x ≡ y → P []) → P tokens
+then_end [] x y P e k = k (ok_value x y e)
+  where
+    ok_value : (a b : Break) → ◌≡◌ {A = Read Break} (Ok a) (Ok b) → a ≡ b
+    ok_value a b h = cc
+then_end (token ∷ tokens) x y P e k = (let never : ◌≡◌ {A = Read Break} (Err (refused token ExtraToken)) (Ok y) = e in absurd (cc))
+
+-- after this first word the tokens are those of the break
+record IsRest (word : List ℕ) (item : Break) (tokens : List (List ℕ)) : Type 0 where
+  line : (first : List ℕ) → IsSameWord word first → BreakLine (first ∷ tokens) item
+
+number_spelled : (word : List ℕ) (make : ℕ → Break) → ((n : ℕ) (t : List ℕ) → IsAny n t → IsRest word (make n) (t ∷ [])) → (tokens : List (List ℕ)) (item : Break) → read_number make tokens ≡ Ok item → IsRest word item tokens
+unfolding read_number
+number_spelled word make made tokens item e =
+    then_taken any_takes tokens _ item (IsRest word item) e (λ n t1 r1 h1 e1.
+    then_end r1 (make n) item (λ r. IsRest word item (t1 ∷ r)) e1 (λ q. subst (λ j. IsRest word j (t1 ∷ [])) q (made n t1 h1)))
+
+coloured_spelled : (word : List ℕ) (make : Colour → ℕ → Break) → ((c : Colour) (n : ℕ) (t1 t2 : List ℕ) → IsColour c t1 → IsAny n t2 → IsRest word (make c n) (t1 ∷ t2 ∷ [])) → (tokens : List (List ℕ)) (item : Break) → read_coloured make tokens ≡ Ok item → IsRest word item tokens
+unfolding read_coloured
+coloured_spelled word make made tokens item e =
+    then_taken colour_takes tokens _ item (IsRest word item) e (λ c t1 r1 h1 e1.
+    then_taken any_takes r1 _ item (λ r. IsRest word item (t1 ∷ r)) e1 (λ n t2 r2 h2 e2.
+    then_end r2 (make c n) item (λ r. IsRest word item (t1 ∷ t2 ∷ r)) e2 (λ q. subst (λ j. IsRest word j (t1 ∷ t2 ∷ [])) q (made c n t1 t2 h1 h2))))
+
+stand_spelled : (tokens : List (List ℕ)) (item : Break) → read_stand tokens ≡ Ok item → IsRest (codes "Stand") item tokens
+unfolding read_stand
+stand_spelled tokens item e =
+    then_taken colour_takes tokens _ item (IsRest (codes "Stand") item) e (λ c t1 r1 h1 e1.
+    then_taken any_takes r1 _ item (λ r. IsRest (codes "Stand") item (t1 ∷ r)) e1 (λ x t2 r2 h2 e2.
+    then_taken any_takes r2 _ item (λ r. IsRest (codes "Stand") item (t1 ∷ t2 ∷ r)) e2 (λ y t3 r3 h3 e3.
+    then_end r3 (Stand c x y) item (λ r. IsRest (codes "Stand") item (t1 ∷ t2 ∷ t3 ∷ r)) e3 (λ q.
+    subst (λ j. IsRest (codes "Stand") j (t1 ∷ t2 ∷ t3 ∷ [])) q (record { line = λ first h. record { spelled = (h, (h1, (h2.value, (h3.value, tt)))); in_range = (tt, (tt, (h2.high, (h3.high, tt)))) } })))))
+
+food_spelled : (tokens : List (List ℕ)) (item : Break) → read_food tokens ≡ Ok item → IsRest (codes "Food") item tokens
+unfolding read_food
+food_spelled tokens item e =
+    then_taken any_takes tokens _ item (IsRest (codes "Food") item) e (λ x t1 r1 h1 e1.
+    then_taken any_takes r1 _ item (λ r. IsRest (codes "Food") item (t1 ∷ r)) e1 (λ y t2 r2 h2 e2.
+    then_taken any_takes r2 _ item (λ r. IsRest (codes "Food") item (t1 ∷ t2 ∷ r)) e2 (λ n t3 r3 h3 e3.
+    then_end r3 (Food x y n) item (λ r. IsRest (codes "Food") item (t1 ∷ t2 ∷ t3 ∷ r)) e3 (λ q.
+    subst (λ j. IsRest (codes "Food") j (t1 ∷ t2 ∷ t3 ∷ [])) q (record { line = λ first h. record { spelled = (h, (h1.value, (h2.value, (h3.value, tt)))); in_range = (tt, (h1.high, (h2.high, (h3.high, tt)))) } })))))
+
+form_spelled : (word : BreakWord) (first : List ℕ) (rest : List (List ℕ)) (item : Break) → IsSameWord (word_of_break word) first → read_form word rest ≡ Ok item → BreakLine (first ∷ rest) item
+form_spelled BreakWord.Round first rest item h e = (number_spelled (codes "Round") Round (λ n t w. record { line = λ f s. record { spelled = (s, (w.value, tt)); in_range = (tt, (w.high, tt)) } }) rest item e).line first h
+form_spelled BreakWord.State first rest item h e = (coloured_spelled (codes "State") State (λ c n t1 t2 is w. record { line = λ f s. record { spelled = (s, (is, (w.value, tt))); in_range = (tt, (tt, (w.high, tt))) } }) rest item e).line first h
+form_spelled BreakWord.Stand first rest item h e = (stand_spelled rest item e).line first h
+form_spelled BreakWord.Food first rest item h e = (food_spelled rest item e).line first h
+form_spelled BreakWord.Killed first rest item h e = (number_spelled (codes "Killed") Killed (λ n t w. record { line = λ f s. record { spelled = (s, (w.value, tt)); in_range = (tt, (w.high, tt)) } }) rest item e).line first h
+form_spelled BreakWord.Score first rest item h e = (coloured_spelled (codes "Score") Score (λ c n t1 t2 is w. record { line = λ f s. record { spelled = (s, (is, (w.value, tt))); in_range = (tt, (tt, (w.high, tt))) } }) rest item e).line first h
+
+-- what is read of a line is spelled so
+pub line_spelled : (tokens : List (List ℕ)) (item : Break) → read_line tokens ≡ Ok item → BreakLine tokens item
+unfolding read_line
+line_spelled tokens item e = then_word tokens (λ w. read_form (break_at w.0) w.1) item (λ ts. BreakLine ts item) e (λ p first rest h q. form_spelled (break_at p) first rest item h q)
+
+-- the first of several fields, and the last
+given : (field : Field) (fields : List Field) (tokens : List (List ℕ)) (P : List (List ℕ) → Type 0) → SpellsAll (field ∷ fields) tokens → ((token : List ℕ) (rest : List (List ℕ)) → Spells field token → SpellsAll fields rest → P (token ∷ rest)) → P tokens
+given field fields [] P h k = absurd h
+given field fields (token ∷ rest) P h k = k token rest h.0 h.1
+
+given_end : (tokens : List (List ℕ)) (P : List (List ℕ) → Type 0) → SpellsAll [] tokens → P [] → P tokens
+given_end [] P h k = k
+given_end (token ∷ tokens) P h k = absurd h
+
+-- a number of a break
+any : (n : ℕ) (token : List ℕ) → number_of token ≡ Some n → n ≤ most_number → IsAny n token
+any n token is high = record { value = is; low = omega arith; high = high }
+
+number_again : (make : ℕ → Break) (n : ℕ) (tokens : List (List ℕ)) → SpellsAll (Number n ∷ []) tokens → n ≤ most_number → read_number make tokens ≡ Ok (make n)
+unfolding read_number
+number_again make n tokens h high =
+    given (Number n) [] tokens (λ ts. read_number make ts ≡ Ok (make n)) h (λ t1 r1 h1 k1.
+    given_end r1 (λ r. read_number make (t1 ∷ r) ≡ Ok (make n)) k1
+    (then_again any_takes n t1 [] _ _ (any n t1 h1 high) refl))
+
+coloured_again : (make : Colour → ℕ → Break) (c : Colour) (n : ℕ) (tokens : List (List ℕ)) → SpellsAll (Word (word_of_colour c) ∷ Number n ∷ []) tokens → n ≤ most_number → read_coloured make tokens ≡ Ok (make c n)
+unfolding read_coloured
+coloured_again make c n tokens h high =
+    given (Word (word_of_colour c)) (Number n ∷ []) tokens (λ ts. read_coloured make ts ≡ Ok (make c n)) h (λ t1 r1 h1 k1.
+    given (Number n) [] r1 (λ r. read_coloured make (t1 ∷ r) ≡ Ok (make c n)) k1 (λ t2 r2 h2 k2.
+    given_end r2 (λ r. read_coloured make (t1 ∷ t2 ∷ r) ≡ Ok (make c n)) k2
+    (then_again colour_takes c t1 (t2 ∷ []) _ _ h1 (then_again any_takes n t2 [] _ _ (any n t2 h2 high) refl))))
+
+stand_again : (c : Colour) (x y : ℕ) (tokens : List (List ℕ)) → SpellsAll (Word (word_of_colour c) ∷ Number x ∷ Number y ∷ []) tokens → x ≤ most_number → y ≤ most_number → read_stand tokens ≡ Ok (Stand c x y)
+unfolding read_stand
+stand_again c x y tokens h x_high y_high =
+    given (Word (word_of_colour c)) (Number x ∷ Number y ∷ []) tokens (λ ts. read_stand ts ≡ Ok (Stand c x y)) h (λ t1 r1 h1 k1.
+    given (Number x) (Number y ∷ []) r1 (λ r. read_stand (t1 ∷ r) ≡ Ok (Stand c x y)) k1 (λ t2 r2 h2 k2.
+    given (Number y) [] r2 (λ r. read_stand (t1 ∷ t2 ∷ r) ≡ Ok (Stand c x y)) k2 (λ t3 r3 h3 k3.
+    given_end r3 (λ r. read_stand (t1 ∷ t2 ∷ t3 ∷ r) ≡ Ok (Stand c x y)) k3
+    (then_again colour_takes c t1 (t2 ∷ t3 ∷ []) _ _ h1 (then_again any_takes x t2 (t3 ∷ []) _ _ (any x t2 h2 x_high) (then_again any_takes y t3 [] _ _ (any y t3 h3 y_high) refl))))))
+
+food_again : (x y n : ℕ) (tokens : List (List ℕ)) → SpellsAll (Number x ∷ Number y ∷ Number n ∷ []) tokens → x ≤ most_number → y ≤ most_number → n ≤ most_number → read_food tokens ≡ Ok (Food x y n)
+unfolding read_food
+food_again x y n tokens h x_high y_high n_high =
+    given (Number x) (Number y ∷ Number n ∷ []) tokens (λ ts. read_food ts ≡ Ok (Food x y n)) h (λ t1 r1 h1 k1.
+    given (Number y) (Number n ∷ []) r1 (λ r. read_food (t1 ∷ r) ≡ Ok (Food x y n)) k1 (λ t2 r2 h2 k2.
+    given (Number n) [] r2 (λ r. read_food (t1 ∷ t2 ∷ r) ≡ Ok (Food x y n)) k2 (λ t3 r3 h3 k3.
+    given_end r3 (λ r. read_food (t1 ∷ t2 ∷ t3 ∷ r) ≡ Ok (Food x y n)) k3
+    (then_again any_takes x t1 (t2 ∷ t3 ∷ []) _ _ (any x t1 h1 x_high) (then_again any_takes y t2 (t3 ∷ []) _ _ (any y t2 h2 y_high) (then_again any_takes n t3 [] _ _ (any n t3 h3 n_high) refl))))))
+
+-- the first word of a line, and what is read after it
+form_step : (i : ℕ) (w first : List ℕ) (rest : List (List ℕ)) (item : Break) → slice_get break_words i ≡ Some w → IsSameWord w first → read_form (break_at i) rest ≡ Ok item → read_line (first ∷ rest) ≡ Ok item
+unfolding read_line
+form_step i w first rest item stands same next =
+    ap (λ o. or_refused o rest first UnknownWord >>= (λ p. read_form (break_at p.0) p.1)) (word-again break_names i w first stands same) ∙ next
+
+-- what is spelled so is read
+pub line_again : (item : Break) (tokens : List (List ℕ)) → BreakLine tokens item → read_line tokens ≡ Ok item
+unfolding break_words
+line_again (Round n) tokens line =
+    given (Word (codes "Round")) (Number n ∷ []) tokens (λ ts. read_line ts ≡ Ok (Round n)) line.spelled
+    (λ first rest h k. form_step 0 (codes "Round") first rest (Round n) refl h (number_again Round n rest k line.in_range.1.0))
+line_again (State c n) tokens line =
+    given (Word (codes "State")) (Word (word_of_colour c) ∷ Number n ∷ []) tokens (λ ts. read_line ts ≡ Ok (State c n)) line.spelled
+    (λ first rest h k. form_step 1 (codes "State") first rest (State c n) refl h (coloured_again State c n rest k line.in_range.1.1.0))
+line_again (Stand c x y) tokens line =
+    given (Word (codes "Stand")) (Word (word_of_colour c) ∷ Number x ∷ Number y ∷ []) tokens (λ ts. read_line ts ≡ Ok (Stand c x y)) line.spelled
+    (λ first rest h k. form_step 2 (codes "Stand") first rest (Stand c x y) refl h (stand_again c x y rest k line.in_range.1.1.0 line.in_range.1.1.1.0))
+line_again (Food x y n) tokens line =
+    given (Word (codes "Food")) (Number x ∷ Number y ∷ Number n ∷ []) tokens (λ ts. read_line ts ≡ Ok (Food x y n)) line.spelled
+    (λ first rest h k. form_step 3 (codes "Food") first rest (Food x y n) refl h (food_again x y n rest k line.in_range.1.0 line.in_range.1.1.0 line.in_range.1.1.1.0))
+line_again (Killed n) tokens line =
+    given (Word (codes "Killed")) (Number n ∷ []) tokens (λ ts. read_line ts ≡ Ok (Killed n)) line.spelled
+    (λ first rest h k. form_step 4 (codes "Killed") first rest (Killed n) refl h (number_again Killed n rest k line.in_range.1.0))
+line_again (Score c n) tokens line =
+    given (Word (codes "Score")) (Word (word_of_colour c) ∷ Number n ∷ []) tokens (λ ts. read_line ts ≡ Ok (Score c n)) line.spelled
+    (λ first rest h k. form_step 5 (codes "Score") first rest (Score c n) refl h (coloured_again Score c n rest k line.in_range.1.1.0))

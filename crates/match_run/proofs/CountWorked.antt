@@ -1,0 +1,35 @@
+-- The counts of games, worked out.
+use Rattle.std.proofs.Common.{◌≡◌, refl}
+use Rattle.cell_world.specs.Cell.{rock}
+use Rattle.cell_world.specs.Grid.{cell_in}
+use Rattle.cell_world.specs.Opening.{floor, opening}
+use Rattle.cell_world.specs.World.{place_in, put_cell}
+use Rattle.hex_geometry.specs.Direction.{directions}
+use Rattle.hex_geometry.specs.Neighbourhood.{adjacent_pos, neighbours_of}
+use Rattle.hex_geometry.specs.Position.{same_pos}
+use Rattle.ant_random.specs.Stream.{drawn, random_at, state_at}
+use Rattle.ant_turn.specs.Kills.{check_at, is_surrounded, killed_at, places_around}
+use Rattle.ant_turn.specs.Rounds.{after_round, after_turn, start_of}
+use Rattle.ant_turn.specs.Turn.{stepped, turn}
+use Rattle.spec_record.specs.Claims.{merged}
+use Rattle.spec_record.specs.Guess.{flips, guess}
+use Rattle.spec_record.specs.Look.{look_of}
+use Rattle.spec_record.specs.Reads.{reads}
+use Rattle.spec_record.specs.Writes.{writes}
+use Rattle.spec_record.proofs.LooksWorked.{field, minds}
+use Rattle.round_book.specs.Counts.{counts_of, is_taken}
+use Rattle.round_book.specs.Window.{guess_for, look_for, moment_before}
+use Rattle.match_run.specs.Counts.{round_totals, totals_of, window_at, window_totals, windows_of}
+
+-- seven turns are one window of seven, and three windows of three
+cut : (windows_of 7 7 ≡ 1) × (windows_of 3 7 ≡ 3) × (windows_of 1 7 ≡ 7) × (windows_of 16384 7 ≡ 1) × (windows_of 3 6 ≡ 2) × (windows_of 3 0 ≡ 0)
+cut = (refl, refl, refl, refl, refl, refl)
+
+-- a round of seven turns: red ants flip, a black one moves and kills the red ant of id 2. In one window two turns are executed anew; in windows
+-- of three, that of the killed ant alone; in windows of one turn, none
+one_round :
+    (totals_of minds 12345 7 (start_of field) 1 ≡ record { turns = 7; taken = 5; redone = 2 })
+    × (totals_of minds 12345 3 (start_of field) 1 ≡ record { turns = 7; taken = 6; redone = 1 })
+    × (totals_of minds 12345 1 (start_of field) 1 ≡ record { turns = 7; taken = 7; redone = 0 })
+unfolding round_totals window_totals window_at counts_of is_taken look_for look_of guess_for moment_before after_round after_turn turn reads writes merged stepped is_surrounded check_at killed_at places_around put_cell same_pos neighbours_of adjacent_pos directions guess flips opening cell_in rock floor place_in drawn random_at state_at
+one_round = (refl, refl, refl)

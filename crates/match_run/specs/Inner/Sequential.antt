@@ -1,0 +1,14 @@
+-- A game that is played turn after turn, with a stream of its own (the task's kinetics).
+use Rattle.std.specs.Prelude.{◌+◌, ◌<◌, ◌^◌}
+use Rattle.ant_random.specs.Stream.{SeedAndPlace}
+use Rattle.ant_turn.specs.Rounds.{Moment}
+use Rattle.cell_world.specs.Grid.{Grid, world_of}
+use Rattle.cell_world.specs.Limits.{most_ants}
+
+-- the moment of a world and the stream of its game
+abbrev pub moment_of : Grid → SeedAndPlace → Moment
+moment_of grid stream = record { world = world_of grid; place = stream.place }
+
+-- a stream has a random number left for each turn of one more round
+abbrev pub LastsARound : SeedAndPlace → Type 0
+LastsARound stream = stream.place + most_ants < 2 ^ 63

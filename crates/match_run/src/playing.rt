@@ -1,0 +1,172 @@
+// A whole run, played by a crew.
+ghost use Rattle.std.specs.Prelude.{◌≡◌, ◌+◌, ◌-◌, ◌*◌, ◌<◌, ◌≤◌, true, IfOk, OnOk};
+ghost use Rattle.ant_base.specs.Layout.{◌+++◌};
+ghost use Rattle.ant_base.specs.Sink.{Pushed};
+ghost use Rattle.ant_turn.specs.Minds.{Fits, minds_of};
+ghost use Rattle.ant_turn.specs.Rounds.{start_of};
+ghost use Rattle.cell_world.specs.Grid.{world_of};
+ghost use Rattle.cell_world.specs.Score.{score_of};
+ghost use Rattle.dump_print.specs.Texts.{score_text};
+ghost use Rattle.match_run.specs.Counts.{counts_text, totals_of, whole_text};
+ghost use Rattle.match_run.specs.Game.{beginning, counted_on};
+ghost use Rattle.match_run.specs.Inner.Rounds.{IsAtRound, RoundShown};
+ghost use Rattle.match_run.specs.Play.{PushedBy};
+ghost use Rattle.match_run.specs.Run.{dumps_text, ended, most_rounds, world_after};
+
+use crate::dumps::{Dumps, push_chosen};
+use crate::fault::PlayFault;
+use crate::game::Game;
+use crate::plan::Plan;
+use ant_base::{Failed, Sink};
+use ant_turn::Brains;
+use cell_world::{Score, World};
+use dump_print::{Totals, push_score, push_seed, push_stats};
+use hex_geometry::OutOfMemory;
+use round_book::{Crew, Field};
+use std::alloc::Global;
+
+/// Plays a run by a crew, window by window, and pushes its text: the line of the seed, the dump after each round that the plan chooses, from
+/// round 0, the start, to the last in order, the score, and, where the plan asks for them, the counts (the task's game play; the layout and
+/// the counts are this project's own).
+///
+/// Each ant's state is below the length of its colour's brain, as in every opening world; the plan has at most 1,000,000 rounds, and at least
+/// one turn a window. The turns are those of the ids in rising order, from 0, round after round, with the random numbers of the seed from
+/// place 0 on. Gives the score after the last round: the food on each colour's hill; the crew's count of turns has risen by that of the ids
+/// times the rounds then, or stands at its last value.
+///
+/// It is refused where the sink failed, whose count of faults rose then, or for want of memory; in both cases a front of the text was pushed.
+pub fn play<C: Crew, K: Sink>(
+    alloc: Global,
+    crew: &mut C,
+    world: World,
+    brains: Brains<'_>,
+    plan: &Plan,
+    sink: &mut K,
+) -> Result<Score, PlayFault>
+    requires ready { C.ready crew.old }
+    requires fit { Fits (world_of world) (minds_of brains) }
+    requires few_rounds { plan.now.rounds ≤ most_rounds }
+    requires sized { 1 ≤ plan.now.window }
+    ensures ready { C.ready crew.new }
+    ensures text { PushedBy (K.state sink.old) (K.state sink.new)
+        (whole_text (minds_of brains.entry) plan.now.seed plan.now.rounds plan.now.dumps plan.now.window plan.now.stats (world_of world)) result }
+    ensures score { IfOk result (λ s. s ≡ score_of (world_after (minds_of brains.entry) plan.now.seed (world_of world) plan.now.rounds)) }
+    ensures turns { OnOk result (C.played crew.new ≡ counted_on (C.played crew.old) (world.ids * plan.now.rounds)) }
+{
+    let mut game = game_of(alloc, world, brains, plan)?;
+    push_seed(plan.seed, sink)?;
+    play_game(alloc, crew, &mut game, plan, sink)
+}
+
+// The game of a plan, at its start.
+fn game_of<'b>(
+    alloc: Global,
+    world: World,
+    brains: Brains<'b>,
+    plan: &Plan,
+) -> Result<Game<'b>, OutOfMemory>
+    requires fit { Fits (world_of world) (minds_of brains) }
+    requires sized { 1 ≤ plan.now.window }
+    ensures { IfOk result (λ game. game ≡ beginning (record { world = world; minds = minds_of brains.entry; seed = plan.now.seed; place = 0; whole = true }) plan.now.window) }
+{
+    let field = Field::new(alloc, world, brains, plan.seed, 0)?;
+    Ok(Game::begin(field, plan.window))
+}
+
+// Plays a game from its start, and pushes the dumps that the plan chooses, the score and, where the plan asks for them, the counts.
+fn play_game<C: Crew, K: Sink>(
+    alloc: Global,
+    crew: &mut C,
+    game: &mut Game<'_>,
+    plan: &Plan,
+    sink: &mut K,
+) -> Result<Score, PlayFault>
+    requires ready { C.ready crew.old }
+    requires begins { IsAtRound game.old.field.minds plan.now.seed (world_of game.old.field.world) plan.now.window 0 game.old }
+    requires few_rounds { plan.now.rounds ≤ most_rounds }
+    requires sized { 1 ≤ plan.now.window }
+    ensures ready { C.ready crew.new }
+    ensures text { PushedBy (K.state sink.old) (K.state sink.new)
+        (dumps_text game.old.field.minds plan.now.seed plan.now.dumps (world_of game.old.field.world) (plan.now.rounds + 1)
+        +++ score_text (score_of (world_after game.old.field.minds plan.now.seed (world_of game.old.field.world) plan.now.rounds))
+        +++ counts_text plan.now.stats (totals_of game.old.field.minds plan.now.seed plan.now.window (start_of (world_of game.old.field.world)) plan.now.rounds)) result }
+    ensures score { IfOk result (λ s. s ≡ score_of (world_after game.old.field.minds plan.now.seed (world_of game.old.field.world) plan.now.rounds)) }
+    ensures turns { OnOk result (C.played crew.new ≡ counted_on (C.played crew.old) (game.old.field.world.ids * plan.now.rounds)) }
+{
+    play_rounds(alloc, crew, game, plan, sink)?;
+    Ok(push_end(game.world(), game.totals(), plan.stats, sink)?)
+}
+
+// Plays the rounds of a plan, and pushes the dumps that it chooses.
+fn play_rounds<C: Crew, K: Sink>(
+    alloc: Global,
+    crew: &mut C,
+    game: &mut Game<'_>,
+    plan: &Plan,
+    sink: &mut K,
+) -> Result<(), PlayFault>
+    requires ready { C.ready crew.old }
+    requires begins { IsAtRound game.old.field.minds plan.now.seed (world_of game.old.field.world) plan.now.window 0 game.old }
+    requires few_rounds { plan.now.rounds ≤ most_rounds }
+    requires sized { 1 ≤ plan.now.window }
+    ensures ready { C.ready crew.new }
+    ensures text { PushedBy (K.state sink.old) (K.state sink.new)
+        (dumps_text game.old.field.minds plan.now.seed plan.now.dumps (world_of game.old.field.world) (plan.now.rounds + 1)) result }
+    ensures played { OnOk result (IsAtRound game.old.field.minds plan.now.seed (world_of game.old.field.world) plan.now.window plan.now.rounds game.new) }
+    ensures turns { OnOk result (C.played crew.new ≡ counted_on (C.played crew.old) (game.old.field.world.ids * plan.now.rounds)) }
+{
+    // A crew's count is a u64, so it doesn't change where there is no round.
+    let _count = crew.turns();
+    push_chosen(game.world(), &plan.dumps, 0, sink)?;
+    for round in 0..plan.rounds {
+        play_round(alloc, crew, game, &plan.dumps, round + 1, sink)?;
+    }
+    Ok(())
+}
+
+// Plays one round of a game, and pushes its dump, if that round is chosen.
+fn play_round<C: Crew, K: Sink>(
+    alloc: Global,
+    crew: &mut C,
+    game: &mut Game<'_>,
+    dumps: &Dumps,
+    round: u32,
+    sink: &mut K,
+) -> Result<(), PlayFault>
+    requires ready { C.ready crew.old }
+    requires few { game.old.done < most_rounds }
+    ensures ready { C.ready crew.new }
+    ensures shown { RoundShown game.old game.new dumps.now round (K.state sink.old) (K.state sink.new) result }
+    ensures turns { C.played crew.new ≡ counted_on (C.played crew.old) (game.new.totals.turns - game.old.totals.turns) }
+{
+    game.round(alloc, crew)?;
+    push_chosen(game.world(), dumps, round, sink)?;
+    Ok(())
+}
+
+// Pushes the score of a world, and the counts where they are asked for.
+fn push_end<K: Sink>(
+    world: &World,
+    totals: Totals,
+    stats: bool,
+    sink: &mut K,
+) -> Result<Score, Failed>
+    ensures text { Pushed (K.state sink.old) (K.state sink.new) (score_text (score_of (world_of world.now)) +++ counts_text stats totals) (ended result) }
+    ensures score { IfOk result (λ s. s ≡ score_of (world_of world.now)) }
+{
+    let score = world.score();
+    push_score(score, sink)?;
+    push_counts(totals, stats, sink)?;
+    Ok(score)
+}
+
+// Pushes the counts where they are asked for.
+fn push_counts<K: Sink>(totals: Totals, stats: bool, sink: &mut K) -> Result<(), Failed>
+    ensures { Pushed (K.state sink.old) (K.state sink.new) (counts_text stats totals) result }
+{
+    if stats {
+        push_stats(totals, sink)
+    } else {
+        Ok(())
+    }
+}

@@ -1,0 +1,35 @@
+// The one place where threads are started.
+ghost use Rattle.std.specs.Prelude.{◌≡◌, ℕ, ◌<◌, All, length, slice_index_or};
+ghost use Rattle.round_workers.specs.declared.piece.Piece.{Piece};
+ghost use Rattle.round_workers.specs.Inner.Pieces.{IsDone, IsReady};
+
+use crate::piece::Piece;
+use ant_base::Gate;
+use round_book::Field;
+use std::thread;
+use std::thread::Threads;
+
+// Makes the looks of each piece, each piece in a thread; a single piece in that of the caller.
+pub fn look_at_pieces<R: Threads + Sync, G: Gate>(
+    rt: &R,
+    gate: &G,
+    field: &Field<'_>,
+    from: u32,
+    pieces: &mut [Piece],
+    workers: usize,
+)
+    requires workers { 0 < workers }
+    requires ready { All (IsReady field.now from) pieces.old }
+    ensures done { (i : ℕ) (d : Piece) → i < length pieces.old → IsDone field.now from (slice_index_or pieces.old i d) (slice_index_or pieces.new i d) }
+    ensures len { length pieces.new ≡ length pieces.old }
+{
+    thread::for_each_mut(
+        rt,
+        pieces,
+        workers,
+        &|_: usize, piece: &mut Piece|
+            requires { IsReady field.now from piece.now }
+            ensures { IsDone field.entry.now from piece.entry.now piece.exit.now }
+        { piece.look_at_turns(field, gate, from) },
+    );
+}

@@ -1,0 +1,125 @@
+// A crew whose looks are made in pieces.
+ghost use Rattle.std.specs.Prelude.{◌≡◌, ◌+◌, ◌-◌, ◌≤◌, ◌^◌, min, IfOk, OnOk, OnErr};
+ghost use Rattle.round_book.specs.Book.{CanBegin, IsPlayed, window_of};
+ghost use Rattle.round_book.specs.Counts.{counts_of};
+
+use crate::fork::look_at_pieces;
+use crate::piece::{Piece, deal};
+use crate::settling::settle_pieces;
+use ant_base::Gate;
+use hex_geometry::OutOfMemory;
+use round_book::{Counts, Field};
+use std::alloc::Global;
+use std::marker::Model;
+use std::thread::Threads;
+
+/// A crew of workers that make the looks of a window at the same time, each those of a contiguous piece of its turns; they are settled in
+/// order on the caller's thread (this project's own). It keeps the rooms of its looks from one window to the next.
+#[derive(Drop)]
+pub struct PieceCrew<'c, R: Threads + Sync, G: Gate> {
+    rt: &'c R,
+    gate: &'c G,
+    workers: u32,
+    turns: u64,
+    pieces: Option<Vec<Piece>>,
+}
+
+impl<'c, R: Threads + Sync, G: Gate> Model for PieceCrew<'c, R, G> {
+    ghost use Rattle.std.specs.Prelude.{◌≤◌};
+    ghost use Rattle.round_workers.specs.Crews.{CrewValue};
+
+    ghost Value = { CrewValue };
+
+    ghost view = { λ crew. record { workers = crew.workers; turns = crew.turns } };
+
+    ghost invariant = { λ crew. (1 ≤ crew.workers) × (crew.workers ≤ 16) };
+}
+
+impl<'c, R: Threads + Sync, G: Gate> PieceCrew<'c, R, G> {
+    /// A crew of 1 to 16 workers, which has played no turn yet (this project's own). Each worker, from 0, calls the gate before each look
+    /// that it makes. It takes no memory.
+    pub fn new(rt: &'c R, workers: u32, gate: &'c G) -> PieceCrew<'c, R, G>
+        requires workers { (1 ≤ workers) × (workers ≤ 16) }
+        ensures { result ≡ record { workers = workers; turns = 0 } }
+    {
+        PieceCrew {
+            rt,
+            gate,
+            workers,
+            turns: 0,
+            pieces: None,
+        }
+    }
+
+    /// How many turns the crew has played, from 0; at the last value, 2^64 - 1, it stays (this project's own).
+    #[inline]
+    pub fn turns(&self) -> u64
+        ensures { result ≡ self.now.turns }
+    {
+        self.turns
+    }
+
+    /// Plays the turns of the ids from `from` up to, and not including, `to` (this project's own). The field is whole, `from` is at most `to`,
+    /// `to` at most the number of ids, and the place with the number of turns is below 2^63. The field is whole afterwards, its world and
+    /// place are those to which the turns lead in order, and the answer counts the looks that were taken and the turns that were executed
+    /// anew. It is refused for want of memory alone; the field and the count of turns are as before then.
+    ///
+    /// Of n turns worker k of W makes the looks of those from `from` + k * n / W up to, and not including, `from` + (k + 1) * n / W, and calls
+    /// the gate with its number and the id before each. A worker that has no turn starts no thread. All looks are made before the field is
+    /// lent.
+    pub fn window(
+        &mut self,
+        alloc: Global,
+        field: &mut Field<'_>,
+        from: u32,
+        to: u32,
+    ) -> Result<Counts, OutOfMemory>
+        requires window { CanBegin field.old from to }
+        ensures played { OnOk result (IsPlayed field.old from to field.new) }
+        ensures counts { IfOk result (λ counts. counts ≡ counts_of (window_of field.old from to)) }
+        ensures turns { OnOk result (self.new ≡ record self.old { turns = min (self.old.turns + (to - from)) (2 ^ 64 - 1) }) }
+        ensures unchanged { OnErr result (field.new ≡ field.old) }
+        ensures as_before { OnErr result (self.new ≡ self.old) }
+    {
+        let mut pieces = self.pieces.take().unwrap_or_else(|| Vec::new(alloc));
+        let played = play(
+            self.rt,
+            self.gate,
+            alloc,
+            &mut pieces,
+            self.workers,
+            field,
+            from,
+            to,
+        );
+        self.pieces = Some(pieces);
+        let counts = played?;
+        self.turns = self.turns.saturating_add(u64::from(to - from));
+        Ok(counts)
+    }
+}
+
+// Plays a window by so many workers, in these pieces and such as are wanted besides.
+fn play<R: Threads + Sync, G: Gate>(
+    rt: &R,
+    gate: &G,
+    alloc: Global,
+    pieces: &mut Vec<Piece>,
+    workers: u32,
+    field: &mut Field<'_>,
+    from: u32,
+    to: u32,
+) -> Result<Counts, OutOfMemory>
+    requires workers { (1 ≤ workers) × (workers ≤ 16) }
+    requires window { CanBegin field.old from to }
+    ensures played { OnOk result (IsPlayed field.old from to field.new) }
+    ensures counts { IfOk result (λ counts. counts ≡ counts_of (window_of field.old from to)) }
+    ensures unchanged { OnErr result (field.new ≡ field.old) }
+{
+    let dealt = deal(pieces, alloc, workers, from, to)?;
+    let pieces = &mut pieces[..dealt];
+    look_at_pieces(rt, gate, field, from, pieces, workers as usize);
+    let mut book = field.begin(alloc, from, to)?;
+    settle_pieces(&mut book, field, pieces);
+    Ok(field.finish(book))
+}

@@ -1,0 +1,2 @@
+pub mod BordersLemmas
+pub mod Worked
