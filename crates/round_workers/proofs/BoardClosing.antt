@@ -20,7 +20,7 @@ use Rattle.round_workers.specs.declared.board.view.View.{View}
 use Rattle.round_workers.specs.BoardTotals.{once_below, total}
 use Rattle.round_workers.specs.BoardView.{spent_seat, window_for}
 use Rattle.round_workers.specs.BoardRule.{HasHome, IsKept, IsLookKept, StandsFor, made_by, putting, taking, turns_of}
-use Rattle.round_workers.specs.BoardPlaces.{AreTaken, book_in, look_in}
+use Rattle.round_workers.specs.Inner.BoardPlaces.{AreTaken, book_in, look_in}
 use Rattle.round_workers.specs.BoardSeats.{left_if, left_look}
 use Rattle.round_workers.proofs.BoardTotalLemmas.{below-where, once-le, total-alone, total-at, total-two}
 use Rattle.round_workers.proofs.BoardSeating.{made-all}

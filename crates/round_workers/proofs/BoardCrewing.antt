@@ -17,7 +17,7 @@ use Rattle.round_workers.specs.declared.board.seat.Seat.{Seat}
 use Rattle.round_workers.specs.declared.board.view.Basis.{Basis}
 use Rattle.round_workers.specs.declared.board.view.View.{View}
 use Rattle.round_workers.specs.declared.board.worker.Worker.{Worker}
-use Rattle.round_workers.specs.BoardCrew.{AreLooks, HasWorked, IsHired, IsManned, seat_numbers}
+use Rattle.round_workers.specs.Inner.BoardCrew.{AreLooks, HasWorked, IsHired, IsManned, seat_numbers}
 use Rattle.round_workers.specs.BoardPlays.{has_seen, made_one}
 use Rattle.round_workers.specs.BoardRule.{StandsFor}
 use Rattle.round_workers.specs.BoardSeats.{IsSeatOf, known, left_if, left_look}

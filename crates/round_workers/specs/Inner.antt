@@ -1,3 +1,5 @@
 -- Stepping stones between the definitions and the code: no public clause cites them.
+pub mod BoardCrew
+pub mod BoardPlaces
 pub mod Pieces
 pub mod Shares

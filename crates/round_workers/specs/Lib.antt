@@ -1,5 +1,3 @@
-pub mod BoardCrew
-pub mod BoardPlaces
 pub mod BoardPlays
 pub mod BoardRule
 pub mod BoardSeats

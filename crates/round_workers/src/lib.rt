@@ -1,11 +1,13 @@
 //! Crews of workers: the looks of a window are made at the same time, and settled in order.
 //!
 //! A [`PieceCrew`] shares the turns of a window out in contiguous pieces, one for each worker, and settles the looks on the caller's thread
-//! once all are made. The workers of a [`BoardCrew`] draw the turns one by one from a [`Board`], put their looks into it, and pass the book of
-//! the window to each other: whoever has it settles the looks that are there. Whoever makes which look when, a window leads where its turns lead one after another, with the same counts: that is
-//! what the clauses of `window` say, and it comes of `round_book`, which settles a window, and of `spec_record`, which makes looks. A worker
-//! calls a [`ant_base::Gate`] before each look that it makes. No clause says that two looks were made at the same time. This is this
-//! project's own.
+//! once all are made. The workers of a [`BoardCrew`] draw the turns of a window one by one, put the looks at them on a [`Board`], and pass the
+//! window's book from one to another: who has it settles the next turns, for as long as their looks are there. Whoever makes which look when,
+//! a window leads where its turns lead one after another, with the same counts: that is what the clauses of `window` say, and it comes of
+//! `round_book`, which settles a window, and of `spec_record`, which makes looks. A worker calls a [`ant_base::Gate`] before each look that it
+//! makes. No clause says that two looks were made at the same time. This is this project's own.
+//!
+//! What is true of a board between any two steps of its seats stands in `specs/BoardRule.antt`.
 #![tactic(auto)]
 
 mod board;

@@ -5,7 +5,7 @@ use crate::tests::runs::{KILLED, KILLING};
 use crate::tests::{CLOSING, Job, answer_by};
 use ant_base::Gate;
 use ant_turn::{Brains, Sheet};
-use round_workers::PieceCrew;
+use round_workers::{BoardCrew, PieceCrew};
 use std::hint::spin_loop;
 use std::process::Abort;
 use std::sync::atomic::{AtomicBool, AtomicU32, Ordering};
@@ -96,6 +96,29 @@ fn a_crew_of_two_looks_at_the_same_time(rt: HostRuntime) -> Result<(), Fail> {
     let mut field = field_on(rt.alloc(), bytes, brains, 12345)?;
     let meeting = Meeting::new();
     let mut crew = PieceCrew::new(&rt, 2, &meeting);
+    let ids = field.world().ant_count();
+    let counts = crew.window(rt.alloc(), &mut field, 0, ids)?;
+    assert_eq!(rt; (counts.taken(), counts.redone()), (5, 2));
+    assert_eq!(rt; crew.turns(), 7);
+    assert_eq!(rt; field.place(), 1);
+    meeting.check(&rt);
+    Ok(())
+}
+
+#[test]
+fn a_crew_of_two_with_a_board_looks_at_the_same_time(rt: HostRuntime) -> Result<(), Fail> {
+    let red = brain_of(&rt, rt.alloc(), "Flip 2 0 0")?;
+    let black = brain_of(&rt, rt.alloc(), "Move 0 0")?;
+    let brains = Brains {
+        red: &red,
+        black: &black,
+        sheet: Sheet::contest(),
+    };
+    let bytes = CLOSING.as_bytes();
+    assert!(rt; bytes.len() <= MOST_BYTES);
+    let mut field = field_on(rt.alloc(), bytes, brains, 12345)?;
+    let meeting = Meeting::new();
+    let mut crew = BoardCrew::new(&rt, 2, &meeting);
     let ids = field.world().ant_count();
     let counts = crew.window(rt.alloc(), &mut field, 0, ids)?;
     assert_eq!(rt; (counts.taken(), counts.redone()), (5, 2));

@@ -4,7 +4,7 @@ ghost use Rattle.std.specs.Mem.Slots.{slots_filled, slots_items, slots_len};
 ghost use mathlib.Core.Option.{some};
 ghost use lib.ListN.{get_elem?};
 ghost use Rattle.round_book.specs.Machine.{times};
-ghost use Rattle.round_workers.specs.BoardPlaces.{AreTaken};
+ghost use Rattle.round_workers.specs.Inner.BoardPlaces.{AreTaken};
 ghost use Rattle.round_workers.specs.BoardRule.{StandsFor};
 ghost use Rattle.round_workers.specs.BoardTotals.{once_below};
 ghost use Rattle.round_workers.specs.BoardSeats.{IsSeatOf, basis_of, known, left_look, window_of};

@@ -4,7 +4,7 @@ ghost use Rattle.std.specs.Vec.{vec_capacity, vec_len};
 ghost use Rattle.round_book.specs.Book as books;
 ghost use Rattle.round_book.specs.Counts.{counts_of};
 ghost use Rattle.round_workers.specs.declared.board.worker.Worker.{Worker};
-ghost use Rattle.round_workers.specs.BoardCrew.{AreLooks, HasWorked, IsHired, IsLaid, IsManned, IsRoom};
+ghost use Rattle.round_workers.specs.Inner.BoardCrew.{AreLooks, HasWorked, IsHired, IsLaid, IsManned, IsRoom};
 ghost use Rattle.round_workers.specs.BoardPlays.{newcomer};
 ghost use Rattle.round_workers.specs.BoardRule.{StandsFor};
 ghost use Rattle.round_workers.specs.BoardSeats.{IsSeatOf, known, window_of};

@@ -1,6 +1,6 @@
 // What lies in a place.
 ghost use Rattle.std.specs.Prelude.{◌≡◌};
-ghost use Rattle.round_workers.specs.BoardPlaces.{book_in, look_in};
+ghost use Rattle.round_workers.specs.Inner.BoardPlaces.{book_in, look_in};
 
 use crate::board::view::Place;
 use round_book::Book;

@@ -1,6 +1,6 @@
 use Rattle.std.proofs.Common.{◌+◌, arith, sym, subst}
 use Rattle.std.specs.Mem.Slots.{slots_counts, slots_filled, slots_len}
-use Rattle.round_workers.specs.BoardPlaces.{AreTaken}
+use Rattle.round_workers.specs.Inner.BoardPlaces.{AreTaken}
 use Rattle.round_workers.proofs.BoardClosing.{taken-more}
 use Rattle.round_workers.proofs.board.closing.take_slot.Goals as goal
 

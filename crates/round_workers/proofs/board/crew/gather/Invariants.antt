@@ -1,5 +1,5 @@
 use Rattle.std.proofs.Common.{All, length}
-use Rattle.round_workers.specs.BoardCrew.{IsManned}
+use Rattle.round_workers.specs.Inner.BoardCrew.{IsManned}
 use Rattle.round_workers.specs.BoardSeats.{IsSeatOf}
 use Rattle.round_workers.proofs.board.crew.gather.Given as goal
 

@@ -2,7 +2,7 @@ use Rattle.std.proofs.Common.{ℕ, ◌<◌, ◌≤◌, [], ◌∷◌, sym, ap, �
 use Rattle.std.specs.List.{AllByRecursion}
 use Rattle.std.specs.Vec.{vec_capacity}
 use Rattle.round_workers.specs.declared.board.view.View.{View}
-use Rattle.round_workers.specs.BoardCrew.{IsRoom}
+use Rattle.round_workers.specs.Inner.BoardCrew.{IsRoom}
 use Rattle.round_workers.specs.BoardSeats.{window_of}
 use Rattle.round_workers.specs.BoardWorker.{turns_in}
 use Rattle.round_workers.proofs.BoardCrewing.{all-front, all-last, hired-more, manned-more}

@@ -1,6 +1,6 @@
 use Rattle.std.proofs.Common.{◌+◌, ◌≤◌, All, length}
 use Rattle.std.specs.Vec.{vec_capacity, vec_len}
-use Rattle.round_workers.specs.BoardCrew.{IsHired, IsManned, IsRoom}
+use Rattle.round_workers.specs.Inner.BoardCrew.{IsHired, IsManned, IsRoom}
 use Rattle.round_workers.specs.BoardSeats.{known, window_of}
 use Rattle.round_workers.specs.BoardWorker.{turns_in}
 use Rattle.round_workers.proofs.board.crew.hire.Given as goal

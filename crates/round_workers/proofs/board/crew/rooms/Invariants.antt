@@ -1,6 +1,6 @@
 use Rattle.std.proofs.Common.{◌≡◌, ◌≤◌, All, length}
 use Rattle.std.specs.Vec.{vec_capacity}
-use Rattle.round_workers.specs.BoardCrew.{IsRoom}
+use Rattle.round_workers.specs.Inner.BoardCrew.{IsRoom}
 use Rattle.round_workers.proofs.board.crew.rooms.Given as goal
 
 abbrev pub invariant-loop : goal.invariant-loop

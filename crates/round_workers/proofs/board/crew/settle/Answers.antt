@@ -3,7 +3,7 @@ use Rattle.std.proofs.lemmas.List.Elements.{All-nil, All-same}
 use Rattle.round_book.specs.Window.{Window}
 use Rattle.round_workers.specs.declared.board.view.View.{View}
 use Rattle.round_workers.specs.declared.board.worker.Worker.{Worker}
-use Rattle.round_workers.specs.BoardCrew.{AreLooks, IsHired, IsManned, IsRoom}
+use Rattle.round_workers.specs.Inner.BoardCrew.{AreLooks, IsHired, IsManned, IsRoom}
 use Rattle.round_workers.specs.BoardPlays.{has_seen}
 use Rattle.round_workers.specs.BoardSeats.{IsSeatOf, basis_of, known, window_of}
 use Rattle.round_workers.specs.BoardWorker.{guesses_for, turns_in}

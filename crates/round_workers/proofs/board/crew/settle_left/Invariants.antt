@@ -1,7 +1,7 @@
 use Rattle.std.proofs.Common.{◌≡◌, ◌-◌, ◌≤◌}
 use Rattle.std.specs.Vec.{vec_len}
 use Rattle.round_book.specs.Book.{StandsOn, window_of}
-use Rattle.round_workers.specs.BoardCrew.{AreLooks}
+use Rattle.round_workers.specs.Inner.BoardCrew.{AreLooks}
 use Rattle.round_workers.proofs.board.crew.settle_left.Given as goal
 
 abbrev pub invariant-loop-book : goal.invariant-loop-book

@@ -1,7 +1,7 @@
 use Rattle.std.proofs.Common.{◌≡◌, ℕ, ◌+◌, ◌<◌, length, slice_index_or, None}
 use Rattle.std.specs.Mem.Slots.{slots_filled, slots_items, slots_len}
 use Rattle.std.specs.Vec.{vec_capacity}
-use Rattle.round_workers.specs.BoardPlaces.{AreTaken}
+use Rattle.round_workers.specs.Inner.BoardPlaces.{AreTaken}
 use Rattle.round_workers.specs.BoardSeats.{known, left_look, window_of}
 use Rattle.round_workers.proofs.board.seat.Board.close.Given as goal
 

@@ -2,7 +2,7 @@ use Rattle.std.proofs.Common.{ℕ, ◌+◌, arith, sym, ap, refl, ◌∙◌, sub
 use mathlib.Core.Option as maybe
 use Rattle.atomic_table.specs.Table.{Allows, rest, step}
 use Rattle.round_workers.specs.declared.board.view.Place.TheVariants.{Nothing}
-use Rattle.round_workers.specs.BoardPlaces.{look_in}
+use Rattle.round_workers.specs.Inner.BoardPlaces.{look_in}
 use Rattle.round_workers.specs.BoardPlays.{has_taken, takes_now, tells_has_taken, took_look}
 use Rattle.round_workers.specs.BoardRule.{IsKept}
 use Rattle.round_workers.specs.BoardSeats.{basis_of}

@@ -1,6 +1,6 @@
 use Rattle.std.proofs.Common.{arith, sym, ap, refl, ◌∙◌, ◌∷◌, subst}
 use Rattle.round_workers.specs.declared.board.view.Place.TheVariants.{Nothing, TheBook}
-use Rattle.round_workers.specs.BoardPlaces.{book_in}
+use Rattle.round_workers.specs.Inner.BoardPlaces.{book_in}
 use Rattle.round_workers.specs.BoardRule.{StandsFor}
 use Rattle.round_workers.specs.BoardSeats.{basis_of}
 use Rattle.round_workers.specs.BoardView.{IsAtRest, out_with, window_about}
