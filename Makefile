@@ -8,6 +8,7 @@ PROGRAM = crates/ants/out/ants
 
 build: $(PROGRAM)
 
+# `rt run` builds before it runs, and there is no command that builds alone: so a command is run that needs no file.
 $(PROGRAM): crates.txt $(shell find crates -name out -prune -o \( -name '*.rt' -o -name '*.antt' \) -print)
 	cd crates/ants && rt run -- show - 1 < stdin > /dev/null
 	touch $@

@@ -6,7 +6,7 @@ use crate::OutOfMemory;
 use std::alloc::Global;
 use std::marker::Model;
 
-/// A list of call numbers, counted from 1 (this project's own).
+/// A list of call numbers, counted from 1.
 #[derive(Drop)]
 pub struct Calls {
     numbers: Vec<u64>,
@@ -21,7 +21,7 @@ impl Model for Calls {
 }
 
 impl Calls {
-    /// An empty list (this project's own). It takes no memory.
+    /// An empty list. It takes no memory.
     pub fn new(alloc: Global) -> Self
         ensures { result ≡ [] }
     {
@@ -30,7 +30,7 @@ impl Calls {
         }
     }
 
-    /// Adds a call number, from 1, last (this project's own). It is refused for want of memory alone, and then changes nothing.
+    /// Adds a call number, from 1, last. It is refused for want of memory alone, and then changes nothing.
     pub fn add(&mut self, number: u64) -> Result<(), OutOfMemory>
         ensures added { OnOk result (self.new ≡ self.old ++ number ∷ []) }
         ensures refused { OnErr result (self.new ≡ self.old) }

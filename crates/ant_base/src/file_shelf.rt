@@ -18,7 +18,7 @@ use std::marker::Model;
 // How many bytes one read asks for at most.
 const CHUNK: usize = 8192;
 
-/// Files by their names, and standard input under the name `-` (this project's own).
+/// Files by their names, and standard input under the name `-`.
 ///
 /// It tells no content, and is sure of no name. A second fetch of `-` gets what is left there, commonly nothing. It reads no further than
 /// 4,194,305 bytes. The count of faults rises by one at each fetch that is `Failed` and at no other, and stays at the last value of a u64.
@@ -38,7 +38,7 @@ impl<'r, R> Model for FileShelf<'r, R> {
 }
 
 impl<'r, R: Files + Input> FileShelf<'r, R> {
-    /// The files and the standard input of this runtime, without a fault (this project's own).
+    /// The files and the standard input of this runtime, without a fault.
     pub fn new(rt: &'r R) -> Self
         ensures { result ≡ record { faults = 0; log = [] } }
     {
@@ -49,7 +49,7 @@ impl<'r, R: Files + Input> FileShelf<'r, R> {
         }
     }
 
-    /// The count of faults, from 0 (this project's own).
+    /// The count of faults, from 0.
     pub fn faults(&self) -> u64
         ensures { result ≡ self.now.faults }
     {

@@ -6,7 +6,7 @@ use crate::OutOfMemory;
 use std::alloc::{AllocError, Global};
 use std::marker::Model;
 
-/// A list of names with bytes (this project's own). A name that was added twice has the bytes that were added first.
+/// A list of names with bytes. A name that was added twice has the bytes that were added first.
 #[derive(Drop)]
 pub struct Files {
     alloc: Global,
@@ -31,7 +31,7 @@ impl Model for Files {
 }
 
 impl Files {
-    /// An empty list (this project's own). It takes no memory, and keeps the allocator for what is added.
+    /// An empty list. It takes no memory, and keeps the allocator for what is added.
     pub fn new(alloc: Global) -> Self
         ensures { result ≡ [] }
     {
@@ -41,7 +41,7 @@ impl Files {
         }
     }
 
-    /// Adds a name with its bytes last (this project's own). It is refused for want of memory alone, and then changes nothing.
+    /// Adds a name with its bytes last. It is refused for want of memory alone, and then changes nothing.
     pub fn add(&mut self, name: &str, bytes: &[u8]) -> Result<(), OutOfMemory>
         ensures added { OnOk result (self.new ≡ self.old ++ (name.now, bytes.now) ∷ []) }
         ensures refused { OnErr result (self.new ≡ self.old) }

@@ -1,6 +1,6 @@
 // What a worker announces its looks to.
 
-/// What each worker calls before each look that it makes (this project's own). The call changes nothing that the simulator sees.
+/// What each worker calls before each look that it makes. The call changes nothing that the simulator sees.
 pub trait Gate: Sync {
     /// The worker of this number, from 0, is about to make the look of this ticket.
     fn before_look(&self, worker: u32, ticket: u32);

@@ -7,7 +7,7 @@ ghost use Rattle.ant_base.specs.Layout.{text_of_option};
 use crate::{Failed, Sink};
 use itoa::Buffer;
 
-/// A value that is printed as one exact text (this project's own).
+/// A value that is printed as one exact text.
 pub trait Layout {
     /// The text that is printed.
     ghost text: { Self → List ℕ };
@@ -17,6 +17,7 @@ pub trait Layout {
         ensures { Pushed (K.state sink.old) (K.state sink.new) (text self.now) result };
 }
 
+// An impl for each type of numbers: one for all types that become a u64 would overlap with that for texts.
 impl Layout for u8 {
     ghost text = { decimal };
 

@@ -5,6 +5,8 @@
 //! `Layout` is pushed as one exact text. Lines, separators and numbers of the contest's files are read here once for all readers.
 //!
 //! It stands on no crate of this repository, and prints numbers by `itoa`.
+//!
+//! What names no section of the contest's task is this project's own.
 #![tactic(auto)]
 
 mod calls;

@@ -12,10 +12,10 @@ use crate::{Calls, FetchFault, Files, Shelf};
 use std::alloc::Global;
 use std::marker::Model;
 
-/// A shelf in memory, some of whose calls fail (this project's own).
+/// A shelf in memory, some of whose calls fail.
 ///
-/// It tells its contents. Where no call is to fail it is sure of each name that it has, and else of none. The counts of calls and of
-/// faults stay at the last value of a u64.
+/// It tells its contents. Where no call is to fail it is sure of each name that it has, and else of none. The counts of calls and of faults
+/// stay at the last value of a u64.
 #[derive(Drop)]
 pub struct MemShelf {
     files: Files,
@@ -34,7 +34,7 @@ impl Model for MemShelf {
 }
 
 impl MemShelf {
-    /// A shelf that has these files, whose fetches of the given numbers fail; the first fetch has the number 1 (this project's own).
+    /// A shelf that has these files, whose fetches of the given numbers fail; the first fetch has the number 1.
     pub fn new(files: Files, failing: Calls) -> Self
         ensures { result ≡ record { files = files; failing = failing; calls = 0; faults = 0; log = [] } }
     {

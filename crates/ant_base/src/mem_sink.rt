@@ -8,7 +8,7 @@ use crate::{Calls, Failed, OutOfMemory, Sink};
 use std::alloc::Global;
 use std::marker::Model;
 
-/// A sink in memory with a fixed room, some of whose calls fail (this project's own).
+/// A sink in memory with a fixed room, some of whose calls fail.
 ///
 /// It tells its bytes. The counts of calls and of faults stay at the last value of a u64.
 #[derive(Drop)]
@@ -32,8 +32,8 @@ impl Model for MemSink {
 }
 
 impl MemSink {
-    /// A sink that holds nothing, with room for so many bytes, whose pushes of the given numbers fail; the first push has the number 1
-    /// (this project's own). It is refused where the room can't be had at once.
+    /// A sink that holds nothing, with room for so many bytes, whose pushes of the given numbers fail; the first push has the number 1. It
+    /// is refused where the room can't be had at once.
     pub fn with_room(alloc: Global, room: u64, failing: Calls) -> Result<Self, OutOfMemory>
         ensures { IfOk result (λ s. s ≡ record { held = []; room = room; failing = failing; calls = 0; faults = 0 }) }
     {
@@ -46,7 +46,7 @@ impl MemSink {
         })
     }
 
-    /// The bytes held, the first that were pushed first (this project's own).
+    /// The bytes held, the first that were pushed first.
     pub fn held(&self) -> &[u8]
         ensures { result.now ≡ self.now.held }
     {

@@ -3,7 +3,7 @@ use std::alloc::{AllocError, AllocFailed};
 use std::error::Error;
 use std::fmt;
 
-/// Memory could not be had. The refused call changed nothing, but where its entry says otherwise (this project's own).
+/// Memory could not be had. The refused call changed nothing, but where its entry says otherwise.
 #[derive(Clone, Copy, Debug, PartialEq, Eq)]
 pub struct OutOfMemory;
 

@@ -5,7 +5,7 @@ ghost use Rattle.ant_base.specs.Layout.{numbered};
 
 use crate::{Failed, Layout, Sink};
 
-/// Texts that are numbered from 0 (this project's own).
+/// Texts that are numbered from 0.
 pub trait Parts {
     /// How many there are.
     ghost count: { Self → ℕ };
@@ -23,7 +23,7 @@ pub trait Parts {
         ensures { Pushed (K.state sink.old) (K.state sink.new) (part self.now at) result };
 }
 
-/// All the parts, one after another, from number 0 on (this project's own).
+/// All the parts, one after another, from number 0 on.
 #[derive(Clone, Copy)]
 pub struct Each<P>(pub P);
 

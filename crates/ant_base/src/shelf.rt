@@ -7,7 +7,7 @@ use std::alloc::{AllocError, AllocFailed, Global};
 // The length of the longest content that is answered, in bytes.
 pub(crate) const LONGEST: usize = 4_194_304;
 
-/// Why a name's content was not fetched (this project's own). The shelf's contents stay as they were.
+/// Why a name's content was not fetched. The shelf's contents stay as they were.
 #[derive(Clone, Copy, Debug, PartialEq, Eq)]
 pub enum FetchFault {
     /// The content could not be read, and the shelf's count of faults rose.
@@ -28,7 +28,7 @@ impl From<AllocError> for FetchFault {
     }
 }
 
-/// Where input comes from (this project's own).
+/// Where input comes from.
 pub trait Shelf {
     /// The content under each name, where the shelf tells it; of which names it is sure; and the count of faults.
     ghost state: { Self → ShelfState };

@@ -1,11 +1,11 @@
 // Where output goes.
 ghost use Rattle.ant_base.specs.Sink.{SinkState, Pushed};
 
-/// A push that failed (this project's own). The sink took a front of the piece, and its count of faults rose.
+/// A push that failed. The sink took a front of the piece, and its count of faults rose.
 #[derive(Clone, Copy, Debug, PartialEq, Eq)]
 pub struct Failed;
 
-/// Where output goes (this project's own).
+/// Where output goes.
 pub trait Sink {
     /// The bytes held, where the sink tells them, and the count of faults.
     ghost state: { Self → SinkState };

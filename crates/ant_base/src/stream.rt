@@ -4,7 +4,7 @@ ghost use Rattle.std.specs.Io.KnownBytes.{Keeps};
 
 use std::io::{self, BufWriter, Stderr, Write};
 
-/// A writer that may hold back some of what it took (this project's own).
+/// A writer that may hold back some of what it took.
 pub trait Stream: Write {
     /// The bytes that wait in the writer's buffer, the first first.
     ghost waiting: { Self → List ℕ };

@@ -12,7 +12,7 @@ use crate::{Failed, Sink, Stream};
 use std::io::{self, BufWriter, ErrorKind, Stderr, Stdout};
 use std::marker::Model;
 
-/// A sink over a stream (this project's own). It tells the bytes that the stream took.
+/// A sink over a stream. It tells the bytes that the stream took.
 ///
 /// It writes by a loop, in which a write that was interrupted is made again, and sends on what waits after each piece that ends in LF. A
 /// write that takes nothing of what is left is a fault, as is a failure to send on. The count of faults rises by one at each push that is
@@ -24,10 +24,10 @@ pub struct StreamSink<W: Stream> {
     trail: Trail,
 }
 
-/// A sink on standard output, which gets what was pushed at each piece that ends in LF (this project's own).
+/// A sink on standard output, which gets what was pushed at each piece that ends in LF.
 pub type OutSink = StreamSink<BufWriter<Stdout>>;
 
-/// A sink on standard error (this project's own).
+/// A sink on standard error.
 pub type ErrSink = StreamSink<Stderr>;
 
 impl<W: Stream> Model for StreamSink<W> {
@@ -39,7 +39,7 @@ impl<W: Stream> Model for StreamSink<W> {
 }
 
 impl<W: Stream> StreamSink<W> {
-    /// A sink over this stream, which took nothing yet, without a fault (this project's own).
+    /// A sink over this stream, which took nothing yet, without a fault.
     pub fn new(stream: W) -> Self
         ensures { result ≡ record { taken = []; waiting = W.waiting stream; written = W.contents stream; faults = 0 } }
     {
@@ -50,7 +50,7 @@ impl<W: Stream> StreamSink<W> {
         }
     }
 
-    /// The count of faults, from 0 (this project's own).
+    /// The count of faults, from 0.
     pub fn faults(&self) -> u64
         ensures { result ≡ self.now.faults }
     {

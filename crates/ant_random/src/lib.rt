@@ -4,6 +4,8 @@
 //! may begin at any place at once. The promise: a draw below n at place i gives `x(i) mod n` and moves the place to i + 1, and
 //! `at_place` gets to a place in at most two counted steps for each of its binary digits and two more. The crate stands on no other,
 //! and no call takes memory.
+//!
+//! What names no section of the contest's task is this project's own.
 #![tactic(auto)]
 
 mod jump;

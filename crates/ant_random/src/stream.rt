@@ -37,8 +37,8 @@ impl Stream {
         }
     }
 
-    /// The stream of a seed at a place, from 0 to 2^63 - 1 (this project's own). A step that `steps` counts is the making, the doubling
-    /// or the use of an affine step: at most two for each binary digit of the place, and two more.
+    /// The stream of a seed at a place, from 0 to 2^63 - 1. A step that `steps` counts is the making, the doubling or the use of an affine
+    /// step: at most two for each binary digit of the place, and two more.
     pub fn at_place<L: Ledger>(seed: u32, place: u64, steps: &mut Steps<L>) -> Stream
         requires { place < 2 ^ 63 }
         ensures seed { result.seed ≡ seed }
@@ -52,7 +52,7 @@ impl Stream {
         }
     }
 
-    /// The stream of a seed at a place, from 0 to 2^63 - 1, for a caller that counts no steps (this project's own).
+    /// The stream of a seed at a place, from 0 to 2^63 - 1, for a caller that counts no steps.
     pub fn at_place_uncounted(seed: u32, place: u64) -> Stream
         requires { place < 2 ^ 63 }
         ensures seed { result.seed ≡ seed }

@@ -1,5 +1,5 @@
 -- Edges of instructions, conditions, checks and rounds, worked out.
-use Rattle.std.proofs.Common.{◌≡◌, ℕ, Bool, true, false, List, [], ◌∷◌, Option, Some, None, map, take, refl}
+use Rattle.std.proofs.Common.{◌≡◌, ℕ, Bool, true, false, List, [], ◌∷◌, Option, Some, None, map, refl}
 use Rattle.hex_geometry.specs.declared.direction.Dir.TheVariants.{East, SouthEast}
 use Rattle.hex_geometry.specs.declared.direction.Side.TheVariants.{Left}
 use Rattle.hex_geometry.specs.declared.neighbourhood.Sight.TheVariants.{Ahead}
@@ -8,7 +8,6 @@ use Rattle.hex_geometry.specs.Direction.{directions, turned_by}
 use Rattle.hex_geometry.specs.Neighbourhood.{adjacent_pos, neighbours_of, sensed_pos}
 use Rattle.hex_geometry.specs.Position.{same_pos}
 use Rattle.cell_world.specs.declared.ant.Ant.{Ant}
-use Rattle.cell_world.specs.declared.ant.Colour.{Colour}
 use Rattle.cell_world.specs.declared.ant.Colour.TheVariants.{Red, Black}
 use Rattle.cell_world.specs.declared.cell.Cell.{Cell}
 use Rattle.cell_world.specs.declared.kind.Kind.TheVariants.{Rock, RedHill, BlackHill}

@@ -57,7 +57,8 @@ pub fn check_around<G: Ground>(ground: &mut G, sheet: Sheet, p: Pos) -> ArrayVec
     killed
 }
 
-// The check of one cell: where its ant is surrounded, kills it and adds its id.
+// The check of one cell: where its ant is surrounded, kills it and adds its id. Most checked cells hold no ant, so it is
+// part of the loop over rounds and ids, and the count of foes alone is a call.
 #[inline(always)]
 fn check<G: Ground>(ground: &mut G, sheet: Sheet, p: Pos, killed: &mut ArrayVec<u32, 7>)
     requires inside { IsInside (G.world ground.old).width (G.world ground.old).height p }

@@ -18,7 +18,7 @@ impl Sheet {
     ghost use Rattle.std.specs.Prelude.{◌≡◌};
     ghost use Rattle.ant_turn.specs.Sheet.{contest, sheet_of};
 
-    /// The sheet of these numbers: `surround` is from 4 to 6, `corpse` is at most 9 and `rest` is any (this project's own).
+    /// The sheet of these numbers: `surround` is from 4 to 6, `corpse` is at most 9 and `rest` is any.
     #[inline]
     pub fn new(surround: u8, corpse: u8, rest: u8) -> Sheet
         requires enough { 4 ≤ surround }

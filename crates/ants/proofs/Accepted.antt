@@ -1,7 +1,7 @@
 -- What was accepted of the files of a game can be played.
 use Rattle.std.proofs.Common.{List, [], ◌∷◌, ℕ, sym, subst}
 use Rattle.ant_base.specs.Fetched.{Fetched}
-use Rattle.ant_turn.specs.Minds.{Fits, Minds}
+use Rattle.ant_turn.specs.Minds.{Fits}
 use Rattle.ant_turn.proofs.Fitting.{Fits-opening}
 use Rattle.brain_read.specs.declared.instr.Instr.{Instr}
 use Rattle.brain_read.proofs.SoundnessLemmas.{brain_of}

@@ -1,24 +1,29 @@
--- The endings of a command that generates a world.
+-- The endings of a command that generates a world and reads no file.
 use Rattle.std.proofs.Common.{◌≡◌, ℕ, List, [], refl, sym, subst, Result, Ok, Err}
 use Rattle.std.specs.Prelude.{IsErrAnd}
 use Rattle.ant_base.proofs.Fetching.{fetches_none}
 use Rattle.ant_base.specs.Shelf.{ShelfState}
 use Rattle.ant_base.specs.Sink.{SinkState, PushedAll, PushedFront}
-use Rattle.cell_world.specs.Grid.{Grid}
+use Rattle.ant_turn.specs.Minds.{Fits}
+use Rattle.ant_turn.proofs.Fitting.{Fits-opening}
+use Rattle.cell_world.specs.Grid.{Grid, world_of}
 use Rattle.cell_world.specs.Opening.{opening}
+use Rattle.command_words.specs.Command.{PlainCommand}
 use Rattle.command_words.specs.Command.PlainCommand.{GenCommand}
 use Rattle.command_words.specs.declared.command.GenShape.{GenShape}
 use Rattle.world_gen.specs.declared.shape.Shape.{Shape}
 use Rattle.world_gen.specs.Painting.{IsGenerated}
+use Rattle.world_gen.specs.Placing.{HasNoRoom}
 use Rattle.world_read.specs.Canonical.{canonical_text}
 use Rattle.world_read.specs.Opened.{IsOpeningWorld, kinds_of}
 use Rattle.ants.specs.declared.stop.Stop.{Stop}
 use Rattle.ants.specs.declared.stop.Stop.TheVariants as stop
+use Rattle.ants.specs.Files.{AreAccepted, File}
 use Rattle.ants.specs.Inner.Planning.{IsGenerating}
-use Rattle.ants.specs.Inner.Reading.{CarriesOut, ReadsFiles, ending_of}
-use Rattle.ants.specs.Inner.Reading.Outcome.{Contents}
-use Rattle.ants.specs.Jobs.{TellsGenerated, shape_named}
-use Rattle.ants.proofs.Readings.{carries_done, carries_failure, carries_wanting, ending_stopped}
+use Rattle.ants.specs.Inner.Reading.{CarriesOut, ending_of}
+use Rattle.ants.specs.Jobs.{LacksRoom, files_of, sample_minds, shape_named}
+use Rattle.ants.proofs.Readings.{carries_done, carries_failure, carries_wanting, ending_stopped, reads_none}
+use Rattle.ants.proofs.SampleWorked.{sample_brain-sound}
 
 -- a generated world is one at the start of a game
 pub opens_generated : (seed : ℕ) (shape : Shape) (world : Grid) → IsGenerated seed shape world → IsOpeningWorld world
@@ -26,30 +31,35 @@ unfolding opening
 opens_generated seed shape world generated =
     subst IsOpeningWorld (sym generated.is) (record { kinds = generated.kinds; plan = generated.plan; is = refl })
 
--- no file is read
-reads_nothing : (shelf : ShelfState) → ReadsFiles shelf shelf [] (Contents [])
-reads_nothing shelf = record { fetches = []; fetched = fetches_none shelf; comes = (refl, refl) }
+-- the sample brain fits it
+pub fits_generated : (seed : ℕ) (shape : Shape) (world : Grid) → IsGenerated seed shape world → Fits (world_of world) sample_minds
+fits_generated seed shape world generated =
+    subst (λ (g : Grid). Fits (world_of g) sample_minds) (sym generated.is) (Fits-opening shape.width shape.height generated.kinds sample_minds sample_brain-sound.some sample_brain-sound.some)
 
 -- no world came, for want of room or of memory
-pub carries_ungenerated : {U : Type 0} (seed : ℕ) (shape : GenShape) (shelf : ShelfState) (out : SinkState) (result : Result U Stop) (why : Stop) → IsErrAnd result (λ other. other ≡ why)
-    → IsGenerating seed (shape_named shape) (Err why) → CarriesOut (GenCommand seed shape) shelf shelf out out (ending_of result)
-carries_ungenerated seed shape shelf out result (stop.Words word) same none = absurd none
-carries_ungenerated seed shape shelf out result (stop.Read name) same none = absurd none
-carries_ungenerated seed shape shelf out result stop.Write same none = absurd none
-carries_ungenerated seed shape shelf out result (stop.Input name fault) same none = absurd none
-carries_ungenerated seed shape shelf out result (stop.NoRoom element) same none =
-    subst (CarriesOut (GenCommand seed shape) shelf shelf out out) (ending_stopped result (stop.NoRoom element) same)
-    (record { fetches = []; fetched = fetches_none shelf; ends = record { contents = []; accepted = (refl, refl); lacks = none; unwritten = refl } })
-carries_ungenerated seed shape shelf out result stop.Memory same none = carries_wanting (GenCommand seed shape) shelf out result same
+pub carries_ungenerated : {U : Type 0} (command : PlainCommand) (seed : ℕ) (shape : Shape) (shelf : ShelfState) (out : SinkState) (result : Result U Stop) (why : Stop) → files_of command ≡ []
+    → ((element : ℕ) → HasNoRoom seed shape element → LacksRoom command element) → IsErrAnd result (λ other. other ≡ why)
+    → IsGenerating seed shape (Err why) → CarriesOut command shelf shelf out out (ending_of result)
+carries_ungenerated command seed shape shelf out result (stop.Words word) no_file room same none = absurd none
+carries_ungenerated command seed shape shelf out result (stop.Read name) no_file room same none = absurd none
+carries_ungenerated command seed shape shelf out result stop.Write no_file room same none = absurd none
+carries_ungenerated command seed shape shelf out result (stop.Input name fault) no_file room same none = absurd none
+carries_ungenerated command seed shape shelf out result (stop.NoRoom element) no_file room same none =
+    subst (CarriesOut command shelf shelf out out) (ending_stopped result (stop.NoRoom element) same) (record {
+      fetches = [];
+      fetched = fetches_none shelf;
+      ends = record { contents = []; accepted = subst (λ (files : List File). AreAccepted files [] []) (sym no_file) (refl, refl); lacks = room element none; unwritten = refl };
+    })
+carries_ungenerated command seed shape shelf out result stop.Memory no_file room same none = carries_wanting command shelf out result same
 
 -- the world's text was written
 pub carries_generated : (seed : ℕ) (shape : GenShape) (shelf : ShelfState) (out new_out : SinkState) (world : Grid) → IsGenerated seed (shape_named shape) world
     → PushedAll out new_out (canonical_text world.width world.height (kinds_of world)) → CarriesOut (GenCommand seed shape) shelf shelf out new_out (ending_of {U = Unit {0}} (Ok tt))
 carries_generated seed shape shelf out new_out world generated pushed =
-    carries_done (GenCommand seed shape) shelf shelf out new_out [] (reads_nothing shelf) (canonical_text world.width world.height (kinds_of world)) (record { world = world; generated = generated; told = refl }) pushed
+    carries_done (GenCommand seed shape) shelf shelf out new_out [] (reads_none shelf) (canonical_text world.width world.height (kinds_of world)) (record { world = world; generated = generated; told = refl }) pushed
 
 -- a front of it was written
 pub carries_generated_front : {U : Type 0} (seed : ℕ) (shape : GenShape) (shelf : ShelfState) (out new_out : SinkState) (world : Grid) (result : Result U Stop) → IsErrAnd result (λ other. other ≡ stop.Write) → IsGenerated seed (shape_named shape) world
     → PushedFront out new_out (canonical_text world.width world.height (kinds_of world)) → CarriesOut (GenCommand seed shape) shelf shelf out new_out (ending_of result)
 carries_generated_front seed shape shelf out new_out world result same generated pushed =
-    carries_failure (GenCommand seed shape) shelf shelf out new_out [] result same (reads_nothing shelf) (canonical_text world.width world.height (kinds_of world)) (record { world = world; generated = generated; told = refl }) pushed
+    carries_failure (GenCommand seed shape) shelf shelf out new_out [] result same (reads_none shelf) (canonical_text world.width world.height (kinds_of world)) (record { world = world; generated = generated; told = refl }) pushed

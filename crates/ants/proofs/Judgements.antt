@@ -7,8 +7,8 @@ use Rattle.ant_base.specs.Fetched.{Fetched}
 use Rattle.ant_base.specs.Shelf.{IsTold, longest}
 use Rattle.ant_base.specs.declared.shelf.FetchFault.TheVariants as answer
 use Rattle.ants.specs.declared.stop.FileFault.{FileFault}
-use Rattle.ants.specs.declared.stop.FileFault.TheVariants.{TooLong, World, Brain}
-use Rattle.ants.specs.Files.{AreAccepted, Content, File, IsAccepted, IsRefused, Refuses, StopsAt}
+use Rattle.ants.specs.declared.stop.FileFault.TheVariants.{TooLong, World, Brain, Breaks}
+use Rattle.ants.specs.Files.{AreAccepted, Content, File, IsAccepted, IsNoText, IsRefused, Refuses, StopsAt}
 use Rattle.ants.specs.Judged.{AreThere, IsJudged, IsRefusedAs, Judged, JudgesOnce, Verdict}
 use Rattle.ants.specs.Judged.Verdict.{AllAccepted, FirstRefused}
 use Rattle.ants.proofs.Readings.{refused_text}
@@ -19,25 +19,29 @@ use Rattle.ants.proofs.Verdicts.{accepted_never_refused, never_bytes, one_bytes,
 abbrev At : Type 0
 At = List ℕ → Option (List ℕ)
 
+one_text_fault : (at : At) (file : File) (first second : Fetched) (a b : FileFault) → IsTold (Some at) first → IsTold (Some at) second → IsNoText file first a → IsNoText file second b → a ≡ b
+one_text_fault at file first second a b one two is also =
+    let same = one_bytes at file.name also.bytes is.bytes second first two one also.got is.got in
+    one_refusal file.kind is.bytes a b is.refuses (subst (λ (bytes : List ℕ). Refuses file.kind bytes b) same also.refuses)
+
 -- a file is refused with one fault
 one_fault : (at : At) (file : File) (first second : Fetched) (a b : FileFault) → IsTold (Some at) first → IsTold (Some at) second → IsRefused file first a → IsRefused file second b → a ≡ b
 one_fault at file first second TooLong TooLong one two is also = refl
 one_fault at file first second TooLong (World b) one two is also = absurd (never_bytes at file.name also.bytes second first two one also.got is)
 one_fault at file first second TooLong (Brain b) one two is also = absurd (never_bytes at file.name also.bytes second first two one also.got is)
+one_fault at file first second TooLong (Breaks b) one two is also = absurd (never_bytes at file.name also.bytes second first two one also.got is)
 one_fault at file first second (World a) TooLong one two is also = absurd (never_bytes at file.name is.bytes first second one two is.got also)
 one_fault at file first second (Brain a) TooLong one two is also = absurd (never_bytes at file.name is.bytes first second one two is.got also)
-one_fault at file first second (World a) (World b) one two is also =
-    let same = one_bytes at file.name also.bytes is.bytes second first two one also.got is.got in
-    one_refusal file.kind is.bytes (World a) (World b) is.refuses (subst (λ (bytes : List ℕ). Refuses file.kind bytes (World b)) same also.refuses)
-one_fault at file first second (World a) (Brain b) one two is also =
-    let same = one_bytes at file.name also.bytes is.bytes second first two one also.got is.got in
-    one_refusal file.kind is.bytes (World a) (Brain b) is.refuses (subst (λ (bytes : List ℕ). Refuses file.kind bytes (Brain b)) same also.refuses)
-one_fault at file first second (Brain a) (World b) one two is also =
-    let same = one_bytes at file.name also.bytes is.bytes second first two one also.got is.got in
-    one_refusal file.kind is.bytes (Brain a) (World b) is.refuses (subst (λ (bytes : List ℕ). Refuses file.kind bytes (World b)) same also.refuses)
-one_fault at file first second (Brain a) (Brain b) one two is also =
-    let same = one_bytes at file.name also.bytes is.bytes second first two one also.got is.got in
-    one_refusal file.kind is.bytes (Brain a) (Brain b) is.refuses (subst (λ (bytes : List ℕ). Refuses file.kind bytes (Brain b)) same also.refuses)
+one_fault at file first second (Breaks a) TooLong one two is also = absurd (never_bytes at file.name is.bytes first second one two is.got also)
+one_fault at file first second (World a) (World b) one two is also = one_text_fault at file first second (World a) (World b) one two is also
+one_fault at file first second (World a) (Brain b) one two is also = one_text_fault at file first second (World a) (Brain b) one two is also
+one_fault at file first second (World a) (Breaks b) one two is also = one_text_fault at file first second (World a) (Breaks b) one two is also
+one_fault at file first second (Brain a) (World b) one two is also = one_text_fault at file first second (Brain a) (World b) one two is also
+one_fault at file first second (Brain a) (Brain b) one two is also = one_text_fault at file first second (Brain a) (Brain b) one two is also
+one_fault at file first second (Brain a) (Breaks b) one two is also = one_text_fault at file first second (Brain a) (Breaks b) one two is also
+one_fault at file first second (Breaks a) (World b) one two is also = one_text_fault at file first second (Breaks a) (World b) one two is also
+one_fault at file first second (Breaks a) (Brain b) one two is also = one_text_fault at file first second (Breaks a) (Brain b) one two is also
+one_fault at file first second (Breaks a) (Breaks b) one two is also = one_text_fault at file first second (Breaks a) (Breaks b) one two is also
 
 -- files are accepted as the same contents
 same_contents : (at : At) (files : List File) (first second : List Fetched) (a b : List Content) → AllByRecursion (IsTold (Some at)) first → AllByRecursion (IsTold (Some at)) second → AreAccepted files first a → AreAccepted files second b → a ≡ b

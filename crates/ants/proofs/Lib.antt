@@ -1,7 +1,12 @@
 pub mod Accepted
+pub mod Cups
 pub mod Generated
 pub mod Judgements
+pub mod Listed
 pub mod Planned
 pub mod Readings
+pub mod SampleWorked
 pub mod Texts
 pub mod Verdicts
+pub mod Viewed
+pub mod Workloads

@@ -13,7 +13,7 @@ use Rattle.match_run.specs.declared.fault.PlayFault.{PlayFault}
 use Rattle.match_run.specs.declared.fault.PlayFault.TheVariants as play
 use Rattle.match_run.specs.Play.{PushedSome, StoppedBy}
 use Rattle.ants.specs.declared.stop.FileFault.{FileFault}
-use Rattle.ants.specs.declared.stop.FileFault.TheVariants.{TooLong, World, Brain}
+use Rattle.ants.specs.declared.stop.FileFault.TheVariants.{TooLong, World, Brain, Breaks}
 use Rattle.ants.specs.declared.stop.Stop.{Stop}
 use Rattle.ants.specs.declared.stop.Stop.TheVariants as stop
 use Rattle.ants.specs.Files.{File, Content, AreAccepted, AreBegun, IsRefused, Refuses, StopsAt}
@@ -22,7 +22,7 @@ use Rattle.ants.specs.Inner.Reading.{CarriesOut, CarriesOutWords, ComesTo, Outco
 use Rattle.ants.specs.Inner.Reading.Outcome.{Contents, Stopped}
 use Rattle.ants.specs.Jobs.{files_of, IsJobText}
 use Rattle.ants.specs.Judged.{IsRefusedAs}
-use Rattle.ants.specs.Performing.{EndsBy, IsUnsure, StopsFor}
+use Rattle.ants.specs.Performing.{EndsBy, IsUnsure, StopsFor, WritesInPlay}
 use Rattle.ants.specs.Running.{Ends}
 use Rattle.ants.specs.Stopping.{Reason, reason_of}
 use Rattle.ants.specs.Stopping.Reason.{AtWord, AtFile, AtOutput, AtInput, AtRoom, AtMemory}
@@ -67,6 +67,13 @@ begun_later [] b fetches more contents one two = rw one.0 two
 begun_later (file ∷ a) b [] more contents one two = absurd one
 begun_later (file ∷ a) b (fetch ∷ fetches) more [] one two = absurd one
 begun_later (file ∷ a) b (fetch ∷ fetches) more (content ∷ contents) one two = inr (content, one.0, begun_later a b fetches more contents one.1 two)
+
+-- files that were accepted are begun
+accepted_begun : (files : List File) (fetches : List Fetched) (contents : List Content) → AreAccepted files fetches contents → AreBegun files fetches
+accepted_begun [] fetches contents are = are.0
+accepted_begun (file ∷ files) [] contents are = tt
+accepted_begun (file ∷ files) (fetch ∷ fetches) [] are = absurd are
+accepted_begun (file ∷ files) (fetch ∷ fetches) (content ∷ contents) are = inr (content, are.0, accepted_begun files fetches contents are.1)
 
 -- the files a were begun, and those of b were not fetched
 begun_first : (a b : List File) (fetches : List Fetched) → AreBegun a fetches → AreBegun (a ++ b) fetches
@@ -138,11 +145,17 @@ pub reads_stopped : (first second : ShelfState) (a b : List File) (reason : Reas
 reads_stopped first second a b reason reads =
     record { fetches = reads.fetches; fetched = reads.fetched; comes = reading_stops_first first second a b reads.fetches reason reads.comes }
 
+-- files were read, and then memory was wanting
+pub reads_wanting : (first second : ShelfState) (files : List File) (contents : List Content) → ReadsFiles first second files (Contents contents) → ReadsFiles first second files (Stopped AtMemory)
+reads_wanting first second files contents reads =
+    record { fetches = reads.fetches; fetched = reads.fetched; comes = accepted_begun files reads.fetches contents reads.comes }
+
 -- a file whose bytes are refused is
 pub refused_text : (file : File) (fetch : Fetched) (bytes : List ℕ) (fault : FileFault) → fetch ≡ record { name = file.name; answer = Ok bytes } → Refuses file.kind bytes fault → IsRefused file fetch fault
 refused_text file fetch bytes TooLong got refuses = absurd (never_long file.kind bytes refuses)
 refused_text file fetch bytes (World fault) got refuses = record { bytes = bytes; got = got; refuses = refuses }
 refused_text file fetch bytes (Brain fault) got refuses = record { bytes = bytes; got = got; refuses = refuses }
+refused_text file fetch bytes (Breaks fault) got refuses = record { bytes = bytes; got = got; refuses = refuses }
 
 text_stops : (shelf new_shelf : ShelfState) (file : File) (fetch : Fetched) (bytes : List ℕ) (reason : Reason) → fetch ≡ record { name = file.name; answer = Ok bytes } → TextStops file.kind bytes file.name reason
     → ReadingStops shelf new_shelf (file ∷ []) (fetch ∷ []) reason
@@ -204,9 +217,9 @@ carries_cut command shelf new_shelf out new_out contents reads text is pushed =
 
 -- a command's files were read, and a front of its text was written before memory was wanting
 carries_broken : (command : PlainCommand) (shelf new_shelf : ShelfState) (out new_out : SinkState) (contents : List Content) → ReadsFiles shelf new_shelf (files_of command) (Contents contents)
-    → (text : List ℕ) → IsJobText command contents text → PushedSome out new_out text → CarriesOut command shelf new_shelf out new_out (Some AtMemory)
-carries_broken command shelf new_shelf out new_out contents reads text is pushed =
-    record { fetches = reads.fetches; fetched = reads.fetched; ends = inr (record { contents = contents; accepted = reads.comes; text = text; is_text = is; broken = pushed }) }
+    → (text : List ℕ) → IsJobText command contents text → PushedSome out new_out text → WritesInPlay command → CarriesOut command shelf new_shelf out new_out (Some AtMemory)
+carries_broken command shelf new_shelf out new_out contents reads text is pushed in_play =
+    record { fetches = reads.fetches; fetched = reads.fetched; ends = inr (record { contents = contents; accepted = reads.comes; text = text; is_text = is; broken = pushed; in_play = in_play }) }
 
 -- memory was wanting before a file was fetched
 pub carries_nothing : (command : PlainCommand) (shelf : ShelfState) (out : SinkState) → CarriesOut command shelf shelf out out (Some AtMemory)
@@ -229,7 +242,7 @@ carries_words words command shelf new_shelf out new_out ending is carried =
     record { fetches = carried.fetches; fetched = carried.fetched; ends = ends_as words command shelf new_shelf carried.fetches out new_out ending is carried.ends }
 
 -- the outcome of a call that answers with a stop
-outcome_stopped : {V : Type 0} (contents_of : V → List Content) (result : Result V Stop) (why : Stop) → IsErrAnd result (λ other. other ≡ why) → Stopped (reason_of why) ≡ outcome_of contents_of result
+pub outcome_stopped : {V : Type 0} (contents_of : V → List Content) (result : Result V Stop) (why : Stop) → IsErrAnd result (λ other. other ≡ why) → Stopped (reason_of why) ≡ outcome_of contents_of result
 outcome_stopped contents_of (Ok value) why same = absurd same
 outcome_stopped contents_of (Err other) why same = ap (λ s. Stopped (reason_of s)) (sym same)
 
@@ -263,14 +276,21 @@ carries_failure command shelf new_shelf out new_out contents result same reads t
 
 -- a command that answers with the fault of a play
 pub carries_fault : {U : Type 0} (command : PlainCommand) (shelf new_shelf : ShelfState) (out new_out : SinkState) (contents : List Content) (result : Result U Stop) (fault : PlayFault) → IsErrAnd result (λ other. other ≡ stop_of fault)
-    → ReadsFiles shelf new_shelf (files_of command) (Contents contents) → (text : List ℕ) → IsJobText command contents text → StoppedBy out new_out text fault → CarriesOut command shelf new_shelf out new_out (ending_of result)
-carries_fault command shelf new_shelf out new_out contents result play.WriteFault same reads text is pushed = carries_failure command shelf new_shelf out new_out contents result same reads text is pushed
-carries_fault command shelf new_shelf out new_out contents result play.OutOfMemory same reads text is pushed =
-    subst (CarriesOut command shelf new_shelf out new_out) (ending_stopped result stop.Memory same) (carries_broken command shelf new_shelf out new_out contents reads text is pushed)
+    → ReadsFiles shelf new_shelf (files_of command) (Contents contents) → (text : List ℕ) → IsJobText command contents text → StoppedBy out new_out text fault → WritesInPlay command
+    → CarriesOut command shelf new_shelf out new_out (ending_of result)
+carries_fault command shelf new_shelf out new_out contents result play.WriteFault same reads text is pushed in_play = carries_failure command shelf new_shelf out new_out contents result same reads text is pushed
+carries_fault command shelf new_shelf out new_out contents result play.OutOfMemory same reads text is pushed in_play =
+    subst (CarriesOut command shelf new_shelf out new_out) (ending_stopped result stop.Memory same) (carries_broken command shelf new_shelf out new_out contents reads text is pushed in_play)
 
 -- a command that answers with want of memory before a file was fetched
 pub carries_wanting : {U : Type 0} (command : PlainCommand) (shelf : ShelfState) (out : SinkState) (result : Result U Stop) → IsErrAnd result (λ other. other ≡ stop.Memory) → CarriesOut command shelf shelf out out (ending_of result)
 carries_wanting command shelf out result same = subst (CarriesOut command shelf shelf out out) (ending_stopped result stop.Memory same) (carries_nothing command shelf out)
+
+-- a command that answers with want of memory after its files were read
+pub carries_wanting_later : {U : Type 0} (command : PlainCommand) (shelf new_shelf : ShelfState) (out : SinkState) (contents : List Content) (result : Result U Stop) → IsErrAnd result (λ other. other ≡ stop.Memory)
+    → ReadsFiles shelf new_shelf (files_of command) (Contents contents) → CarriesOut command shelf new_shelf out out (ending_of result)
+carries_wanting_later command shelf new_shelf out contents result same reads =
+    carries_stop command shelf new_shelf out result stop.Memory same (reads_wanting shelf new_shelf (files_of command) contents reads)
 
 -- words that answer with want of memory before a file was fetched
 pub carries_want : {U : Type 0} (words : List (List ℕ)) (command : PlainCommand) (shelf : ShelfState) (out : SinkState) (result : Result U Stop) → IsErrAnd result (λ other. other ≡ stop.Memory) → IsCommand words command

@@ -4,6 +4,10 @@ use Rattle.brain_read.proofs.FaultyLemmas as whole
 use Rattle.brain_read.specs.Answers as brain_answers
 use Rattle.brain_read.specs.declared.fault.BrainFault.{BrainFault}
 use Rattle.brain_read.specs.declared.fault.BrainFault.TheVariants as brain
+use Rattle.break_view.proofs.FaultyLemmas as break_whole
+use Rattle.break_view.specs.Answers as break_answers
+use Rattle.break_view.specs.declared.fault.BreakFault.{BreakFault}
+use Rattle.break_view.specs.declared.fault.BreakFault.TheVariants as breaks
 use Rattle.cell_world.specs.Grid.{Grid}
 use Rattle.world_read.proofs.AnswersLemmas as told
 use Rattle.world_read.specs.Answers as world_answers
@@ -13,11 +17,11 @@ use Rattle.world_read.specs.Inner.Reading.{world_of_text}
 use Rattle.world_read.specs.declared.fault.WorldFault.{WorldFault}
 use Rattle.world_read.specs.declared.fault.WorldFault.TheVariants as world
 use Rattle.ants.specs.declared.stop.FileFault.{FileFault}
-use Rattle.ants.specs.declared.stop.FileFault.TheVariants.{TooLong, World, Brain}
+use Rattle.ants.specs.declared.stop.FileFault.TheVariants.{TooLong, World, Brain, Breaks}
 use Rattle.ants.specs.Files.{Content, FileKind, Reads, Refuses}
-use Rattle.ants.specs.Files.Content.{WorldContent, BrainContent}
-use Rattle.ants.specs.Files.FileKind.{WorldFile, BrainFile}
-use Rattle.ants.specs.Inner.Reading.{TextStops, brain_reason, world_reason}
+use Rattle.ants.specs.Files.Content.{WorldContent, BrainContent, BreakContent}
+use Rattle.ants.specs.Files.FileKind.{WorldFile, BrainFile, BreakFile}
+use Rattle.ants.specs.Inner.Reading.{TextStops, brain_reason, break_reason, world_reason}
 use Rattle.ants.specs.Stopping.Reason.{AtInput}
 
 -- bytes are never both a world's text and wrong
@@ -31,12 +35,22 @@ never_wrong bytes grid fault opens wrong =
 pub never_both : (kind : FileKind) (bytes : List ℕ) (content : Content) (fault : FileFault) → Reads kind bytes content → Refuses kind bytes fault → ⊥
 never_both WorldFile bytes content TooLong reads refuses = refuses
 never_both WorldFile bytes content (Brain fault) reads refuses = refuses
+never_both WorldFile bytes content (Breaks fault) reads refuses = refuses
 never_both WorldFile bytes (WorldContent grid) (World fault) reads refuses = never_wrong bytes grid fault reads refuses
 never_both WorldFile bytes (BrainContent list) (World fault) reads refuses = reads
+never_both WorldFile bytes (BreakContent items) (World fault) reads refuses = reads
 never_both BrainFile bytes content TooLong reads refuses = refuses
 never_both BrainFile bytes content (World fault) reads refuses = refuses
+never_both BrainFile bytes content (Breaks fault) reads refuses = refuses
 never_both BrainFile bytes (WorldContent grid) (Brain fault) reads refuses = reads
 never_both BrainFile bytes (BrainContent list) (Brain fault) reads refuses = whole.never_both bytes list fault reads refuses
+never_both BrainFile bytes (BreakContent items) (Brain fault) reads refuses = reads
+never_both BreakFile bytes content TooLong reads refuses = refuses
+never_both BreakFile bytes content (World fault) reads refuses = refuses
+never_both BreakFile bytes content (Brain fault) reads refuses = refuses
+never_both BreakFile bytes (WorldContent grid) (Breaks fault) reads refuses = reads
+never_both BreakFile bytes (BrainContent list) (Breaks fault) reads refuses = reads
+never_both BreakFile bytes (BreakContent items) (Breaks fault) reads refuses = break_whole.never_both bytes items fault reads refuses
 
 one_world : (bytes : List ℕ) (a b : Grid) → OpensAs bytes a → OpensAs bytes b → a ≡ b
 one_world bytes a b first second =
@@ -54,23 +68,43 @@ one_world_fault bytes a b first second =
 pub one_reading : (kind : FileKind) (bytes : List ℕ) (a b : Content) → Reads kind bytes a → Reads kind bytes b → a ≡ b
 one_reading WorldFile bytes (WorldContent a) (WorldContent b) first second = ap WorldContent (one_world bytes a b first second)
 one_reading WorldFile bytes (WorldContent a) (BrainContent b) first second = absurd second
+one_reading WorldFile bytes (WorldContent a) (BreakContent b) first second = absurd second
 one_reading WorldFile bytes (BrainContent a) b first second = absurd first
+one_reading WorldFile bytes (BreakContent a) b first second = absurd first
 one_reading BrainFile bytes (BrainContent a) (BrainContent b) first second = ap BrainContent (whole.one_brain bytes a b first second)
 one_reading BrainFile bytes (BrainContent a) (WorldContent b) first second = absurd second
+one_reading BrainFile bytes (BrainContent a) (BreakContent b) first second = absurd second
 one_reading BrainFile bytes (WorldContent a) b first second = absurd first
+one_reading BrainFile bytes (BreakContent a) b first second = absurd first
+one_reading BreakFile bytes (BreakContent a) (BreakContent b) first second = ap BreakContent (break_whole.one_list bytes a b first second)
+one_reading BreakFile bytes (BreakContent a) (WorldContent b) first second = absurd second
+one_reading BreakFile bytes (BreakContent a) (BrainContent b) first second = absurd second
+one_reading BreakFile bytes (WorldContent a) b first second = absurd first
+one_reading BreakFile bytes (BrainContent a) b first second = absurd first
 
 -- bytes are refused in one way
 pub one_refusal : (kind : FileKind) (bytes : List ℕ) (a b : FileFault) → Refuses kind bytes a → Refuses kind bytes b → a ≡ b
 one_refusal WorldFile bytes (World a) (World b) first second = ap World (one_world_fault bytes a b first second)
 one_refusal WorldFile bytes (World a) TooLong first second = absurd second
 one_refusal WorldFile bytes (World a) (Brain b) first second = absurd second
+one_refusal WorldFile bytes (World a) (Breaks b) first second = absurd second
 one_refusal WorldFile bytes TooLong b first second = absurd first
 one_refusal WorldFile bytes (Brain a) b first second = absurd first
+one_refusal WorldFile bytes (Breaks a) b first second = absurd first
 one_refusal BrainFile bytes (Brain a) (Brain b) first second = ap Brain (whole.one_fault bytes a b first second)
 one_refusal BrainFile bytes (Brain a) TooLong first second = absurd second
 one_refusal BrainFile bytes (Brain a) (World b) first second = absurd second
+one_refusal BrainFile bytes (Brain a) (Breaks b) first second = absurd second
 one_refusal BrainFile bytes TooLong b first second = absurd first
 one_refusal BrainFile bytes (World a) b first second = absurd first
+one_refusal BrainFile bytes (Breaks a) b first second = absurd first
+one_refusal BreakFile bytes (Breaks a) (Breaks b) first second = ap Breaks (break_whole.one_fault bytes a b first second)
+one_refusal BreakFile bytes (Breaks a) TooLong first second = absurd second
+one_refusal BreakFile bytes (Breaks a) (World b) first second = absurd second
+one_refusal BreakFile bytes (Breaks a) (Brain b) first second = absurd second
+one_refusal BreakFile bytes TooLong b first second = absurd first
+one_refusal BreakFile bytes (World a) b first second = absurd first
+one_refusal BreakFile bytes (Brain a) b first second = absurd first
 
 some_world : (bytes : List ℕ) → ((grid : Grid) × OpensAs bytes grid) ⊎ ((fault : WorldFault) × IsWorldFault bytes fault)
 some_world bytes = go (world_of_text bytes) refl
@@ -83,11 +117,13 @@ some_world bytes = go (world_of_text bytes) refl
 pub some_reading : (kind : FileKind) (bytes : List ℕ) → ((content : Content) × Reads kind bytes content) ⊎ ((fault : FileFault) × Refuses kind bytes fault)
 some_reading WorldFile bytes = elim (some_world bytes) [ inl opens ↦ inl (WorldContent opens.0, opens.1) | inr wrong ↦ inr (World wrong.0, wrong.1) ]
 some_reading BrainFile bytes = elim (whole.some_answer bytes) [ inl is ↦ inl (BrainContent is.0, is.1) | inr wrong ↦ inr (Brain wrong.0, wrong.1) ]
+some_reading BreakFile bytes = elim (break_whole.some_answer bytes) [ inl is ↦ inl (BreakContent is.0, is.1) | inr wrong ↦ inr (Breaks wrong.0, wrong.1) ]
 
 -- bytes are never refused as too long: such a file gives no bytes
 pub never_long : (kind : FileKind) (bytes : List ℕ) → Refuses kind bytes TooLong → ⊥
 never_long WorldFile bytes refuses = refuses
 never_long BrainFile bytes refuses = refuses
+never_long BreakFile bytes refuses = refuses
 
 -- the fault of a world's text stops the reading of its file
 pub world_stops : (name bytes : List ℕ) (fault : WorldFault) → world_answers.IsFaultOf bytes fault → TextStops WorldFile bytes name (world_reason name fault)
@@ -114,6 +150,15 @@ brain_stops name bytes brain.Empty is = (refl, is)
 brain_stops name bytes (brain.NoSuchState line state) is = (refl, is)
 brain_stops name bytes brain.OutOfMemory is = tt
 
+-- the fault of a text of breaks stops the reading of its file
+pub break_stops : (name bytes : List ℕ) (fault : BreakFault) → break_answers.IsFaultOf bytes fault → TextStops BreakFile bytes name (break_reason name fault)
+break_stops name bytes (breaks.UnknownWord line) is = (refl, is)
+break_stops name bytes (breaks.MissingToken line) is = (refl, is)
+break_stops name bytes (breaks.BadNumber line) is = (refl, is)
+break_stops name bytes (breaks.ExtraToken line) is = (refl, is)
+break_stops name bytes (breaks.TooMany line) is = (refl, is)
+break_stops name bytes breaks.OutOfMemory is = tt
+
 -- a fault of a world's text that isn't want of memory names its file
 pub world_reason_other : (name : List ℕ) (fault : WorldFault) → fault ≢ world.OutOfMemory → AtInput name (World fault) ≡ world_reason name fault
 world_reason_other name world.BadWidth other = refl
@@ -138,3 +183,12 @@ brain_reason_other name (brain.TooMany line) other = refl
 brain_reason_other name brain.Empty other = refl
 brain_reason_other name (brain.NoSuchState line state) other = refl
 brain_reason_other name brain.OutOfMemory other = absurd (other refl)
+
+-- and one of a text of breaks
+pub break_reason_other : (name : List ℕ) (fault : BreakFault) → fault ≢ breaks.OutOfMemory → AtInput name (Breaks fault) ≡ break_reason name fault
+break_reason_other name (breaks.UnknownWord line) other = refl
+break_reason_other name (breaks.MissingToken line) other = refl
+break_reason_other name (breaks.BadNumber line) other = refl
+break_reason_other name (breaks.ExtraToken line) other = refl
+break_reason_other name (breaks.TooMany line) other = refl
+break_reason_other name breaks.OutOfMemory other = absurd (other refl)

@@ -1,5 +1,5 @@
 -- What the end of a run says of its status: when the words are no command, when input is refused, and that nothing else is in the way.
-use Rattle.std.proofs.Common.{◌≡◌, ◌≢◌, ◌⊎◌, inl, inr, ℕ, ◌<◌, ◌≤◌, true, false, List, [], ◌∷◌, ◌++◌, length, map, Ok, Err, Option, Some, None, refl, sym, ◌∙◌, ap, subst, arith}
+use Rattle.std.proofs.Common.{◌≡◌, ◌≢◌, ◌⊎◌, inl, inr, ℕ, ◌<◌, ◌≤◌, true, List, [], ◌∷◌, ◌++◌, length, map, Ok, Err, Option, Some, None, refl, sym, ◌∙◌, ap, subst, arith}
 use Rattle.std.specs.List.{AllByRecursion}
 use Rattle.std.specs.Prelude.{IsSomeAnd}
 use Rattle.std.proofs.lemmas.Bool.{false≢true}
@@ -15,16 +15,16 @@ use Rattle.world_gen.proofs.Unique.{one_outcome}
 use Rattle.ants.specs.declared.status.Status.{Status}
 use Rattle.ants.specs.declared.status.Status.TheVariants as status
 use Rattle.ants.specs.declared.stop.FileFault.{FileFault}
-use Rattle.ants.specs.declared.stop.FileFault.TheVariants.{TooLong, World, Brain}
-use Rattle.ants.specs.Files.{AreAccepted, AreBegun, AreInOrder, Content, File, IsAccepted, IsFetched, IsRefused, Reads, Refuses, StopsAt}
-use Rattle.ants.specs.Jobs.{HasRoom, IsJobText, LacksRoom, files_of, shape_named}
-use Rattle.ants.specs.Judged.{IsJudged, IsRefusedAs, Judged, Verdict}
+use Rattle.ants.specs.declared.stop.FileFault.TheVariants.{TooLong, World, Brain, Breaks}
+use Rattle.ants.specs.Files.{AreAccepted, AreBegun, AreInOrder, Content, File, IsAccepted, IsFetched, IsNoText, IsRefused, Reads, Refuses, StopsAt}
+use Rattle.ants.specs.Jobs.{HasRoom, IsJobText, LacksRoom, contest_shape, files_of, shape_named}
+use Rattle.ants.specs.Judged.{IsRefusedAs, Judged, Verdict}
 use Rattle.ants.specs.Judged.Verdict.{AllAccepted, FirstRefused}
-use Rattle.ants.specs.Performing.{EndsBy, IsUnsure, StopsFor}
-use Rattle.ants.specs.Running.{Ends, IsComplete, IsJudgedCommand, IsNoCommand, IsOrderly, NeverUnread, IsRefusing, IsRun, ending_status, IsCrowding}
+use Rattle.ants.specs.Performing.{EndsBy, IsUnsure}
+use Rattle.ants.specs.Running.{Ends, IsComplete, IsNoCommand, IsOrderly, NeverUnread, IsRefusing, IsRun, ending_status, IsCrowding}
 use Rattle.ants.specs.Stopping.{Reason}
 use Rattle.ants.specs.Stopping.Reason.{AtWord, AtFile, AtOutput, AtInput, AtRoom, AtMemory}
-use Rattle.ants.proofs.Texts.{never_both, one_reading, one_refusal}
+use Rattle.ants.proofs.Texts.{never_both, one_reading}
 
 -- the contents of each name
 abbrev At : Type 0
@@ -64,15 +64,17 @@ one_content at file first second a b one two is also =
     let same = one_bytes at file.name also.bytes is.bytes second first two one also.got is.got in
     one_reading file.kind is.bytes a b is.reads (subst (λ (bytes : List ℕ). Reads file.kind bytes b) same also.reads)
 
+accepted_no_text : (at : At) (file : File) (first second : Fetched) (content : Content) (fault : FileFault) → IsTold (Some at) first → IsTold (Some at) second → IsAccepted file first content → IsNoText file second fault → ⊥
+accepted_no_text at file first second content fault one two is refused =
+    let same = one_bytes at file.name refused.bytes is.bytes second first two one refused.got is.got in
+    never_both file.kind is.bytes content fault is.reads (subst (λ (bytes : List ℕ). Refuses file.kind bytes fault) same refused.refuses)
+
 -- a file is never both accepted and refused
 pub one_verdict : (at : At) (file : File) (first second : Fetched) (content : Content) (fault : FileFault) → IsTold (Some at) first → IsTold (Some at) second → IsAccepted file first content → IsRefused file second fault → ⊥
 one_verdict at file first second content TooLong one two is refused = never_bytes at file.name is.bytes first second one two is.got refused
-one_verdict at file first second content (World fault) one two is refused =
-    let same = one_bytes at file.name refused.bytes is.bytes second first two one refused.got is.got in
-    never_both file.kind is.bytes content (World fault) is.reads (subst (λ (bytes : List ℕ). Refuses file.kind bytes (World fault)) same refused.refuses)
-one_verdict at file first second content (Brain fault) one two is refused =
-    let same = one_bytes at file.name refused.bytes is.bytes second first two one refused.got is.got in
-    never_both file.kind is.bytes content (Brain fault) is.reads (subst (λ (bytes : List ℕ). Refuses file.kind bytes (Brain fault)) same refused.refuses)
+one_verdict at file first second content (World fault) one two is refused = accepted_no_text at file first second content (World fault) one two is refused
+one_verdict at file first second content (Brain fault) one two is refused = accepted_no_text at file first second content (Brain fault) one two is refused
+one_verdict at file first second content (Breaks fault) one two is refused = accepted_no_text at file first second content (Breaks fault) one two is refused
 
 -- files that are all accepted have none that is refused
 pub accepted_never_refused : (at : At) (files : List File) (first second : List Fetched) (contents : List Content) (name : List ℕ) (fault : FileFault) → AllByRecursion (IsTold (Some at)) first → AllByRecursion (IsTold (Some at)) second
@@ -96,6 +98,7 @@ refused_name : (file : File) (fetch : Fetched) (fault : FileFault) → IsRefused
 refused_name file fetch TooLong is = ap (λ (f : Fetched). f.name) is
 refused_name file fetch (World fault) is = ap (λ (f : Fetched). f.name) is.got
 refused_name file fetch (Brain fault) is = ap (λ (f : Fetched). f.name) is.got
+refused_name file fetch (Breaks fault) is = ap (λ (f : Fetched). f.name) is.got
 
 -- the shelf was sure of a file of which it wasn't
 never_sure : (shelf : ShelfState) (name : List ℕ) (file : File) (fetch other : Fetched) → IsUnsure shelf name file fetch → other.name ≡ file.name → shelf.sure other.name ≡ true → ⊥
@@ -242,24 +245,25 @@ complete_run words shelf new_shelf out new_out err new_err ended run = λ conten
 text_has_room : (command : PlainCommand) (contents : List Content) (text : List ℕ) (element : ℕ) → IsJobText command contents text → LacksRoom command element → ⊥
 text_has_room (GenCommand seed shape) [] text element is lacks = one_outcome.none seed (shape_named shape) is.generated.placed element is.generated.placing lacks
 text_has_room (GenCommand seed shape) (content ∷ contents) text element is lacks = is
+text_has_room (WorkloadCommand seed rounds workers) [] text element is lacks = one_outcome.none seed contest_shape is.generated.placed element is.generated.placing lacks
+text_has_room (WorkloadCommand seed rounds workers) (content ∷ contents) text element is lacks = is
 text_has_room (ShowCommand world seed) contents text element is lacks = lacks
 text_has_room (BrainCommand file) contents text element is lacks = lacks
 text_has_room (MinimiseCommand file) contents text element is lacks = lacks
 text_has_room (RunCommand world red black setup) contents text element is lacks = lacks
 text_has_room (CupCommand worlds brains seed rounds workers) contents text element is lacks = lacks
 text_has_room (ViewCommand world red black breaks seed rounds) contents text element is lacks = lacks
-text_has_room (WorkloadCommand seed rounds workers) contents text element is lacks = lacks
 
 -- a command that lacks room fetches nothing
 lacks_no_file : (command : PlainCommand) (element : ℕ) → LacksRoom command element → files_of command ≡ []
 lacks_no_file (GenCommand seed shape) element lacks = refl
+lacks_no_file (WorkloadCommand seed rounds workers) element lacks = refl
 lacks_no_file (ShowCommand world seed) element lacks = absurd lacks
 lacks_no_file (BrainCommand file) element lacks = absurd lacks
 lacks_no_file (MinimiseCommand file) element lacks = absurd lacks
 lacks_no_file (RunCommand world red black setup) element lacks = absurd lacks
 lacks_no_file (CupCommand worlds brains seed rounds workers) element lacks = absurd lacks
 lacks_no_file (ViewCommand world red black breaks seed rounds) element lacks = absurd lacks
-lacks_no_file (WorkloadCommand seed rounds workers) element lacks = absurd lacks
 
 -- a run of which an element has no room ends so, or wants memory
 crowding_by : (command : PlainCommand) (shelf new_shelf : ShelfState) (fetches : List Fetched) (out new_out : SinkState) (element : ℕ) (ending : Option Reason) → LacksRoom command element → EndsBy command shelf new_shelf fetches out new_out ending

@@ -5,16 +5,20 @@ use Rattle.ant_base.specs.declared.shelf.FetchFault.TheVariants as answer
 use Rattle.brain_read.specs.declared.instr.Instr.{Instr}
 use Rattle.brain_read.specs.Grammar.{IsBrainText}
 use Rattle.brain_read.specs.Faulty.{IsBrainFault}
+use Rattle.break_view.specs.Grammar.{IsBreakText}
+use Rattle.break_view.specs.Faulty.{IsBreakFault}
+use Rattle.break_view.specs.declared.breaks.Break.{Break}
 use Rattle.cell_world.specs.Grid.{Grid}
 use Rattle.world_read.specs.Faulty.{IsWorldFault}
 use Rattle.world_read.specs.Opened.{OpensAs}
 use Rattle.ants.specs.declared.stop.FileFault.{FileFault}
-use Rattle.ants.specs.declared.stop.FileFault.TheVariants.{TooLong, World, Brain}
+use Rattle.ants.specs.declared.stop.FileFault.TheVariants.{TooLong, World, Brain, Breaks}
 
 -- what a file is read as
 pub data FileKind : Type 0 where
   WorldFile : FileKind
   BrainFile : FileKind
+  BreakFile : FileKind
 
 -- a file that a command names
 pub record File : Type 0 where
@@ -25,22 +29,21 @@ pub record File : Type 0 where
 pub data Content : Type 0 where
   WorldContent : Grid → Content
   BrainContent : List Instr → Content
+  BreakContent : List Break → Content
 
 -- bytes are read as this content in a file of this kind
 abbrev pub Reads : FileKind → List ℕ → Content → Type 0
 Reads WorldFile bytes (WorldContent grid) = OpensAs bytes grid
-Reads WorldFile bytes (BrainContent list) = ⊥
-Reads BrainFile bytes (WorldContent grid) = ⊥
 Reads BrainFile bytes (BrainContent list) = IsBrainText bytes list
+Reads BreakFile bytes (BreakContent items) = IsBreakText bytes items
+Reads kind bytes content = ⊥
 
 -- bytes have this fault in a file of this kind
 abbrev pub Refuses : FileKind → List ℕ → FileFault → Type 0
-Refuses WorldFile bytes TooLong = ⊥
 Refuses WorldFile bytes (World fault) = IsWorldFault bytes fault
-Refuses WorldFile bytes (Brain fault) = ⊥
-Refuses BrainFile bytes TooLong = ⊥
-Refuses BrainFile bytes (World fault) = ⊥
 Refuses BrainFile bytes (Brain fault) = IsBrainFault bytes fault
+Refuses BreakFile bytes (Breaks fault) = IsBreakFault bytes fault
+Refuses kind bytes fault = ⊥
 
 -- the file was fetched, and its bytes are read as this content
 pub record IsAccepted (file : File) (fetch : Fetched) (content : Content) : Type 0 where
@@ -59,6 +62,7 @@ abbrev pub IsRefused : File → Fetched → FileFault → Type 0
 IsRefused file fetch TooLong = fetch ≡ record { name = file.name; answer = Err answer.TooLong }
 IsRefused file fetch (World fault) = IsNoText file fetch (World fault)
 IsRefused file fetch (Brain fault) = IsNoText file fetch (Brain fault)
+IsRefused file fetch (Breaks fault) = IsNoText file fetch (Breaks fault)
 
 -- the files were fetched, each once and in order, and accepted as these contents
 abbrev pub AreAccepted : List File → List Fetched → List Content → Type 0

@@ -1,2 +1,3 @@
+pub mod Cups
 pub mod Planning
 pub mod Reading

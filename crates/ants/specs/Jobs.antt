@@ -1,41 +1,60 @@
 -- What each command reads and writes (this project's own): one equation a command.
-use Rattle.std.specs.Prelude.{◌≡◌, ℕ, List, [], ◌∷◌, Option}
+use Rattle.std.specs.Prelude.{◌≡◌, ℕ, List, [], ◌∷◌, ◌++◌, length, map, slice_index_or, codes, decimal, Option}
 use Rattle.ant_base.specs.Layout.{◌+++◌}
-use Rattle.ant_turn.specs.Minds.{Minds}
+use Rattle.ant_turn.specs.Minds.{Minds, contest_minds}
+use Rattle.ant_turn.specs.Rounds.{start_of}
 use Rattle.ant_turn.specs.Sheet.{Sheet}
 use Rattle.brain_minimise.specs.Minimised.{IsMinimised}
 use Rattle.brain_minimise.specs.Text.{minimised_text}
 use Rattle.brain_read.specs.declared.instr.Instr.{Instr}
 use Rattle.brain_read.specs.Canonical.{brain_text}
+use Rattle.break_view.specs.Texts.{IsViewText}
 use Rattle.cell_world.specs.Grid.{Grid, world_of}
+use Rattle.cell_world.specs.Score.{alive_of, score_of}
+use Rattle.cell_world.specs.World.{World}
+use Rattle.cell_world.specs.declared.ant.Colour.TheVariants.{Red, Black}
+use Rattle.cell_world.specs.declared.score.Score.{Score}
 use Rattle.command_words.specs.declared.command.GenShape.{GenShape}
 use Rattle.command_words.specs.Slots.{DumpChoice}
+use Rattle.command_words.specs.Table.{default_blobs, default_rocks, default_side, default_window}
 use Rattle.command_words.specs.Slots.DumpChoice.{NoDump, EveryDump, ChosenDumps}
 use Rattle.match_run.specs.declared.dumps.Dumps.{Dumps}
 use Rattle.match_run.specs.declared.dumps.Dumps.TheVariants.{Nothing, All, Chosen}
-use Rattle.match_run.specs.Counts.{whole_text}
-use Rattle.dump_print.specs.Texts.{seed_text, dump_text}
+use Rattle.match_run.specs.Counts.{totals_of, whole_text}
+use Rattle.match_run.specs.Run.{world_after}
+use Rattle.dump_print.specs.Texts.{seed_text, dump_text, score_text, stats_text}
 use Rattle.command_words.specs.Command.{PlainCommand, RunSetup}
 use Rattle.command_words.specs.Command.PlainCommand.{ShowCommand, BrainCommand, MinimiseCommand, RunCommand, GenCommand, CupCommand, ViewCommand, WorkloadCommand}
+use Rattle.tournament.specs.Text.{IsCupText}
 use Rattle.world_gen.specs.declared.shape.Shape.{Shape}
+use Rattle.world_gen.specs.Food.{food_on}
 use Rattle.world_gen.specs.Painting.{IsGenerated}
 use Rattle.world_gen.specs.Placing.{HasNoRoom}
 use Rattle.world_read.specs.Canonical.{canonical_text}
 use Rattle.world_read.specs.Opened.{kinds_of}
+use Rattle.ants.specs.declared.workload.Summary.{Summary}
 use Rattle.ants.specs.Files.{File, Content}
-use Rattle.ants.specs.Files.FileKind.{WorldFile, BrainFile}
-use Rattle.ants.specs.Files.Content.{WorldContent, BrainContent}
+use Rattle.ants.specs.Files.FileKind.{WorldFile, BrainFile, BreakFile}
+use Rattle.ants.specs.Files.Content.{WorldContent, BrainContent, BreakContent}
+use Rattle.ants.specs.Sample.{sample_brain}
 
--- a file with a world, and one with a brain
+-- a file with a world, one with a brain, and one with breaks
 abbrev pub world_file : List ℕ → File
 world_file name = record { name = name; kind = WorldFile }
 
 abbrev pub brain_file : List ℕ → File
 brain_file name = record { name = name; kind = BrainFile }
 
+abbrev pub break_file : List ℕ → File
+break_file name = record { name = name; kind = BreakFile }
+
 -- the files of a game
 abbrev pub game_files : List ℕ → List ℕ → List ℕ → List File
 game_files world red black = world_file world ∷ brain_file red ∷ brain_file black ∷ []
+
+-- the files of a cup: its worlds, and then its brains; a name that stands twice is fetched twice
+abbrev pub cup_files : List (List ℕ) → List (List ℕ) → List File
+cup_files worlds brains = map world_file worlds ++ map brain_file brains
 
 -- the files of a command, in the order in which they are fetched
 abbrev pub files_of : PlainCommand → List File
@@ -44,19 +63,19 @@ files_of (BrainCommand file) = brain_file file ∷ []
 files_of (MinimiseCommand file) = brain_file file ∷ []
 files_of (RunCommand world red black setup) = game_files world red black
 files_of (GenCommand seed shape) = []
-files_of (CupCommand worlds brains seed rounds workers) = []
-files_of (ViewCommand world red black breaks seed rounds) = []
+files_of (CupCommand worlds brains seed rounds workers) = cup_files worlds brains
+files_of (ViewCommand world red black breaks seed rounds) = game_files world red black ++ break_file breaks ∷ []
 files_of (WorkloadCommand seed rounds workers) = []
 
 -- the output of `show`: the line of the seed, and the dump after round 0
 unfoldable pub show_output : ℕ → Content → List ℕ
 show_output seed (WorldContent grid) = seed_text seed +++ dump_text (world_of grid) 0
-show_output seed (BrainContent list) = []
+show_output seed content = []
 
 -- the output of `brain`: the canonical text
 unfoldable pub brain_output : Content → List ℕ
-brain_output (WorldContent grid) = []
 brain_output (BrainContent list) = brain_text list
+brain_output content = []
 
 -- the rounds that the words of a command choose
 abbrev pub chosen_rounds : DumpChoice → Dumps
@@ -86,8 +105,38 @@ pub record TellsMinimised (old : List Instr) (text : List ℕ) : Type 0 where
   pub told : text ≡ minimised_text old new
 
 abbrev pub IsMinimisedOutput : Content → List ℕ → Type 0
-IsMinimisedOutput (WorldContent grid) text = ⊥
 IsMinimisedOutput (BrainContent list) text = TellsMinimised list text
+IsMinimisedOutput content text = ⊥
+
+-- the output of `view`: the view of the game, by the contest's rules, with these breaks
+abbrev pub IsViewOutput : ℕ → ℕ → Content → Content → Content → Content → List ℕ → Type 0
+IsViewOutput seed rounds (WorldContent grid) (BrainContent red) (BrainContent black) (BreakContent items) text =
+    IsViewText (contest_minds red black) seed rounds (world_of grid) items text
+IsViewOutput seed rounds world red black breaks text = ⊥
+
+-- no cells, for places past the end of a list
+abbrev pub nowhere : Grid
+nowhere = record { width = 0; height = 0; ids = 0; cells = [] }
+
+-- the minds of a game by the contest's rules between two players of a list, the red one first; players are counted from 0
+abbrev pub minds_between : List (List Instr) → ℕ → ℕ → Minds
+minds_between players red black = contest_minds (slice_index_or players red []) (slice_index_or players black [])
+
+-- the score of a game of so many rounds on a world of a list, counted from 0, between two players
+unfoldable pub score_between : List Grid → List (List Instr) → ℕ → ℕ → ℕ → ℕ → ℕ → Score
+score_between worlds players seed rounds world red black =
+    score_of (world_after (minds_between players red black) seed (world_of (slice_index_or worlds world nowhere)) rounds)
+
+-- what was read are these worlds, and then these players
+abbrev pub cup_contents : List Grid → List (List Instr) → List Content
+cup_contents worlds players = map WorldContent worlds ++ map BrainContent players
+
+-- the output of `cup`: that of all games between the players, on all worlds, with this seed and so many rounds each
+pub record IsCupOutput (names : List (List ℕ)) (seed rounds : ℕ) (contents : List Content) (text : List ℕ) : Type 0 where
+  pub worlds : List Grid
+  pub players : List (List Instr)
+  pub read : contents ≡ cup_contents worlds players
+  pub told : IsCupText names (length players) (length worlds) (score_between worlds players seed rounds) text
 
 -- the shape that the words of `gen` name
 abbrev pub shape_named : GenShape → Shape
@@ -99,16 +148,54 @@ pub record TellsGenerated (seed : ℕ) (shape : Shape) (text : List ℕ) : Type 
   pub generated : IsGenerated seed shape world
   pub told : text ≡ canonical_text world.width world.height (kinds_of world)
 
+-- the shape of a world of the contest: what `gen` makes without options
+abbrev pub contest_shape : Shape
+contest_shape = record { width = default_side; height = default_side; rocks = default_rocks; blobs = default_blobs }
+
+-- the task's sample brain on both sides, by the contest's rules
+abbrev pub sample_minds : Minds
+sample_minds = contest_minds sample_brain sample_brain
+
+-- what a workload tells of its game: how many ants there are, and the food on all cells at the start; how many are alive, the score and what
+-- came of the turns after so many rounds, which are played in windows of the default size
+unfoldable pub summary_of : ℕ → ℕ → World → Summary
+summary_of seed rounds w = record {
+  ants = w.ids;
+  food = food_on w;
+  red = alive_of (world_after sample_minds seed w rounds) Red;
+  black = alive_of (world_after sample_minds seed w rounds) Black;
+  score = score_of (world_after sample_minds seed w rounds);
+  totals = totals_of sample_minds seed default_window (start_of w) rounds;
+}
+
+-- the first four lines of a workload, the last without its end
+unfoldable pub summary_lines : ℕ → ℕ → Summary → List ℕ
+summary_lines seed rounds summary =
+    codes "workload seed " +++ decimal seed +++ codes " rounds " +++ decimal rounds
+    +++ codes "\nants " +++ decimal summary.ants
+    +++ codes "\nfood " +++ decimal summary.food
+    +++ codes "\nalive red " +++ decimal summary.red +++ codes " black " +++ decimal summary.black
+
+-- the six lines of a workload; the text of a score begins with the end of the line before it
+unfoldable pub workload_text : ℕ → ℕ → Summary → List ℕ
+workload_text seed rounds summary = summary_lines seed rounds summary +++ score_text summary.score +++ stats_text summary.totals
+
+-- the output of `workload`: what is told of a game on the world of this seed and the contest's shape; no number of workers stands in it
+pub record TellsWorkload (seed rounds : ℕ) (text : List ℕ) : Type 0 where
+  pub world : Grid
+  pub generated : IsGenerated seed contest_shape world
+  pub told : text ≡ workload_text seed rounds (summary_of seed rounds (world_of world))
+
 -- this element of the world that a command generates has no room
 abbrev pub LacksRoom : PlainCommand → ℕ → Type 0
 LacksRoom (GenCommand seed shape) element = HasNoRoom seed (shape_named shape) element
+LacksRoom (WorkloadCommand seed rounds workers) element = HasNoRoom seed contest_shape element
 LacksRoom (ShowCommand world seed) element = ⊥
 LacksRoom (BrainCommand file) element = ⊥
 LacksRoom (MinimiseCommand file) element = ⊥
 LacksRoom (RunCommand world red black setup) element = ⊥
 LacksRoom (CupCommand worlds brains seed rounds workers) element = ⊥
 LacksRoom (ViewCommand world red black breaks seed rounds) element = ⊥
-LacksRoom (WorkloadCommand seed rounds workers) element = ⊥
 
 -- each element of the world that a command generates has room
 abbrev pub HasRoom : PlainCommand → Type 0
@@ -120,6 +207,9 @@ IsJobText (ShowCommand world seed) (content ∷ []) text = text ≡ show_output 
 IsJobText (BrainCommand file) (content ∷ []) text = text ≡ brain_output content
 IsJobText (MinimiseCommand file) (content ∷ []) text = IsMinimisedOutput content text
 IsJobText (RunCommand world red black setup) (first ∷ second ∷ third ∷ []) text = text ≡ match_output setup first second third
+IsJobText (CupCommand worlds brains seed rounds workers) contents text = IsCupOutput brains seed rounds contents text
+IsJobText (ViewCommand world red black breaks seed rounds) (first ∷ second ∷ third ∷ fourth ∷ []) text = IsViewOutput seed rounds first second third fourth text
 IsJobText (GenCommand seed shape) [] text = TellsGenerated seed (shape_named shape) text
+IsJobText (WorkloadCommand seed rounds workers) [] text = TellsWorkload seed rounds text
 -- never: a command's files are as many as its contents
 IsJobText command contents text = ⊥

@@ -4,5 +4,6 @@ pub mod Jobs
 pub mod Judged
 pub mod Performing
 pub mod Running
+pub mod Sample
 pub mod Status
 pub mod Stopping

@@ -6,6 +6,7 @@ use Rattle.ant_base.specs.Shelf.{ShelfState}
 use Rattle.ant_base.specs.Sink.{SinkState, PushedAll, PushedFront}
 use Rattle.ant_base.specs.declared.shelf.FetchFault.TheVariants as answer
 use Rattle.command_words.specs.Command.{PlainCommand}
+use Rattle.command_words.specs.Command.PlainCommand.{RunCommand}
 use Rattle.match_run.specs.Play.{PushedSome}
 use Rattle.ants.specs.declared.stop.FileFault.{FileFault}
 use Rattle.ants.specs.Files.{File, Content, AreAccepted, AreBegun, StopsAt}
@@ -59,13 +60,19 @@ pub record IsUnbegun (command : PlainCommand) (fetches : List Fetched) (out new_
   pub begun : AreBegun (files_of command) fetches
   pub unwritten : new_out ≡ out
 
--- all files were accepted, and a front of the text was written before memory could not be had
+-- the command writes while it plays; every other has all memory that it needs before it writes
+abbrev pub WritesInPlay : PlainCommand → Type 0
+WritesInPlay (RunCommand world red black setup) = Unit {0}
+WritesInPlay command = ⊥
+
+-- all files were accepted, and a front of the text was written before memory could not be had; only a command that writes while it plays ends so
 pub record IsBrokenOff (command : PlainCommand) (fetches : List Fetched) (out new_out : SinkState) : Type 0 where
   pub contents : List Content
   pub accepted : AreAccepted (files_of command) fetches contents
   pub text : List ℕ
   pub is_text : IsJobText command contents text
   pub broken : PushedSome out new_out text
+  pub in_play : WritesInPlay command
 
 -- memory could not be had
 abbrev pub WantsMemory : PlainCommand → List Fetched → SinkState → SinkState → Type 0

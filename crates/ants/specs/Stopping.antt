@@ -3,12 +3,14 @@ use Rattle.std.specs.Prelude.{ℕ, List, codes, decimal}
 use Rattle.ant_base.specs.Layout.{◌+++◌}
 use Rattle.brain_read.specs.declared.fault.BrainFault.{BrainFault}
 use Rattle.brain_read.specs.declared.fault.BrainFault.TheVariants as brain
+use Rattle.break_view.specs.declared.fault.BreakFault.{BreakFault}
+use Rattle.break_view.specs.declared.fault.BreakFault.TheVariants as breaks
 use Rattle.world_read.specs.declared.fault.WorldFault.{WorldFault}
 use Rattle.world_read.specs.declared.fault.WorldFault.TheVariants as world
 use Rattle.ants.specs.declared.status.Status.{Status}
 use Rattle.ants.specs.declared.status.Status.TheVariants as status
 use Rattle.ants.specs.declared.stop.FileFault.{FileFault}
-use Rattle.ants.specs.declared.stop.FileFault.TheVariants.{TooLong, World, Brain}
+use Rattle.ants.specs.declared.stop.FileFault.TheVariants.{TooLong, World, Brain, Breaks}
 use Rattle.ants.specs.declared.stop.Stop.{Stop}
 use Rattle.ants.specs.declared.stop.Stop.TheVariants as stop
 
@@ -65,11 +67,21 @@ brain_fault_text brain.Empty = codes "no instruction"
 brain_fault_text (brain.NoSuchState line state) = codes "line " +++ decimal line +++ codes ": no such state " +++ decimal state
 brain_fault_text brain.OutOfMemory = codes "out of memory"
 
+-- what the fault of a file of breaks says
+abbrev pub break_fault_text : BreakFault → List ℕ
+break_fault_text (breaks.UnknownWord line) = codes "line " +++ decimal line +++ codes ": unknown word"
+break_fault_text (breaks.MissingToken line) = codes "line " +++ decimal line +++ codes ": missing token"
+break_fault_text (breaks.BadNumber line) = codes "line " +++ decimal line +++ codes ": bad number"
+break_fault_text (breaks.ExtraToken line) = codes "line " +++ decimal line +++ codes ": extra token"
+break_fault_text (breaks.TooMany line) = codes "line " +++ decimal line +++ codes ": too many breaks"
+break_fault_text breaks.OutOfMemory = codes "out of memory"
+
 -- what a file's fault says
 abbrev pub file_fault_text : FileFault → List ℕ
 file_fault_text TooLong = codes "too long"
 file_fault_text (World fault) = world_fault_text fault
 file_fault_text (Brain fault) = brain_fault_text fault
+file_fault_text (Breaks fault) = break_fault_text fault
 
 -- what a reason says
 abbrev pub reason_text : Reason → List ℕ

@@ -1,13 +1,16 @@
 // The files of a command, fetched and read one after another.
-ghost use Rattle.std.specs.Prelude.{◌≡◌, ◌≤◌, [], ◌∷◌, length};
+ghost use Rattle.std.specs.Prelude.{◌≡◌, ◌≤◌, [], ◌∷◌, length, map};
 ghost use Rattle.ant_base.specs.Shelf.{longest};
+ghost use Rattle.command_words.specs.Words.{texts};
 ghost use Rattle.ants.specs.Files.{Content, FileKind};
-ghost use Rattle.ants.specs.Inner.Reading.{ReadsFiles, ReadsText, brain_reason, fetch_reason, outcome_of, world_reason};
+ghost use Rattle.ants.specs.Inner.Cups.{files_named};
+ghost use Rattle.ants.specs.Inner.Reading.{ReadsFiles, ReadsText, brain_reason, break_reason, fetch_reason, outcome_of, world_reason};
 ghost use Rattle.ants.specs.Stopping.{reason_of};
 
 use crate::stop::{FileFault, Stop};
 use ant_base::{FetchFault, Shelf};
 use brain_read::{Brain, BrainFault, read_brain};
+use break_view::{BreakFault, Breaks, read_breaks};
 use cell_world::World;
 use std::alloc::Global;
 use world_read::{WorldFault, read_world};
@@ -58,6 +61,22 @@ impl FileText for Brain {
     }
 }
 
+impl FileText for Breaks {
+    ghost use Rattle.ants.specs.Files.FileKind.{BreakFile};
+    ghost use Rattle.ants.specs.Files.Content.{BreakContent};
+
+    ghost kind = { BreakFile };
+
+    ghost content = { BreakContent };
+
+    fn read<'w>(alloc: Global, name: &'w str, bytes: &[u8]) -> Result<Breaks, Stop<'w>> {
+        match read_breaks(alloc, bytes) {
+            Ok(breaks) => Ok(breaks),
+            Err(fault) => Err(break_stop(name, fault)),
+        }
+    }
+}
+
 /// Fetches a file, and reads what came.
 pub fn read_file<'w, T: FileText, S: Shelf>(
     alloc: Global,
@@ -70,6 +89,22 @@ pub fn read_file<'w, T: FileText, S: Shelf>(
         Ok(bytes) => T::read(alloc, name, &bytes),
         Err(fault) => Err(fetch_stop(name, fault)),
     }
+}
+
+/// Fetches the files of these names, and reads what came of each before it fetches the next.
+pub fn read_files<'w, T: FileText + Drop, S: Shelf>(
+    alloc: Global,
+    shelf: &mut S,
+    names: &'w [String],
+) -> Result<Vec<T>, Stop<'w>>
+    ensures { ReadsFiles (S.state shelf.old) (S.state shelf.new) (files_named T.kind (texts names.now)) (outcome_of (λ values. map T.content values.items) result) }
+{
+    let mut values = Vec::new(alloc);
+    for name in names {
+        let value = read_file(alloc, shelf, name.as_str())?;
+        values.push(value)?;
+    }
+    Ok(values)
 }
 
 // Why a command stops at a fetch.
@@ -100,5 +135,15 @@ fn brain_stop<'w>(name: &'w str, fault: BrainFault) -> Stop<'w>
     match fault {
         BrainFault::OutOfMemory => Stop::Memory,
         other => Stop::Input(name, FileFault::Brain(other)),
+    }
+}
+
+// Why a command stops at the text of breaks.
+fn break_stop<'w>(name: &'w str, fault: BreakFault) -> Stop<'w>
+    ensures { reason_of result ≡ break_reason name.now fault }
+{
+    match fault {
+        BreakFault::OutOfMemory => Stop::Memory,
+        other => Stop::Input(name, FileFault::Breaks(other)),
     }
 }

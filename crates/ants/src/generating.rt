@@ -16,8 +16,8 @@ use std::alloc::Global;
 use world_gen::{GenFault, Shape, generate};
 use world_read::write_world;
 
-// The world of a seed and a shape.
-fn generated<'w>(alloc: Global, seed: u32, shape: GenShape) -> Result<World, Stop<'w>>
+/// The world of a seed and a shape.
+pub fn generated<'w>(alloc: Global, seed: u32, shape: GenShape) -> Result<World, Stop<'w>>
     requires { ShapeWithin shape }
     ensures { IsGenerating seed (shape_named shape) result }
 {

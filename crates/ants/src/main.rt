@@ -5,17 +5,21 @@
 #![tactic(auto)]
 
 mod brain;
+mod cup;
 mod fetching;
 mod generating;
 mod laws;
 mod minimise;
 mod program;
 mod run;
+mod sample;
 mod show;
 mod status;
 mod stop;
 #[cfg(test)]
 mod tests;
+mod view;
+mod workload;
 
 use crate::program::{exit_without_memory, run_to_exit};
 use ant_base::{ErrSink, FileShelf, NoGate, OutSink};

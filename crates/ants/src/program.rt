@@ -1,8 +1,9 @@
 // The whole program, over any shelf and any sinks.
-ghost use Rattle.std.specs.Prelude.{◌≡◌, ◌↔◌, Some};
-ghost use Rattle.command_words.specs.Command.PlainCommand.{RunCommand};
+ghost use Rattle.std.specs.Prelude.{◌≡◌, ◌↔◌, ◌≤◌, Some};
+ghost use Rattle.command_words.specs.Command.PlainCommand.{RunCommand, WorkloadCommand};
 ghost use Rattle.command_words.specs.Laws.{SetupWithin};
 ghost use Rattle.command_words.specs.Words.{plain_setup, texts};
+ghost use Rattle.match_run.specs.Run.{most_rounds};
 ghost use Rattle.round_book.specs.Book.{CanBegin};
 ghost use Rattle.round_book.specs.Led.{IsWindow};
 ghost use Rattle.ants.specs.Inner.Planning.{IsPlanned};
@@ -14,12 +15,15 @@ ghost use Rattle.ants.specs.Stopping.Reason.{AtMemory};
 ghost use Rattle.std.specs.Process.{exit_status};
 
 use crate::brain::brain;
+use crate::cup::{Entry, cup};
 use crate::generating::gen_world;
 use crate::minimise::minimise;
 use crate::run::{Names, dumps_of, run};
 use crate::show::show;
 use crate::status::Status;
 use crate::stop::Stop;
+use crate::view::view;
+use crate::workload::workload;
 use ant_base::{Gate, Layout, Shelf, Sink};
 use ant_turn::Sheet;
 use command_words::{Command, RunOptions, read_words};
@@ -69,6 +73,31 @@ fn carry_out_run<'w, R: Threads + Sync, S: Shelf, K: Sink, G: Gate>(
     run(alloc, &mut crew, names, sheet, &plan, shelf, out)
 }
 
+// Plays the workload that the words ask for, by as many workers as they say.
+fn carry_out_workload<'w, R: Threads + Sync, S: Shelf, K: Sink, G: Gate>(
+    rt: &R,
+    alloc: Global,
+    seed: u32,
+    rounds: u32,
+    workers: u32,
+    shelf: &mut S,
+    out: &mut K,
+    gate: &G,
+) -> Result<(), Stop<'w>>
+    requires few_rounds { rounds ≤ most_rounds }
+    requires workers { (1 ≤ workers) × (workers ≤ 16) }
+    ensures { CarriesOut (WorkloadCommand seed rounds workers) (S.state shelf.old) (S.state shelf.new) (K.state out.old) (K.state out.new) (ending_of result) }
+{
+    let mut pieces = PieceCrew::new(rt, workers, gate);
+    let mut crew = Led::by(
+        |field: &mut Field<'_>, from: u32, to: u32| -> Result<Counts, OutOfMemory>
+            requires { CanBegin field.now from to }
+            ensures { IsWindow result field.entry.now from to field.exit.now }
+        { pieces.window(alloc, field, from, to) },
+    );
+    workload(alloc, &mut crew, seed, rounds, shelf, out)
+}
+
 // Carries out the command that the words are.
 fn carry_out<'w, R: Threads + Sync, S: Shelf, K: Sink, G: Gate>(
     rt: &R,
@@ -102,10 +131,52 @@ fn carry_out<'w, R: Threads + Sync, S: Shelf, K: Sink, G: Gate>(
             gate,
         ),
         Ok(Command::Gen { seed, shape }) => gen_world(alloc, seed, shape, shelf, out),
-        // The table of commands knows no others, so no words are one of them.
-        Ok(Command::Cup { .. } | Command::View { .. } | Command::Workload { .. }) => {
-            Err(Stop::Memory)
-        }
+        Ok(
+            Command::Cup {
+                worlds,
+                brains,
+                seed,
+                rounds,
+                workers,
+            },
+        ) => cup(
+            rt,
+            alloc,
+            Entry {
+                worlds,
+                brains,
+                seed,
+                rounds,
+                workers,
+            },
+            shelf,
+            out,
+        ),
+        Ok(
+            Command::View {
+                world,
+                red,
+                black,
+                breaks,
+                seed,
+                rounds,
+            },
+        ) => view(
+            alloc,
+            Names { world, red, black },
+            breaks,
+            seed,
+            rounds,
+            shelf,
+            out,
+        ),
+        Ok(
+            Command::Workload {
+                seed,
+                rounds,
+                workers,
+            },
+        ) => carry_out_workload(rt, alloc, seed, rounds, workers, shelf, out, gate),
     }
 }
 
@@ -121,11 +192,12 @@ fn carry_out<'w, R: Threads + Sync, S: Shelf, K: Sink, G: Gate>(
 /// - `Input`: the last file that was fetched is too long or not in its grammar, and each before it was accepted; or an element of the world
 ///   to be generated has no room; the output got nothing.
 /// - `Memory`: memory could not be had; no fetch failed or was too long. Either each file but perhaps the last was accepted, and the output
-///   got nothing; or all files were accepted, and the output got a front of the text.
+///   got nothing; or all files of a `run`, which writes while it plays, were accepted, and the output got a front of the text.
 ///
 /// At each but `Done` the errors got one line, which names the word (from 1) or the file and the place in it; or a front of that line,
 /// where they failed. The shelf keeps its contents and all of which it is sure, its log grows by the fetches, and its count of faults rises
-/// only where it isn't sure of each name that was fetched. The runtime serves the workers of a game, which call the gate before each look.
+/// only where it isn't sure of each name that was fetched. The runtime serves the workers of a game and of a cup; a game's workers call the
+/// gate before each look.
 pub fn run_ants<R: Threads + Sync, S: Shelf, K: Sink, E: Sink, G: Gate>(
     rt: &R,
     alloc: Global,

@@ -33,10 +33,10 @@ pub struct Names<'w> {
 
 // What the files of a game were read as.
 #[derive(Drop)]
-struct Setting {
-    world: World,
-    red: Brain,
-    black: Brain,
+pub struct Setting {
+    pub world: World,
+    pub red: Brain,
+    pub black: Brain,
 }
 
 // The rounds of a list.
@@ -62,7 +62,7 @@ pub fn dumps_of(alloc: Global, word: DumpWord<'_>) -> Result<Dumps, OutOfMemory>
 }
 
 // The files of a game, in the order in which its words name them.
-fn setting_of<'w, S: Shelf>(
+pub fn setting_of<'w, S: Shelf>(
     alloc: Global,
     names: Names<'w>,
     shelf: &mut S,

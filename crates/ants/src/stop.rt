@@ -1,11 +1,13 @@
 // Why a command stopped, and the line that says so.
 ghost use Rattle.std.specs.Prelude.{◌≡◌};
-ghost use Rattle.ants.specs.Stopping.{file_fault_text, brain_fault_text, world_fault_text, reason_of, reason_text, fault_line, status_of};
+ghost use Rattle.ants.specs.Stopping.{file_fault_text, brain_fault_text, break_fault_text, world_fault_text, reason_of, reason_text, fault_line, status_of};
 
 use crate::status::Status;
 use ant_base::{Failed, Layout, Sink, layout};
 use brain_read::BrainFault;
+use break_view::BreakFault;
 use match_run::{OutOfMemory, PlayFault};
+use std::alloc::AllocFailed;
 use world_read::WorldFault;
 
 /// Why a file was refused (this project's own).
@@ -17,6 +19,8 @@ pub enum FileFault {
     World(WorldFault),
     /// It is no brain.
     Brain(BrainFault),
+    /// It is no list of breaks.
+    Breaks(BreakFault),
 }
 
 /// Why a command stopped before its whole text was written (this project's own).
@@ -52,6 +56,16 @@ impl From<OutOfMemory> for Stop<'_> {
     ghost from_gives = { λ _ stop. stop ≡ Memory };
 
     fn from(_: OutOfMemory) -> Self {
+        Stop::Memory
+    }
+}
+
+impl<T: Drop> From<AllocFailed<T>> for Stop<'_> {
+    ghost use Rattle.ants.specs.declared.stop.Stop.TheVariants.{Memory};
+
+    ghost from_gives = { λ _ stop. stop ≡ Memory };
+
+    fn from(_: AllocFailed<T>) -> Self {
         Stop::Memory
     }
 }
@@ -126,6 +140,33 @@ impl Layout for BrainWords {
     }
 }
 
+// What the fault of a file of breaks says.
+#[derive(Clone, Copy)]
+struct BreakWords(BreakFault);
+
+impl Layout for BreakWords {
+    ghost text = { λ words. break_fault_text words.0 };
+
+    fn push_to<K: Sink>(&self, sink: &mut K) -> Result<(), Failed> {
+        match self.0 {
+            BreakFault::UnknownWord { line } => layout!("line ", line, ": unknown word").push_to(
+                sink,
+            ),
+            BreakFault::MissingToken { line } => layout!("line ", line, ": missing token").push_to(
+                sink,
+            ),
+            BreakFault::BadNumber { line } => layout!("line ", line, ": bad number").push_to(sink),
+            BreakFault::ExtraToken { line } => layout!("line ", line, ": extra token").push_to(
+                sink,
+            ),
+            BreakFault::TooMany { line } => {
+                layout!("line ", line, ": too many breaks").push_to(sink)
+            }
+            BreakFault::OutOfMemory => "out of memory".push_to(sink),
+        }
+    }
+}
+
 // What a file's fault says.
 #[derive(Clone, Copy)]
 struct FileWords(FileFault);
@@ -138,6 +179,7 @@ impl Layout for FileWords {
             FileFault::TooLong => "too long".push_to(sink),
             FileFault::World(fault) => WorldWords(fault).push_to(sink),
             FileFault::Brain(fault) => BrainWords(fault).push_to(sink),
+            FileFault::Breaks(fault) => BreakWords(fault).push_to(sink),
         }
     }
 }

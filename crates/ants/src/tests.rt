@@ -1,13 +1,17 @@
 // What no clause says: that commands succeed, and the exact bytes that they write. Each file has tables of cases, and a loop for each.
 mod brains;
 mod counts;
+mod cups;
 mod games;
 mod generated;
 mod outside;
 mod runs;
+mod settling;
 mod shown;
+mod viewed;
 mod words;
 mod workers;
+mod workloads;
 
 use crate::program::run_ants;
 use crate::status::Status;
@@ -27,14 +31,16 @@ const CLOSED: &str = "3\n3\n# # #\n # + #\n# # #\n";
 const CLOSING: &str =
     "7\n6\n# # # # # # #\n # . . . . . #\n# . . - # . #\n # - . + - # #\n# + . - - # #\n # # # # # # #\n";
 
-// A command over a world in the files w and -, a red brain in r and a black one in b; the fetch and the push to out that fail, if there
-// are calls of these numbers; and the room of out and of err, in bytes.
+// A command over a world in the files w and -, a red brain in r, a black one in b, breaks in k, and more files by name; the fetch and the
+// push to out that fail, if there are calls of these numbers; and the room of out and of err, in bytes.
 #[derive(Clone, Copy, Debug)]
 struct Job<'t> {
     line: &'t str,
     world: &'t str,
     red: &'t str,
     black: &'t str,
+    breaks: &'t str,
+    more: &'t [(&'t str, &'t str)],
     failing_fetch: u64,
     failing_push: u64,
     room: u64,
@@ -47,6 +53,8 @@ const NO_JOB: Job<'static> = Job {
     world: "",
     red: "",
     black: "",
+    breaks: "",
+    more: &[],
     failing_fetch: 0,
     failing_push: 0,
     room: ROOM,
@@ -88,7 +96,12 @@ fn files_of(alloc: Global, job: &Job<'_>) -> Result<Files, Fail> {
     let world = with_file(Files::new(alloc), "w", job.world)?;
     let both = with_file(world, "-", job.world)?;
     let red = with_file(both, "r", job.red)?;
-    with_file(red, "b", job.black)
+    let black = with_file(red, "b", job.black)?;
+    let mut files = with_file(black, "k", job.breaks)?;
+    for (name, text) in job.more {
+        files.add(name, text.as_bytes())?;
+    }
+    Ok(files)
 }
 
 // Carries out a command.
@@ -136,6 +149,7 @@ enum Given {
     Line,
     World,
     Black,
+    Breaks,
 }
 
 impl<'t> Job<'t> {
@@ -149,6 +163,10 @@ impl<'t> Job<'t> {
             },
             Given::Black => Job {
                 black: text,
+                ..self
+            },
+            Given::Breaks => Job {
+                breaks: text,
                 ..self
             },
         }

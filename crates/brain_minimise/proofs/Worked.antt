@@ -1,10 +1,13 @@
--- Minimising, worked out on `Flip 2 1 2 / Move 0 0 / Move 0 0`.
-use Rattle.std.proofs.Common.{◌≡◌, List, [], ◌∷◌, Some, None, codes, refl}
+-- Minimising, worked out on small brains.
+use Rattle.std.proofs.Common.{◌≡◌, List, [], ◌∷◌, map, Some, None, codes, refl}
 use Rattle.std.specs.Fmt.{digits}
+use Rattle.hex_geometry.specs.declared.direction.Side.TheVariants.{Left}
+use Rattle.hex_geometry.specs.declared.neighbourhood.Sight.TheVariants.{Ahead}
+use Rattle.brain_read.specs.declared.instr.Cond.TheVariants.{Marker}
 use Rattle.brain_read.specs.declared.instr.Instr.{Instr}
-use Rattle.brain_read.specs.declared.instr.Instr.TheVariants.{Drop, Flip, Move}
+use Rattle.brain_read.specs.declared.instr.Instr.TheVariants.{Sense, Mark, Unmark, PickUp, Drop, Turn, Flip, Move}
 use Rattle.brain_read.specs.Canonical.{brain_text, instruction_text}
-use Rattle.brain_minimise.specs.Equivalence.{AreEquivalent}
+use Rattle.brain_minimise.specs.Equivalence.{AreEquivalent, shape_of}
 use Rattle.brain_minimise.specs.Laws.{kept_before, left_of}
 use Rattle.brain_minimise.specs.Text.{minimised_text}
 
@@ -24,3 +27,27 @@ three_told = refl
 -- how many states before one have a number, and which instructions are left
 ranks : (kept_before (Some 0 ∷ None ∷ Some 1 ∷ []) 2 ≡ 1) × (left_of (Some 0 ∷ None ∷ Some 1 ∷ []) (Drop 0 ∷ Drop 1 ∷ Drop 2 ∷ []) ≡ Drop 0 ∷ Drop 2 ∷ [])
 ranks = (refl, refl)
+
+-- an instruction with all but the states that it names
+shapes : map shape_of (Sense Ahead 1 2 (Marker 3) ∷ Mark 4 1 ∷ Unmark 4 1 ∷ PickUp 1 2 ∷ Drop 1 ∷ Turn Left 1 ∷ Move 1 2 ∷ Flip 5 1 2 ∷ [])
+    ≡ Sense Ahead 0 0 (Marker 3) ∷ Mark 4 0 ∷ Unmark 4 0 ∷ PickUp 0 0 ∷ Drop 0 ∷ Turn Left 0 ∷ Move 0 0 ∷ Flip 5 0 0 ∷ []
+shapes = refl
+
+-- two Moves with their successors exchanged
+abbrev exchanged : List Instr
+exchanged = Move 1 2 ∷ Move 2 1 ∷ Drop 0 ∷ []
+
+-- aren't equivalent, since the first successor of the one is a Move and of the other the Drop
+order_counts : AreEquivalent exchanged 0 1 → ⊥
+order_counts equivalent =
+    let onward = equivalent.bisimulation.onward 0 1 equivalent.holds in
+    let shapes = equivalent.bisimulation.shape 1 2 onward.0 in cc
+
+-- nor are two Moves whose second successors alone differ
+abbrev other_second : List Instr
+other_second = Move 2 0 ∷ Move 2 2 ∷ Drop 0 ∷ []
+
+second_counts : AreEquivalent other_second 0 1 → ⊥
+second_counts equivalent =
+    let onward = equivalent.bisimulation.onward 0 1 equivalent.holds in
+    let shapes = equivalent.bisimulation.shape 0 2 onward.1.0 in cc

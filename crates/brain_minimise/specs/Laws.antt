@@ -8,7 +8,8 @@ use Rattle.brain_minimise.specs.Reach.{IsReachable}
 
 -- a brain is minimised to one brain, by one map
 abbrev pub OneMinimised : Type 0
-OneMinimised = (old new other : List Instr) (numbers others : List (Option ℕ)) → IsMinimised old new numbers → IsMinimised old other others → (new ≡ other) × (numbers ≡ others)
+OneMinimised = (old new other : List Instr) (numbers others : List (Option ℕ)) → IsMinimised old new numbers → IsMinimised old other others
+    → (new ≡ other) × (numbers ≡ others)
 
 -- minimising a minimised brain changes nothing: the same brain comes out, and each state keeps its number
 abbrev pub TwiceIsOnce : Type 0

@@ -21,12 +21,14 @@ game minds seed width height kinds r = after_rounds minds seed (start_of (world_
 -- whatever the opening world, the other brain, the numbers of the rules, the seed, the side and the number of rounds: the game with
 -- the minimised brain on that side is the game with the brain, but for the numbers of that side's states, at an equal place of the stream
 abbrev pub PlaysAlike : Type 0
-PlaysAlike = (minds : Minds) (side : Colour) (brain : List Instr) (numbers : List (Option ℕ)) (seed width height : ℕ) (kinds : List Kind) (r : ℕ) → IsMinimised (mind_of minds side) brain numbers →
+PlaysAlike = (minds : Minds) (side : Colour) (brain : List Instr) (numbers : List (Option ℕ)) (seed width height : ℕ) (kinds : List Kind) (r : ℕ)
+    → IsMinimised (mind_of minds side) brain numbers →
     game (with_mind minds side brain) seed width height kinds r ≡ renumbered_moment (number_in numbers) side (game minds seed width height kinds r)
 
 -- so the scores are equal
 abbrev pub ScoresAlike : Type 0
-ScoresAlike = (minds : Minds) (side : Colour) (brain : List Instr) (numbers : List (Option ℕ)) (seed width height : ℕ) (kinds : List Kind) (r : ℕ) → IsMinimised (mind_of minds side) brain numbers →
+ScoresAlike = (minds : Minds) (side : Colour) (brain : List Instr) (numbers : List (Option ℕ)) (seed width height : ℕ) (kinds : List Kind) (r : ℕ)
+    → IsMinimised (mind_of minds side) brain numbers →
     score_of (game (with_mind minds side brain) seed width height kinds r).world ≡ score_of (game minds seed width height kinds r).world
 
 -- one ant as the other, but for its state where it is of this side
@@ -47,5 +49,6 @@ pub record DiffersInStates (side : Colour) (old new : World) : Type 0 where
 
 -- so what a dump shows after any round differs in that side's states alone
 abbrev pub DumpsAlike : Type 0
-DumpsAlike = (minds : Minds) (side : Colour) (brain : List Instr) (numbers : List (Option ℕ)) (seed width height : ℕ) (kinds : List Kind) (r : ℕ) → IsMinimised (mind_of minds side) brain numbers →
+DumpsAlike = (minds : Minds) (side : Colour) (brain : List Instr) (numbers : List (Option ℕ)) (seed width height : ℕ) (kinds : List Kind) (r : ℕ)
+    → IsMinimised (mind_of minds side) brain numbers →
     DiffersInStates side (game minds seed width height kinds r).world (game (with_mind minds side brain) seed width height kinds r).world

@@ -27,7 +27,8 @@ pub record IsMinimised (old new : List Instr) (numbers : List (Option ℕ)) : Ty
   -- and no others do
   pub merged : (a b number : ℕ) → number_in numbers a ≡ Some number → number_in numbers b ≡ Some number → AreEquivalent old a b
   -- the instruction at a number is that of each of its states, with its successors renumbered
-  pub acts : (state number : ℕ) → number_in numbers state ≡ Some number → slice_get new number ≡ Some (redirected (number_of (number_in numbers)) (instruction_at old state))
+  pub acts : (state number : ℕ) → number_in numbers state ≡ Some number
+      → slice_get new number ≡ Some (redirected (number_of (number_in numbers)) (instruction_at old state))
   -- each new state is the number of an old one
   pub onto : (number : ℕ) → number < length new → (state : ℕ) × (number_in numbers state ≡ Some number)
   -- and can be reached

@@ -10,7 +10,7 @@ use brain_read::Brain;
 use hex_geometry::OutOfMemory;
 use std::alloc::Global;
 
-/// A brain with its equivalent states merged, and what became of each state (this project's own).
+/// A brain with its equivalent states merged, and what became of each state.
 #[derive(Drop)]
 pub struct Minimised {
     /// The minimised brain.

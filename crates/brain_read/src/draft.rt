@@ -4,7 +4,7 @@ ghost use Rattle.std.specs.Prelude.{◌≡◌, ◌≤◌, nat_lt, if◌then◌el
 use crate::instr::{Cond, Instr};
 use hex_geometry::{Side, Sight};
 
-/// An instruction as it was read, before its states are held against the number of instructions (this project's own).
+/// An instruction as it was read, before its states are held against the number of instructions.
 #[derive(Clone, Copy)]
 pub enum Draft {
     Sense {

@@ -1,7 +1,7 @@
 // What can be wrong with a text.
 use std::alloc::{AllocError, AllocFailed};
 
-/// What is wrong with the first position at fault of a line (this project's own).
+/// What is wrong with the first position at fault of a line.
 #[derive(Clone, Copy, Debug, PartialEq, Eq)]
 pub enum LineFault {
     /// A token that should be a word is none of its position.
@@ -14,8 +14,8 @@ pub enum LineFault {
     ExtraToken,
 }
 
-/// Why a line is refused: what is wrong with its first position at fault, and whether the token there has a bad byte, which
-/// is none of tab, LF, CR and 32 to 126 (this project's own).
+/// Why a line is refused: what is wrong with its first position at fault, and whether the token there has a bad byte, which is none of tab,
+/// LF, CR and 32 to 126.
 #[derive(Clone, Copy, Debug, PartialEq, Eq)]
 pub struct Refusal {
     /// What is wrong with the position, whatever bytes its token has.
@@ -24,8 +24,8 @@ pub struct Refusal {
     pub bad_byte: bool,
 }
 
-/// The fault of a text that is no brain's: the first line at fault, with its first position at fault; where no line is at fault, `Empty`
-/// or `NoSuchState`. Lines are counted from 1, lines without a token included (this project's own).
+/// The fault of a text that is no brain's: the first line at fault, with its first position at fault; where no line is at fault, `Empty` or
+/// `NoSuchState`. Lines are counted from 1, lines without a token included.
 #[derive(Clone, Copy, Debug, PartialEq, Eq)]
 pub enum BrainFault {
     /// A token has a byte that is none of tab, LF, CR and 32 to 126.
@@ -74,8 +74,8 @@ impl Refusal {
     ghost use Rattle.std.specs.Prelude.{◌≡◌};
     ghost use Rattle.brain_read.specs.Refusals.{refusal_at, fault_at};
 
-    /// The fault of the line of this number, from 1, that was refused so: `BadByte` where the token has a bad byte, else the fault of
-    /// the position (this project's own).
+    /// The fault of the line of this number, from 1, that was refused so: `BadByte` where the token has a bad byte, else the fault of the
+    /// position.
     pub fn at(self, line: u32) -> BrainFault
         ensures { result ≡ refusal_at line self }
     {

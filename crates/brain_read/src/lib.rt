@@ -5,6 +5,8 @@
 //! fault, and that [`write_brain`] pushes the one canonical text, which is read as that brain again. What other texts of lines and
 //! tokens share stands public here: [`Tokens`], the [`positions`] and the tables of words. It stands on the sinks, lines and numbers of
 //! `ant_base`, the tables of `word_table` and the sides and sights of `hex_geometry`.
+//!
+//! What names no section of the contest's task is this project's own.
 #![tactic(auto)]
 
 mod brain;

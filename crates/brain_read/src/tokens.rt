@@ -35,7 +35,7 @@ impl<'t> Tokens<'t> {
         Tokens { rest: line }
     }
 
-    /// Whether there is a token left (this project's own).
+    /// Whether there is a token left.
     pub fn has_next(&self) -> bool
         ensures { result ≡ has_token self.now }
     {

@@ -16,9 +16,9 @@ use crate::instr::{Cond, Instr};
 use ant_base::{Failed, Layout, Sink, layout};
 use hex_geometry::{Side, Sight};
 
-/// Pushes the canonical text of a brain: one line for each instruction, its words as the tables spell them and its numbers
-/// without leading zeros, one space between tokens, LF at the end (this project's own). At `Failed` a front of it was appended, and the
-/// sink's count of faults rose. It takes no memory.
+/// Pushes the canonical text of a brain: one line for each instruction, its words as the tables spell them and its numbers without leading
+/// zeros, one space between tokens, LF at the end. At `Failed` a front of it was appended, and the sink's count of faults rose. It takes no
+/// memory.
 pub fn write_brain<K: Sink>(brain: &Brain, sink: &mut K) -> Result<(), Failed>
     ensures pushed { Pushed (K.state sink.old) (K.state sink.new) (brain_text brain.now) result }
     ensures again { OnOk result (IsBrainText (brain_text brain.now) brain.now) }

@@ -14,7 +14,8 @@ use Rattle.brain_read.proofs.FormsLemmas.{IsTaken, Takes, then_taken, then_again
 use Rattle.break_view.specs.declared.breaks.Break.{Break}
 use Rattle.break_view.specs.declared.breaks.Break.TheVariants.{Round, State, Stand, Food, Killed, Score}
 use Rattle.break_view.specs.declared.words.BreakWord.{BreakWord}
-use Rattle.break_view.specs.Forms.{word_of_break, word_of_colour, break_words, colour_words, most_number, BreakLine}
+use Rattle.break_view.specs.Forms.{word_of_break, word_of_colour, most_number, BreakLine}
+use Rattle.break_view.specs.Inner.Places.{break_words, colour_words}
 use Rattle.break_view.specs.Inner.Places.{break_at, colour_at, place_of_colour}
 use Rattle.break_view.specs.Inner.Steps.{take_colour, take_any}
 use Rattle.break_view.specs.Inner.Reading.{read_number, read_coloured, read_stand, read_food, read_form, read_line}

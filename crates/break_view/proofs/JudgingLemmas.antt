@@ -11,7 +11,8 @@ use Rattle.break_view.specs.declared.breaks.Break.{Break}
 use Rattle.break_view.specs.declared.breaks.Break.TheVariants.{Round, State, Stand, Food, Killed, Score}
 use Rattle.break_view.specs.declared.fault.BreakFault.{BreakFault}
 use Rattle.break_view.specs.declared.words.BreakWord.{BreakWord}
-use Rattle.break_view.specs.Forms.{word_of_break, word_of_colour, break_kinds, colours, break_words, colour_words, most_number}
+use Rattle.break_view.specs.Forms.{word_of_break, word_of_colour, break_kinds, colours, most_number}
+use Rattle.break_view.specs.Inner.Places.{break_words, colour_words}
 use Rattle.break_view.specs.Judging.{Position, positions_of, none_more, accepted, fault_of, judged, first_fault}
 use Rattle.break_view.specs.Judging.Position.{BreakToken, ColourToken, NumberToken}
 use Rattle.break_view.specs.Inner.Places.{break_at, colour_at}

@@ -10,5 +10,6 @@ pub mod VerdictLemmas
 pub mod ViewLaws
 pub mod Viewing
 pub mod WorkedBreaks
+pub mod WorkedEdges
 pub mod WorkedGame
 pub mod WorkedTexts

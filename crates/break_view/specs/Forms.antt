@@ -1,5 +1,5 @@
 -- The words and the forms of breaks; the clauses of the public calls rest on them (this project's own).
-use Rattle.std.specs.Prelude.{ℕ, ◌≤◌, List, [], ◌∷◌, map, codes}
+use Rattle.std.specs.Prelude.{ℕ, ◌≤◌, List, [], ◌∷◌, codes}
 use Rattle.std.specs.List.{AllByRecursion}
 use Rattle.cell_world.specs.declared.ant.Colour.{Colour}
 use Rattle.cell_world.specs.declared.ant.Colour.TheVariants.{Red, Black}
@@ -30,14 +30,6 @@ break_kinds = BreakWord.Round ∷ BreakWord.State ∷ BreakWord.Stand ∷ BreakW
 -- the colours, in the order of their table
 abbrev pub colours : List Colour
 colours = Red ∷ Black ∷ []
-
--- the table of the words that begin a break
-unfoldable pub break_words : List (List ℕ)
-break_words = map word_of_break break_kinds
-
--- the table of the words of colours
-unfoldable pub colour_words : List (List ℕ)
-colour_words = map word_of_colour colours
 
 -- how a break is spelled: the table of forms
 abbrev pub fields_of : Break → List Field

@@ -5,7 +5,7 @@ ghost use Rattle.break_view.specs.Grammar.{most_breaks};
 use cell_world::Colour;
 use std::marker::Model;
 
-/// A break: what is looked for after each turn of a game (this project's own). Every number is from 0 to 4,294,967,295.
+/// A break: what is looked for after each turn of a game. Every number is from 0 to 4,294,967,295.
 #[derive(Clone, Copy, Debug, PartialEq, Eq)]
 pub enum Break {
     /// Holds after each turn of the round of this number, counted from 1.
@@ -22,7 +22,7 @@ pub enum Break {
     Score { colour: Colour, least: u32 },
 }
 
-/// A list of at most 256 breaks, in the order of their text (this project's own). Contracts see it as the list of its breaks.
+/// A list of at most 256 breaks, in the order of their text. Contracts see it as the list of its breaks.
 #[derive(Drop)]
 pub struct Breaks {
     list: Vec<Break>,
@@ -49,7 +49,7 @@ impl Breaks {
         Breaks { list }
     }
 
-    /// How many breaks there are, from 0 to 256 (this project's own).
+    /// How many breaks there are, from 0 to 256.
     pub fn len(&self) -> usize
         ensures length { result ≡ length self.now }
         ensures few { length self.now ≤ most_breaks }
@@ -57,7 +57,7 @@ impl Breaks {
         self.list.len()
     }
 
-    /// The break at place `i`, counted from 0 and below the length; it is the break of number `i + 1` (this project's own).
+    /// The break at place `i`, counted from 0 and below the length; it is the break of number `i + 1`.
     pub fn item(&self, i: usize) -> Break
         requires { i < length self.now }
         ensures { slice_get self.now i ≡ Some result }

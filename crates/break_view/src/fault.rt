@@ -6,7 +6,7 @@ use brain_read::LineFault;
 use std::alloc::{AllocError, AllocFailed};
 
 /// The fault of a text that is no list of breaks: the first line at fault, with its first position at fault. Lines are counted from 1,
-/// lines without a token included (this project's own).
+/// lines without a token included.
 #[derive(Clone, Copy, Debug, PartialEq, Eq)]
 pub enum BreakFault {
     /// A token that should be a word is none of its position.

@@ -20,7 +20,7 @@ use ant_random::Stream;
 use ant_turn::{Brains, take_turn};
 use cell_world::{Score, World};
 
-/// A stop of a game: the turn after which a break held, and which break (this project's own).
+/// A stop of a game: the turn after which a break held, and which break.
 #[derive(Clone, Copy, Debug, PartialEq, Eq)]
 pub struct Stop {
     /// The round of the turn, counted from 1.

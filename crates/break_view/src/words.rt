@@ -1,6 +1,6 @@
 // The words of breaks, and what they stand for.
 ghost use Rattle.std.specs.Prelude.{◌≡◌};
-ghost use Rattle.break_view.specs.Forms.{break_words, colour_words};
+ghost use Rattle.break_view.specs.Inner.Places.{break_words, colour_words};
 ghost use Rattle.break_view.specs.Inner.Places as places;
 
 use cell_world::Colour;
@@ -18,7 +18,7 @@ pub enum BreakWord {
 }
 
 // The words that begin a break.
-#[tactic(auto, unfolding(crate::specs::Forms::break_words))]
+#[tactic(auto, unfolding(crate::specs::Inner::Places::break_words))]
 pub(crate) fn break_table() -> WordTable<6>
     ensures { result ≡ break_words }
 {
@@ -26,7 +26,7 @@ pub(crate) fn break_table() -> WordTable<6>
 }
 
 // The words of the colours.
-#[tactic(auto, unfolding(crate::specs::Forms::colour_words))]
+#[tactic(auto, unfolding(crate::specs::Inner::Places::colour_words))]
 pub(crate) fn colour_table() -> WordTable<2>
     ensures { result ≡ colour_words }
 {

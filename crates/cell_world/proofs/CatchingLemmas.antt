@@ -1,9 +1,9 @@
 -- What a world keeps, brought up to what another keeps.
-use Rattle.std.proofs.Common.{◌≡◌, ◌≢◌, ◌⊎◌, inl, inr, ⊎_elim, ℕ, zero, suc, ◌+◌, ◌*◌, ◌<◌, ◌≤◌, Bool, true, false, cond, nat_eq, List, [], ◌∷◌, length, map, drop, get_or, set, Option, Some, None, option_map, refl, sym, ◌∙◌, ap, ap₂, subst, arith}
+use Rattle.std.proofs.Common.{◌≡◌, ◌≢◌, ◌⊎◌, inl, inr, ⊎_elim, ℕ, ◌+◌, ◌*◌, ◌<◌, ◌≤◌, Bool, true, false, nat_eq, List, [], ◌∷◌, length, map, drop, get_or, set, Option, Some, None, option_map, refl, sym, ◌∙◌, ap, ap₂, subst, arith}
 use Rattle.std.specs.List.{Contains}
-use Rattle.std.proofs.lemmas.Bool.{cases_Bool, cases_eq, cond-false, cond-true, eqb-true, eq-eqb}
+use Rattle.std.proofs.lemmas.Bool.{cases_eq, cond-false, cond-true, eqb-true, eq-eqb}
 use Rattle.std.proofs.lemmas.List.{at_drop_all, drop_more, ext_get_or, get_or_default, get_or-map, get_or-set_other, get_or-set_same, length-map, length-set}
-use Rattle.std.proofs.lemmas.List.Elements.{Contains-append_cases, Contains-append_right, Contains-get_or, Contains-push_cases}
+use Rattle.std.proofs.lemmas.List.Elements.{Contains-append_cases, Contains-push_cases}
 use Rattle.hex_geometry.specs.declared.direction.Dir.{Dir}
 use Rattle.hex_geometry.specs.declared.position.Pos.{Pos}
 use Rattle.hex_geometry.specs.Position.{IsInside}
@@ -22,8 +22,8 @@ use Rattle.cell_world.specs.Inner.Index.{IsIndex}
 use Rattle.cell_world.specs.Inner.Inside.{IsKept, grid_of}
 use Rattle.cell_world.specs.Inner.Bodies.{IsMade}
 use Rattle.cell_world.specs.Inner.Stored.{ant_from, ant_named, cell_from, grid_from, no_body, nobody, occupant_id, places_of}
-use Rattle.cell_world.specs.World.{World, place_in, pos_at}
-use Rattle.cell_world.proofs.GridLemmas.{index_of-inside, index_of-pos_at, pos_at-index_of}
+use Rattle.cell_world.specs.World.{place_in, pos_at}
+use Rattle.cell_world.proofs.GridLemmas.{index_of-inside, index_of-pos_at}
 use Rattle.cell_world.proofs.Patches.{some_one}
 use Rattle.cell_world.proofs.Places.{place_in-found, place_in-holds, place_in-inside, pos_at-inside}
 use Rattle.cell_world.proofs.StoredLemmas.{ant-read, cell_in-tile_at, tile-made}

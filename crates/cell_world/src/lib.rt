@@ -4,6 +4,8 @@
 //! Contracts see a [`World`] as its sizes, the number of ids ever made and its cells in row order; `world_of` reads such a grid
 //! as a function from positions to cells, rock outside. The rules of a turn are generic over [`Ground`], a world that can be
 //! read and changed cell by cell. This crate stands on `hex_geometry`.
+//!
+//! What names no section of the contest's task is this project's own.
 #![tactic(auto)]
 
 mod ant;

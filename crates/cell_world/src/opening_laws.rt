@@ -1,16 +1,15 @@
 // What holds of the world of every plan, at the start of a game.
 ghost use Rattle.cell_world.specs.OpeningLaws.{HillsAreManned, PlansOpen};
 
-/// The opening world of a plan keeps what every world keeps (the task's geography and biology).
-/// The call does nothing: its clause is the law.
+/// A law: the opening world of a plan keeps what every world keeps (the task's geography and biology).
 pub fn plans_open()
     ensures { PlansOpen }
 {}
 
-/// At the start each cell is what its kind says, and outside there is rock (the task's geography and chemistry). An ant stands on each
-/// hill cell and on no other: it is of the hill's colour, in state 0, not resting, faces direction 0 and carries no food, its id is the
-/// number of hill cells before its own in row order, and that cell is its place; every ant is alive, and no cell is marked (the task's
-/// biology). The call does nothing: its clause is the law.
+/// A law: at the start each cell is what its kind says, and outside there is rock (the task's geography and chemistry). An ant stands on
+/// each hill cell and on no other: it is of the hill's colour, in state 0, not resting, faces direction 0 and carries no food, its id is
+/// the number of hill cells before its own in row order, and that cell is its place; every ant is alive, and no cell is marked (the task's
+/// biology).
 pub fn hills_are_manned()
     ensures { HillsAreManned }
 {}

@@ -69,7 +69,7 @@ impl World {
         })
     }
 
-    /// An equal world of its own (this project's own). It is refused for want of memory alone.
+    /// An equal world of its own. It is refused for want of memory alone.
     pub fn copy(&self, alloc: Global) -> Result<World, OutOfMemory>
         ensures { IfOk result (λ w. w ≡ self.now) }
     {

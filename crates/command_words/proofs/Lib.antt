@@ -10,4 +10,5 @@ pub mod WalkCompletions
 pub mod CommandLemmas
 pub mod ReadLemmas
 pub mod WordLaws
+pub mod WorkedFronts
 pub mod WorkedLines

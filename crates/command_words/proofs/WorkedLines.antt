@@ -89,6 +89,42 @@ pub gen_least : IsCommand (words_of (codes "gen 7 --width 3 --height 4 --rocks 0
 unfolding kind_of choice_of is_among rest_after is_file_name is_dumps dumps_of number_of
 gen_least = read-accepts (words_of (codes "gen 7 --width 3 --height 4 --rocks 0 --blobs 1")) (GenCommand 7 (shape_of 3 4 0 1)) refl
 
+-- one world and two brains, and one worker
+pub cup_command : IsCommand (words_of (codes "cup --worlds w --brains a b --seed 1 --rounds 2")) (CupCommand ((codes "w") ∷ []) ((codes "a") ∷ (codes "b") ∷ []) 1 2 1)
+unfolding kind_of choice_of is_among rest_after is_file_name is_dumps dumps_of number_of
+cup_command = read-accepts (words_of (codes "cup --worlds w --brains a b --seed 1 --rounds 2"))
+    (CupCommand ((codes "w") ∷ []) ((codes "a") ∷ (codes "b") ∷ []) 1 2 1) refl
+
+-- the same world twice, a name among both lists, names that are `-` or begin with one, and options in another order
+pub cup_same_world : IsCommand (words_of (codes "cup --worlds w w a --brains a - -b --workers 16 --rounds 0 --seed 3"))
+    (CupCommand ((codes "w") ∷ (codes "w") ∷ (codes "a") ∷ []) ((codes "a") ∷ (codes "-") ∷ (codes "-b") ∷ []) 3 0 16)
+unfolding kind_of choice_of is_among rest_after is_file_name is_dumps dumps_of number_of
+cup_same_world = read-accepts (words_of (codes "cup --worlds w w a --brains a - -b --workers 16 --rounds 0 --seed 3"))
+    (CupCommand ((codes "w") ∷ (codes "w") ∷ (codes "a") ∷ []) ((codes "a") ∷ (codes "-") ∷ (codes "-b") ∷ []) 3 0 16) refl
+
+-- 16 worlds and 16 brains
+pub cup_sixteen : IsCommand (words_of (codes "cup --worlds a b c d e f g h i j k l m n o p --brains a b c d e f g h i j k l m n o p --seed 1 --rounds 1"))
+    (CupCommand ((codes "a") ∷ (codes "b") ∷ (codes "c") ∷ (codes "d") ∷ (codes "e") ∷ (codes "f") ∷ (codes "g") ∷ (codes "h") ∷ (codes "i") ∷ (codes "j") ∷
+    (codes "k") ∷ (codes "l") ∷ (codes "m") ∷ (codes "n") ∷ (codes "o") ∷ (codes "p") ∷ [])
+    ((codes "a") ∷ (codes "b") ∷ (codes "c") ∷ (codes "d") ∷ (codes "e") ∷ (codes "f") ∷ (codes "g") ∷ (codes "h") ∷ (codes "i") ∷ (codes "j") ∷ (codes "k") ∷
+    (codes "l") ∷ (codes "m") ∷ (codes "n") ∷ (codes "o") ∷ (codes "p") ∷ []) 1 1 1)
+unfolding kind_of choice_of is_among rest_after is_file_name is_dumps dumps_of number_of
+cup_sixteen = read-accepts (words_of (codes "cup --worlds a b c d e f g h i j k l m n o p --brains a b c d e f g h i j k l m n o p --seed 1 --rounds 1"))
+    (CupCommand ((codes "a") ∷ (codes "b") ∷ (codes "c") ∷ (codes "d") ∷ (codes "e") ∷ (codes "f") ∷ (codes "g") ∷ (codes "h") ∷ (codes "i") ∷ (codes "j") ∷
+    (codes "k") ∷ (codes "l") ∷ (codes "m") ∷ (codes "n") ∷ (codes "o") ∷ (codes "p") ∷ [])
+    ((codes "a") ∷ (codes "b") ∷ (codes "c") ∷ (codes "d") ∷ (codes "e") ∷ (codes "f") ∷ (codes "g") ∷ (codes "h") ∷ (codes "i") ∷ (codes "j") ∷ (codes "k") ∷
+    (codes "l") ∷ (codes "m") ∷ (codes "n") ∷ (codes "o") ∷ (codes "p") ∷ []) 1 1 1) refl
+
+-- `view`
+pub view_command : IsCommand (words_of (codes "view w r b k --rounds 5 --seed 12345")) (ViewCommand (codes "w") (codes "r") (codes "b") (codes "k") 12345 5)
+unfolding kind_of choice_of is_among rest_after is_file_name is_dumps dumps_of number_of
+view_command = read-accepts (words_of (codes "view w r b k --rounds 5 --seed 12345")) (ViewCommand (codes "w") (codes "r") (codes "b") (codes "k") 12345 5) refl
+
+-- `workload`
+pub workload_command : IsCommand (words_of (codes "workload 12345 1000 4")) (WorkloadCommand 12345 1000 4)
+unfolding kind_of choice_of is_among rest_after is_file_name is_dumps dumps_of number_of
+workload_command = read-accepts (words_of (codes "workload 12345 1000 4")) (WorkloadCommand 12345 1000 4) refl
+
 -- there is no word
 pub no_word : IsRefusedAt [] 1
 no_word = read-refuses [] 1 refl
@@ -232,3 +268,98 @@ show_takes_no_option = read-refuses (words_of (codes "show w 1 --seed 1")) 4 ref
 pub run_takes_no_width : IsRefusedAt (words_of (codes "run w r b --width 150")) 5
 unfolding kind_of choice_of is_among rest_after is_file_name is_dumps dumps_of number_of
 run_takes_no_width = read-refuses (words_of (codes "run w r b --width 150")) 5 refl
+
+-- `view` needs a file of breaks
+pub view_without_breaks : IsRefusedAt (words_of (codes "view w r b --seed 1")) 5
+unfolding kind_of choice_of is_among rest_after is_file_name is_dumps dumps_of number_of
+view_without_breaks = read-refuses (words_of (codes "view w r b --seed 1")) 5 refl
+
+-- `view` takes no workers
+pub view_takes_no_workers : IsRefusedAt (words_of (codes "view w r b k --workers 1")) 6
+unfolding kind_of choice_of is_among rest_after is_file_name is_dumps dumps_of number_of
+view_takes_no_workers = read-refuses (words_of (codes "view w r b k --workers 1")) 6 refl
+
+-- two brains are the same
+pub equal_brains : IsRefusedAt (words_of (codes "cup --worlds w --brains a a")) 6
+unfolding kind_of choice_of is_among rest_after is_file_name is_dumps dumps_of number_of
+equal_brains = read-refuses (words_of (codes "cup --worlds w --brains a a")) 6 refl
+
+-- two brains are the same, with one between them
+pub equal_brains_apart : IsRefusedAt (words_of (codes "cup --worlds w --brains a b a")) 7
+unfolding kind_of choice_of is_among rest_after is_file_name is_dumps dumps_of number_of
+equal_brains_apart = read-refuses (words_of (codes "cup --worlds w --brains a b a")) 7 refl
+
+-- the worlds come first
+pub cup_worlds_first : IsRefusedAt (words_of (codes "cup --brains a b --worlds w")) 2
+unfolding kind_of choice_of is_among rest_after is_file_name is_dumps dumps_of number_of
+cup_worlds_first = read-refuses (words_of (codes "cup --brains a b --worlds w")) 2 refl
+
+-- no world
+pub cup_no_world : IsRefusedAt (words_of (codes "cup --worlds --brains a b")) 3
+unfolding kind_of choice_of is_among rest_after is_file_name is_dumps dumps_of number_of
+cup_no_world = read-refuses (words_of (codes "cup --worlds --brains a b")) 3 refl
+
+-- one brain is a beginning
+pub cup_one_brain : IsRefusedAt (words_of (codes "cup --worlds w --brains a")) 6
+unfolding kind_of choice_of is_among rest_after is_file_name is_dumps dumps_of number_of
+cup_one_brain = read-refuses (words_of (codes "cup --worlds w --brains a")) 6 refl
+
+-- one brain, and then an option
+pub cup_one_brain_then_option : IsRefusedAt (words_of (codes "cup --worlds w --brains a --seed 1")) 6
+unfolding kind_of choice_of is_among rest_after is_file_name is_dumps dumps_of number_of
+cup_one_brain_then_option = read-refuses (words_of (codes "cup --worlds w --brains a --seed 1")) 6 refl
+
+-- the worlds are a beginning
+pub cup_no_brains : IsRefusedAt (words_of (codes "cup --worlds w")) 4
+unfolding kind_of choice_of is_among rest_after is_file_name is_dumps dumps_of number_of
+cup_no_brains = read-refuses (words_of (codes "cup --worlds w")) 4 refl
+
+-- an option before the brains
+pub cup_options_before_brains : IsRefusedAt (words_of (codes "cup --worlds w --seed 1")) 4
+unfolding kind_of choice_of is_among rest_after is_file_name is_dumps dumps_of number_of
+cup_options_before_brains = read-refuses (words_of (codes "cup --worlds w --seed 1")) 4 refl
+
+-- both lists are a beginning
+pub cup_unfinished : IsRefusedAt (words_of (codes "cup --worlds w --brains a b")) 7
+unfolding kind_of choice_of is_among rest_after is_file_name is_dumps dumps_of number_of
+cup_unfinished = read-refuses (words_of (codes "cup --worlds w --brains a b")) 7 refl
+
+-- 17 workers of a cup
+pub cup_workers_too_many : IsRefusedAt (words_of (codes "cup --worlds w --brains a b --workers 17")) 8
+unfolding kind_of choice_of is_among rest_after is_file_name is_dumps dumps_of number_of
+cup_workers_too_many = read-refuses (words_of (codes "cup --worlds w --brains a b --workers 17")) 8 refl
+
+-- 17 worlds
+pub cup_seventeen_worlds : IsRefusedAt (words_of (codes "cup --worlds a b c d e f g h i j k l m n o p q --brains a b")) 19
+unfolding kind_of choice_of is_among rest_after is_file_name is_dumps dumps_of number_of
+cup_seventeen_worlds = read-refuses (words_of (codes "cup --worlds a b c d e f g h i j k l m n o p q --brains a b")) 19 refl
+
+-- 17 brains
+pub cup_seventeen_brains : IsRefusedAt (words_of (codes "cup --worlds w --brains a b c d e f g h i j k l m n o p q")) 21
+unfolding kind_of choice_of is_among rest_after is_file_name is_dumps dumps_of number_of
+cup_seventeen_brains = read-refuses (words_of (codes "cup --worlds w --brains a b c d e f g h i j k l m n o p q")) 21 refl
+
+-- no name may follow the options
+pub cup_name_after_options : IsRefusedAt (words_of (codes "cup --worlds w --brains a b --seed 1 c")) 9
+unfolding kind_of choice_of is_among rest_after is_file_name is_dumps dumps_of number_of
+cup_name_after_options = read-refuses (words_of (codes "cup --worlds w --brains a b --seed 1 c")) 9 refl
+
+-- `cup` takes no window
+pub cup_takes_no_window : IsRefusedAt (words_of (codes "cup --worlds w --brains a b --window 1")) 7
+unfolding kind_of choice_of is_among rest_after is_file_name is_dumps dumps_of number_of
+cup_takes_no_window = read-refuses (words_of (codes "cup --worlds w --brains a b --window 1")) 7 refl
+
+-- `cup` takes no rules
+pub cup_takes_no_rules : IsRefusedAt (words_of (codes "cup --worlds w --brains a b --surround 5")) 7
+unfolding kind_of choice_of is_among rest_after is_file_name is_dumps dumps_of number_of
+cup_takes_no_rules = read-refuses (words_of (codes "cup --worlds w --brains a b --surround 5")) 7 refl
+
+-- no worker of a workload
+pub workload_workers : IsRefusedAt (words_of (codes "workload 1 2 0")) 4
+unfolding kind_of choice_of is_among rest_after is_file_name is_dumps dumps_of number_of
+workload_workers = read-refuses (words_of (codes "workload 1 2 0")) 4 refl
+
+-- `workload` takes no option
+pub workload_takes_no_option : IsRefusedAt (words_of (codes "workload 1 2 3 --stats")) 5
+unfolding kind_of choice_of is_among rest_after is_file_name is_dumps dumps_of number_of
+workload_takes_no_option = read-refuses (words_of (codes "workload 1 2 3 --stats")) 5 refl

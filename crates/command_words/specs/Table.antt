@@ -14,7 +14,7 @@ use Rattle.command_words.specs.declared.table.Choice.TheVariants.{Seed, Rounds, 
 
 -- all commands that are known
 abbrev pub kinds : List CommandKind
-kinds = Show ∷ Brain ∷ Minimise ∷ Run ∷ Gen ∷ []
+kinds = Show ∷ Brain ∷ Minimise ∷ Run ∷ Gen ∷ Cup ∷ View ∷ Workload ∷ []
 
 -- a command's first word
 abbrev pub word_of : CommandKind → List ℕ

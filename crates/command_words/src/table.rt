@@ -95,6 +95,9 @@ pub(crate) fn kinds() -> &'static [CommandKind]
         CommandKind::Minimise,
         CommandKind::Run,
         CommandKind::Gen,
+        CommandKind::Cup,
+        CommandKind::View,
+        CommandKind::Workload,
     ]
 }
 

@@ -8,6 +8,8 @@
 //! here but the list of a ball takes memory.
 //!
 //! It stands on no other crate.
+//!
+//! What names no section of the contest's task is this project's own.
 #![tactic(auto)]
 
 mod balls;

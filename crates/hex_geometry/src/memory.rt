@@ -3,7 +3,7 @@ use std::alloc::{AllocError, AllocFailed};
 use std::error::Error;
 use std::fmt;
 
-/// Memory could not be had. What the refused call was lent is as before, but where its entry says otherwise (this project's own).
+/// Memory could not be had. What the refused call was lent is as before, but where its entry says otherwise.
 #[derive(Clone, Copy, Debug, PartialEq, Eq)]
 pub struct OutOfMemory;
 

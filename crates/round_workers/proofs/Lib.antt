@@ -1,2 +1,13 @@
+pub mod BoardBook
+pub mod BoardClosing
+pub mod BoardCrewing
+pub mod BoardKeeps
+pub mod BoardLooks
+pub mod BoardMoves
+pub mod BoardSeating
+pub mod BoardSteps
+pub mod BoardTickets
+pub mod BoardTotalLemmas
+pub mod BoardWorking
 pub mod PieceLemmas
 pub mod ShareLemmas

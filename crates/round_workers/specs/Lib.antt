@@ -1,2 +1,10 @@
+pub mod BoardCrew
+pub mod BoardPlaces
+pub mod BoardPlays
+pub mod BoardRule
+pub mod BoardSeats
+pub mod BoardTotals
+pub mod BoardView
+pub mod BoardWorker
 pub mod Crews
 pub mod Inner

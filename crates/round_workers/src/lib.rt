@@ -1,17 +1,20 @@
 //! Crews of workers: the looks of a window are made at the same time, and settled in order.
 //!
 //! A [`PieceCrew`] shares the turns of a window out in contiguous pieces, one for each worker, and settles the looks on the caller's thread
-//! once all are made. Whoever makes which look when, a window leads where its turns lead one after another, with the same counts: that is
+//! once all are made. The workers of a [`BoardCrew`] draw the turns one by one from a [`Board`], put their looks into it, and pass the book of
+//! the window to each other: whoever has it settles the looks that are there. Whoever makes which look when, a window leads where its turns lead one after another, with the same counts: that is
 //! what the clauses of `window` say, and it comes of `round_book`, which settles a window, and of `spec_record`, which makes looks. A worker
 //! calls a [`ant_base::Gate`] before each look that it makes. No clause says that two looks were made at the same time. This is this
 //! project's own.
 #![tactic(auto)]
 
+mod board;
 mod fork;
 mod piece;
 mod piece_crew;
 mod settling;
 mod share;
 
+pub use board::{Basis, Board, BoardCrew, Closed, Phase, Place, Seat, Try, View, Worker};
 pub use hex_geometry::OutOfMemory;
 pub use piece_crew::PieceCrew;

@@ -1,6 +1,7 @@
 pub mod Bounds
 pub mod CheckSteps
 pub mod Claiming
+pub mod EdgesWorked
 pub mod Emptying
 pub mod Flipping
 pub mod Flips

@@ -1,11 +1,12 @@
--- Two players on one world: a has the number 0 and b the number 1. The game with b as red ends 3 to 0, the other one 0 to 0.
-use Rattle.std.proofs.Common.{◌≡◌, ℕ, zero, suc, ◌==◌, [], ◌∷◌, map, codes, cond, refl, sym, subst, arith, IsPermutation}
+-- Cups, worked out. Two players on one world: a has the number 0 and b the number 1. The game with b as red ends 3 to 0, the other one 0 to 0.
+use Rattle.std.proofs.Common.{◌≡◌, ℕ, zero, suc, true, false, ◌==◌, [], ◌∷◌, map, codes, cond, refl, sym, subst, arith, IsPermutation}
 use Rattle.std.specs.Fmt.{digits}
 use Rattle.std.specs.List.{AllAdjacentBelow}
 use Rattle.std.proofs.lemmas.List.Sorted.{IsPermutation-append_comm}
 use Rattle.cell_world.specs.declared.score.Score.{Score}
 use Rattle.tournament.specs.declared.games.Game.{Game}
 use Rattle.tournament.specs.declared.standing.Line.{Line}
+use Rattle.tournament.specs.Names.{has_name}
 use Rattle.tournament.specs.Games.{below, above, games_with, games_on, games_of, all_played}
 use Rattle.tournament.specs.Standing.{line_of, StandsAbove, IsStandingOf}
 use Rattle.tournament.specs.Text.{line_text, standing_text, IsCupText}
@@ -56,3 +57,18 @@ text_is = refl
 -- the text of that cup
 pub worked : IsCupText (codes "a" ∷ codes "b" ∷ []) 2 1 score (codes "3 points: b (1 won, 1 drawn, 0 lost)\n1 points: a (0 won, 1 drawn, 1 lost)\n")
 worked = record { lines = line_b ∷ line_a ∷ []; standing = b_then_a; is = text_is }
+
+-- more points stand above, whoever won more games; equal points go by the players' numbers, and not by wins
+points_before_wins :
+    StandsAbove (record { player = 1; points = 3; won = 0; drawn = 3; lost = 0 }) (record { player = 0; points = 2; won = 1; drawn = 0; lost = 2 })
+    × StandsAbove (record { player = 0; points = 2; won = 0; drawn = 2; lost = 1 }) (record { player = 1; points = 2; won = 1; drawn = 0; lost = 2 })
+    × (StandsAbove (record { player = 1; points = 2; won = 1; drawn = 0; lost = 2 }) (record { player = 0; points = 2; won = 0; drawn = 2; lost = 1 }) → ⊥)
+points_before_wins = (
+  record { points = omega arith; ties = λ (e : 3 ≡ 2). absurd (omega arith) },
+  record { points = omega arith; ties = λ _. omega arith },
+  λ above. omega (arith, above.ties refl),
+)
+
+-- names are known byte for byte
+names_known : (has_name (codes "a" ∷ codes "ab" ∷ []) (codes "ab") ≡ true) × (has_name (codes "a" ∷ codes "ab" ∷ []) (codes "A") ≡ false) × (has_name (codes "ab" ∷ []) (codes "a") ≡ false)
+names_known = (refl, refl, refl)

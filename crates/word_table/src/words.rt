@@ -6,10 +6,10 @@ ghost use Rattle.word_table.specs.Words.{are_distinct, word_place, IsWordAt};
 use std::convert::AsStr;
 use std::marker::Model;
 
-/// A table of `N` words that differ in any ASCII case (this project's own).
+/// A table of `N` words that differ in any ASCII case.
 pub type WordTable<const N: usize> = Words<&'static str, N>;
 
-/// A table of `N` texts that differ in any ASCII case (this project's own). Contracts see it as the list of its texts.
+/// A table of `N` texts that differ in any ASCII case. Contracts see it as the list of its texts.
 #[derive(Drop)]
 pub struct Words<T: AsStr, const N: usize> {
     words: [T; N],
@@ -27,8 +27,8 @@ impl<T: AsStr, const N: usize> Model for Words<T, N> {
 }
 
 impl<T: AsStr, const N: usize> Words<T, N> {
-    /// The table of these words, in this order (this project's own). It takes no memory. Words that differ in ASCII case alone are refused
-    /// when the program is checked.
+    /// The table of these words, in this order. It takes no memory. Words that differ in ASCII case alone are refused when the program is
+    /// checked.
     pub fn new(words: [T; N]) -> Words<T, N>
         requires { IsTrue (are_distinct (map T.text words)) }
         ensures { result ≡ map T.text words }
@@ -36,18 +36,19 @@ impl<T: AsStr, const N: usize> Words<T, N> {
         Words { words }
     }
 
-    /// The place, counted from 0, of the word that the text is in some ASCII case; `None` exactly where it is no word (this project's own).
+    /// The place, counted from 0, of the word that the text is in some ASCII case; `None` exactly where it is no word.
     pub fn find(&self, text: &[u8]) -> Option<usize>
         ensures place { result ≡ word_place self.now text.now }
         ensures below { IfSome result (λ i. i < N) }
         ensures found { IfSome result (λ i. IsWordAt self.now i text.now) }
         ensures only { (i : ℕ) → IsWordAt self.now i text.now → result ≡ Some i }
     {
+        // Reading the field makes known here what it keeps: its words are pairwise different.
         let _table = &self.words;
         self.place(text)
     }
 
-    /// The word at a place, counted from 0 and below `N`, as it was spelled (this project's own).
+    /// The word at a place, counted from 0 and below `N`, as it was spelled.
     pub fn word(&self, i: usize) -> &str
         requires { i < N }
         ensures { slice_get self.now i ≡ Some result.now }
@@ -68,7 +69,7 @@ impl<T: AsStr, const N: usize> Words<T, N> {
     }
 }
 
-/// A law: in a table whose words differ in any ASCII case, a word is found at the place where it stands (this project's own).
+/// A law: in a table whose words differ in any ASCII case, a word is found at the place where it stands.
 pub fn word_is_found()
     ensures { (words : List (List ℕ)) (i : ℕ) (word : List ℕ) → IsTrue (are_distinct words)
         → slice_get words i ≡ Some word → word_place words word ≡ Some i }

@@ -92,7 +92,8 @@ HasNone fits seed width height element g = IsBarred fits seed width height (begu
 abbrev pub Follow : ℕ → Shape → List Spot → ℕ → List Spot → ℕ → Type 0
 Follow seed shape placed g [] after = g ≡ after
 Follow seed shape placed g (spot ∷ rest) after =
-    (next : ℕ) × Goes (Fits shape.width shape.height placed) seed shape.width shape.height (element_of shape (length placed)) g spot next × Follow seed shape (placed ++ spot ∷ []) next rest after
+    (next : ℕ) × Goes (Fits shape.width shape.height placed) seed shape.width shape.height (element_of shape (length placed)) g spot next
+    × Follow seed shape (placed ++ spot ∷ []) next rest after
 
 -- all elements are placed so, one after another
 pub record IsPlacing (seed : ℕ) (shape : Shape) (placed : List Spot) : Type 0 where

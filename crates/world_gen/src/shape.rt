@@ -5,7 +5,7 @@ ghost use Rattle.world_gen.specs.Elements.{count_of, element_of};
 use crate::element::Element;
 use cell_world::Colour;
 
-/// The sizes of a generated world, and how many rocks and blobs of food it has beside its two hills (this project's own).
+/// The sizes of a generated world, and how many rocks and blobs of food it has beside its two hills.
 #[derive(Clone, Copy, Debug, PartialEq, Eq)]
 pub struct Shape {
     /// How many columns there are, from 3 to 512.

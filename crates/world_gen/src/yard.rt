@@ -1,5 +1,6 @@
 // A world in the making: what each cell is, and where nothing may be placed.
 ghost use Rattle.cell_world.specs.Grid.{index_of};
+ghost use Rattle.cell_world.specs.Limits.{most_size};
 ghost use Rattle.cell_world.specs.World.{pos_at};
 ghost use Rattle.hex_geometry.specs.Position.{IsInner};
 ghost use Rattle.std.specs.Prelude.{◌≡◌, ◌+◌, ◌*◌, ◌++◌, ◌∷◌, [], ◌<◌, ◌≤◌, true, Contains, IfOk, OnOk, length, slice_set};
@@ -24,8 +25,8 @@ impl Yard {
     // A yard of these sizes without elements.
     pub fn bare(alloc: Global, width: u16, height: u16) -> Result<Yard, OutOfMemory>
         requires wide { 1 ≤ width }
-        requires narrow { width ≤ 512 }
-        requires low { height ≤ 512 }
+        requires narrow { width ≤ most_size }
+        requires low { height ≤ most_size }
         ensures width { IfOk result (λ yard. yard.width ≡ width) }
         ensures height { IfOk result (λ yard. yard.height ≡ height) }
         ensures blocked { IfOk result (λ yard. yard.blocked.items ≡ bare_blocked width height (width * height)) }
@@ -72,8 +73,8 @@ impl Yard {
     pub fn stamp_all(&mut self, cells: &[Pos], kind: Kind)
         requires blocked { length self.old.blocked.items ≡ self.old.width * self.old.height }
         requires kinds { length self.old.kinds.items ≡ self.old.width * self.old.height }
-        requires narrow { self.old.width ≤ 512 }
-        requires low { self.old.height ≤ 512 }
+        requires narrow { self.old.width ≤ most_size }
+        requires low { self.old.height ≤ most_size }
         requires inner { (p : Pos) → Contains cells.now p → IsInner self.old.width self.old.height p }
         ensures width { self.new.width ≡ self.old.width }
         ensures height { self.new.height ≡ self.old.height }
@@ -131,8 +132,8 @@ fn block(blocked: &mut [bool], width: u16, p: Pos)
 // Blocks a cell that isn't on the rim, and its neighbours.
 fn block_round(blocked: &mut [bool], width: u16, height: u16, p: Pos)
     requires full { length blocked.old ≡ width * height }
-    requires narrow { width ≤ 512 }
-    requires low { height ≤ 512 }
+    requires narrow { width ≤ most_size }
+    requires low { height ≤ most_size }
     requires inner { IsInner width height p }
     ensures { Sets width height true (IsRound p) blocked.old blocked.new }
 {

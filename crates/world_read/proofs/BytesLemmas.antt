@@ -4,7 +4,8 @@ use Rattle.std.proofs.lemmas.Bool.{and_parts, cond_both, eqb-true, leb-true, le-
 use Rattle.cell_world.specs.declared.kind.Kind.{Kind}
 use Rattle.cell_world.specs.declared.kind.Kind.TheVariants.{Rock, Clear, RedHill, BlackHill, Food}
 use Rattle.cell_world.specs.Opening.{IsFed}
-use Rattle.world_read.specs.Bytes.{byte_of, kind_of}
+use Rattle.world_read.specs.Bytes.{byte_of}
+use Rattle.world_read.specs.Inner.Reading.{kind_of}
 
 -- a byte is that of this kind, whose food is in range
 pub record Spells (byte : ℕ) (kind : Kind) : Type 0 where

@@ -14,7 +14,8 @@ use Rattle.cell_world.specs.Opening.{IsFed, hill_count, kind_at}
 use Rattle.cell_world.proofs.GridLemmas.{index_of-pos_at, pos_at-index_of}
 use Rattle.world_read.specs.declared.fault.WorldFault.{WorldFault}
 use Rattle.world_read.specs.declared.fault.WorldFault.TheVariants.{BadWidth, BadHeight, MissingRow, BadCell, ShortRow, LongRow, ExtraRow, OpenRim, TooManyAnts, OutOfMemory}
-use Rattle.world_read.specs.Bytes.{byte_of, kind_of, spelled}
+use Rattle.world_read.specs.Bytes.{byte_of, spelled}
+use Rattle.world_read.specs.Inner.Reading.{kind_of}
 use Rattle.world_read.specs.Faulty.{BeginsWith, BeginsWithNoSize, HasRows, HasRowFault, HasSize, IsCellFault, HasWholeRows, IsNoCell, IsRowFault, IsWorldFault}
 use Rattle.world_read.specs.Grammar.{AreRows}
 use Rattle.world_read.specs.Inner.Reading.{Rows, after_height, after_width, cell_of, ended, first_size, is_open_at, limited, open_rim, plan_of, row_from, row_of, rows_from, with_cell, with_row}

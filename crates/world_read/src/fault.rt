@@ -4,7 +4,7 @@ ghost use Rattle.std.specs.Prelude.{◌≡◌};
 use hex_geometry::OutOfMemory;
 use std::alloc::{AllocError, AllocFailed};
 
-/// Why a text was not read as a world, the first in this order (this project's own). Rows and columns are counted from 0.
+/// Why a text was not read as a world, the first in this order. Rows and columns are counted from 0.
 #[derive(Clone, Copy, Debug, PartialEq, Eq)]
 pub enum WorldFault {
     /// There is no first line, or it isn't a number from 3 to 512.

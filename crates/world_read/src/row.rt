@@ -1,6 +1,6 @@
 // One row of a world text.
 ghost use Rattle.std.specs.Prelude.{◌≡◌};
-ghost use Rattle.world_read.specs.Bytes.{kind_of};
+ghost use Rattle.world_read.specs.Inner.Reading.{kind_of};
 ghost use Rattle.world_read.specs.Inner.Reading.{ReadsAs, cell_of, leaving, onto_row, row_of};
 
 use crate::fault::WorldFault;

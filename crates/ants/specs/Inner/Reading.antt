@@ -8,10 +8,12 @@ use Rattle.ant_base.specs.declared.shelf.FetchFault.{FetchFault}
 use Rattle.ant_base.specs.declared.shelf.FetchFault.TheVariants as answer
 use Rattle.brain_read.specs.declared.fault.BrainFault.{BrainFault}
 use Rattle.brain_read.specs.declared.fault.BrainFault.TheVariants as brain
+use Rattle.break_view.specs.declared.fault.BreakFault.{BreakFault}
+use Rattle.break_view.specs.declared.fault.BreakFault.TheVariants as breaks
 use Rattle.command_words.specs.Command.{PlainCommand}
 use Rattle.world_read.specs.declared.fault.WorldFault.{WorldFault}
 use Rattle.world_read.specs.declared.fault.WorldFault.TheVariants as world
-use Rattle.ants.specs.declared.stop.FileFault.TheVariants.{TooLong, World, Brain}
+use Rattle.ants.specs.declared.stop.FileFault.TheVariants.{TooLong, World, Brain, Breaks}
 use Rattle.ants.specs.declared.stop.Stop.{Stop}
 use Rattle.ants.specs.Files.{File, FileKind, Content, AreAccepted, AreBegun, Reads, Refuses, StopsAt}
 use Rattle.ants.specs.Judged.{IsRefusedAs}
@@ -70,6 +72,11 @@ world_reason name fault = AtInput name (World fault)
 abbrev pub brain_reason : List ℕ → BrainFault → Reason
 brain_reason name brain.OutOfMemory = AtMemory
 brain_reason name fault = AtInput name (Brain fault)
+
+-- why a command stops at the text of breaks
+abbrev pub break_reason : List ℕ → BreakFault → Reason
+break_reason name breaks.OutOfMemory = AtMemory
+break_reason name fault = AtInput name (Breaks fault)
 
 -- why the reading of the bytes of a file of this kind and name stopped
 abbrev pub TextStops : FileKind → List ℕ → List ℕ → Reason → Type 0

@@ -1,5 +1,5 @@
 // Games that are played by crews, round by round.
-ghost use Rattle.std.specs.Prelude.{◌≡◌, ◌≤◌, true, length, IfOk};
+ghost use Rattle.std.specs.Prelude.{◌≡◌, ◌≤◌, true, IfOk, length};
 ghost use Rattle.ant_base.specs.Shelf.{longest};
 
 use crate::tests::CLOSING;
@@ -55,7 +55,7 @@ pub fn brain_of<R: Abort>(rt: &R, alloc: Global, text: &str) -> Result<Brain, Fa
     Ok(read_brain(alloc, bytes)?)
 }
 
-// A whole field on the world of a text, at the start of a seed's random numbers.
+// A whole field with the world of a text, at the start of a seed's random numbers.
 pub fn field_on<'b>(
     alloc: Global,
     text: &[u8],
@@ -69,20 +69,6 @@ pub fn field_on<'b>(
     let _red_states = brains.red.len();
     let _black_states = brains.black.len();
     Ok(Field::new(alloc, world, brains, seed, 0)?)
-}
-
-// A game that begins so.
-fn game_on<'b>(
-    alloc: Global,
-    text: &[u8],
-    brains: Brains<'b>,
-    seed: u32,
-    window: u32,
-) -> Result<Game<'b>, Fail>
-    requires short { length text.now ≤ longest }
-    requires sized { 1 ≤ window }
-{
-    Ok(Game::begin(field_on(alloc, text, brains, seed)?, window))
 }
 
 // Asserts what came of the turns of a game so far, and how many rounds are done.
@@ -107,7 +93,7 @@ fn a_game_is_played_by_any_crew(rt: HostRuntime) -> Result<(), Fail> {
     };
     let bytes = CLOSING.as_bytes();
     assert!(rt; bytes.len() <= MOST_BYTES);
-    let mut game = game_on(rt.alloc(), bytes, brains, 12345, 3)?;
+    let mut game = Game::begin(field_on(rt.alloc(), bytes, brains, 12345)?, 3);
     let mut crew = SoloCrew::new();
     assert!(rt; game.done() < 1_000_000);
     game.round(rt.alloc(), &mut crew)?;
@@ -135,7 +121,7 @@ fn a_round_that_was_refused_goes_on(rt: HostRuntime) -> Result<(), Fail> {
     };
     let bytes = CLOSING.as_bytes();
     assert!(rt; bytes.len() <= MOST_BYTES);
-    let mut game = game_on(rt.alloc(), bytes, brains, 12345, 3)?;
+    let mut game = Game::begin(field_on(rt.alloc(), bytes, brains, 12345)?, 3);
     let mut crew = Refusing {
         crew: SoloCrew::new(),
         calls: 0,

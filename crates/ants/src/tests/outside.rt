@@ -95,7 +95,29 @@ fn each_file_is_fetched_once_in_the_order_of_its_word(rt: HostRuntime) -> Result
     check_fetches(&rt, rt.alloc(), twice, &lines, UNPLAYED)?;
     let brain = UNPLAYED_GAME.with(Given::Line, "brain b");
     let lines = ["ants: b: not read\n"];
-    check_fetches(&rt, rt.alloc(), brain, &lines, "Move 0 0\n")
+    check_fetches(&rt, rt.alloc(), brain, &lines, "Move 0 0\n")?;
+    let view = UNPLAYED_GAME.with(Given::Line, "view w r b k --seed 7 --rounds 0");
+    let lines = [
+        "ants: w: not read\n",
+        "ants: r: not read\n",
+        "ants: b: not read\n",
+        "ants: k: not read\n",
+    ];
+    let text = "random seed: 7\nno stop in 0 rounds\n";
+    check_fetches(&rt, rt.alloc(), view, &lines, text)?;
+    let cup = UNPLAYED_GAME.with(
+        Given::Line,
+        "cup --worlds w - w --brains b r --seed 7 --rounds 0",
+    );
+    let lines = [
+        "ants: w: not read\n",
+        "ants: -: not read\n",
+        "ants: w: not read\n",
+        "ants: b: not read\n",
+        "ants: r: not read\n",
+    ];
+    let text = "6 points: b (0 won, 6 drawn, 0 lost)\n6 points: r (0 won, 6 drawn, 0 lost)\n";
+    check_fetches(&rt, rt.alloc(), cup, &lines, text)
 }
 
 #[test]

@@ -4,7 +4,7 @@ use crate::tests::{CLOSED, Given, Job, NO_JOB, check_rows};
 use std::test::Fail;
 
 // Words, and the line that names the first one with which no command begins.
-const REFUSED: [(&str, &str); 46] = [
+const REFUSED: [(&str, &str); 66] = [
     ("", "ants: word 1 refused\n"),
     ("jump", "ants: word 1 refused\n"),
     ("Show w 1", "ants: word 1 refused\n"),
@@ -66,6 +66,38 @@ const REFUSED: [(&str, &str); 46] = [
     ("gen", "ants: word 2 refused\n"),
     ("minimise", "ants: word 2 refused\n"),
     ("minimise b b", "ants: word 3 refused\n"),
+    ("cup", "ants: word 2 refused\n"),
+    ("cup w --brains r b", "ants: word 2 refused\n"),
+    ("cup --brains r b --worlds w", "ants: word 2 refused\n"),
+    ("cup --worlds --brains r b", "ants: word 3 refused\n"),
+    ("cup --worlds w", "ants: word 4 refused\n"),
+    ("cup --worlds w --brains r", "ants: word 6 refused\n"),
+    ("cup --worlds w --brains r r", "ants: word 6 refused\n"),
+    ("cup --worlds w --brains r b r", "ants: word 7 refused\n"),
+    (
+        "cup --worlds w --brains r b --window 1",
+        "ants: word 7 refused\n",
+    ),
+    (
+        "cup --worlds w --brains r b --workers 17",
+        "ants: word 8 refused\n",
+    ),
+    (
+        "cup --worlds a b c d e f g h i j k l m n o p q --brains r b",
+        "ants: word 19 refused\n",
+    ),
+    (
+        "cup --worlds w --brains a b c d e f g h i j k l m n o p q",
+        "ants: word 21 refused\n",
+    ),
+    ("view w r b --seed 1", "ants: word 5 refused\n"),
+    ("view w r b k --rounds 1", "ants: word 8 refused\n"),
+    ("view w r b k --surround 5", "ants: word 6 refused\n"),
+    ("workload", "ants: word 2 refused\n"),
+    ("workload 1 1000001 1", "ants: word 3 refused\n"),
+    ("workload 1 2", "ants: word 4 refused\n"),
+    ("workload 1 2 17", "ants: word 4 refused\n"),
+    ("workload 1 2 3 --stats", "ants: word 5 refused\n"),
 ];
 
 #[test]

@@ -29,4 +29,5 @@ slack state (class ∷ classes) = state - class + slack (state + 1) classes
 -- class which doesn't
 pub data IsNewClass (brain : List Instr) (classes : List ℕ) (heirs : List (Option ℕ)) (state class : ℕ) : Type 0 where
   Stays : DoAlike brain classes state (slice_index classes state) → class ≡ slice_index classes state → IsNewClass brain classes heirs state class
-  Parts : (DoAlike brain classes state (slice_index classes state) → ⊥) → slice_index_or heirs (slice_index classes state) None ≡ Some class → IsNewClass brain classes heirs state class
+  Parts : (DoAlike brain classes state (slice_index classes state) → ⊥) → slice_index_or heirs (slice_index classes state) None ≡ Some class
+      → IsNewClass brain classes heirs state class

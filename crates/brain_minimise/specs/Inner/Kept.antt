@@ -9,4 +9,5 @@ use Rattle.brain_minimise.specs.Minimised.{number_in}
 pub record AreKept (brain : List Instr) (numbers : List (Option ℕ)) (kept : List Instr) : Type 0 where
   pub few : length kept ≤ length brain
   pub below : (state number : ℕ) → number_in numbers state ≡ Some number → number < length kept
-  pub from : (number : ℕ) → number < length kept → (state : ℕ) × (number_in numbers state ≡ Some number) × (slice_get kept number ≡ Some (redirected (number_of (number_in numbers)) (instruction_at brain state)))
+  pub from : (number : ℕ) → number < length kept → (state : ℕ) × (number_in numbers state ≡ Some number)
+      × (slice_get kept number ≡ Some (redirected (number_of (number_in numbers)) (instruction_at brain state)))

@@ -6,7 +6,8 @@ use Rattle.brain_minimise.specs.Minimised.{number_in}
 
 -- before a state of some number there is one of each lower number
 abbrev pub IsRising : List (Option ℕ) → Type 0
-IsRising numbers = (state number lower : ℕ) → number_in numbers state ≡ Some number → lower < number → (earlier : ℕ) × (earlier < state) × (number_in numbers earlier ≡ Some lower)
+IsRising numbers = (state number lower : ℕ) → number_in numbers state ≡ Some number → lower < number
+    → (earlier : ℕ) × (earlier < state) × (number_in numbers earlier ≡ Some lower)
 
 -- the seen states have numbers: one for each class, and each number appears after all lower ones
 pub record AreNumbers (classes : List ℕ) (seen : List Bool) (numbers : List (Option ℕ)) : Type 0 where

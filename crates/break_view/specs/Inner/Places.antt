@@ -1,8 +1,17 @@
--- What stands at each place of the tables of words.
-use Rattle.std.specs.Prelude.{ℕ, if◌then◌else◌, ◌==◌}
+-- The tables of words, and what stands at each place of them.
+use Rattle.std.specs.Prelude.{ℕ, if◌then◌else◌, ◌==◌, List, map}
 use Rattle.cell_world.specs.declared.ant.Colour.{Colour}
 use Rattle.cell_world.specs.declared.ant.Colour.TheVariants.{Red, Black}
 use Rattle.break_view.specs.declared.words.BreakWord.{BreakWord}
+use Rattle.break_view.specs.Forms.{word_of_break, word_of_colour, break_kinds, colours}
+
+-- the table of the words that begin a break
+unfoldable pub break_words : List (List ℕ)
+break_words = map word_of_break break_kinds
+
+-- the table of the words of colours
+unfoldable pub colour_words : List (List ℕ)
+colour_words = map word_of_colour colours
 
 -- what the word at a place of its table begins
 abbrev pub break_at : ℕ → BreakWord

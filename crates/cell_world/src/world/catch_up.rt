@@ -13,8 +13,8 @@ use crate::world::World;
 use hex_geometry::Pos;
 
 impl World {
-    /// Makes the world equal to `other`, from which it differs at none but these positions (this project's own). The two are of one size and
-    /// number of ids, and the positions are inside. The work is that of these positions alone.
+    /// Makes the world equal to `other`, from which it differs at none but these positions. The two are of one size and number of ids, and
+    /// the positions are inside. The work is that of these positions alone.
     pub fn catch_up(&mut self, other: &World, places: &[Pos])
         requires width { self.old.width ≡ other.now.width }
         requires height { self.old.height ≡ other.now.height }

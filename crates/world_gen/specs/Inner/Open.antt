@@ -1,6 +1,7 @@
 -- Which cells are open: not on the rim, and touched by no element so far.
 use Rattle.std.specs.Prelude.{◌≡◌, ℕ, zero, suc, ◌+◌, ◌-◌, ◌*◌, ◌<◌, ◌≤◌, [], ◌∷◌, ◌++◌, Bool, true, false, not, ◌&&◌, nat_lt, List, length, slice_index_or, Contains}
 use Rattle.cell_world.specs.Grid.{index_of}
+use Rattle.cell_world.specs.Limits.{most_size}
 use Rattle.hex_geometry.specs.Direction.{turned_by}
 use Rattle.hex_geometry.specs.Distance.{IsInBall}
 use Rattle.hex_geometry.specs.Neighbourhood.{adjacent_pos}
@@ -19,8 +20,8 @@ is_open width height blocked p = nat_lt p.x width && (nat_lt p.y height && not (
 -- one entry a cell, and the rim is blocked
 pub record IsFenced (width height : ℕ) (blocked : List Bool) : Type 0 where
   pub full : length blocked ≡ width * height
-  pub narrow : width ≤ 512
-  pub low : height ≤ 512
+  pub narrow : width ≤ most_size
+  pub low : height ≤ most_size
   pub rim : (p : Pos) → is_open width height blocked p ≡ true → IsInner width height p
 
 -- a place that is an open position

@@ -1,20 +1,31 @@
 -- What each text is read as: its world's kinds, or its first fault. These functions take a text as the code does; proofs/TextReads,
 -- FaultReads and WrongReads show that a text is read as a world exactly where it is that world's text by Grammar, and as a fault exactly
 -- where that is wrong with it by Faulty.
-use Rattle.std.specs.Prelude.{◌≡◌, ◌≤◌, ℕ, ◌+◌, ◌*◌, zero, suc, Bool, not, ◌&&◌, ◌||◌, List, [], ◌∷◌, ◌++◌, Option, Some, None, Result, Ok, Err, ok_or, drop, nat_le, nat_lt, ◌==◌, if◌then◌else◌}
+use Rattle.std.specs.Prelude.{◌≡◌, ◌≤◌, ℕ, ◌+◌, ◌-◌, ◌*◌, zero, suc, Bool, not, ◌&&◌, ◌||◌, List, [], ◌∷◌, ◌++◌, Option, Some, None, Result, Ok, Err, ok_or, drop, nat_le, nat_lt, ◌==◌, if◌then◌else◌}
 use Rattle.std.specs.List.{list_all}
 use Rattle.ant_base.specs.Lines.{lines_of, trimmed, is_blank}
 use Rattle.ant_base.specs.Number.{number_within}
 use Rattle.hex_geometry.specs.declared.position.Pos.{Pos}
 use Rattle.cell_world.specs.declared.kind.Kind.{Kind}
+use Rattle.cell_world.specs.declared.kind.Kind.TheVariants.{Rock, Clear, RedHill, BlackHill, Food}
 use Rattle.cell_world.specs.Grid.{Grid}
 use Rattle.cell_world.specs.Limits.{least_size, most_size, most_ants}
 use Rattle.cell_world.specs.Opening.{hill_count, is_rock, kind_at, opening}
 use Rattle.cell_world.specs.World.{first_of}
 use Rattle.world_read.specs.declared.fault.WorldFault.{WorldFault}
 use Rattle.world_read.specs.declared.fault.WorldFault.TheVariants.{BadWidth, BadHeight, MissingRow, BadCell, ShortRow, LongRow, ExtraRow, OpenRim, TooManyAnts, OutOfMemory}
-use Rattle.world_read.specs.Bytes.{kind_of, spelled}
+use Rattle.world_read.specs.Bytes.{spelled}
 use Rattle.world_read.specs.Grammar.{Plan}
+
+-- the kind that a byte stands for, if it stands for one
+abbrev pub kind_of : ℕ → Option Kind
+kind_of byte =
+    if byte == 35 then Some Rock
+    else if byte == 46 then Some Clear
+    else if byte == 43 then Some RedHill
+    else if byte == 45 then Some BlackHill
+    else if nat_le 49 byte && nat_le byte 57 then Some (Food (byte - 48))
+    else None
 
 -- the size that a line gives
 abbrev pub size_of : List ℕ → Option ℕ

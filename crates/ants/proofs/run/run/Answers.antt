@@ -1,8 +1,7 @@
 -- the files were accepted, and their game was played
-use Rattle.std.proofs.Common.{◌≡◌, ℕ, ◌∷◌, [], List, refl, sym, subst}
+use Rattle.std.proofs.Common.{refl, subst}
 use Rattle.ant_base.specs.Sink.{PushedAll}
 use Rattle.ant_turn.specs.Sheet.{sheet_of}
-use Rattle.cell_world.specs.Grid.{world_of}
 use Rattle.command_words.specs.Command.PlainCommand.{RunCommand}
 use Rattle.match_run.specs.Play.{StoppedBy}
 use Rattle.ants.specs.Inner.Planning.{setting_contents}
@@ -22,7 +21,7 @@ returns-in_err-play_setting g c = λ setup plans same.
     carries_fault (RunCommand c.args.names.world.now c.args.names.red.now c.args.names.black.now setup) (g.S.Shelf.state c.args.shelf.now) (g.S.Shelf.state c.setting_of.new.shelf) (g.K.Sink.state c.args.out.now) (g.K.Sink.state c.play_setting.new.out) (setting_contents c.in_ok-setting.setting)
     c.from_residual-in_err-play_setting.result c.in_err-play_setting.field-0.0 c.from_residual-in_err-play_setting.ensures.1 c.in_ok-setting.ensures
     (match_output setup (WorldContent c.in_ok-setting.setting.world) (BrainContent c.in_ok-setting.setting.red) (BrainContent c.in_ok-setting.setting.black)) refl
-    (subst (λ text. StoppedBy (g.K.Sink.state c.args.out.now) (g.K.Sink.state c.play_setting.new.out) text c.in_err-play_setting.field-0.0) (output_planned setup c.args.plan.now c.args.sheet c.in_ok-setting.setting.world c.in_ok-setting.setting.red c.in_ok-setting.setting.black plans same) c.in_err-play_setting.ensures)
+    (subst (λ text. StoppedBy (g.K.Sink.state c.args.out.now) (g.K.Sink.state c.play_setting.new.out) text c.in_err-play_setting.field-0.0) (output_planned setup c.args.plan.now c.args.sheet c.in_ok-setting.setting.world c.in_ok-setting.setting.red c.in_ok-setting.setting.black plans same) c.in_err-play_setting.ensures) tt
 
 pub returns : goal.returns
 returns g c = λ setup plans same.

@@ -1,10 +1,8 @@
 -- the world's tiles and bodies are brought up to the other's
 use Rattle.std.proofs.Common.{refl, sym, ◌∙◌, subst}
-use Rattle.cell_world.specs.declared.world.World.TheInside.{Inside}
 use Rattle.cell_world.specs.Grid.{Grid}
-use Rattle.cell_world.specs.Inner.Inside.{grid_of}
 use Rattle.hex_geometry.specs.Position.{IsInside}
-use Rattle.cell_world.proofs.CatchingLemmas.{Pair, Pair-of, pair-early, pair-grid, pair-kept, pair-long, pair-start}
+use Rattle.cell_world.proofs.CatchingLemmas.{Pair-of, pair-early, pair-grid, pair-kept, pair-long, pair-start}
 use Rattle.cell_world.proofs.world.World.catch_up.Goals as goal
 
 pub follow-requires-clause-all_tiles : goal.follow-requires-clause-all_tiles

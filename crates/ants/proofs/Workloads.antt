@@ -1,0 +1,47 @@
+-- What came of a game of a workload.
+use Rattle.std.proofs.Common.{◌≡◌, ℕ, List, refl, sym, ◌∙◌, ap, ap₂, subst}
+use Rattle.ant_turn.specs.Minds.{Minds}
+use Rattle.ant_turn.specs.Sheet.{Sheet, contest}
+use Rattle.brain_read.specs.declared.instr.Instr.{Instr}
+use Rattle.ant_turn.specs.Rounds.{start_of}
+use Rattle.cell_world.specs.Grid.{world_of}
+use Rattle.cell_world.specs.Score.{alive_of, score_of}
+use Rattle.cell_world.specs.World.{World}
+use Rattle.cell_world.specs.declared.ant.Colour.TheVariants.{Red, Black}
+use Rattle.command_words.specs.Table.{default_window}
+use Rattle.dump_print.specs.declared.totals.Totals.{Totals}
+use Rattle.match_run.proofs.PlayLemmas.{IsAtRound-none, IsAtRound-world}
+use Rattle.match_run.specs.Counts.{totals_of}
+use Rattle.match_run.specs.Game.{GameValue, beginning}
+use Rattle.match_run.specs.Inner.Rounds.{IsAtRound}
+use Rattle.match_run.specs.Run.{world_after}
+use Rattle.round_book.specs.Book.{FieldValue}
+use Rattle.world_gen.specs.Food.{food_on}
+use Rattle.ants.specs.declared.workload.Summary.{Summary}
+use Rattle.ants.specs.Jobs.{sample_minds, summary_of}
+use Rattle.ants.specs.Sample.{sample_brain}
+
+-- a game that begins on a field from the start of its random numbers has played no round
+pub begun : (field : FieldValue) (size : ℕ) (game : GameValue) → game ≡ beginning field size → field.place ≡ 0 → IsAtRound field.minds field.seed (world_of field.world) size 0 game
+begun field size game begins first =
+    subst (IsAtRound field.minds field.seed (world_of field.world) size 0) (sym begins) (IsAtRound-none (beginning field size) size refl first)
+
+-- two lent brains that are the sample brain, by the contest's rules
+pub sample_minds-of : (brain : List Instr) (sheet : Sheet) → brain ≡ sample_brain → sheet ≡ contest → ◌≡◌ {A = Minds} (record { red = brain; black = brain; sheet = sheet }) sample_minds
+sample_minds-of brain sheet same by_contest =
+    ap₂ (λ (b : List Instr) (s : Sheet). by_sheet b s) same by_contest
+  where
+    by_sheet : List Instr → Sheet → Minds
+    by_sheet b s = record { red = b; black = b; sheet = s }
+
+-- what is told of a game that ended in this world with these totals
+abbrev told : World → World → Totals → Summary
+told w end totals = record { ants = w.ids; food = food_on w; red = alive_of end Red; black = alive_of end Black; score = score_of end; totals = totals }
+
+-- what is told of a game after its rounds
+pub summary_of-played : (seed rounds : ℕ) (w : World) (minds : Minds) (game : GameValue) → minds ≡ sample_minds → IsAtRound minds seed w default_window rounds game
+    → record { ants = w.ids; food = food_on w; red = alive_of (world_of game.field.world) Red; black = alive_of (world_of game.field.world) Black; score = score_of (world_of game.field.world); totals = game.totals } ≡ summary_of seed rounds w
+unfolding summary_of
+summary_of-played seed rounds w minds game same at =
+    ap₂ (told w) (IsAtRound-world at) at.totals
+    ∙ ap (λ (m : Minds). told w (world_after m seed w rounds) (totals_of m seed default_window (start_of w) rounds)) same

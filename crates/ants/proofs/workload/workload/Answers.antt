@@ -1,0 +1,21 @@
+-- the world was generated, or why not; its game was played, and what came of it was written
+use Rattle.std.proofs.Common.{[], refl, ap}
+use Rattle.command_words.specs.Command.PlainCommand.{WorkloadCommand}
+use Rattle.ants.specs.Jobs.{contest_shape, workload_text}
+use Rattle.ants.proofs.Generated.{carries_ungenerated, fits_generated}
+use Rattle.ants.proofs.Readings.{carries_failure, reads_none}
+use Rattle.ants.proofs.workload.workload.Goals as goal
+
+pub returns-in_err-world : goal.returns-in_err-world
+returns-in_err-world g c = λ workers.
+    carries_ungenerated (WorkloadCommand c.args.seed c.args.rounds workers) c.args.seed contest_shape (g.S.Shelf.state c.args.shelf.now) (g.K.Sink.state c.args.out.now) c.from_residual.result c.in_err-world.field-0.0 refl (λ element lacks. lacks)
+    c.from_residual.ensures.1 c.in_err-world.ensures
+
+pub summary_of-requires-clause-fit : goal.summary_of-requires-clause-fit
+summary_of-requires-clause-fit g c = fits_generated c.args.seed contest_shape c.in_ok-world.world c.in_ok-world.ensures
+
+pub returns-in_err-push_summary : goal.returns-in_err-push_summary
+returns-in_err-push_summary g c = λ workers.
+    carries_failure (WorkloadCommand c.args.seed c.args.rounds workers) (g.S.Shelf.state c.args.shelf.now) (g.S.Shelf.state c.args.shelf.now) (g.K.Sink.state c.args.out.now) (g.K.Sink.state c.push_summary.new.out) []
+    c.from_residual-in_err-push_summary.result c.from_residual-in_err-push_summary.ensures.1 (reads_none (g.S.Shelf.state c.args.shelf.now)) (workload_text c.args.seed c.args.rounds c.in_ok-summary.summary)
+    (record { world = c.in_ok-world.world; generated = c.in_ok-world.ensures; told = ap (workload_text c.args.seed c.args.rounds) c.in_ok-summary.ensures }) c.in_err-push_summary.ensures

@@ -1,0 +1,111 @@
+// The command `cup`.
+use crate::status::Status;
+use crate::tests::{CLOSED, CLOSING, Given, Job, NO_JOB, check, check_rows};
+use std::test::Fail;
+
+// A world on which the player that draws numbers wins as red and draws as black against one that steps ahead: the worlds w and -. On the
+// world x no game brings food. Players a and b step ahead; c, d, -c and r draw numbers.
+const CUP: Job<'static> = Job {
+    world: CLOSING,
+    red: "Flip 2 0 0",
+    black: "Move 0 0",
+    more: &[
+        ("x", CLOSED),
+        ("a", "Move 0 0"),
+        ("c", "Flip 2 0 0"),
+        ("d", "Flip 2 0 0"),
+        ("-c", "Flip 2 0 0"),
+        ("none", ""),
+    ],
+    ..NO_JOB
+};
+
+// Words of cups, and their standings.
+const PLAYED: [(&str, &str); 9] = [
+    (
+        "cup --worlds w --brains a c --seed 12345 --rounds 1",
+        "3 points: c (1 won, 1 drawn, 0 lost)\n1 points: a (0 won, 1 drawn, 1 lost)\n",
+    ),
+    (
+        "cup --worlds w --brains a c --workers 2 --rounds 1 --seed 12345",
+        "3 points: c (1 won, 1 drawn, 0 lost)\n1 points: a (0 won, 1 drawn, 1 lost)\n",
+    ),
+    (
+        "cup --worlds w --brains c a --seed 12345 --workers 16 --rounds 1",
+        "3 points: c (1 won, 1 drawn, 0 lost)\n1 points: a (0 won, 1 drawn, 1 lost)\n",
+    ),
+    (
+        "cup --worlds w --brains a d c --seed 12345 --rounds 1",
+        "5 points: d (1 won, 3 drawn, 0 lost)\n5 points: c (1 won, 3 drawn, 0 lost)\n2 points: a (0 won, 2 drawn, 2 lost)\n",
+    ),
+    (
+        "cup --worlds w - w --brains a c --seed 12345 --rounds 1 --workers 3",
+        "9 points: c (3 won, 3 drawn, 0 lost)\n3 points: a (0 won, 3 drawn, 3 lost)\n",
+    ),
+    (
+        "cup --worlds x w --brains a -c --seed 12345 --rounds 1 --workers 4",
+        "5 points: -c (1 won, 3 drawn, 0 lost)\n3 points: a (0 won, 3 drawn, 1 lost)\n",
+    ),
+    (
+        "cup --worlds w x --brains -c a --seed 12345 --rounds 1",
+        "5 points: -c (1 won, 3 drawn, 0 lost)\n3 points: a (0 won, 3 drawn, 1 lost)\n",
+    ),
+    (
+        "cup --worlds w x --brains d a c --seed 12345 --rounds 0 --workers 16",
+        "8 points: d (0 won, 8 drawn, 0 lost)\n8 points: a (0 won, 8 drawn, 0 lost)\n8 points: c (0 won, 8 drawn, 0 lost)\n",
+    ),
+    (
+        "cup --worlds w --brains r b --seed 12345 --rounds 1",
+        "3 points: r (1 won, 1 drawn, 0 lost)\n1 points: b (0 won, 1 drawn, 1 lost)\n",
+    ),
+];
+
+// Words that name files that aren't there, or in which they don't find what they want, and the line that names the first of them.
+const REFUSED: [(&str, &str); 4] = [
+    (
+        "cup --worlds w a --brains x c --seed 1 --rounds 1",
+        "ants: a: bad width\n",
+    ),
+    (
+        "cup --worlds w --brains a none y --seed 1 --rounds 1",
+        "ants: none: no instruction\n",
+    ),
+    (
+        "cup --worlds w --brains a - --seed 1 --rounds 1",
+        "ants: -: line 1: unknown word\n",
+    ),
+    (
+        "cup --worlds a y --brains a c --seed 1 --rounds 1",
+        "ants: a: bad width\n",
+    ),
+];
+
+#[test]
+fn a_cup_prints_its_standing_with_any_number_of_workers(rt: HostRuntime) -> Result<(), Fail> {
+    check_rows(&rt, rt.alloc(), CUP, Given::Line, Status::Done, &PLAYED)?;
+    let dash = Job {
+        line: "cup --worlds f --brains b - --seed 12345 --rounds 1",
+        more: &[("f", CLOSING)],
+        world: "Flip 2 0 0",
+        ..CUP
+    };
+    let text = "3 points: - (1 won, 1 drawn, 0 lost)\n1 points: b (0 won, 1 drawn, 1 lost)\n";
+    check(&rt, rt.alloc(), &dash, Status::Done, text, "")
+}
+
+#[test]
+fn the_first_file_of_a_cup_that_is_at_fault_is_named(rt: HostRuntime) -> Result<(), Fail> {
+    check_rows(&rt, rt.alloc(), CUP, Given::Line, Status::Input, &REFUSED)?;
+    let job = CUP.with(
+        Given::Line,
+        "cup --worlds w y --brains none c --seed 1 --rounds 1",
+    );
+    check(
+        &rt,
+        rt.alloc(),
+        &job,
+        Status::Read,
+        "",
+        "ants: y: not read\n",
+    )
+}

@@ -1,0 +1,128 @@
+// A window of turns, settled by looks that were made at guesses.
+ghost use Rattle.std.specs.Prelude.{◌≡◌, ◌+◌, ◌-◌, ◌<◌, OnOk};
+ghost use Rattle.cell_world.specs.Grid.{world_of};
+ghost use Rattle.spec_record.specs.Guess.{guesses_of};
+ghost use Rattle.round_book.specs.Book.{CanBegin, IsSameWindow, StandsOn, window_of};
+ghost use Rattle.round_book.specs.Window.{look_for};
+
+use crate::tests::CLOSING;
+use crate::tests::games::{MOST_BYTES, brain_of, field_on};
+use ant_turn::{Brains, Sheet};
+use cell_world::Part;
+use hex_geometry::{OutOfMemory, Pos};
+use round_book::{Book, Cause, Counts, Field};
+use spec_record::{Look, guesses, look};
+use std::alloc::Global;
+use std::test::Fail;
+
+// Settles the next turn by the look at it, and executes it anew where the look doesn't hold; says why it doesn't.
+fn settle_next(book: &mut Book, field: &Field<'_>, look: Look) -> Option<Cause>
+    requires stands { StandsOn field.now book.old }
+    requires left { book.old.next < book.old.to }
+    requires look { look ≡ look_for (window_of field.now book.old.from book.old.to) book.old.next }
+    ensures stands { StandsOn field.now book.new }
+    ensures next { book.new.next ≡ book.old.next + 1 }
+    ensures same { IsSameWindow book.old book.new }
+{
+    match book.settle(look) {
+        None => None,
+        Some(cause) => {
+            book.redo(field.brains(), cause);
+            Some(cause)
+        }
+    }
+}
+
+// Settles all turns of a window by looks at these guesses, and lists what became of each.
+fn settle_window(
+    book: &mut Book,
+    field: &Field<'_>,
+    guesses: &[u64],
+    causes: &mut Vec<Option<Cause>>,
+) -> Result<(), OutOfMemory>
+    requires stands { StandsOn field.now book.old }
+    requires first { book.old.next ≡ book.old.from }
+    requires guesses { guesses.now ≡ guesses_of field.now.minds (world_of field.now.world) field.now.place book.old.from book.old.from (book.old.to - book.old.from) }
+    ensures stands { OnOk result (StandsOn field.now book.new) }
+    ensures done { OnOk result (book.new.next ≡ book.new.to) }
+    ensures same { OnOk result (IsSameWindow book.old book.new) }
+{
+    for guess in guesses {
+        let id = book.next();
+        let look = look(field.world(), field.brains(), field.seed(), *guess, id);
+        let cause = settle_next(book, field, look);
+        causes.push(cause)?;
+    }
+    Ok(())
+}
+
+// Plays a window by looks that are made one after another at guesses that were listed first, and lists what became of each.
+fn play_by_looks(
+    alloc: Global,
+    field: &mut Field<'_>,
+    from: u32,
+    to: u32,
+    causes: &mut Vec<Option<Cause>>,
+) -> Result<Counts, OutOfMemory>
+    requires { CanBegin field.old from to }
+{
+    let all = guesses(
+        alloc,
+        field.world(),
+        field.brains(),
+        field.place(),
+        from,
+        to,
+    )?;
+    let mut book = field.begin(alloc, from, to)?;
+    settle_window(&mut book, field, &all, causes)?;
+    Ok(field.finish(book))
+}
+
+// A black ant kills the red ant of id 2 in its turn, and the red ant of id 4 draws the number that was guessed to be that one's.
+#[test]
+fn the_looks_of_a_killed_ant_and_of_the_next_flip_do_not_hold(rt: HostRuntime) -> Result<(), Fail> {
+    let red = brain_of(&rt, rt.alloc(), "Flip 2 0 0")?;
+    let black = brain_of(&rt, rt.alloc(), "Move 0 0")?;
+    let brains = Brains {
+        red: &red,
+        black: &black,
+        sheet: Sheet::contest(),
+    };
+    let bytes = CLOSING.as_bytes();
+    assert!(rt; bytes.len() <= MOST_BYTES);
+    let mut field = field_on(rt.alloc(), bytes, brains, 12345)?;
+    assert!(rt; field.world().ant_count() >= 7);
+    assert!(rt; field.place() == 0);
+    let mut causes = Vec::new(rt.alloc());
+    let counts = play_by_looks(rt.alloc(), &mut field, 0, 7, &mut causes)?;
+    assert_eq!(rt; (counts.taken(), counts.redone()), (5, 2));
+    assert_eq!(rt; causes.len(), 7);
+    for (id, cause) in causes.iter().enumerate() {
+        match id {
+            2 => assert!(rt; is_of_the_killed(cause)),
+            4 => assert_eq!(rt;
+                *cause,
+                Some(Cause::Place {
+                    guessed: 1,
+                    actual: 0
+                })
+            ),
+            _ => assert_eq!(rt; *cause, None),
+        }
+    }
+    Ok(())
+}
+
+// Whether a look didn't hold since the ant on (3, 3) is another, or in another mind.
+fn is_of_the_killed(cause: &Option<Cause>) -> bool {
+    match cause {
+        Some(
+            Cause::Part {
+                at: Pos { x: 3, y: 3 },
+                part: Part::Who | Part::Mind,
+            },
+        ) => true,
+        _ => false,
+    }
+}

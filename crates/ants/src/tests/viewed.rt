@@ -1,0 +1,149 @@
+// The command `view`.
+use crate::status::Status;
+use crate::tests::runs::{KILLED, KILLING};
+use crate::tests::{Given, Job, answer, check, check_rows};
+use std::alloc::Global;
+use std::process::Abort;
+use std::test::Fail;
+use std::thread::Threads;
+
+// The game in which the black ant 1 surrounds the red ant 2 in round 1, for five rounds; the red ants draw numbers, and the other black
+// ants stay where they are.
+const VIEW: Job<'static> = Job {
+    line: "view w r b k --seed 12345 --rounds 5",
+    ..KILLING
+};
+
+// Breaks, each alone, and the second line of the view: the turn after which each first holds.
+const ALONE: [(&str, &str); 18] = [
+    ("Round 1", "stop: round 1, ant 0, break 1"),
+    ("Round 2", "stop: round 2, ant 0, break 1"),
+    ("Round 9", "no stop in 5 rounds"),
+    ("State Black 0", "stop: round 1, ant 0, break 1"),
+    ("State Red 0", "stop: round 1, ant 4, break 1"),
+    ("State Red 1", "no stop in 5 rounds"),
+    ("Stand Black 2 3", "stop: round 1, ant 1, break 1"),
+    ("Stand Red 2 3", "no stop in 5 rounds"),
+    ("Stand Black 7 6", "no stop in 5 rounds"),
+    ("Food 3 3 3", "stop: round 1, ant 1, break 1"),
+    ("Food 3 3 4", "no stop in 5 rounds"),
+    ("Food 1 1 0", "stop: round 1, ant 0, break 1"),
+    ("Food 4 2 0", "no stop in 5 rounds"),
+    ("Food 7 0 0", "no stop in 5 rounds"),
+    ("Killed 2", "stop: round 1, ant 1, break 1"),
+    ("Killed 7", "no stop in 5 rounds"),
+    ("Score Red 3", "stop: round 1, ant 1, break 1"),
+    ("Score Red 4", "no stop in 5 rounds"),
+];
+
+// Texts of several breaks or of none, and the second line of the view.
+const TOGETHER: [(&str, &str); 8] = [
+    (
+        "Score Red 3\nStand Black 2 3\n",
+        "stop: round 1, ant 1, break 1",
+    ),
+    (
+        "Stand Black 2 3\nScore Red 3\n",
+        "stop: round 1, ant 1, break 1",
+    ),
+    (
+        "Round 9\nKilled 2\nRound 1\n",
+        "stop: round 1, ant 0, break 3",
+    ),
+    (
+        "Round 9\nScore Black 1\nKilled 2\n",
+        "stop: round 1, ant 1, break 3",
+    ),
+    (
+        "; why did it die?\n\n\tKILLED 002 ; the red one\n",
+        "stop: round 1, ant 1, break 1",
+    ),
+    ("sTAND bLACK 2 3", "stop: round 1, ant 1, break 1"),
+    ("; nothing\n", "no stop in 5 rounds"),
+    ("", "no stop in 5 rounds"),
+];
+
+// Texts that are no breaks, and the line that names the first fault of each.
+const REFUSED: [(&str, &str); 8] = [
+    ("Jump 1", "ants: k: line 1: unknown word\n"),
+    ("Food 1 2", "ants: k: line 1: missing token\n"),
+    ("Round x", "ants: k: line 1: bad number\n"),
+    ("Round 4294967296", "ants: k: line 1: bad number\n"),
+    ("Round 1 2", "ants: k: line 1: extra token\n"),
+    (
+        "Round 1\n;\nStand Green 1 1\nJump",
+        "ants: k: line 3: unknown word\n",
+    ),
+    ("Score 3", "ants: k: line 1: unknown word\n"),
+    ("Round \u{7f}", "ants: k: line 1: bad number\n"),
+];
+
+#[test]
+fn a_view_stops_after_the_first_turn_at_which_a_break_holds(rt: HostRuntime) -> Result<(), Fail> {
+    let (_, dump) = KILLED.split_once("After round 1...\n").ok_or("no dump")?;
+    let (cells, _) = dump.split_once("\nscore").ok_or("no score")?;
+    let text = format!(in rt.alloc();
+        "random seed: 12345\nstop: round 1, ant 1, break 1\n{cells}"
+    )?;
+    let job = VIEW.with(Given::Breaks, "Killed 2");
+    check(&rt, rt.alloc(), &job, Status::Done, text.as_str(), "")?;
+    let job = VIEW.with(Given::Breaks, "Round 9");
+    let text = "random seed: 12345\nno stop in 5 rounds\n";
+    check(&rt, rt.alloc(), &job, Status::Done, text, "")
+}
+
+// Asserts of each text of breaks the second line of its view.
+fn check_stops<R: Threads + Sync + Abort>(
+    rt: &R,
+    alloc: Global,
+    rows: &[(&str, &str)],
+) -> Result<(), Fail> {
+    for (breaks, wanted) in rows {
+        let outcome = answer(rt, alloc, &VIEW.with(Given::Breaks, breaks))?;
+        let out = str::from_utf8(outcome.out.held())?;
+        assert_eq!(rt; outcome.status, Status::Done);
+        assert_eq!(rt;
+            out.split('\n').nth(1).unwrap_or(""),
+            *wanted,
+            "at {breaks:?}"
+        );
+    }
+    Ok(())
+}
+
+#[test]
+fn each_kind_of_break_holds_when_it_says(rt: HostRuntime) -> Result<(), Fail> {
+    check_stops(&rt, rt.alloc(), &ALONE)?;
+    check_stops(&rt, rt.alloc(), &TOGETHER)
+}
+
+#[test]
+fn a_world_without_ants_has_no_turn_to_stop_after(rt: HostRuntime) -> Result<(), Fail> {
+    let job = Job {
+        world: "4\n4\n# # # #\n # . . #\n# . . #\n # # # #\n",
+        breaks: "Round 1\nFood 1 1 0\n",
+        ..VIEW
+    };
+    let text = "random seed: 12345\nno stop in 5 rounds\n";
+    check(&rt, rt.alloc(), &job, Status::Done, text, "")
+}
+
+#[test]
+fn breaks_at_fault_are_named_with_their_first_fault(rt: HostRuntime) -> Result<(), Fail> {
+    check_rows(
+        &rt,
+        rt.alloc(),
+        VIEW,
+        Given::Breaks,
+        Status::Input,
+        &REFUSED,
+    )?;
+    let most = "Round 9\n".repeat(rt.alloc(), 256)?;
+    let job = VIEW.with(Given::Breaks, most.as_str());
+    let text = "random seed: 12345\nno stop in 5 rounds\n";
+    check(&rt, rt.alloc(), &job, Status::Done, text, "")?;
+    let more = "Round 9\n".repeat(rt.alloc(), 257)?;
+    let job = VIEW.with(Given::Breaks, more.as_str());
+    let line = "ants: k: line 257: too many breaks\n";
+    check(&rt, rt.alloc(), &job, Status::Input, "", line)
+}

@@ -1,0 +1,174 @@
+-- A board's rule at the start, and the steps of seats keep it: a seat is cut in two, two seats are made one.
+use Rattle.std.proofs.Common.{◌≡◌, ◌≢◌, ℕ, zero, suc, ◌+◌, ◌<◌, ◌≤◌, false, List, [], ◌∷◌, ◌++◌, map, length, set, sym, refl, ap, ◌∙◌, subst, inl, inr, ⊎_elim, arith, length-append, replicate, Some}
+use mathlib.Core.Option as maybe
+use lib.ListN.{get_elem?}
+use Rattle.std.specs.Prelude.{slice_index, nat_eq}
+use Rattle.atomic_table.specs.Table.{Allows, Me, State, opening as opening_table, Splits, Joins, keeps, step, stepped}
+use Rattle.atomic_table.proofs.Lists.{set_again, set_else}
+use Rattle.cell_world.specs.Cell.{one_if}
+use Rattle.round_book.specs.Machine.{times}
+use Rattle.round_book.specs.Window.{IsPlayable}
+use Rattle.round_workers.specs.declared.board.view.Basis.{Basis}
+use Rattle.round_workers.specs.declared.board.view.Place.{Place}
+use Rattle.round_workers.specs.declared.board.view.Place.TheVariants.{Nothing}
+use Rattle.round_workers.specs.declared.board.view.Phase.TheVariants.{Resting}
+use Rattle.round_workers.specs.declared.board.view.View.{View}
+use Rattle.round_workers.specs.BoardTotals.{late_among, once_below, total}
+use Rattle.round_workers.specs.BoardView.{first_seat, spent_seat, window_for}
+use Rattle.round_workers.specs.BoardPlays.{joined, made_one, newcomer, tells_each_once}
+use Rattle.round_workers.specs.BoardRule.{AreParts, HasHome, IsKept, IsSeated, has_opened, is_first, made_by, opening, putting, taking, turns_of}
+use Rattle.round_workers.proofs.BoardTotalLemmas.{above-none, late-append, once-le, once-suc, same-one, times-append, total-alone, total-at, total-joined, total-set, total-snoc, total-two}
+use Rattle.round_workers.proofs.BoardKeeps.{book-by, book-seen, first-other, first-seat, look-by, only-none, seated, seats-set, seats-snoc}
+
+-- lists of one thing
+all-zero : (m i : ℕ) → slice_index (replicate m 0) i ≡ 0
+all-zero zero i = refl
+all-zero (suc m) zero = refl
+all-zero (suc m) (suc i) = all-zero m i
+
+length-replicate : {A : Type 0} (m : ℕ) (x : A) → length (replicate m x) ≡ m
+length-replicate zero x = refl
+length-replicate (suc m) x = ap suc (length-replicate m x)
+
+homes-length : (m : ℕ) (x : Place) → length (map maybe.some (replicate m x)) ≡ m
+homes-length zero x = refl
+homes-length (suc m) x = ap suc (homes-length m x)
+
+all-bare : (m i : ℕ) → i < m → HasHome (get_elem? (map maybe.some (replicate m Nothing)) i) Nothing
+all-bare zero i h = absurd (omega arith)
+all-bare (suc m) zero h = refl
+all-bare (suc m) (suc i) h = all-bare m i (omega arith)
+
+first-parts : (key : Basis) → AreParts (first_seat key ∷ [])
+first-parts key = record {
+  each = λ x. let more = once-suc x 0 in let none_of = above-none x 0 (omega arith) in omega arith;
+  count = refl;
+  few = omega arith;
+  first = refl;
+}
+
+-- at the start nothing is drawn, and all slots are empty
+pub starts : (key : Basis) → IsPlayable (window_for key) → IsKept key (opening_table (replicate (turns_of key + 2) 0) (replicate (turns_of key + 1) Nothing) (first_seat key))
+starts key playable = let n : ℕ = turns_of key in record {
+  playable = playable;
+  words = length-replicate (n + 2) 0;
+  homes = homes-length (n + 1) Nothing;
+  seats = λ i v at. inr (subst (IsSeated key) (only i v at) (record { same = refl; own = (omega arith); makes = (λ ne. refl); late = (omega arith); drew = (λ x. omega arith); opens = (omega arith) }));
+  parts = first-parts key;
+  tickets = (let no_word = all-zero (n + 2) 0 in record { each = (λ x. let none_of : once_below x (slice_index (replicate (n + 2) 0) 0) ≡ 0 = above-none x (slice_index (replicate (n + 2) 0) 0) (omega arith) in omega arith); within = (omega arith) });
+  book = (let no_word = all-zero (n + 2) 1 in record { out = (omega arith); bit = (omega arith); once = (omega arith); unheld = (λ e. refl); unseen = (λ e. refl); bare = (λ e. all-bare (n + 1) 0 (omega arith)); stands = (λ e. absurd (omega arith)) });
+  looks = λ j inside. (let no_word = all-zero (n + 2) (j + 2) in record { sum = (omega arith); once = (omega arith); back = (omega arith); bare = (λ e d. all-bare (n + 1) (j + 1) (omega arith)); full = (λ e. absurd (omega arith)) });
+} where
+  only : (i : ℕ) (v : View) → get_elem? (first_seat key ∷ []) i ≡ maybe.some v → first_seat key ≡ v
+  only zero v at = maybe.some-injective (first_seat key) v at
+  only (suc i) v at = absurd (maybe.some-ne-none v (sym at))
+
+pub starts-so : (key : Basis) (words : List ℕ) (slots : List Place) → IsPlayable (window_for key) → words ≡ replicate (turns_of key + 2) 0 → slots ≡ replicate (turns_of key + 1) Nothing → IsKept key (opening_table words slots (first_seat key))
+starts-so key words slots playable ew es = subst (λ (z : List ℕ × List Place). IsKept key (opening_table z.0 z.1 (first_seat key))) (λ k. (sym ew k, sym es k)) (starts key playable)
+
+-- the first seat made them all
+pub made-all : (key : Basis) (s : State Place View) (r : IsKept key s) (id : ℕ) (v : View) → get_elem? s.views id ≡ maybe.some v → v.about ≡ Some key → v.number ≡ 0 → made_by s.views ≡ v.made
+made-all key s r id v at about zeroth = total-alone (λ u. u.made) s.views id v at (λ j w other there. ⊎_elim (λ spent. ap (λ (u : View). u.made) spent)
+    (λ is. is.makes (λ zero_too. let two = total-two is_first s.views id j v w at there other in let one = r.parts.first in let a = first-seat key v about zeroth in let b = first-seat key w is.same zero_too in absurd (omega arith)))
+    (r.seats j w there))
+
+module _ (key : Basis) (id : ℕ) (v : View) (about : v.about ≡ Some key) (zeroth : v.number ≡ 0) (few : v.made < 16) where
+  pub splits : Splits (IsKept key) id v (made_one v) (newcomer v)
+  splits s r at =
+      let w : View = made_one v in let u : View = newcomer v in let n : ℕ = turns_of key in let one : List View = set s.views id w in let is = seated key v about (r.seats id v at) in
+      let no_first : is_first u ≡ 0 = first-other u.about u.number (λ e. omega arith) in let no_opener : has_opened u ≡ 0 = only-none v.opened (is_first u) no_first in
+      let made = made-all key s r id v at about zeroth in let mades = total-set (λ x. x.made) s.views id v w at in let mades' = total-snoc (λ x. x.made) one u in
+      let more : made_by (one ++ u ∷ []) ≡ made_by s.views + 1 = omega arith in
+      let grow : (f : View → ℕ) → f w ≡ f v → total f (one ++ u ∷ []) ≡ total f s.views + f u = λ f e. (let a = total-snoc f one u in let b = total-set f s.views id v w at in omega arith) in
+      record {
+        playable = r.playable;
+        words = r.words;
+        homes = r.homes;
+        seats = seats-snoc key one u (seats-set key s.views id w r.seats (inr record { same = about; own = is.own; makes = (λ ne. absurd (ne zeroth)); late = is.late; drew = is.drew; opens = is.opens }))
+            (inr record { same = about; own = (let a = same-one (suc v.made) (suc v.made) refl in omega arith); makes = (λ ne. refl); late = (omega arith); drew = (λ x. omega arith); opens = (omega arith) });
+        parts = record {
+          each = λ x. let sum = grow (λ y. times x y.parts) refl in let old = r.parts.each x in let next = once-suc x (made_by s.views + 1) in
+              let named : one_if (nat_eq (suc v.made) x) ≡ one_if (nat_eq (made_by s.views + 1) x) = ap (λ (m : ℕ). one_if (nat_eq m x)) (let e : suc v.made ≡ made_by s.views + 1 = omega arith in e) in
+              let bound : once_below x (made_by (one ++ u ∷ []) + 1) ≡ once_below x (made_by s.views + 1 + 1) = ap (λ (m : ℕ). once_below x (m + 1)) more in omega arith;
+          count = (let sum = grow (λ y. length y.parts) refl in let old = r.parts.count in omega arith);
+          few = omega arith;
+          first = (let sum = grow is_first refl in let old = r.parts.first in omega arith);
+        };
+        tickets = record {
+          each = λ x. (let sum = grow (λ y. times x y.drawn) refl in let old = r.tickets.each x in omega arith);
+          within = (let sum = grow (λ y. late_among n y.drawn) refl in let old = r.tickets.within in omega arith);
+        };
+        book = (let seen = grow (λ y. one_if y.opened) refl in let here = total-at (λ y. one_if y.opened) s.views id v at in
+            book-seen (window_for key) _ _ _ _ _ (total (λ y. one_if y.opened) s.views) _ (λ e. omega arith)
+            (book-by (window_for key) _ _ _ _ _ _ _ _ _ _ (grow (λ y. one_if y.holds) refl ∙ (omega arith)) (grow (λ y. opening y.phase) refl ∙ (omega arith)) (grow has_opened refl ∙ (omega arith)) refl r.book));
+        looks = λ j inside. look-by (window_for key) j _ _ _ _ _ _ _ _ _ _ (grow (λ y. times j y.put) refl ∙ (omega arith)) (grow (λ y. times j y.took) refl ∙ (omega arith))
+            (grow (λ y. putting j y.phase) refl ∙ (omega arith)) (grow (λ y. taking j y.phase) refl ∙ (omega arith)) (r.looks j inside);
+      }
+
+module _ (key : Basis) (id : ℕ) (v : View) (other : ℕ) (w : View) (about : v.about ≡ Some key) (about' : w.about ≡ Some key) (numbered : w.number ≢ 0) (free : w.holds ≡ false) (rests : w.phase ≡ Resting) where
+  pub joins : Joins (IsKept key) id v other w (joined v w) spent_seat
+  joins s r at ne there =
+      let both : View = joined v w in let n : ℕ = turns_of key in let one : List View = set s.views id both in let two : List View = set one other spent_seat in
+      let was : get_elem? s.views other ≡ maybe.some w = sym (set_else s.views id other both ne) ∙ there in
+      let is = seated key v about (r.seats id v at) in let is' = seated key w about' (r.seats other w was) in
+      let sum : (f : View → ℕ) → f spent_seat ≡ 0 → f both ≡ f v + f w → total f two ≡ total f s.views = λ f none_left e. (let a = total-joined f s.views id other v w both spent_seat at there none_left in omega arith) in
+      let own : (f : View → ℕ) → f spent_seat ≡ 0 → f both ≡ f v → f w ≡ 0 → total f two ≡ total f s.views = λ f none_left e d. sum f none_left (omega arith) in
+      let no_first : is_first w ≡ 0 = first-other w.about w.number numbered in let no_opener : has_opened w ≡ 0 = only-none w.opened (is_first w) no_first in
+      let made = own (λ y. y.made) refl refl (is'.makes numbered) in let parts = sum (λ y. length y.parts) refl (length-append v.parts w.parts) in let firsts = own is_first refl refl no_first in
+      let late = late-append n v.drawn w.drawn in let long = length-append v.parts w.parts in let lates = sum (λ y. late_among n y.drawn) refl late in
+      record {
+        playable = r.playable;
+        words = r.words;
+        homes = r.homes;
+        seats = seats-set key one other spent_seat (seats-set key s.views id both r.seats (inr record {
+          same = about;
+          own = (let a = times-append v.number v.parts w.parts in let b = is.own in omega arith);
+          makes = is.makes;
+          late = (let a = is.late in let b = is'.late in omega arith);
+          drew = (λ x. let a = times-append x v.put w.put in let b = times-append x v.drawn w.drawn in let c = is.drew x in let d = is'.drew x in omega arith);
+          opens = is.opens;
+        })) (inl refl);
+        parts = record {
+          each = λ x. sum (λ y. times x y.parts) refl (times-append x v.parts w.parts) ∙ (r.parts.each x ∙ ap (λ (m : ℕ). once_below x (m + 1)) (sym made));
+          count = (let old = r.parts.count in omega arith);
+          few = (let old = r.parts.few in omega arith);
+          first = (let old = r.parts.first in omega arith);
+        };
+        tickets = record {
+          each = λ x. sum (λ y. times x y.drawn) refl (times-append x v.drawn w.drawn) ∙ r.tickets.each x;
+          within = (let old = r.tickets.within in omega arith);
+        };
+        book = (let seen = total-joined (λ y. one_if y.opened) s.views id other v w both spent_seat at there refl in
+            book-seen (window_for key) _ _ _ _ _ (total (λ y. one_if y.opened) s.views) _ (λ e. omega arith)
+            (book-by (window_for key) _ _ _ _ _ _ _ _ _ _ (own (λ y. one_if y.holds) refl refl (ap one_if free)) (own (λ y. opening y.phase) refl refl (ap opening rests)) (own has_opened refl refl no_opener) refl r.book));
+        looks = λ j inside. look-by (window_for key) j _ _ _ _ _ _ _ _ _ _ (sum (λ y. times j y.put) refl (times-append j v.put w.put)) (sum (λ y. times j y.took) refl (times-append j v.took w.took))
+            (own (λ y. putting j y.phase) refl refl (ap (putting j) rests)) (own (λ y. taking j y.phase) refl refl (ap (taking j) rests)) (r.looks j inside);
+      }
+
+word-there : (l : List ℕ) (i : ℕ) → i < length l → get_elem? l i ≡ maybe.some (slice_index l i)
+word-there [] i h = absurd (omega arith)
+word-there (x ∷ xs) zero h = refl
+word-there (x ∷ xs) (suc i) h = word-there xs i (omega arith)
+
+module _ (key : Basis) (slots id : ℕ) (me : Me Place View) where
+  -- a step that only reads leaves the table as it was
+  stays : (s : State Place View) → IsKept key s → get_elem? s.views id ≡ maybe.some me.0 → IsKept key (stepped s 0 (slice_index s.words 0) id me.1 me.0 keeps)
+  stays s r at = let wide = r.words in subst (IsKept key)
+      (λ k. record { words = sym (set_again s.words 0 (slice_index s.words 0) (word-there s.words 0 (omega arith))) k; homes = s.homes; views = sym (set_again s.views id me.0 at) k }) r
+
+  pub sees-each-once : Allows (IsKept key) slots id me 0 (λ n. n) (tells_each_once (step slots 0 0 0 maybe.none) me)
+  sees-each-once s r _ at _ = (
+    me.0,
+    keeps,
+    tt,
+    stays s r at,
+    (
+      refl,
+      λ k.
+          let sum = r.tickets.each k in let few = once-le k (slice_index s.words 0) in let here = total-at (λ (u : View). times k u.drawn) s.views id me.0 at in omega arith,
+    ),
+  )
+
+-- what two seats drew that are one now
+pub drew-apart : (v w : View) (me : Me Place View) (c : List (ℕ × Place)) → me ≡ (joined v w, c) → ((k : ℕ) → times k me.0.drawn ≤ 1) → (k : ℕ) → times k v.drawn + times k w.drawn ≤ 1
+drew-apart v w me c is once k = let a = once k in let b : times k me.0.drawn ≡ times k (v.drawn ++ w.drawn) = ap (λ (m : Me Place View). times k m.0.drawn) is in let d = times-append k v.drawn w.drawn in omega arith

@@ -1,0 +1,19 @@
+use Rattle.std.proofs.Common.{◌+◌, ◌≤◌, All, length}
+use Rattle.std.specs.Vec.{vec_capacity, vec_len}
+use Rattle.round_workers.specs.BoardCrew.{IsHired, IsManned, IsRoom}
+use Rattle.round_workers.specs.BoardSeats.{known, window_of}
+use Rattle.round_workers.specs.BoardWorker.{turns_in}
+use Rattle.round_workers.proofs.board.crew.hire.Given as goal
+
+abbrev pub invariant-loop-made : goal.invariant-loop-made
+invariant-loop-made l = record {
+  manned : IsManned l.board l.first l.workers.items;
+  hired : All (IsHired l.board) l.workers.items;
+  rooms : All (IsRoom (turns_in (window_of l.board))) l.rooms.items;
+  count : vec_len l.workers ≤ (known l.first).made;
+  few : (known l.first).made + vec_len l.rooms ≤ 16;
+  wide : vec_len l.workers + vec_len l.rooms ≤ vec_capacity l.workers;
+}
+
+abbrev pub decreases-loop-made : goal.decreases-loop-made
+decreases-loop-made l = length l.rooms.items

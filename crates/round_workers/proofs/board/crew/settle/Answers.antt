@@ -1,0 +1,75 @@
+use Rattle.std.proofs.Common.{All, List, [], length, sym, ap, ◌∙◌, subst}
+use Rattle.std.proofs.lemmas.List.Elements.{All-nil, All-same}
+use Rattle.round_book.specs.Window.{Window}
+use Rattle.round_workers.specs.declared.board.view.View.{View}
+use Rattle.round_workers.specs.declared.board.worker.Worker.{Worker}
+use Rattle.round_workers.specs.BoardCrew.{AreLooks, IsHired, IsManned, IsRoom}
+use Rattle.round_workers.specs.BoardPlays.{has_seen}
+use Rattle.round_workers.specs.BoardSeats.{IsSeatOf, basis_of, known, window_of}
+use Rattle.round_workers.specs.BoardWorker.{guesses_for, turns_in}
+use Rattle.round_workers.proofs.BoardCrewing.{book-for, lent-for, looks-left, manned-first, manned-worked, refilled, seats-worked, worked-so}
+use Rattle.round_workers.proofs.BoardWorking.{on-for}
+use Rattle.round_workers.proofs.board.crew.settle.Goals as goal
+
+pub open_book-requires-clause-first : goal.open_book-requires-clause-first
+open_book-requires-clause-first g c = ap (λ (v : View). v.number) c.requires.laid.first
+
+pub open_book-requires-clause-unopened : goal.open_book-requires-clause-unopened
+open_book-requires-clause-unopened g c = ap (λ (v : View). v.opened) c.requires.laid.first
+
+pub open_book-requires-clause-stands : goal.open_book-requires-clause-stands
+open_book-requires-clause-stands g c = book-for c.args.field.now c.args.from c.args.to (window_of c.args.laid.board) c.requires.laid.window c.args.book c.requires.stands c.requires.from c.requires.to
+
+pub open_book-requires-clause-begins : goal.open_book-requires-clause-begins
+open_book-requires-clause-begins g c = c.requires.next ∙ sym c.requires.from
+
+pub hire-requires-clause-manned : goal.hire-requires-clause-manned
+hire-requires-clause-manned g c =
+    let board = c.args.laid.board in let field = c.args.field.now in let laid = c.requires.laid in
+    let lent = lent-for field c.args.from c.args.to (window_of board) laid.window c.requires.stands.lent in
+    subst (IsManned board c.open_book.new.seat) (sym laid.bare) (manned-first board c.open_book.new.seat (basis_of board) c.open_book.ensures.board (c.open_book.ensures.opened ∙ ap has_seen laid.first))
+
+pub hire-requires-clause-hired : goal.hire-requires-clause-hired
+hire-requires-clause-hired g c = All-same (IsHired c.args.laid.board) c.args.laid.workers.items [] c.requires.laid.bare (All-nil (IsHired c.args.laid.board))
+
+pub hire-requires-clause-rooms : goal.hire-requires-clause-rooms
+hire-requires-clause-rooms g c = subst (λ (w : Window). All (IsRoom (turns_in w)) c.args.laid.rooms.items) (sym c.requires.laid.window) c.requires.laid.rooms
+
+pub work_all-requires-clause-field : goal.work_all-requires-clause-field
+work_all-requires-clause-field g c κs within =
+    let board = c.args.laid.board in let field = c.args.field.now in let laid = c.requires.laid in
+    let lent = lent-for field c.args.from c.args.to (window_of board) laid.window c.requires.stands.lent in
+    lent
+
+pub work_all-requires-clause-guesses : goal.work_all-requires-clause-guesses
+work_all-requires-clause-guesses g c κs within = c.requires.guesses ∙ ap guesses_for (sym c.requires.laid.window)
+
+pub settle_left-requires-clause-stands : goal.settle_left-requires-clause-stands
+settle_left-requires-clause-stands g c =
+    let board = c.args.laid.board in let field = c.args.field.now in let laid = c.requires.laid in
+    let lent = lent-for field c.args.from c.args.to (window_of board) laid.window c.requires.stands.lent in
+    on-for field (window_of board) lent c.close-closed.result.book c.close-closed.ensures.book
+
+pub settle_left-requires-clause-from : goal.settle_left-requires-clause-from
+settle_left-requires-clause-from g c = c.close-closed.ensures.book.stands.from ∙ ap (λ (w : Window). w.from) c.requires.laid.window
+
+pub settle_left-requires-clause-to : goal.settle_left-requires-clause-to
+settle_left-requires-clause-to g c = c.close-closed.ensures.book.stands.to ∙ ap (λ (w : Window). w.to) c.requires.laid.window
+
+pub settle_left-requires-clause-looks : goal.settle_left-requires-clause-looks
+settle_left-requires-clause-looks g c =
+    let board = c.args.laid.board in let field = c.args.field.now in let laid = c.requires.laid in
+    let lent = lent-for field c.args.from c.args.to (window_of board) laid.window c.requires.stands.lent in
+    subst (λ (w : Window). AreLooks w c.close-closed.result.looks.items) laid.window (looks-left (window_of board) (known c.gather.new.first) c.close-closed.result.looks.items c.close-closed.ensures.looks)
+
+pub gather-requires-clause-manned : goal.gather-requires-clause-manned
+gather-requires-clause-manned g c =
+    let board = c.args.laid.board in let old = c.hire.new.workers in let new = c.work_all.new.workers in let long = c.work_all.ensures.len ∙ ap length c.deref_mut.ensures.value in
+    let worked = worked-so board c.deref_mut.result.now old.items new c.deref_mut.ensures.value c.work_all.ensures.worked in
+    subst (IsManned board c.hire.new.first) (sym (refilled old.len old.items new old.ok.0 long)) (manned-worked board c.hire.new.first old.items new long worked c.hire.ensures.manned)
+
+pub gather-requires-clause-seats : goal.gather-requires-clause-seats
+gather-requires-clause-seats g c =
+    let board = c.args.laid.board in let old = c.hire.new.workers in let new = c.work_all.new.workers in let long = c.work_all.ensures.len ∙ ap length c.deref_mut.ensures.value in
+    let worked = worked-so board c.deref_mut.result.now old.items new c.deref_mut.ensures.value c.work_all.ensures.worked in
+    subst (λ (l : List Worker). All (λ (w : Worker). IsSeatOf board w.seat) l) (sym (refilled old.len old.items new old.ok.0 long)) (seats-worked board old.items new long worked)

@@ -1,0 +1,17 @@
+use Rattle.std.proofs.Common.{◌≡◌, ◌-◌, ◌≤◌}
+use Rattle.std.specs.Vec.{vec_len}
+use Rattle.round_book.specs.Book.{StandsOn, window_of}
+use Rattle.round_workers.specs.BoardCrew.{AreLooks}
+use Rattle.round_workers.proofs.board.crew.settle_left.Given as goal
+
+abbrev pub invariant-loop-book : goal.invariant-loop-book
+invariant-loop-book l = record {
+  stands : StandsOn l.field l.book;
+  begins : l.book.from ≡ l.from;
+  ends : l.book.to ≡ l.to;
+  looks : AreLooks (window_of l.field l.from l.to) l.looks.items;
+  all : l.to - l.from ≤ vec_len l.looks;
+}
+
+abbrev pub decreases-loop-book : goal.decreases-loop-book
+decreases-loop-book l = l.to - l.book.next

@@ -1,0 +1,25 @@
+use Rattle.std.proofs.Common.{arith, sym, ap, ◌∙◌, [], subst}
+use mathlib.Core.Option as maybe
+use Rattle.atomic_table.specs.Table.{Allows, step}
+use Rattle.round_workers.specs.declared.board.view.Place.TheVariants.{Nothing, TheBook}
+use Rattle.round_workers.specs.BoardPlays.{tells_give_book}
+use Rattle.round_workers.specs.BoardRule.{IsKept}
+use Rattle.round_workers.specs.BoardSeats.{basis_of}
+use Rattle.round_workers.specs.BoardView.{out_with}
+use Rattle.round_workers.proofs.BoardBook.{gives-book}
+use Rattle.round_workers.proofs.BoardMoves.{At, slot-held, swapped}
+use Rattle.round_workers.proofs.board.seat.Board.give_book.Goals as goal
+
+pub exchange-requires : goal.exchange-requires
+exchange-requires c = let me = c.args.seat.now.hand.me in let out = c.args.seat.now.at_rest.out ∙ ap out_with c.requires.holds in
+    (c.requires.board.table, (Nothing, slot-held _ me.0 0 Nothing [] (λ i. (me.0, out i))))
+
+pub swap-requires : goal.swap-requires
+swap-requires c =
+    let wide = c.args.self.now.words in let me = c.args.seat.now.hand.me in let key = basis_of c.args.self.now in let out = c.args.seat.now.at_rest.out ∙ ap out_with c.requires.holds in
+    let now = swapped _ _ me.0 0 Nothing (TheBook c.args.book) [] (λ i. (me.0, out i)) c.exchange.ensures.3 in (
+      c.exchange.ensures.0 ∙ c.requires.board.table,
+      omega arith,
+      subst (λ (m : At). Allows (IsKept key) c.args.self.now.table.shared.table_id.slots c.exchange.new.seat.id m 1 (λ _. 0) (tells_give_book (step c.args.self.now.table.shared.table_id.slots 1 0 0 maybe.none) m)) (sym now)
+          (gives-book key c.args.self.now.table.shared.table_id.slots c.exchange.new.seat.id me.0 c.requires.board.knows [] c.args.book c.requires.stands c.requires.holds),
+    )

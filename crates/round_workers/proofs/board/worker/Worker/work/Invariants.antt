@@ -1,0 +1,20 @@
+use Rattle.std.proofs.Common.{◌≡◌, ◌+◌, ◌-◌, ◌<◌, ◌≤◌, true, length}
+use Rattle.std.specs.List.{AllByRecursion}
+use Rattle.std.specs.Vec.{vec_capacity}
+use Rattle.round_workers.specs.BoardSeats.{IsSeatOf, known, window_of}
+use Rattle.round_workers.specs.BoardWorker.{turns_in}
+use Rattle.round_workers.proofs.board.worker.Worker.work.Given as goal
+
+abbrev pub invariant-loop : goal.invariant-loop
+invariant-loop g l = record {
+  seat : IsSeatOf l.board l.self.seat;
+  number : l.self.number ≡ l.fn.self.number;
+  seat_number : (known l.self.seat).number ≡ (known l.fn.self.seat).number;
+  opened : (known l.self.seat).opened ≡ true;
+  early : AllByRecursion (λ k. k < turns_in (window_of l.board)) (known l.self.seat).drawn;
+  room : turns_in (window_of l.board) ≤ vec_capacity l.self.made;
+  tries : (known l.fn.self.seat).tries + length (known l.self.seat).put ≤ (known l.self.seat).tries + length (known l.fn.self.seat).put;
+}
+
+abbrev pub decreases-loop : goal.decreases-loop
+decreases-loop g l = turns_in (window_of l.board) + 1 - length (known l.self.seat).drawn

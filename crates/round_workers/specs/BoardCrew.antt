@@ -1,0 +1,59 @@
+-- The way of one window over a board (this project's own).
+use Rattle.std.specs.Prelude.{◌≡◌, ℕ, ◌+◌, ◌<◌, ◌≤◌, true, false, List, [], map, slice_index_or, All, IfSome, Option, None, Vec}
+use Rattle.std.specs.List.{AllByRecursion}
+use Rattle.std.specs.Vec.{vec_capacity, vec_len}
+use Rattle.spec_record.specs.Look.{LookValue}
+use Rattle.round_book.specs.Machine.{times}
+use Rattle.round_book.specs.Window.{Window, look_for}
+use Rattle.round_workers.specs.declared.board.crew.Laid.{Laid}
+use Rattle.round_workers.specs.declared.board.seat.Board.{Board}
+use Rattle.round_workers.specs.declared.board.seat.Seat.{Seat}
+use Rattle.round_workers.specs.declared.board.worker.Worker.{Worker}
+use Rattle.round_workers.specs.BoardSeats.{IsSeatOf, basis_of, known, window_of}
+use Rattle.round_workers.specs.BoardTotals.{once_below}
+use Rattle.round_workers.specs.BoardView.{first_seat}
+use Rattle.round_workers.specs.BoardWorker.{turns_in}
+
+-- a worker is ready to work on a board: its seat is one of the board, and has seen the book opened; it drew no ticket behind the window; and
+-- its list has room for all turns
+pub record IsHired (board : Board) (worker : Worker) : Type 0 where
+  pub seat : IsSeatOf board worker.seat
+  pub opened : (known worker.seat).opened ≡ true
+  pub early : AllByRecursion (λ ticket. ticket < turns_in (window_of board)) (known worker.seat).drawn
+  pub room : turns_in (window_of board) ≤ vec_capacity worker.made
+
+-- a worker has worked: its seat is of the board still, with its number
+pub record HasWorked (board : Board) (old new : Worker) : Type 0 where
+  pub seat : IsSeatOf board new.seat
+  pub number : (known new.seat).number ≡ (known old.seat).number
+
+-- the numbers of the seats of workers
+abbrev pub seat_numbers : List Worker → List ℕ
+seat_numbers workers = map (λ worker. (known worker.seat).number) workers
+
+-- the first seat has opened the book and doesn't hold it, and every seat that it made is a worker's or went into it, once
+pub record IsManned (board : Board) (first : Seat) (workers : List Worker) : Type 0 where
+  pub seat : IsSeatOf board first
+  pub zeroth : (known first).number ≡ 0
+  pub opened : (known first).opened ≡ true
+  pub free : (known first).holds ≡ false
+  pub numbered : (k : ℕ) → times k (known first).parts + times k (seat_numbers workers) ≡ once_below k ((known first).made + 1)
+
+-- an empty list with room for so many turns
+pub record IsRoom {A : Type 0} (turns : ℕ) (room : Vec ℕ A) : Type 0 where
+  pub bare : room.items ≡ []
+  pub wide : turns ≤ vec_capacity room
+
+-- all that a window takes memory for: a board with its first seat, and the rooms of the workers and of their lists
+pub record IsLaid (for_window : Window) (laid : Laid) : Type 0 where
+  pub window : window_of laid.board ≡ for_window
+  pub seat : IsSeatOf laid.board laid.first
+  pub first : known laid.first ≡ first_seat (basis_of laid.board)
+  pub rooms : All (IsRoom (turns_in for_window)) laid.rooms.items
+  pub few : vec_len laid.rooms ≤ 16
+  pub bare : laid.workers.items ≡ []
+  pub wide : vec_len laid.rooms ≤ vec_capacity laid.workers
+
+-- the looks of a window that are there are those at its turns
+abbrev pub AreLooks : Window → List (Option LookValue) → Type 0
+AreLooks window looks = (ticket : ℕ) → ticket < turns_in window → IfSome (slice_index_or looks ticket None) (λ look. look ≡ look_for window (window.from + ticket))

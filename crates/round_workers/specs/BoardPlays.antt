@@ -1,0 +1,130 @@
+-- What each step on a board tells the seat that makes it (this project's own).
+use Rattle.std.specs.Prelude.{◌≡◌, ◌≢◌, ℕ, suc, ◌+◌, ◌<◌, ◌≤◌, ◌^◌, true, false, [], ◌∷◌, ◌++◌}
+use Rattle.std.specs.List.{AllByRecursion}
+use Rattle.atomic_table.specs.Table.{Me, Step, rest}
+use Rattle.round_book.specs.Book.{BookValue}
+use Rattle.round_book.specs.Machine.{times}
+use Rattle.round_book.specs.Window.{look_for}
+use Rattle.round_workers.specs.declared.board.view.Place.{Place}
+use Rattle.round_workers.specs.declared.board.view.Place.TheVariants.{Nothing, TheBook, OneLook}
+use Rattle.round_workers.specs.declared.board.view.Phase.TheVariants.{Resting, Opening, Putting, Taking}
+use Rattle.round_workers.specs.declared.board.view.Try.{Try}
+use Rattle.round_workers.specs.declared.board.view.Try.TheVariants.{Never, OfBook, OfLook}
+use Rattle.round_workers.specs.declared.board.view.View.{View}
+use Rattle.round_workers.specs.BoardRule.{StandsFor}
+use Rattle.round_workers.specs.BoardView.{window_about}
+use Rattle.round_workers.specs.BoardView.{window_about}
+
+abbrev At : Type 0
+At = Me Place View
+
+-- a seat after it drew a ticket
+abbrev pub drew : View → ℕ → View
+drew v ticket = record v { drawn = v.drawn ++ ticket ∷ [] }
+
+-- the ticket is the seat's, above each that it drew, and small
+abbrev pub tells_draw : Step Place → At → ℕ → At → Type 0
+tells_draw step me found new = (new ≡ (drew me.0 found, me.1)) × AllByRecursion (λ k. k < found) me.0.drawn × (found < 2 ^ 32)
+
+-- the first seat after it made another
+abbrev pub made_one : View → View
+made_one v = record v { made = v.made + 1 }
+
+-- the seat that it made
+abbrev pub newcomer : View → View
+newcomer v = record {
+  about = v.about;
+  number = suc v.made;
+  made = 0;
+  parts = suc v.made ∷ [];
+  drawn = [];
+  put = [];
+  took = [];
+  holds = false;
+  opened = v.opened;
+  tries = 0;
+  last = Never;
+  phase = Resting;
+}
+
+-- a seat after another went into it
+abbrev pub joined : View → View → View
+joined v w = record v { parts = v.parts ++ w.parts; drawn = v.drawn ++ w.drawn; put = v.put ++ w.put; took = v.took ++ w.took }
+
+-- the seat is as it was, and drew no ticket twice
+abbrev pub tells_each_once : Step Place → At → ℕ → At → Type 0
+tells_each_once step me found new = (new ≡ me) × ((k : ℕ) → times k me.0.drawn ≤ 1)
+
+-- a seat after a try
+abbrev pub after_try : View → Try → View
+after_try v last = record v { tries = v.tries + 1; last = last }
+
+-- the first seat in the midst of opening the book
+abbrev pub opens_now : View → View
+opens_now v = record v { phase = Opening }
+
+-- a seat that has seen the book opened
+abbrev pub has_seen : View → View
+has_seen v = record v { phase = Resting; opened = true }
+
+-- a seat that took the book
+abbrev pub with_book : View → View
+with_book v = record (after_try v (OfBook 0)) { holds = true }
+
+-- a seat that gave the book
+abbrev pub without_book : View → View
+without_book v = record v { holds = false }
+
+-- a seat in the midst of putting the look of a ticket, and after it
+abbrev pub puts_now : View → ℕ → View
+puts_now v ticket = record v { phase = Putting ticket }
+
+abbrev pub has_put : View → ℕ → View
+has_put v ticket = record v { phase = Resting; put = v.put ++ ticket ∷ [] }
+
+-- a seat in the midst of taking the look of a ticket, and after it
+abbrev pub takes_now : View → ℕ → View
+takes_now v ticket = record (after_try v (OfLook ticket 2)) { phase = Taking ticket }
+
+abbrev pub has_taken : View → ℕ → View
+has_taken v ticket = record v { phase = Resting; took = v.took ++ ticket ∷ [] }
+
+-- the book's slot was home, and is the seat's
+abbrev pub tells_open : Step Place → At → ℕ → At → Type 0
+tells_open step me found new = (found ≡ 0) × (new ≡ (opens_now me.0, (0, Nothing) ∷ me.1))
+
+abbrev pub tells_opened : Step Place → At → ℕ → At → Type 0
+tells_opened step me found new = new ≡ (has_seen me.0, rest me.1)
+
+-- where the book was home it is the seat's, and stands for the window that the seat knows; else another seat has it
+pub record TellsTake (me : At) (found : ℕ) (new : At) : Type 0 where
+  pub home : found ≡ 0 → (book : BookValue) × StandsFor (window_about me.0.about) book × (new ≡ (with_book me.0, (0, TheBook book) ∷ me.1))
+  pub out : found ≢ 0 → (found ≡ 1) × (new ≡ (after_try me.0 (OfBook 1), me.1))
+
+abbrev pub tells_take_book : Step Place → At → ℕ → At → Type 0
+tells_take_book step = TellsTake
+
+abbrev pub tells_give_book : Step Place → At → ℕ → At → Type 0
+tells_give_book step me found new = new ≡ (without_book me.0, rest me.1)
+
+-- the look's slot was home and empty, and is the seat's
+abbrev pub tells_put : Step Place → At → ℕ → At → Type 0
+tells_put step me found new = (j : ℕ) → step.word ≡ j + 2 → new ≡ (puts_now me.0 j, (j + 1, Nothing) ∷ me.1)
+
+abbrev pub tells_has_put : Step Place → At → ℕ → At → Type 0
+tells_has_put step me found new = (j : ℕ) → step.word ≡ j + 2 → new ≡ (has_put me.0 j, rest me.1)
+
+-- where the look's word was full the look is the seat's, and it is that at its turn; else the seat keeps what it found
+pub record TellsTakeLook (ticket : ℕ) (me : At) (found : ℕ) (new : At) : Type 0 where
+  pub full : found ≡ 2 → new ≡ (takes_now me.0 ticket, (ticket + 1, OneLook (look_for (window_about me.0.about) ((window_about me.0.about).from + ticket))) ∷ me.1)
+  pub other : found ≢ 2 → new ≡ (after_try me.0 (OfLook ticket found), me.1)
+
+abbrev pub tells_take_look : Step Place → At → ℕ → At → Type 0
+tells_take_look step me found new = (j : ℕ) → step.word ≡ j + 2 → TellsTakeLook j me found new
+
+abbrev pub tells_has_taken : Step Place → At → ℕ → At → Type 0
+tells_has_taken step me found new = (j : ℕ) → step.word ≡ j + 2 → new ≡ (has_taken me.0 j, rest me.1)
+
+-- a seat that tried for the look of a ticket, found its word full and took it
+abbrev pub took_look : View → ℕ → View
+took_look v ticket = has_taken (takes_now v ticket) ticket

@@ -1,0 +1,146 @@
+-- What is true of a board between any two steps of its seats (this project's own).
+--
+-- Word 0 is the number of tickets drawn. Word 1 is the book's: 0 where the book's slot is home, 1 where a seat has it. Word j + 2 is that of
+-- the look of ticket j: 0 empty, 1 in hand, 2 full, 3 emptied. Slot 0 is the book's, and slot j + 1 that of the look of ticket j.
+use Rattle.std.specs.Prelude.{◌≡◌, ◌≢◌, ◌⊎◌, ℕ, zero, suc, ◌+◌, ◌-◌, ◌<◌, ◌≤◌, Bool, true, false, nat_eq, List, length, slice_index, Option, Some, None}
+use mathlib.Core.Option as maybe
+use lib.ListN.{get_elem?}
+use Rattle.atomic_table.specs.Table.{State}
+use Rattle.cell_world.specs.Cell.{one_if}
+use Rattle.round_book.specs.Book.{BookValue, Stands}
+use Rattle.round_book.specs.Machine.{times}
+use Rattle.round_book.specs.Window.{IsPlayable, Window, look_for}
+use Rattle.round_workers.specs.declared.board.view.Basis.{Basis}
+use Rattle.round_workers.specs.declared.board.view.Place.{Place}
+use Rattle.round_workers.specs.declared.board.view.Place.TheVariants.{Nothing, TheBook, OneLook}
+use Rattle.round_workers.specs.declared.board.view.Phase.{Phase}
+use Rattle.round_workers.specs.declared.board.view.Phase.TheVariants.{Resting, Opening, Putting, Taking}
+use Rattle.round_workers.specs.declared.board.view.View.{View}
+use Rattle.round_workers.specs.BoardTotals.{late_among, once_below, total}
+use Rattle.round_workers.specs.BoardView.{spent_seat, window_for}
+
+-- a book stands for a window: the window may be played, and the book stands on it
+pub record StandsFor (window : Window) (book : BookValue) : Type 0 where
+  pub playable : IsPlayable window
+  pub begun : book.from ≤ book.next
+  pub stands : Stands window book
+
+-- how many turns a board's window has
+abbrev pub turns_of : Basis → ℕ
+turns_of basis = basis.to - basis.from
+
+-- 1 for the first seat of a board, else 0
+abbrev pub first_one : Option Basis → ℕ → ℕ
+first_one None number = 0
+first_one (Some basis) zero = 1
+first_one (Some basis) (suc number) = 0
+
+abbrev pub is_first : View → ℕ
+is_first v = first_one v.about v.number
+
+-- the number, where it is so
+abbrev pub only_if : Bool → ℕ → ℕ
+only_if true n = n
+only_if false n = 0
+
+-- 1 for the first seat once it has opened the book, else 0
+abbrev pub has_opened : View → ℕ
+has_opened v = only_if v.opened (is_first v)
+
+-- 1 in the midst of opening the book, else 0
+abbrev pub opening : Phase → ℕ
+opening Resting = 0
+opening Opening = 1
+opening (Putting j) = 0
+opening (Taking j) = 0
+
+-- 1 in the midst of putting the look of ticket x, else 0
+abbrev pub putting : ℕ → Phase → ℕ
+putting x Resting = 0
+putting x Opening = 0
+putting x (Putting j) = one_if (nat_eq j x)
+putting x (Taking j) = 0
+
+-- 1 in the midst of taking the look of ticket x, else 0
+abbrev pub taking : ℕ → Phase → ℕ
+taking x Resting = 0
+taking x Opening = 0
+taking x (Putting j) = 0
+taking x (Taking j) = one_if (nat_eq j x)
+
+-- what is true of each seat that didn't go into another: it knows the board's window; its own number is among its parts; the first seat alone
+-- makes others; it drew at most as many tickets behind the window as it has parts; what it put, or is about to put, it drew; and the first
+-- seat alone opens the book
+pub record IsSeated (key : Basis) (v : View) : Type 0 where
+  pub same : v.about ≡ Some key
+  pub own : 1 ≤ times v.number v.parts
+  pub makes : v.number ≢ 0 → v.made ≡ 0
+  pub late : late_among (turns_of key) v.drawn ≤ length v.parts
+  pub drew : (x : ℕ) → times x v.put + putting x v.phase ≤ times x v.drawn
+  pub opens : opening v.phase + has_opened v ≤ is_first v
+
+-- of a seat that went into another nothing is left
+abbrev pub Sits : Basis → View → Type 0
+Sits key v = (v ≡ spent_seat) ⊎ IsSeated key v
+
+-- how many others the first seat made
+abbrev pub made_by : List View → ℕ
+made_by views = total (λ v. v.made) views
+
+-- the parts of all seats are the numbers from 0 to the count of seats that were made, each once; that count is at most 16; there is one first
+-- seat
+pub record AreParts (views : List View) : Type 0 where
+  pub each : (x : ℕ) → total (λ v. times x v.parts) views ≡ once_below x (made_by views + 1)
+  pub count : total (λ v. length v.parts) views ≡ made_by views + 1
+  pub few : made_by views ≤ 16
+  pub first : total is_first views ≡ 1
+
+-- the tickets of all seats are the numbers below the ticket word, each once; at most as many as are behind the window were drawn beyond it
+pub record AreDealt (turns word : ℕ) (views : List View) : Type 0 where
+  pub each : (x : ℕ) → total (λ v. times x v.drawn) views ≡ once_below x word
+  pub within : word ≤ turns + total (λ v. late_among turns v.drawn) views
+
+-- a slot is home, with this in it
+abbrev pub HasHome : maybe.Option (maybe.Option Place) → Place → Type 0
+HasHome home place = home ≡ maybe.some (maybe.some place)
+
+-- a slot is home, with a book in it that stands for the window
+abbrev pub HasBook : maybe.Option (maybe.Option Place) → Window → Type 0
+HasBook home window = (book : BookValue) × HasHome home (TheBook book) × StandsFor window book
+
+-- the book, by its word and what its slot has at home: so many seats hold it, are opening it, opened it, and have seen it opened
+pub record IsBookKept (window : Window) (word : ℕ) (home : maybe.Option (maybe.Option Place)) (held opens opened seen : ℕ) : Type 0 where
+  pub out : word ≡ held + opens
+  pub bit : word ≤ 1
+  pub once : opens + opened ≤ 1
+  pub unheld : opened ≡ 0 → held ≡ 0
+  pub unseen : opened ≡ 0 → seen ≡ 0
+  pub bare : opens + opened ≡ 0 → HasHome home Nothing
+  pub stands : opened ≡ 1 → held ≡ 0 → HasBook home window
+
+-- the look of a ticket, by its word and what its slot has at home: so many seats put it, took it, are putting it and are taking it
+pub record IsLookKept (window : Window) (ticket word : ℕ) (home : maybe.Option (maybe.Option Place)) (put took puts takes : ℕ) : Type 0 where
+  pub sum : word + takes ≡ puts + (put + put) + took
+  pub once : puts + put ≤ 1
+  pub back : takes + took ≤ put
+  pub bare : put ≡ took → puts ≡ 0 → HasHome home Nothing
+  pub full : put ≡ 1 → took + takes ≡ 0 → HasHome home (OneLook (look_for window (window.from + ticket)))
+
+abbrev pub IsBookKeptBy : Window → ℕ → maybe.Option (maybe.Option Place) → List View → Type 0
+IsBookKeptBy window word home views =
+    IsBookKept window word home (total (λ v. one_if v.holds) views) (total (λ v. opening v.phase) views) (total has_opened views) (total (λ v. one_if v.opened) views)
+
+abbrev pub IsLookKeptBy : Window → ℕ → ℕ → maybe.Option (maybe.Option Place) → List View → Type 0
+IsLookKeptBy window j word home views =
+    IsLookKept window j word home (total (λ v. times j v.put) views) (total (λ v. times j v.took) views) (total (λ v. putting j v.phase) views) (total (λ v. taking j v.phase) views)
+
+-- the rule
+pub record IsKept (key : Basis) (s : State Place View) : Type 0 where
+  pub playable : IsPlayable (window_for key)
+  pub words : length s.words ≡ turns_of key + 2
+  pub homes : length s.homes ≡ turns_of key + 1
+  pub seats : (i : ℕ) (v : View) → get_elem? s.views i ≡ maybe.some v → Sits key v
+  pub parts : AreParts s.views
+  pub tickets : AreDealt (turns_of key) (slice_index s.words 0) s.views
+  pub book : IsBookKeptBy (window_for key) (slice_index s.words 1) (get_elem? s.homes 0) s.views
+  pub looks : (j : ℕ) → j < turns_of key → IsLookKeptBy (window_for key) j (slice_index s.words (j + 2)) (get_elem? s.homes (j + 1)) s.views

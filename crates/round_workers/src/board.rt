@@ -1,0 +1,184 @@
+// A board: the tickets, the book and the looks of a window, passed between threads.
+ghost use Rattle.std.specs.Prelude.{◌≡◌, ◌≢◌, ℕ, false, ◌+◌, ◌-◌, ◌<◌, ◌≤◌, ◌^◌, [], length, replicate, IfOk};
+ghost use Rattle.std.specs.List.{AllByRecursion};
+ghost use Rattle.std.specs.Vec.{vec_capacity};
+ghost use Rattle.round_book.specs.Book.{CanBegin, window_of};
+ghost use Rattle.round_book.specs.Machine.{times};
+ghost use Rattle.round_book.specs.Window.{IsPlayable};
+ghost use Rattle.round_workers.specs.declared.board.view.Place.TheVariants.{Nothing};
+ghost use Rattle.round_workers.specs.BoardPlays.{drew, joined, made_one, newcomer};
+ghost use Rattle.round_workers.specs.BoardRule.{turns_of};
+ghost use Rattle.round_workers.specs.BoardSeats.{IsSeatOf, basis_of, known};
+ghost use Rattle.round_workers.specs.BoardView.{first_seat, window_for};
+
+mod book_calls;
+mod closing;
+mod crew;
+mod law;
+mod look_calls;
+mod looking;
+mod places;
+mod seat;
+mod view;
+mod worker;
+
+use atomic_table::Table;
+pub use closing::Closed;
+pub use crew::BoardCrew;
+use hex_geometry::OutOfMemory;
+use law::{Draws, Joins, SeesEachOnce, Splits};
+use round_book::Field;
+pub use seat::{Board, Seat};
+use std::alloc::Global;
+use std::snapshot::Snapshot;
+pub use view::{Basis, Phase, Place, Try, View};
+pub use worker::Worker;
+
+impl Board {
+    /// A board for the window of the turns of the ids from `from` up to, and not including, `to`, of a field, and its first seat (this
+    /// project's own). The seat knows the window. No ticket is drawn, no look is put, and the book isn't there yet. The field is whole, `from`
+    /// is at most `to`, `to` at most the number of ids, and the place with the number of turns is below 2^63. It is refused for want of memory
+    /// alone; it takes the room of all looks, and of the list of those that are left in the end.
+    pub fn new(
+        alloc: Global,
+        field: &Field<'_>,
+        from: u32,
+        to: u32,
+    ) -> Result<(Board, Seat), OutOfMemory>
+        requires { CanBegin field.now from to }
+        ensures window { IfOk result (λ made. window_for (basis_of made.0) ≡ window_of field.now from to) }
+        ensures board { IfOk result (λ made. IsSeatOf made.0 made.1) }
+        ensures first { IfOk result (λ made. known made.1 ≡ first_seat (basis_of made.0)) }
+    {
+        let basis = basis(field, from, to);
+        let turns = (to - from) as usize;
+        let words = vec![in alloc; 0u64; turns + 2]?;
+        let slots = bare(alloc, turns + 1)?;
+        let room = Vec::with_capacity(alloc, turns)?;
+        let Ok((table, hand)) = Table::new(alloc, &words, slots, &basis) else {
+            return Err(OutOfMemory);
+        };
+        let board = Board {
+            table,
+            room,
+            from,
+            to,
+        };
+        Ok((board, Seat { hand }))
+    }
+
+    // How many turns the window has.
+    #[inline]
+    pub(crate) fn turns(&self) -> u32
+        ensures { result ≡ turns_of (basis_of self.now) }
+    {
+        self.to - self.from
+    }
+
+    // The first turn of the window.
+    #[inline]
+    pub(crate) fn first(&self) -> u32
+        ensures { result ≡ (basis_of self.now).from }
+    {
+        self.from
+    }
+
+    // The end of the window.
+    #[inline]
+    pub(crate) fn end(&self) -> u32
+        ensures { result ≡ (basis_of self.now).to }
+    {
+        self.to
+    }
+
+    // The turn of a ticket.
+    #[inline]
+    pub(crate) fn turn_of(&self, ticket: u32) -> u32
+        requires { ticket < turns_of (basis_of self.now) }
+        ensures { result ≡ (basis_of self.now).from + ticket }
+    {
+        self.from + ticket
+    }
+
+    /// Draws the next ticket (this project's own): the tickets of a board are the numbers from 0, each drawn once, by one seat or another.
+    /// Ticket k stands for the turn that is number k in the window; a ticket that is no turn's says that all turns are drawn. The seat drew no
+    /// such ticket yet. The answer is above all that the seat drew.
+    #[inline]
+    pub fn draw(&self, seat: &mut Seat) -> u32
+        requires board { IsSeatOf self.now seat.old }
+        requires early { AllByRecursion (λ k. k < turns_of (basis_of self.now)) (known seat.old).drawn }
+        ensures board { IsSeatOf self.now seat.new }
+        ensures drew { known seat.new ≡ drew (known seat.old) result }
+        ensures greater { AllByRecursion (λ k. k < result) (known seat.old).drawn }
+    {
+        let ticket = self.table.shared.fetch_add::<Draws>(&mut seat.hand, 0, 1);
+        ticket as u32
+    }
+
+    /// Makes another seat of this board (this project's own). It knows the same window, and has seen the book opened where the first seat has.
+    /// Its number, which is its one part, is the count of the seats that were made, from 1. The seat is the first one, and made fewer than 16.
+    pub fn split(&self, seat: &mut Seat) -> Seat
+        requires board { IsSeatOf self.now seat.old }
+        requires first { (known seat.old).number ≡ 0 }
+        requires few { (known seat.old).made < 16 }
+        ensures board { IsSeatOf self.now seat.new }
+        ensures made { known seat.new ≡ made_one (known seat.old) }
+        ensures new_board { IsSeatOf self.now result }
+        ensures newcomer { known result ≡ newcomer (known seat.old) }
+    {
+        let hand = self.table.shared.split_seat::<Splits>(&mut seat.hand);
+        Seat { hand }
+    }
+
+    /// Joins another seat of this board into one (this project's own): its parts, and the tickets that it drew, put and took, come behind the
+    /// seat's own; no ticket is in both lists. The other one isn't the first seat, and doesn't hold the book.
+    pub fn join(&self, seat: &mut Seat, other: Seat)
+        requires board { IsSeatOf self.now seat.old }
+        requires other_board { IsSeatOf self.now other }
+        requires other_first { (known other).number ≢ 0 }
+        requires free { (known other).holds ≡ false }
+        ensures board { IsSeatOf self.now seat.new }
+        ensures joined { known seat.new ≡ joined (known seat.old) (known other) }
+        ensures apart { (k : ℕ) → times k (known seat.old).drawn + times k (known other).drawn ≤ 1 }
+    {
+        let Seat { hand } = other;
+        self.table.shared.join_seat::<Joins>(&mut seat.hand, hand);
+        self.table.shared.load::<SeesEachOnce>(&mut seat.hand, 0);
+    }
+}
+
+// The window of these turns of a field, as a board knows it.
+fn basis(field: &Field<'_>, from: u32, to: u32) -> Basis
+    requires { CanBegin field.now from to }
+    ensures window { window_for result ≡ window_of field.now from to }
+    ensures playable { IsPlayable (window_for result) }
+    ensures from { result.from ≡ from }
+    ensures to { result.to ≡ to }
+    ensures ids { to ≤ result.world.value.ids }
+    ensures lasting { result.place + (to - from) < 2 ^ 63 }
+{
+    let world = field.world();
+    let brains = field.brains();
+    let _width = world.width();
+    Basis {
+        red: Snapshot::of(brains.red),
+        black: Snapshot::of(brains.black),
+        sheet: brains.sheet,
+        seed: field.seed(),
+        world: Snapshot::of(world),
+        place: field.place(),
+        from,
+        to,
+    }
+}
+
+// So many empty slots.
+fn bare(alloc: Global, count: usize) -> Result<Vec<Place>, OutOfMemory>
+    ensures { IfOk result (λ slots. slots.items ≡ replicate count Nothing) }
+{
+    let mut slots = Vec::with_capacity(alloc, count)?;
+    for _ in 0..count {
+        slots.push_reserved(Place::Nothing);
+    }
+    Ok(slots)
+}

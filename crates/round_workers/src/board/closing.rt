@@ -1,0 +1,80 @@
+// The end of a board.
+ghost use Rattle.std.specs.Prelude.{◌≡◌, ◌+◌, ◌-◌, ◌<◌, ◌≤◌, ℕ, true, false, length, slice_index_or, None};
+ghost use Rattle.std.specs.Mem.Slots.{slots_filled, slots_items, slots_len};
+ghost use mathlib.Core.Option.{some};
+ghost use lib.ListN.{get_elem?};
+ghost use Rattle.round_book.specs.Machine.{times};
+ghost use Rattle.round_workers.specs.BoardPlaces.{AreTaken};
+ghost use Rattle.round_workers.specs.BoardRule.{StandsFor};
+ghost use Rattle.round_workers.specs.BoardTotals.{once_below};
+ghost use Rattle.round_workers.specs.BoardSeats.{IsSeatOf, basis_of, known, left_look, window_of};
+
+use crate::board::places::{book_in, look_in};
+use crate::board::seat::{Board, Seat};
+use crate::board::view::Place;
+use round_book::Book;
+use spec_record::Look;
+use std::alloc::Global;
+
+/// What a board leaves: its book, the looks that were put and not taken, by ticket, and how many tickets were drawn (this project's own).
+#[derive(Drop)]
+pub struct Closed {
+    /// The book.
+    pub book: Book,
+    /// For each turn of the window, in order, its look, where it was put and nobody took it.
+    pub looks: Vec<Option<Look>>,
+    /// How many tickets were drawn.
+    pub drawn: u32,
+}
+
+impl Board {
+    /// Ends a board (this project's own). The seat is the first one, every seat that it made was joined into it, and it has opened the book
+    /// and doesn't hold it. The book stands for the board's window. A look is left for each turn that the seat, with all that went into it,
+    /// put and didn't take. The tickets that they drew are the numbers below the count, each once. It takes no memory.
+    pub fn close(self, seat: Seat) -> Closed
+        requires board { IsSeatOf self seat }
+        requires first { (known seat).number ≡ 0 }
+        requires whole { (k : ℕ) → k ≤ (known seat).made → 1 ≤ times k (known seat).parts }
+        requires opened { (known seat).opened ≡ true }
+        requires free { (known seat).holds ≡ false }
+        ensures book { StandsFor (window_of self) result.book }
+        ensures drawn { (k : ℕ) → times k (known seat).drawn ≡ once_below k result.drawn }
+        ensures turns { length result.looks.items ≡ (basis_of self).to - (basis_of self).from }
+        ensures looks { (k : ℕ) → k < (basis_of self).to - (basis_of self).from → slice_index_or result.looks.items k None ≡ left_look (window_of self) (known seat) k }
+    {
+        let Board {
+            table,
+            mut room,
+            from,
+            to,
+        } = self;
+        let Seat { hand } = seat;
+        let mut closed = table.close_with(hand);
+        let drawn = closed.word(0) as u32;
+        let Some(book) = book_in(take_slot(&mut closed, 0)) else {
+            unreachable!()
+        };
+        for ticket in 0..(to - from) as usize {
+            let place = take_slot(&mut closed, ticket + 1);
+            room.push_reserved(look_in(place));
+        }
+        closed.free();
+        Closed {
+            book,
+            looks: room,
+            drawn,
+        }
+    }
+}
+
+// Takes what lies in a slot, where those before it are taken.
+fn take_slot(closed: &mut atomic_table::Closed<Place, Global>, i: usize) -> Place
+    requires inside { i < slots_len closed.old.slots }
+    requires taken { AreTaken i (slots_len closed.old.slots) (slots_filled closed.old.slots) }
+    ensures value { get_elem? (slots_items closed.old.slots) i ≡ some result }
+    ensures items { slots_items closed.new.slots ≡ slots_items closed.old.slots }
+    ensures len { slots_len closed.new.slots ≡ slots_len closed.old.slots }
+    ensures taken { AreTaken (i + 1) (slots_len closed.new.slots) (slots_filled closed.new.slots) }
+{
+    closed.take(i)
+}

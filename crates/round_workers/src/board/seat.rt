@@ -1,0 +1,35 @@
+// A board and its seats.
+ghost use Rattle.std.specs.Prelude.{◌≡◌, [], ◌+◌, ◌-◌, ◌<◌, ◌≤◌, ◌^◌};
+ghost use Rattle.std.specs.Vec.{vec_capacity};
+ghost use Rattle.round_workers.specs.BoardView.{IsAtRest};
+
+use crate::board::law::Law;
+use crate::board::view::{Basis, Place, View};
+use atomic_table::Table;
+use spec_record::Look;
+use std::alloc::Global;
+
+/// What a thread steps with on a board, and what it knows (this project's own).
+#[derive(Drop)]
+pub struct Seat {
+    pub(crate) hand: atomic_table::Seat<Place, View>,
+    ghost at_rest: { IsAtRest hand.me },
+}
+
+/// The tickets, the book and the looks of one window of a field, passed between threads (this project's own).
+#[derive(Drop)]
+pub struct Board {
+    pub(crate) table: Table<Place, View, Basis, Law, Global>,
+    pub(crate) room: Vec<Option<Look>>,
+    pub(crate) from: u32,
+    pub(crate) to: u32,
+    ghost words: { table.shared.table_id.words ≡ to - from + 2 },
+    ghost slots: { table.shared.table_id.slots ≡ to - from + 1 },
+    ghost first: { table.shared.key.from ≡ from },
+    ghost last: { table.shared.key.to ≡ to },
+    ghost ids: { to ≤ table.shared.key.world.value.ids },
+    ghost lasting: { table.shared.key.place + (to - from) < 2 ^ 63 },
+    ghost forwards: { from ≤ to },
+    ghost bare: { room.items ≡ [] },
+    ghost roomy: { to - from ≤ vec_capacity room },
+}

@@ -1,0 +1,91 @@
+// What lies in a board's slots, and what a seat of a board knows.
+use ant_turn::Sheet;
+use brain_read::Brain;
+use cell_world::World;
+use round_book::Book;
+use spec_record::Look;
+use std::collections::LinkedList;
+use std::snapshot::Snapshot;
+
+/// What lies in a slot of a board: nothing, the book of the board's window, or the look at one turn (this project's own).
+#[derive(Drop)]
+pub enum Place {
+    /// Nothing.
+    Nothing,
+    /// The book.
+    TheBook(Book),
+    /// A look.
+    OneLook(Look),
+}
+
+/// The window that a board is for: its brains and the numbers of its rules, its seed, the world and the place with which it begins, and its
+/// turns (this project's own). Clauses alone see the brains and the world.
+#[derive(Drop)]
+pub struct Basis {
+    /// The brain of the red ants.
+    pub red: Snapshot<Brain>,
+    /// The brain of the black ants.
+    pub black: Snapshot<Brain>,
+    /// The numbers of the rules.
+    pub sheet: Sheet,
+    /// The seed of the game.
+    pub seed: u32,
+    /// The world with which the window begins.
+    pub world: Snapshot<World>,
+    /// The place in the stream with which the window begins.
+    pub place: u64,
+    /// The first turn.
+    pub from: u32,
+    /// The turn after the last one.
+    pub to: u32,
+}
+
+/// The last try of a seat for the book or for a look, and what it found in the word (this project's own). No value of it is made.
+pub enum Try {
+    /// It tried for nothing yet.
+    Never,
+    /// It tried for the book, and found this in the book's word.
+    OfBook(u64),
+    /// It tried for the look of this ticket's turn, and found this in the look's word.
+    OfLook(u64, u64),
+}
+
+/// Where a seat is: between two calls, or between the two steps of one (this project's own). No value of it is made.
+pub enum Phase {
+    /// Between two calls.
+    Resting,
+    /// It opens the book.
+    Opening,
+    /// It puts the look of this ticket's turn.
+    Putting(u64),
+    /// It takes the look of this ticket's turn.
+    Taking(u64),
+}
+
+/// What a seat of a board knows (this project's own). No value of it is made: clauses alone speak of it.
+pub struct View {
+    /// The window of its board. A seat that went into another knows nothing more.
+    pub about: Option<Basis>,
+    /// Its number. The first seat has number 0.
+    pub number: u64,
+    /// How many other seats it made.
+    pub made: u64,
+    /// The numbers of the seats that went into it by joins, its own among them.
+    pub parts: LinkedList<u64>,
+    /// The tickets that it drew. Ticket k stands for the turn that is number k in the window, from 0.
+    pub drawn: LinkedList<u64>,
+    /// The tickets whose looks it put.
+    pub put: LinkedList<u64>,
+    /// The tickets whose looks it took.
+    pub took: LinkedList<u64>,
+    /// Whether it holds the book.
+    pub holds: bool,
+    /// Whether it has seen the book opened.
+    pub opened: bool,
+    /// How often it tried for the book or for a look.
+    pub tries: u64,
+    /// Its last try.
+    pub last: Try,
+    /// Where it is.
+    pub phase: Phase,
+}

@@ -1,0 +1,128 @@
+// Workers: who makes the looks of a window.
+ghost use Rattle.std.specs.Prelude.{◌≡◌, ◌+◌, ◌-◌, ◌<◌, ◌≤◌, ◌^◌, ℕ, true, false, length};
+ghost use Rattle.std.specs.List.{AllByRecursion};
+ghost use Rattle.std.specs.Vec.{vec_capacity};
+ghost use Rattle.round_book.specs.Machine.{times};
+ghost use Rattle.round_book.specs.Window.{look_for};
+ghost use Rattle.round_workers.specs.BoardRule.{StandsFor};
+ghost use Rattle.round_workers.specs.BoardSeats.{IsSeatOf, basis_of, known, window_of};
+ghost use Rattle.round_workers.specs.BoardTotals.{late_among};
+ghost use Rattle.round_workers.specs.BoardWorker.{HasServed, IsLentFor, IsSameButTook, IsWorker, guesses_for, turns_in};
+
+use crate::board::looking::look_at;
+use crate::board::seat::{Board, Seat};
+use ant_base::Gate;
+use round_book::{Book, Field, advance};
+
+/// Who makes looks on a board: its number, its seat, and the turns whose looks it made, in order (this project's own).
+#[derive(Drop)]
+pub struct Worker {
+    /// The number under which it announces its looks.
+    pub number: u32,
+    /// Its seat.
+    pub seat: Seat,
+    /// The turns whose looks it made, in order.
+    pub made: Vec<u32>,
+    ghost works: { IsWorker seat.hand.me.0 made.items },
+}
+
+impl Worker {
+    /// Draws tickets until one is behind the window, makes the look of each turn and puts it, and after each tries once for the book; with it
+    /// it settles the next turns for as long as their looks are there (this project's own).
+    pub fn work<G: Gate>(&mut self, board: &Board, field: &Field<'_>, guesses: &[u64], gate: &G)
+        requires board { IsSeatOf board.now self.old.seat }
+        requires opened { (known self.old.seat).opened ≡ true }
+        requires early { AllByRecursion (λ k. k < turns_in (window_of board.now)) (known self.old.seat).drawn }
+        requires field { IsLentFor field.now (window_of board.now) }
+        requires guesses { guesses.now ≡ guesses_for (window_of board.now) }
+        requires room { turns_in (window_of board.now) ≤ vec_capacity self.old.made }
+        ensures number { self.new.number ≡ self.old.number }
+        ensures board { IsSeatOf board.now self.new.seat }
+        ensures seat_number { (known self.new.seat).number ≡ (known self.old.seat).number }
+        ensures late { 1 ≤ late_among (turns_in (window_of board.now)) (known self.new.seat).drawn }
+        ensures put { (k : ℕ) → k < turns_in (window_of board.now) → times k (known self.new.seat).put ≡ times k (known self.new.seat).drawn }
+        ensures tries { (known self.old.seat).tries + length (known self.new.seat).put ≤ (known self.new.seat).tries + length (known self.old.seat).put }
+    {
+        let number = self.number;
+        while serve(
+            number,
+            &mut self.seat,
+            &mut self.made,
+            board,
+            field,
+            guesses,
+            gate,
+        ) {}
+    }
+}
+
+// Draws a ticket and, where it is a turn's, makes the look, puts it and tries for the book. Whether it was a turn's.
+fn serve<G: Gate>(
+    number: u32,
+    seat: &mut Seat,
+    made: &mut Vec<u32>,
+    board: &Board,
+    field: &Field<'_>,
+    guesses: &[u64],
+    gate: &G,
+) -> bool
+    requires board { IsSeatOf board.now seat.old }
+    requires worker { IsWorker (known seat.old) made.old.items }
+    requires opened { (known seat.old).opened ≡ true }
+    requires early { AllByRecursion (λ k. k < turns_in (window_of board.now)) (known seat.old).drawn }
+    requires field { IsLentFor field.now (window_of board.now) }
+    requires guesses { guesses.now ≡ guesses_for (window_of board.now) }
+    requires room { turns_in (window_of board.now) ≤ vec_capacity made.old }
+    ensures board { IsSeatOf board.now seat.new }
+    ensures worker { IsWorker (known seat.new) made.new.items }
+    ensures served { HasServed (turns_in (window_of board.now)) (known seat.old) (known seat.new) result }
+    ensures room { vec_capacity made.new ≡ vec_capacity made.old }
+{
+    let ticket = board.draw(seat);
+    if ticket >= board.turns() {
+        return false;
+    }
+    let turn = board.turn_of(ticket);
+    gate.before_look(number, turn);
+    let look = look_at(field, guesses, board.first(), board.end(), ticket);
+    made.push_reserved(turn);
+    board.put(seat, look);
+    try_book(board, seat, field);
+    true
+}
+
+// Tries once for the book, and with it settles for as long as the next turn's look is there.
+fn try_book(board: &Board, seat: &mut Seat, field: &Field<'_>)
+    requires board { IsSeatOf board.now seat.old }
+    requires opened { (known seat.old).opened ≡ true }
+    requires free { (known seat.old).holds ≡ false }
+    requires field { IsLentFor field.now (window_of board.now) }
+    ensures board { IsSeatOf board.now seat.new }
+    ensures same { IsSameButTook (known seat.old) (known seat.new) }
+    ensures tried { (known seat.old).tries + 1 ≤ (known seat.new).tries }
+{
+    let Some(mut book) = board.take_book(seat) else {
+        return;
+    };
+    settle_looks(board, seat, field, &mut book);
+    board.give_book(seat, book);
+}
+
+// Settles the next turns of the book for as long as their looks are there.
+fn settle_looks(board: &Board, seat: &mut Seat, field: &Field<'_>, book: &mut Book)
+    requires board { IsSeatOf board.now seat.old }
+    requires holds { (known seat.old).holds ≡ true }
+    requires field { IsLentFor field.now (window_of board.now) }
+    requires stands { StandsFor (window_of board.now) book.old }
+    ensures board { IsSeatOf board.now seat.new }
+    ensures same { IsSameButTook (known seat.old) (known seat.new) }
+    ensures tries { (known seat.old).tries ≤ (known seat.new).tries }
+    ensures stands { StandsFor (window_of board.now) book.new }
+{
+    while book.next() < board.end() {
+        let Some(look) = board.take_look(seat, book.next()) else {
+            return;
+        };
+        advance(book, field, &look);
+    }
+}
