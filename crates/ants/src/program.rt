@@ -29,7 +29,7 @@ use ant_turn::Sheet;
 use command_words::{Command, RunOptions, read_words};
 use match_run::{OutOfMemory, Plan};
 use round_book::{Counts, Field, Led};
-use round_workers::PieceCrew;
+use round_workers::BoardCrew;
 use std::alloc::Global;
 use std::process::ExitCode;
 use std::thread::Threads;
@@ -62,13 +62,13 @@ fn carry_out_run<'w, R: Threads + Sync, S: Shelf, K: Sink, G: Gate>(
     ensures { CarriesOut (RunCommand names.entry.world.now names.entry.red.now names.entry.black.now (plain_setup options.entry)) (S.state shelf.old) (S.state shelf.new) (K.state out.old) (K.state out.new) (ending_of result) }
 {
     let sheet = Sheet::new(options.surround, options.corpse, options.rest);
-    let mut pieces = PieceCrew::new(rt, options.workers, gate);
+    let mut board = BoardCrew::new(rt, options.workers, gate);
     let plan = plan_of(alloc, options)?;
     let mut crew = Led::by(
         |field: &mut Field<'_>, from: u32, to: u32| -> Result<Counts, OutOfMemory>
             requires { CanBegin field.now from to }
             ensures { IsWindow result field.entry.now from to field.exit.now }
-        { pieces.window(alloc, field, from, to) },
+        { board.window(alloc, field, from, to) },
     );
     run(alloc, &mut crew, names, sheet, &plan, shelf, out)
 }
@@ -88,12 +88,12 @@ fn carry_out_workload<'w, R: Threads + Sync, S: Shelf, K: Sink, G: Gate>(
     requires workers { (1 ≤ workers) × (workers ≤ 16) }
     ensures { CarriesOut (WorkloadCommand seed rounds workers) (S.state shelf.old) (S.state shelf.new) (K.state out.old) (K.state out.new) (ending_of result) }
 {
-    let mut pieces = PieceCrew::new(rt, workers, gate);
+    let mut board = BoardCrew::new(rt, workers, gate);
     let mut crew = Led::by(
         |field: &mut Field<'_>, from: u32, to: u32| -> Result<Counts, OutOfMemory>
             requires { CanBegin field.now from to }
             ensures { IsWindow result field.entry.now from to field.exit.now }
-        { pieces.window(alloc, field, from, to) },
+        { board.window(alloc, field, from, to) },
     );
     workload(alloc, &mut crew, seed, rounds, shelf, out)
 }

@@ -14,6 +14,7 @@ use crate::board::closing::Closed;
 use crate::board::looking::look_at;
 use crate::board::seat::{Board, Seat};
 use crate::board::worker::Worker;
+use crate::piece_crew::PieceCrew;
 use ant_base::Gate;
 use hex_geometry::OutOfMemory;
 use round_book::{Book, Counts, Field, advance};
@@ -31,6 +32,7 @@ pub struct BoardCrew<'c, R: Threads + Sync, G: Gate> {
     gate: &'c G,
     workers: u32,
     turns: u64,
+    alone: PieceCrew<'c, R, G>,
 }
 
 impl<'c, R: Threads + Sync, G: Gate> Model for BoardCrew<'c, R, G> {
@@ -56,6 +58,7 @@ impl<'c, R: Threads + Sync, G: Gate> BoardCrew<'c, R, G> {
             gate,
             workers,
             turns: 0,
+            alone: PieceCrew::new(rt, 1, gate),
         }
     }
 
@@ -74,7 +77,7 @@ impl<'c, R: Threads + Sync, G: Gate> BoardCrew<'c, R, G> {
     ///
     /// As many workers work as the lesser of the crew's and the turns. Whichever draws a turn calls the gate with its number and the id, makes
     /// the look, puts it on the board and tries once for the book; with the book it settles the next turns for as long as their looks are
-    /// there. No worker waits for another.
+    /// there. No worker waits for another. One worker alone needs no board: it makes the looks of the window, and then settles them.
     pub fn window(
         &mut self,
         alloc: Global,
@@ -89,14 +92,47 @@ impl<'c, R: Threads + Sync, G: Gate> BoardCrew<'c, R, G> {
         ensures unchanged { OnErr result (field.new ≡ field.old) }
         ensures as_before { OnErr result (self.new ≡ self.old) }
     {
-        let counts = play(self.rt, self.gate, alloc, self.workers, field, from, to)?;
+        let counts = play(
+            self.rt,
+            self.gate,
+            alloc,
+            &mut self.alone,
+            self.workers,
+            field,
+            from,
+            to,
+        )?;
         self.turns = self.turns.saturating_add(u64::from(to - from));
         Ok(counts)
     }
 }
 
-// Plays a window by so many workers.
+// Plays a window by so many workers, or by a crew of one where no second worker would have a turn: then there is nobody to pass a book to.
 fn play<R: Threads + Sync, G: Gate>(
+    rt: &R,
+    gate: &G,
+    alloc: Global,
+    alone: &mut PieceCrew<'_, R, G>,
+    workers: u32,
+    field: &mut Field<'_>,
+    from: u32,
+    to: u32,
+) -> Result<Counts, OutOfMemory>
+    requires workers { (1 ≤ workers) × (workers ≤ 16) }
+    requires window { books.CanBegin field.old from to }
+    ensures played { OnOk result (books.IsPlayed field.old from to field.new) }
+    ensures counts { IfOk result (λ counts. counts ≡ counts_of (books.window_of field.old from to)) }
+    ensures unchanged { OnErr result (field.new ≡ field.old) }
+{
+    if workers.min(to - from) <= 1 {
+        alone.window(alloc, field, from, to)
+    } else {
+        play_on_board(rt, gate, alloc, workers, field, from, to)
+    }
+}
+
+// Plays a window on a board of its own.
+fn play_on_board<R: Threads + Sync, G: Gate>(
     rt: &R,
     gate: &G,
     alloc: Global,

@@ -2,7 +2,7 @@ use Rattle.std.proofs.Common.{sym, ap, ◌∙◌, subst}
 use Rattle.round_book.specs.Book.{FieldValue, window_of}
 use Rattle.round_workers.specs.BoardCrew.{IsLaid}
 use Rattle.round_workers.specs.BoardWorker.{guesses_for}
-use Rattle.round_workers.proofs.board.crew.play.Goals as goal
+use Rattle.round_workers.proofs.board.crew.play_on_board.Goals as goal
 
 pub settle-book-requires-clause-laid : goal.settle-book-requires-clause-laid
 settle-book-requires-clause-laid g c κs within = subst (λ (f : FieldValue). IsLaid (window_of f c.args.from c.args.to) c.in_ok-laid.laid) (sym c.in_ok-book.ensures.lent) c.in_ok-laid.ensures
