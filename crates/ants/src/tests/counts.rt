@@ -35,7 +35,7 @@ const STEPPED: &str = "random seed: 1\n\nscore: red 0 black 3\n";
 
 const MARKED: &str = "random seed: 7\n\nscore: red 0 black 0\n";
 
-const COUNTED: [Counted; 18] = [
+const COUNTED: [Counted; 13] = [
     Counted {
         job: Job {
             line: "run w r b --seed 7 --rounds 5 --stats",
@@ -65,38 +65,6 @@ const COUNTED: [Counted; 18] = [
     },
     Counted {
         job: Job {
-            line: "run w r b --seed 12345 --rounds 1 --dump 1 --stats --workers 1",
-            ..KILLING
-        },
-        text: KILLED,
-        counts: "turns 7 taken 5 redone 2\n",
-    },
-    Counted {
-        job: Job {
-            line: "run w r b --seed 12345 --rounds 1 --dump 1 --stats --workers 2",
-            ..KILLING
-        },
-        text: KILLED,
-        counts: "turns 7 taken 5 redone 2\n",
-    },
-    Counted {
-        job: Job {
-            line: "run w r b --seed 12345 --rounds 1 --dump 1 --stats --workers 7",
-            ..KILLING
-        },
-        text: KILLED,
-        counts: "turns 7 taken 5 redone 2\n",
-    },
-    Counted {
-        job: Job {
-            line: "run w r b --seed 12345 --rounds 1 --dump 1 --stats --workers 16",
-            ..KILLING
-        },
-        text: KILLED,
-        counts: "turns 7 taken 5 redone 2\n",
-    },
-    Counted {
-        job: Job {
             line: "run w r b --seed 12345 --rounds 1 --surround 6 --stats",
             world: CLOSING,
             ..KILLING
@@ -115,14 +83,6 @@ const COUNTED: [Counted; 18] = [
     Counted {
         job: Job {
             line: "run w r b --seed 1 --window 3 --rounds 1 --stats",
-            ..STEPPING
-        },
-        text: STEPPED,
-        counts: "turns 10 taken 10 redone 0\n",
-    },
-    Counted {
-        job: Job {
-            line: "run w r b --workers 2 --seed 1 --window 3 --rounds 1 --stats",
             ..STEPPING
         },
         text: STEPPED,

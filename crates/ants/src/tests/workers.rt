@@ -1,8 +1,8 @@
-// Looks that two workers make at the same time, each of them once.
+// Runs by any number of workers; and looks that two workers make at the same time, each of them once.
 use crate::status::Status;
 use crate::tests::games::{MOST_BYTES, brain_of, field_on};
 use crate::tests::runs::{KILLED, KILLING};
-use crate::tests::{CLOSING, Job, answer_by};
+use crate::tests::{CLOSING, Job, answer, answer_by};
 use ant_base::Gate;
 use ant_turn::{Brains, Sheet};
 use round_workers::{BoardCrew, PieceCrew};
@@ -80,6 +80,39 @@ fn meets(own: &AtomicBool, other: &AtomicBool) -> bool {
         spin_loop();
     }
     false
+}
+
+#[test]
+fn any_number_of_workers_writes_the_same_bytes(rt: HostRuntime) -> Result<(), Fail> {
+    for (line, counts) in [
+        (
+            "run w r b --seed 12345 --rounds 1 --dump 1 --stats --workers 1",
+            "turns 7 taken 5 redone 2\n",
+        ),
+        (
+            "run w r b --seed 12345 --rounds 1 --dump 1 --stats --workers 2",
+            "turns 7 taken 5 redone 2\n",
+        ),
+        (
+            "run w r b --seed 12345 --rounds 1 --dump 1 --stats --workers 7",
+            "turns 7 taken 5 redone 2\n",
+        ),
+        (
+            "run w r b --seed 12345 --rounds 1 --dump 1 --stats --workers 16",
+            "turns 7 taken 5 redone 2\n",
+        ),
+        (
+            "run w r b --workers 2 --window 1 --seed 12345 --rounds 1 --dump 1 --stats",
+            "turns 7 taken 7 redone 0\n",
+        ),
+    ] {
+        let job = Job { line, ..KILLING };
+        let outcome = answer(&rt, rt.alloc(), &job)?;
+        let out = str::from_utf8(outcome.out.held())?;
+        assert_eq!(rt; outcome.status, Status::Done, "at {line}");
+        assert_eq!(rt; out.strip_prefix(KILLED), Some(counts), "at {line}");
+    }
+    Ok(())
 }
 
 #[test]
