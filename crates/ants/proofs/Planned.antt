@@ -1,5 +1,5 @@
 -- The text of a game by its plan is the one by its words.
-use Rattle.std.proofs.Common.{◌≡◌, ℕ, Bool, List, sym, ◌∙◌, ap}
+use Rattle.std.proofs.Common.{◌≡◌, ℕ, Bool, List, ◌∙◌, ap}
 use Rattle.ant_turn.specs.Minds.{Minds}
 use Rattle.ant_turn.specs.Sheet.{Sheet, sheet_of}
 use Rattle.ant_turn.specs.declared.sheet.Sheet as code

@@ -1,8 +1,7 @@
 -- the files were accepted, and their game was played
-use Rattle.std.proofs.Common.{◌≡◌, ℕ, ◌∷◌, [], List, refl, sym, subst}
+use Rattle.std.proofs.Common.{refl, subst}
 use Rattle.ant_base.specs.Sink.{PushedAll}
 use Rattle.ant_turn.specs.Sheet.{sheet_of}
-use Rattle.cell_world.specs.Grid.{world_of}
 use Rattle.command_words.specs.Command.PlainCommand.{RunCommand}
 use Rattle.match_run.specs.Play.{StoppedBy}
 use Rattle.ants.specs.Inner.Planning.{setting_contents}
