@@ -1,7 +1,9 @@
 -- What the two seats of a table know, from step to step (this project's own).
-use Rattle.std.specs.Prelude.{◌≡◌, ℕ, ◌+◌, ◌≤◌, ◌<◌, ◌^◌, true, false, [], ◌∷◌, ◌++◌}
+use Rattle.std.specs.Prelude.{◌≡◌, ℕ, ◌+◌, ◌-◌, ◌≤◌, ◌<◌, ◌^◌, true, false, [], ◌∷◌, ◌++◌, slice_index_or, None}
 use Rattle.board_steps.specs.declared.Laid.{Laid}
 use Rattle.round_book.specs.Book.{FieldValue}
+use Rattle.round_book.specs.Machine.{times}
+use Rattle.round_workers.specs.declared.board.closing.Closed.{Closed}
 use Rattle.round_workers.specs.declared.board.seat.Board.{Board}
 use Rattle.round_workers.specs.declared.board.seat.Seat.{Seat}
 use Rattle.round_workers.specs.declared.board.view.Basis.{Basis}
@@ -9,7 +11,9 @@ use Rattle.round_workers.specs.declared.board.view.Phase.TheVariants.{Resting}
 use Rattle.round_workers.specs.declared.board.view.Try.TheVariants.{Never}
 use Rattle.round_workers.specs.declared.board.view.View.{View}
 use Rattle.round_workers.specs.BoardPlays.{has_seen, made_one, newcomer}
-use Rattle.round_workers.specs.BoardSeats.{IsSeatOf, basis_of, known, window_of}
+use Rattle.round_workers.specs.BoardRule.{StandsFor}
+use Rattle.round_workers.specs.BoardSeats.{IsSeatOf, basis_of, known, left_look, window_of}
+use Rattle.round_workers.specs.BoardTotals.{once_below}
 use Rattle.round_workers.specs.BoardView.{first_seat}
 use Rattle.round_workers.specs.BoardWorker.{IsLentFor}
 
@@ -61,3 +65,9 @@ pub record IsSecond (v : View) : Type 0 where
   pub number : v.number ≡ 1
   pub parts : v.parts ≡ 1 ∷ []
   pub free : v.holds ≡ false
+
+-- what a board leaves, where its first seat, with all that went into it, knows this
+pub record AreLeft (board : Board) (v : View) (closed : Closed) : Type 0 where
+  pub book : StandsFor (window_of board) closed.book
+  pub drawn : (k : ℕ) → times k v.drawn ≡ once_below k closed.drawn
+  pub looks : (k : ℕ) → k < (basis_of board).to - (basis_of board).from → slice_index_or closed.looks.items k None ≡ left_look (window_of board) v k

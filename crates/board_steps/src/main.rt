@@ -1,27 +1,28 @@
-//! Plays two worked tables of the steps of a board, on one thread, and prints a line for each step.
+//! Plays two worked tables of the steps of a board, on one thread, and prints a line for each step with its answer.
 //!
-//! The board is for the seven turns of a world with seven ants, and has two seats, a and b. In the first table b puts the look of turn 1, and
-//! with the book finds no look to settle until a puts that of turn 0; then b settles both. What the board leaves is settled on this thread.
-//! In the second table no one takes the book. A table ends early, and the program fails, where a step answers otherwise. It is this
-//! project's own.
+//! The board is for the seven turns of a world with seven ants, and has two seats, a and b, which draw the tickets 0 and 1. In the first
+//! table b puts the look of turn 1; a takes the book and finds no look of turn 0; then a puts that one, and b takes the book and settles both
+//! turns. What the board leaves is settled on this thread. In the second table nobody takes the book.
+//!
+//! The conditions of all calls are proved from what the calls tell of the two seats, and so is what `close_first` and `close_second` say of
+//! the looks and the tickets that are left. The other answers are tested, by what is printed. It is this project's own.
 #![tactic(auto)]
 
-ghost use Rattle.std.specs.Prelude.{◌≡◌, ◌+◌, ◌<◌, ◌≤◌, ◌^◌, true, length, IfSome, OnSome};
-ghost use Rattle.ant_base.specs.Shelf.{longest};
+ghost use Rattle.std.specs.Prelude.{◌≡◌, ◌≢◌, ℕ, ◌+◌, ◌<◌, ◌≤◌, ◌^◌, true, slice_index_or, IfSome, OnSome};
 ghost use Rattle.round_book.specs.Book.{CanBegin, IsSameWindow, StandsOn, window_of};
 ghost use Rattle.round_book.specs.Machine.{times};
 ghost use Rattle.round_book.specs.Window.{look_for};
-ghost use Rattle.round_workers.specs.BoardPlays.{drew, has_put};
+ghost use Rattle.round_workers.specs.BoardPlays.{drew, has_put, joined};
 ghost use Rattle.round_workers.specs.BoardRule.{StandsFor};
 ghost use Rattle.round_workers.specs.BoardSeats as seats;
 ghost use Rattle.round_workers.specs.BoardSeats.{IsSeatOf, basis_of, known};
-ghost use Rattle.board_steps.specs.Seats.{IsFirst, IsFor, IsLaid, IsSecond, Shows, calm, first_at, second_at, taken};
+ghost use Rattle.board_steps.specs.Seats.{AreLeft, IsFirst, IsFor, IsLaid, IsSecond, Shows, calm, first_at, second_at, taken};
 
 use ant_turn::{Brains, Sheet};
 use brain_read::{Brain, read_brain};
 use round_book::{Book, Cause, Field};
 use round_workers::{Board, Closed, Seat};
-use spec_record::{Look, guess_at, look};
+use spec_record::{Look, guess_at, guesses, look};
 use std::alloc::Global;
 use std::process::ExitCode;
 use world_read::read_world;
@@ -258,7 +259,7 @@ fn settle_both<R: Print>(
     println!(rt; "b gives the book: done").ok()
 }
 
-// Whether a look was left.
+// What is left at a turn.
 fn what_is_left(look: &Option<Look>) -> &'static str {
     match look {
         Some(_) => "left",
@@ -267,21 +268,52 @@ fn what_is_left(look: &Option<Look>) -> &'static str {
 }
 
 // Joins b into a, and closes the board.
-fn close<R: Print>(rt: &R, board: Board, mut a: Seat, b: Seat) -> Option<Book>
+fn close<R: Print>(rt: &R, board: Board, mut a: Seat, b: Seat) -> Option<Closed>
     requires a { IsSeatOf board a }
     requires b { IsSeatOf board b }
     requires first { IsFirst (known a) }
     requires second { IsSecond (known b) }
-    ensures { IfSome result (StandsFor (seats.window_of board)) }
+    ensures { IfSome result (AreLeft board (joined (calm (known a)) (calm (known b)))) }
 {
     board.join(&mut a, b);
     println!(rt; "b is joined into a: done").ok()?;
-    let Closed { book, looks, drawn } = board.close(a);
-    println!(rt; "a closes: next {}, drawn {drawn}", book.next()).ok()?;
-    for (turn, look) in looks.iter().enumerate() {
+    let closed = board.close(a);
+    println!(rt;
+        "a closes: next {}, drawn {}",
+        closed.book.next(),
+        closed.drawn
+    )
+    .ok()?;
+    for (turn, look) in closed.looks.iter().enumerate() {
         println!(rt; "the look of turn {turn}: {}", what_is_left(look)).ok()?;
     }
-    Some(book)
+    Some(closed)
+}
+
+// Closes the board of the first table: two tickets were drawn, and no look is left.
+fn close_first<R: Print>(rt: &R, board: Board, a: Seat, b: Seat) -> Option<Closed>
+    requires from { (basis_of board).from ≡ 0 }
+    requires to { (basis_of board).to ≡ 7 }
+    requires a { Shows board (has_put (drew (first_at (basis_of board)) 0) 0) a }
+    requires b { Shows board (taken (taken (has_put (drew (second_at (basis_of board)) 1) 1) 0) 1) b }
+    ensures book { IfSome result (λ closed. StandsFor (seats.window_of board) closed.book) }
+    ensures drawn { IfSome result (λ closed. closed.drawn ≡ 2) }
+    ensures looks { IfSome result (λ closed. (k : ℕ) → k < 7 → slice_index_or closed.looks.items k None ≡ None) }
+{
+    close(rt, board, a, b)
+}
+
+// Closes the board of the second table: two tickets were drawn, and the look of turn 1 is left, and no other.
+fn close_second<R: Print>(rt: &R, board: Board, a: Seat, b: Seat) -> Option<Closed>
+    requires from { (basis_of board).from ≡ 0 }
+    requires to { (basis_of board).to ≡ 7 }
+    requires a { Shows board (drew (first_at (basis_of board)) 0) a }
+    requires b { Shows board (has_put (drew (second_at (basis_of board)) 1) 1) b }
+    ensures drawn { IfSome result (λ closed. closed.drawn ≡ 2) }
+    ensures left { IfSome result (λ closed. slice_index_or closed.looks.items 1 None ≡ Some (look_for (seats.window_of board) 1)) }
+    ensures others { IfSome result (λ closed. (k : ℕ) → k < 7 → k ≢ 1 → slice_index_or closed.looks.items k None ≡ None) }
+{
+    close(rt, board, a, b)
 }
 
 // Settles the turns that are left by looks that are made one after another.
@@ -313,7 +345,11 @@ fn play_first<R: Print>(rt: &R, alloc: Global, field: &mut Field<'_>) -> Option<
     draw_and_put(rt, &board, field, &mut a, &mut b)?;
     find_no_look(rt, &board, &mut a, &mut b)?;
     settle_both(rt, &board, field, &mut a, &mut b)?;
-    let mut book = close(rt, board, a, b)?;
+    let Closed {
+        mut book,
+        looks: _,
+        drawn: _,
+    } = close_first(rt, board, a, b)?;
     settle_left(rt, field, &mut book)?;
     let counts = field.finish(book);
     println!(rt;
@@ -334,8 +370,25 @@ fn play_second<R: Print>(rt: &R, alloc: Global, field: &mut Field<'_>) -> Option
         mut b,
     } = lay(alloc, field)?;
     draw_and_put(rt, &board, field, &mut a, &mut b)?;
-    let _book = close(rt, board, a, b)?;
+    let _closed = close_second(rt, board, a, b)?;
     Some(())
+}
+
+// Says the guess of each turn.
+fn tell_guesses<R: Print>(rt: &R, alloc: Global, field: &Field<'_>) -> Option<()>
+    requires { CanBegin field.now 0 7 }
+{
+    let Ok(all) = guesses(
+        alloc,
+        field.world(),
+        field.brains(),
+        field.place(),
+        0,
+        TURNS,
+    ) else {
+        return None;
+    };
+    println!(rt; "guesses: {all:?}").ok()
 }
 
 // Plays both tables, each on a field of its own.
@@ -347,8 +400,9 @@ fn play<R: Print>(rt: &R, alloc: Global) -> Option<()> {
         black: &black,
         sheet: Sheet::contest(),
     };
-    println!(rt; "first table").ok()?;
     let mut field = field_of(alloc, brains)?;
+    tell_guesses(rt, alloc, &field)?;
+    println!(rt; "first table").ok()?;
     play_first(rt, alloc, &mut field)?;
     println!(rt; "second table").ok()?;
     let mut field = field_of(alloc, brains)?;

@@ -1,5 +1,5 @@
 -- the look of a turn of the field is that of the board's window, and its ticket is the turn
-use Rattle.std.proofs.Common.{◌≡◌, ℕ, ◌-◌, ◌<◌, ◌≤◌, sym, ap, ◌∙◌, subst, arith}
+use Rattle.std.proofs.Common.{◌≡◌, ℕ, ◌-◌, ◌≤◌, sym, ap, ◌∙◌, subst, arith}
 use Rattle.spec_record.specs.Look.{LookValue}
 use Rattle.round_book.specs.Book.{FieldValue}
 use Rattle.round_book.specs.Book as books
