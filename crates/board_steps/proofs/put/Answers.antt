@@ -1,0 +1,44 @@
+-- the look of a turn of the field is that of the board's window, and its ticket is the turn
+use Rattle.std.proofs.Common.{◌≡◌, ℕ, ◌-◌, ◌≤◌, sym, ap, ◌∙◌, subst, arith}
+use Rattle.spec_record.specs.Look.{LookValue}
+use Rattle.round_book.specs.Book.{FieldValue}
+use Rattle.round_book.specs.Book as books
+use Rattle.round_book.specs.Machine.{times}
+use Rattle.round_book.specs.Window.{Window, look_for}
+use Rattle.round_workers.specs.declared.board.seat.Board.{Board}
+use Rattle.round_workers.specs.BoardPlays.{has_put}
+use Rattle.round_workers.specs.BoardSeats.{basis_of, known, window_of}
+use Rattle.round_workers.proofs.BoardWorking.{look-again, look-turn, window_at}
+use Rattle.board_steps.specs.Seats.{IsFor}
+use Rattle.board_steps.proofs.put.Goals as goal
+
+module _ (field : FieldValue) (board : Board) (lent : IsFor field board) (look : LookValue) (t : ℕ) (at : look ≡ look_for (books.window_of field 0 7) t) where
+  look-is : look ≡ look_for (window_of board) t
+  look-is = at ∙ ap (λ (w : Window). look_for w t) (window_at field (window_of board) lent.lent 0 7 (sym lent.from) (sym lent.to))
+
+  turn-is : look.turn ≡ t
+  turn-is = look-turn (window_of board) look t look-is
+
+  ticket-is : look.turn - (basis_of board).from ≡ t
+  ticket-is = let a : look.turn ≡ t = turn-is in let b : (basis_of board).from ≡ 0 = lent.from in omega arith
+
+pub put-requires-clause-before_to : goal.put-requires-clause-before_to
+put-requires-clause-before_to c =
+    let turn = turn-is c.args.field.now c.args.board.now c.requires.field c.look_at-look.result c.args.turn c.look_at-look.ensures in
+    let to = c.requires.field.to in let few = c.requires.turn in omega arith
+
+pub put-requires-clause-drew : goal.put-requires-clause-drew
+put-requires-clause-drew c =
+    subst (λ (m : ℕ). 1 ≤ times m (known c.args.seat.now).drawn) (sym (ticket-is c.args.field.now c.args.board.now c.requires.field c.look_at-look.result c.args.turn c.look_at-look.ensures)) c.requires.drew
+
+pub put-requires-clause-unput : goal.put-requires-clause-unput
+put-requires-clause-unput c =
+    ap (λ (m : ℕ). times m (known c.args.seat.now).put) (ticket-is c.args.field.now c.args.board.now c.requires.field c.look_at-look.result c.args.turn c.look_at-look.ensures) ∙ c.requires.unput
+
+pub put-requires-clause-look : goal.put-requires-clause-look
+put-requires-clause-look c =
+    look-again (window_of c.args.board.now) c.look_at-look.result c.args.turn (look-is c.args.field.now c.args.board.now c.requires.field c.look_at-look.result c.args.turn c.look_at-look.ensures)
+
+pub returns-clause-put : goal.returns-clause-put
+returns-clause-put c =
+    c.put.ensures.put ∙ ap (has_put (known c.args.seat.now)) (ticket-is c.args.field.now c.args.board.now c.requires.field c.look_at-look.result c.args.turn c.look_at-look.ensures)

@@ -1,0 +1,417 @@
+//! Plays two worked tables of the steps of a board, on one thread, and prints a line for each step with its answer.
+//!
+//! The board is for the seven turns of a world with seven ants, and has two seats, a and b, which draw the tickets 0 and 1. In the first
+//! table b puts the look of turn 1; a takes the book and finds no look of turn 0; then a puts that one, and b takes the book and settles both
+//! turns. What the board leaves is settled on this thread. In the second table nobody takes the book.
+//!
+//! The conditions of all calls are proved from what the calls tell of the two seats, and so is what `close_first` and `close_second` say of
+//! the looks and the tickets that are left. The other answers are tested, by what is printed. It is this project's own.
+#![tactic(auto)]
+
+ghost use Rattle.std.specs.Prelude.{◌≡◌, ◌≢◌, ℕ, ◌+◌, ◌<◌, ◌≤◌, ◌^◌, true, slice_index_or, IfSome, OnSome};
+ghost use Rattle.round_book.specs.Book.{CanBegin, IsSameWindow, StandsOn, window_of};
+ghost use Rattle.round_book.specs.Machine.{times};
+ghost use Rattle.round_book.specs.Window.{look_for};
+ghost use Rattle.round_workers.specs.BoardPlays.{drew, has_put, joined};
+ghost use Rattle.round_workers.specs.BoardRule.{StandsFor};
+ghost use Rattle.round_workers.specs.BoardSeats as seats;
+ghost use Rattle.round_workers.specs.BoardSeats.{IsSeatOf, basis_of, known};
+ghost use Rattle.board_steps.specs.Seats.{AreLeft, IsFirst, IsFor, IsLaid, IsSecond, Shows, calm, first_at, second_at, taken};
+
+use ant_turn::{Brains, Sheet};
+use brain_read::{Brain, read_brain};
+use round_book::{Book, Cause, Field};
+use round_workers::{Board, Closed, Seat};
+use spec_record::{Look, guess_at, guesses, look};
+use std::alloc::Global;
+use std::process::ExitCode;
+use world_read::read_world;
+
+// A red ant among four black ones, a fifth about to come.
+const WORLD: &str =
+    "7\n6\n# # # # # # #\n # . . . . . #\n# . . - # . #\n # - . + - # #\n# + . - - # #\n # # # # # # #\n";
+
+// The most bytes of a file.
+const MOST_BYTES: usize = 4_194_304;
+
+// The seed of the random numbers.
+const SEED: u32 = 12345;
+
+// How many turns the world has.
+const TURNS: u32 = 7;
+
+// A board for the turns of a field, its book opened, and its two seats.
+#[derive(Drop)]
+struct Laid {
+    board: Board,
+    a: Seat,
+    b: Seat,
+}
+
+// The brain of a text.
+fn brain_of(alloc: Global, text: &str) -> Option<Brain> {
+    let bytes = text.as_bytes();
+    if bytes.len() > MOST_BYTES {
+        return None;
+    }
+    read_brain(alloc, bytes).ok()
+}
+
+// A whole field with the world, as a game begins.
+fn field_of<'b>(alloc: Global, brains: Brains<'b>) -> Option<Field<'b>>
+    ensures { IfSome result (λ field. CanBegin field 0 7) }
+{
+    let bytes = WORLD.as_bytes();
+    if bytes.len() > MOST_BYTES {
+        return None;
+    }
+    let Ok(world) = read_world(alloc, bytes) else {
+        return None;
+    };
+    let _red_states = brains.red.len();
+    let _black_states = brains.black.len();
+    if world.ant_count() < TURNS {
+        return None;
+    }
+    let Ok(field) = Field::new(alloc, world, brains, SEED, 0) else {
+        return None;
+    };
+    Some(field)
+}
+
+// Lays a table on a field.
+fn lay(alloc: Global, field: &mut Field<'_>) -> Option<Laid>
+    requires { CanBegin field.old 0 7 }
+    ensures { IfSome result (λ laid. IsLaid field.new laid) }
+{
+    let Ok((board, mut a)) = Board::new(alloc, field, 0, TURNS) else {
+        return None;
+    };
+    let Ok(book) = field.begin(alloc, 0, TURNS) else {
+        return None;
+    };
+    board.open_book(&mut a, book);
+    let b = board.split(&mut a);
+    Some(Laid { board, a, b })
+}
+
+// The look at a turn of the field's world, at its guess.
+fn look_at(field: &Field<'_>, turn: u32) -> Look
+    requires turn { turn < 7 }
+    requires ids { 7 ≤ field.now.world.ids }
+    requires lasting { field.now.place + 7 < 2 ^ 63 }
+    ensures { result ≡ look_for (window_of field.now 0 7) turn }
+{
+    let guess = guess_at(field.world(), field.brains(), field.place(), 0, turn);
+    look(field.world(), field.brains(), field.seed(), guess, turn)
+}
+
+// Puts the look at a turn.
+fn put(board: &Board, field: &Field<'_>, seat: &mut Seat, turn: u32)
+    requires board { IsSeatOf board.now seat.old }
+    requires field { IsFor field.now board.now }
+    requires turn { turn < 7 }
+    requires drew { 1 ≤ times turn (known seat.old).drawn }
+    requires unput { times turn (known seat.old).put ≡ 0 }
+    ensures board { IsSeatOf board.now seat.new }
+    ensures put { known seat.new ≡ has_put (known seat.old) turn }
+{
+    let look = look_at(field, turn);
+    board.put(seat, look);
+}
+
+// Settles the next turn by the look at it, and executes it anew where the look doesn't hold; says why it doesn't.
+fn settle_next(book: &mut Book, field: &Field<'_>, look: Look) -> Option<Cause>
+    requires stands { StandsOn field.now book.old }
+    requires left { book.old.next < book.old.to }
+    requires look { look ≡ look_for (window_of field.now book.old.from book.old.to) book.old.next }
+    ensures stands { StandsOn field.now book.new }
+    ensures next { book.new.next ≡ book.old.next + 1 }
+    ensures same { IsSameWindow book.old book.new }
+{
+    match book.settle(look) {
+        None => None,
+        Some(cause) => {
+            book.redo(field.brains(), cause);
+            Some(cause)
+        }
+    }
+}
+
+// What became of a look.
+fn fate(cause: &Option<Cause>) -> &'static str {
+    match cause {
+        None => "taken",
+        Some(_) => "redone",
+    }
+}
+
+// Each seat draws a ticket, and b puts the look of its turn.
+fn draw_and_put<R: Print>(
+    rt: &R,
+    board: &Board,
+    field: &Field<'_>,
+    a: &mut Seat,
+    b: &mut Seat,
+) -> Option<()>
+    requires field { IsFor field.now board.now }
+    requires a { Shows board.now (first_at (basis_of board.now)) a.old }
+    requires b { Shows board.now (second_at (basis_of board.now)) b.old }
+    ensures a { OnSome result (Shows board.now (drew (first_at (basis_of board.now)) 0) a.new) }
+    ensures b { OnSome result (Shows board.now (has_put (drew (second_at (basis_of board.now)) 1) 1) b.new) }
+{
+    let first = board.draw(a);
+    println!(rt; "a draws: {first}").ok()?;
+    let second = board.draw(b);
+    println!(rt; "b draws: {second}").ok()?;
+    if first != 0 {
+        return None;
+    }
+    if second != 1 {
+        return None;
+    }
+    put(board, field, b, 1);
+    println!(rt; "b puts the look of turn 1: done").ok()
+}
+
+// With the book, a finds that the look of turn 0 isn't there; meanwhile b gets no book.
+fn find_no_look<R: Print>(rt: &R, board: &Board, a: &mut Seat, b: &mut Seat) -> Option<()>
+    requires a { Shows board.now (drew (first_at (basis_of board.now)) 0) a.old }
+    requires b { Shows board.now (has_put (drew (second_at (basis_of board.now)) 1) 1) b.old }
+    requires from { (basis_of board.now).from ≡ 0 }
+    requires to { (basis_of board.now).to ≡ 7 }
+    ensures a { OnSome result (Shows board.now (drew (first_at (basis_of board.now)) 0) a.new) }
+    ensures b { OnSome result (Shows board.now (has_put (drew (second_at (basis_of board.now)) 1) 1) b.new) }
+{
+    let Some(book) = board.take_book(a) else {
+        return None;
+    };
+    println!(rt; "a takes the book: next {}", book.next()).ok()?;
+    let None = board.take_book(b) else {
+        return None;
+    };
+    println!(rt; "b takes the book: none").ok()?;
+    let None = board.take_look(a, 0) else {
+        return None;
+    };
+    println!(rt; "a takes the look of turn 0: none").ok()?;
+    board.give_book(a, book);
+    println!(rt; "a gives the book: done").ok()
+}
+
+// Takes the look of the next turn, and settles it.
+fn settle_look<R: Print>(
+    rt: &R,
+    board: &Board,
+    field: &Field<'_>,
+    seat: &mut Seat,
+    book: &mut Book,
+) -> Option<()>
+    requires board { IsSeatOf board.now seat.old }
+    requires holds { (known seat.old).holds ≡ true }
+    requires field { IsFor field.now board.now }
+    requires stands { StandsFor (seats.window_of board.now) book.old }
+    requires left { book.old.next < 7 }
+    ensures board { OnSome result (IsSeatOf board.now seat.new) }
+    ensures took { OnSome result (calm (known seat.new) ≡ taken (calm (known seat.old)) book.old.next) }
+    ensures stands { OnSome result (StandsFor (seats.window_of board.now) book.new) }
+    ensures next { OnSome result (book.new.next ≡ book.old.next + 1) }
+{
+    let turn = book.next();
+    let Some(look) = board.take_look(seat, turn) else {
+        return None;
+    };
+    println!(rt; "b takes the look of turn {turn}: there").ok()?;
+    let cause = settle_next(book, field, look);
+    println!(rt; "b settles turn {turn}: {}", fate(&cause)).ok()
+}
+
+// a puts the look of turn 0, and b settles both turns whose looks are there.
+fn settle_both<R: Print>(
+    rt: &R,
+    board: &Board,
+    field: &Field<'_>,
+    a: &mut Seat,
+    b: &mut Seat,
+) -> Option<()>
+    requires field { IsFor field.now board.now }
+    requires a { Shows board.now (drew (first_at (basis_of board.now)) 0) a.old }
+    requires b { Shows board.now (has_put (drew (second_at (basis_of board.now)) 1) 1) b.old }
+    ensures a { OnSome result (Shows board.now (has_put (drew (first_at (basis_of board.now)) 0) 0) a.new) }
+    ensures b { OnSome result (Shows board.now (taken (taken (has_put (drew (second_at (basis_of board.now)) 1) 1) 0) 1) b.new) }
+{
+    put(board, field, a, 0);
+    println!(rt; "a puts the look of turn 0: done").ok()?;
+    let Some(mut book) = board.take_book(b) else {
+        return None;
+    };
+    println!(rt; "b takes the book: next {}", book.next()).ok()?;
+    if book.next() != 0 {
+        return None;
+    }
+    settle_look(rt, board, field, b, &mut book)?;
+    settle_look(rt, board, field, b, &mut book)?;
+    let None = board.take_look(b, 2) else {
+        return None;
+    };
+    println!(rt; "b takes the look of turn 2: none").ok()?;
+    board.give_book(b, book);
+    println!(rt; "b gives the book: done").ok()
+}
+
+// What is left at a turn.
+fn what_is_left(look: &Option<Look>) -> &'static str {
+    match look {
+        Some(_) => "left",
+        None => "none",
+    }
+}
+
+// Joins b into a, and closes the board.
+fn close<R: Print>(rt: &R, board: Board, mut a: Seat, b: Seat) -> Option<Closed>
+    requires a { IsSeatOf board a }
+    requires b { IsSeatOf board b }
+    requires first { IsFirst (known a) }
+    requires second { IsSecond (known b) }
+    ensures { IfSome result (AreLeft board (joined (calm (known a)) (calm (known b)))) }
+{
+    board.join(&mut a, b);
+    println!(rt; "b is joined into a: done").ok()?;
+    let closed = board.close(a);
+    println!(rt;
+        "a closes: next {}, drawn {}",
+        closed.book.next(),
+        closed.drawn
+    )
+    .ok()?;
+    for (turn, look) in closed.looks.iter().enumerate() {
+        println!(rt; "the look of turn {turn}: {}", what_is_left(look)).ok()?;
+    }
+    Some(closed)
+}
+
+// Closes the board of the first table: two tickets were drawn, and no look is left.
+fn close_first<R: Print>(rt: &R, board: Board, a: Seat, b: Seat) -> Option<Closed>
+    requires from { (basis_of board).from ≡ 0 }
+    requires to { (basis_of board).to ≡ 7 }
+    requires a { Shows board (has_put (drew (first_at (basis_of board)) 0) 0) a }
+    requires b { Shows board (taken (taken (has_put (drew (second_at (basis_of board)) 1) 1) 0) 1) b }
+    ensures book { IfSome result (λ closed. StandsFor (seats.window_of board) closed.book) }
+    ensures drawn { IfSome result (λ closed. closed.drawn ≡ 2) }
+    ensures looks { IfSome result (λ closed. (k : ℕ) → k < 7 → slice_index_or closed.looks.items k None ≡ None) }
+{
+    close(rt, board, a, b)
+}
+
+// Closes the board of the second table: two tickets were drawn, and the look of turn 1 is left, and no other.
+fn close_second<R: Print>(rt: &R, board: Board, a: Seat, b: Seat) -> Option<Closed>
+    requires from { (basis_of board).from ≡ 0 }
+    requires to { (basis_of board).to ≡ 7 }
+    requires a { Shows board (drew (first_at (basis_of board)) 0) a }
+    requires b { Shows board (has_put (drew (second_at (basis_of board)) 1) 1) b }
+    ensures drawn { IfSome result (λ closed. closed.drawn ≡ 2) }
+    ensures left { IfSome result (λ closed. slice_index_or closed.looks.items 1 None ≡ Some (look_for (seats.window_of board) 1)) }
+    ensures others { IfSome result (λ closed. (k : ℕ) → k < 7 → k ≢ 1 → slice_index_or closed.looks.items k None ≡ None) }
+{
+    close(rt, board, a, b)
+}
+
+// Settles the turns that are left by looks that are made one after another.
+fn settle_left<R: Print>(rt: &R, field: &Field<'_>, book: &mut Book) -> Option<()>
+    requires stands { StandsOn field.now book.old }
+    requires from { book.old.from ≡ 0 }
+    requires to { book.old.to ≡ 7 }
+    ensures stands { OnSome result (StandsOn field.now book.new) }
+    ensures done { OnSome result (book.new.next ≡ book.new.to) }
+{
+    while book.next() < TURNS {
+        let turn = book.next();
+        let look = look_at(field, turn);
+        let cause = settle_next(book, field, look);
+        println!(rt; "turn {turn} is settled: {}", fate(&cause)).ok()?;
+    }
+    Some(())
+}
+
+// Plays the first table.
+fn play_first<R: Print>(rt: &R, alloc: Global, field: &mut Field<'_>) -> Option<()>
+    requires { CanBegin field.old 0 7 }
+{
+    let Laid {
+        board,
+        mut a,
+        mut b,
+    } = lay(alloc, field)?;
+    draw_and_put(rt, &board, field, &mut a, &mut b)?;
+    find_no_look(rt, &board, &mut a, &mut b)?;
+    settle_both(rt, &board, field, &mut a, &mut b)?;
+    let Closed {
+        mut book,
+        looks: _,
+        drawn: _,
+    } = close_first(rt, board, a, b)?;
+    settle_left(rt, field, &mut book)?;
+    let counts = field.finish(book);
+    println!(rt;
+        "the window: taken {}, redone {}",
+        counts.taken(),
+        counts.redone()
+    )
+    .ok()
+}
+
+// Plays the second table.
+fn play_second<R: Print>(rt: &R, alloc: Global, field: &mut Field<'_>) -> Option<()>
+    requires { CanBegin field.old 0 7 }
+{
+    let Laid {
+        board,
+        mut a,
+        mut b,
+    } = lay(alloc, field)?;
+    draw_and_put(rt, &board, field, &mut a, &mut b)?;
+    let _closed = close_second(rt, board, a, b)?;
+    Some(())
+}
+
+// Says the guess of each turn.
+fn tell_guesses<R: Print>(rt: &R, alloc: Global, field: &Field<'_>) -> Option<()>
+    requires { CanBegin field.now 0 7 }
+{
+    let Ok(all) = guesses(
+        alloc,
+        field.world(),
+        field.brains(),
+        field.place(),
+        0,
+        TURNS,
+    ) else {
+        return None;
+    };
+    println!(rt; "guesses: {all:?}").ok()
+}
+
+// Plays both tables, each on a field of its own.
+fn play<R: Print>(rt: &R, alloc: Global) -> Option<()> {
+    let red = brain_of(alloc, "Flip 2 0 0")?;
+    let black = brain_of(alloc, "Move 0 0")?;
+    let brains = Brains {
+        red: &red,
+        black: &black,
+        sheet: Sheet::contest(),
+    };
+    let mut field = field_of(alloc, brains)?;
+    tell_guesses(rt, alloc, &field)?;
+    println!(rt; "first table").ok()?;
+    play_first(rt, alloc, &mut field)?;
+    println!(rt; "second table").ok()?;
+    let mut field = field_of(alloc, brains)?;
+    play_second(rt, alloc, &mut field)
+}
+
+fn main(rt: HostRuntime) -> ExitCode {
+    match play(&rt, rt.alloc()) {
+        Some(()) => ExitCode::SUCCESS,
+        None => ExitCode::FAILURE,
+    }
+}
