@@ -1,0 +1,201 @@
+// Brains: the sections "Brains" and "Minimised brains" of docs/RULES.md.
+#include "brain.hpp"
+
+#include <map>
+
+#include "files.hpp"
+#include "text.hpp"
+
+namespace {
+
+constexpr size_t most_instructions = 10000;
+constexpr uint64_t any_number = 9999999999;
+
+const Table operations = {"Sense", "Mark", "Unmark", "PickUp", "Drop", "Turn", "Move", "Flip"};
+const Table sights = {"Here", "Ahead", "LeftAhead", "RightAhead"};
+const Table sides = {"Left", "Right"};
+const Table conditions = {"Friend", "Foe",    "FriendWithFood", "FoeWithFood", "Food",
+                          "Rock",   "Marker", "FoeMarker",      "Home",        "FoeHome"};
+
+Instruction read_instruction(Places& places) {
+    Instruction read;
+    const auto read_states = [&](int count) {
+        for (int i = 0; i < count; i++) {
+            read.next.push_back(places.number(0, any_number));
+        }
+    };
+    read.operation = places.word(operations);
+    switch (read.operation) {
+        case SENSE:
+            read.sight = places.word(sights);
+            read_states(2);
+            read.condition = places.word(conditions);
+            if (read.condition == MARKER) {
+                read.marker = static_cast<int>(places.number(0, 5));
+            }
+            break;
+        case MARK:
+        case UNMARK:
+            read.marker = static_cast<int>(places.number(0, 5));
+            read_states(1);
+            break;
+        case PICK_UP:
+        case MOVE:
+            read_states(2);
+            break;
+        case DROP:
+            read_states(1);
+            break;
+        case TURN:
+            read.side = places.word(sides);
+            read_states(1);
+            break;
+        case FLIP:
+            read.bound = places.number(1, most_of_32_bits);
+            read_states(2);
+            break;
+    }
+    places.end();
+    return read;
+}
+
+std::string line_of(const Instruction& it) {
+    std::string line = operations[it.operation];
+    switch (it.operation) {
+        case SENSE:
+            line += " " + sights[it.sight];
+            break;
+        case MARK:
+        case UNMARK:
+            line += " " + decimal(it.marker);
+            break;
+        case TURN:
+            line += " " + sides[it.side];
+            break;
+        case FLIP:
+            line += " " + decimal(it.bound);
+            break;
+    }
+    for (uint64_t state : it.next) {
+        line += " " + decimal(state);
+    }
+    if (it.operation == SENSE) {
+        line += " " + conditions[it.condition];
+        if (it.condition == MARKER) {
+            line += " " + decimal(it.marker);
+        }
+    }
+    return line;
+}
+
+// Which states state 0 leads to.
+std::vector<bool> live_states(const Brain& brain) {
+    std::vector<bool> live(brain.size(), false);
+    std::vector<uint64_t> left = {0};
+    live[0] = true;
+    while (!left.empty()) {
+        const uint64_t state = left.back();
+        left.pop_back();
+        for (uint64_t next : brain[state].next) {
+            if (!live[next]) {
+                live[next] = true;
+                left.push_back(next);
+            }
+        }
+    }
+    return live;
+}
+
+using Key = std::vector<uint64_t>;
+
+Key kind_of(const Instruction& it) {
+    return {static_cast<uint64_t>(it.operation), static_cast<uint64_t>(it.sight), static_cast<uint64_t>(it.condition),
+            static_cast<uint64_t>(it.marker),    static_cast<uint64_t>(it.side),  it.bound};
+}
+
+// The classes of equivalent live states, numbered in the order of their least members. States begin in the class of
+// their kind, and classes are split until each has only states whose successors are, place by place, in the same
+// classes.
+std::vector<size_t> classes_of(const Brain& brain, const std::vector<bool>& live) {
+    std::vector<size_t> classes(brain.size(), 0);
+    std::map<Key, size_t> numbers;
+    for (size_t state = 0; state < brain.size(); state++) {
+        if (live[state]) {
+            classes[state] = numbers.emplace(kind_of(brain[state]), numbers.size()).first->second;
+        }
+    }
+    size_t count = 0;
+    while (numbers.size() != count) {
+        count = numbers.size();
+        numbers.clear();
+        std::vector<size_t> split(brain.size(), 0);
+        for (size_t state = 0; state < brain.size(); state++) {
+            if (live[state]) {
+                Key key = {classes[state]};
+                for (uint64_t next : brain[state].next) {
+                    key.push_back(classes[next]);
+                }
+                split[state] = numbers.emplace(key, numbers.size()).first->second;
+            }
+        }
+        classes = split;
+    }
+    return classes;
+}
+
+}  // namespace
+
+Brain read_brain(const std::string& name, const std::string& text) {
+    Brain brain;
+    std::vector<uint64_t> line_numbers;
+    uint64_t line_number = 0;
+    for (const std::string& line : lines_of(text)) {
+        line_number++;
+        const std::vector<std::string> tokens = tokens_of(line);
+        if (tokens.empty()) {
+            continue;
+        }
+        const std::string where = name + ": line " + decimal(line_number) + ": ";
+        if (brain.size() == most_instructions) {
+            refuse(5, where + "too many instructions");
+        }
+        Places places(where, tokens, true);
+        brain.push_back(read_instruction(places));
+        line_numbers.push_back(line_number);
+    }
+    if (brain.empty()) {
+        refuse(5, name + ": no instruction");
+    }
+    for (size_t i = 0; i < brain.size(); i++) {
+        for (uint64_t state : brain[i].next) {
+            if (state >= brain.size()) {
+                refuse(5, name + ": line " + decimal(line_numbers[i]) + ": no such state " + decimal(state));
+            }
+        }
+    }
+    return brain;
+}
+
+std::string canonical_text(const Brain& brain) {
+    std::string text;
+    for (const Instruction& it : brain) {
+        text += line_of(it) + "\n";
+    }
+    return text;
+}
+
+Brain minimised(const Brain& brain) {
+    const std::vector<bool> live = live_states(brain);
+    const std::vector<size_t> classes = classes_of(brain, live);
+    Brain kept;
+    for (size_t state = 0; state < brain.size(); state++) {
+        if (live[state] && classes[state] == kept.size()) {
+            Instruction it = brain[state];
+            for (uint64_t& next : it.next) {
+                next = classes[next];
+            }
+            kept.push_back(it);
+        }
+    }
+    return kept;
+}

@@ -1,0 +1,163 @@
+// The commands that read a world or a brain and print what it is or becomes: the sections "The commands" and "Breaks"
+// of docs/RULES.md.
+#include "commands.hpp"
+
+#include "breaks.hpp"
+#include "files.hpp"
+#include "generate.hpp"
+#include "looks.hpp"
+#include "printed.hpp"
+#include "turn.hpp"
+
+namespace {
+
+constexpr size_t most_text = 1 << 20;  // beyond which it is printed before a game goes on
+
+struct Run {
+    uint64_t seed = 0;
+    uint64_t rounds = 0;
+    uint64_t workers = 1;
+    uint64_t window = most_turns;
+    bool has_counts = false;
+    Dumps dumps;
+    Sheet sheet;
+};
+
+Run read_run(Words& words) {
+    Run run;
+    const auto read_dumps = [&](Words& these) {
+        run.dumps = these.dumps();
+    };
+    const auto read_counts = [&](Words&) {
+        run.has_counts = true;
+    };
+    words.options({needed_number("--seed", 0, most_of_32_bits, run.seed),
+                   needed_number("--rounds", 0, most_rounds, run.rounds),
+                   {"--dump", false, read_dumps},
+                   free_number("--workers", 1, most_workers, run.workers),
+                   free_number("--window", 1, most_turns, run.window),
+                   free_number("--surround", 4, 6, run.sheet.surround),
+                   free_number("--corpse", 0, 9, run.sheet.corpse),
+                   free_number("--rest", 0, 255, run.sheet.rest),
+                   {"--stats", false, read_counts}});
+    return run;
+}
+
+void play(Game& game, const Run& run) {
+    Windows windows(game, run.window);
+    std::string text = seed_line(run.seed);
+    for (uint64_t round = 0; round <= run.rounds; round++) {
+        if (round > 0 && run.has_counts) {
+            windows.play_round();
+        } else if (round > 0) {
+            game.play_round();
+        }
+        if (run.dumps.has(round)) {
+            text += dump_text(game.world, round);
+        }
+        if (text.size() > most_text) {
+            print(text);
+            text.clear();
+        }
+    }
+    text += "\n" + score_line(game.world);
+    if (run.has_counts) {
+        text += counts_line(windows.counts);
+    }
+    print(text);
+}
+
+// The number of the first break that holds, counted from 1; 0 where none does.
+size_t break_that_holds(const std::vector<Break>& breaks, const World& world, uint64_t round, int id) {
+    for (size_t i = 0; i < breaks.size(); i++) {
+        if (holds(breaks[i], world, round, id)) {
+            return i + 1;
+        }
+    }
+    return 0;
+}
+
+std::string view_text(Game& game, const std::vector<Break>& breaks, uint64_t rounds) {
+    Trace trace;
+    const int ids = static_cast<int>(game.world.places.size());
+    for (uint64_t round = 1; round <= rounds; round++) {
+        for (int id = 0; id < ids; id++) {
+            take_turn(game.world, game.rules, game.random, id, trace);
+            const size_t number = break_that_holds(breaks, game.world, round, id);
+            if (number > 0) {
+                return "stop: round " + decimal(round) + ", ant " + decimal(id) + ", break " + decimal(number) + "\n" +
+                       cells_text(game.world);
+            }
+        }
+    }
+    return "no stop in " + decimal(rounds) + " rounds\n";
+}
+
+}  // namespace
+
+World fetch_world(const std::string& name) {
+    return read_world(name, fetch(name));
+}
+
+Brain fetch_brain(const std::string& name) {
+    return read_brain(name, fetch(name));
+}
+
+void show(Words& words) {
+    const std::string name = words.file_name();
+    const uint64_t seed = words.number(0, most_of_32_bits);
+    words.end();
+    print(seed_line(seed) + dump_text(fetch_world(name), 0));
+}
+
+void print_brain(Words& words) {
+    const std::string name = words.file_name();
+    words.end();
+    print(canonical_text(fetch_brain(name)));
+}
+
+void minimise(Words& words) {
+    const std::string name = words.file_name();
+    words.end();
+    const Brain brain = fetch_brain(name);
+    const Brain kept = minimised(brain);
+    print("; " + decimal(brain.size()) + " states, " + decimal(kept.size()) + " kept\n" + canonical_text(kept));
+}
+
+void run(Words& words) {
+    const std::string world_name = words.file_name();
+    const std::string red_name = words.file_name();
+    const std::string black_name = words.file_name();
+    const Run run = read_run(words);
+    const World world = fetch_world(world_name);
+    const Brain red = fetch_brain(red_name);
+    const Brain black = fetch_brain(black_name);
+    Game game(world, {{&red, &black}, run.sheet}, run.seed);
+    play(game, run);
+}
+
+void generate(Words& words) {
+    const uint64_t seed = words.number(0, most_of_32_bits);
+    Shape shape;
+    words.options({free_number("--width", 3, 512, shape.width), free_number("--height", 3, 512, shape.height),
+                   free_number("--rocks", 0, 255, shape.rocks), free_number("--blobs", 0, 255, shape.blobs)});
+    const std::string cells = generated_cells(seed, shape);
+    print(canonical_text(static_cast<int>(shape.width), static_cast<int>(shape.height), cells));
+}
+
+void view(Words& words) {
+    const std::string world_name = words.file_name();
+    const std::string red_name = words.file_name();
+    const std::string black_name = words.file_name();
+    const std::string breaks_name = words.file_name();
+    uint64_t seed = 0;
+    uint64_t rounds = 0;
+    words.options(
+        {needed_number("--seed", 0, most_of_32_bits, seed), needed_number("--rounds", 0, most_rounds, rounds)});
+    const World world = fetch_world(world_name);
+    const Brain red = fetch_brain(red_name);
+    const Brain black = fetch_brain(black_name);
+    const std::vector<Break> breaks = read_breaks(breaks_name, fetch(breaks_name));
+    Game game(world, {{&red, &black}, Sheet()}, seed);
+    print(seed_line(seed) + view_text(game, breaks, rounds));
+}

@@ -1,0 +1,31 @@
+"""The kinds of cases, by their names."""
+import random
+
+import cases
+import fights
+import odd_files
+import odd_words
+
+KINDS = {
+    'fight': fights.case_of_fight,
+    'show': cases.case_of_show,
+    'brain': cases.case_of_brain,
+    'minimise': cases.case_of_minimise,
+    'run': cases.case_of_run,
+    'gen': cases.case_of_gen,
+    'cup': cases.case_of_cup,
+    'view': cases.case_of_view,
+    'workload': cases.case_of_workload,
+    'words': odd_words.case_of_words,
+    'limits': odd_words.case_of_limits,
+    'order': odd_files.case_of_order,
+    'size': odd_files.case_of_size,
+}
+
+# Of some kinds no more cases than these are made, since each takes long.
+MOST = {'size': 90, 'gen': 1500, 'workload': 300}
+
+
+def case_of(kind, seed, number):
+    """The case of this number; it depends on nothing else."""
+    return KINDS[kind](random.Random('%s-%s-%d' % (seed, kind, number)))

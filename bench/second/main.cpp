@@ -1,0 +1,27 @@
+// A second program of the ant world, written from docs/RULES.md: the section "The commands".
+#include <csignal>
+#include <map>
+
+#include "commands.hpp"
+
+int main(int count, char** arguments) {
+    std::signal(SIGPIPE, SIG_IGN);
+    const std::vector<std::string> all(arguments + 1, arguments + count);
+    for (const std::string& word : all) {
+        if (!is_utf8(word)) {
+            return 1;
+        }
+    }
+    const std::map<std::string, void (*)(Words&)> commands = {
+        {"show", show},    {"brain", print_brain}, {"minimise", minimise}, {"run", run},
+        {"gen", generate}, {"view", view},         {"cup", cup},           {"workload", workload},
+    };
+    Words words(all);
+    const auto command = commands.find(words.next());
+    if (command == commands.end()) {
+        words.refuse_next();
+    }
+    words.skip();
+    command->second(words);
+    return 0;
+}

@@ -1,0 +1,141 @@
+"""Random cases of several faults at once, of large files, and of a full output."""
+from brains import any_brain, instruction
+from breaks import Game, break_text
+from cases import Case, case_of_brain, case_of_gen, case_of_run, case_of_show
+from spelling import chance
+from worlds import any_world
+
+ONE_ANT = b'3\n3\n###\n#+#\n###\n'
+
+
+def name_of_any(case, r, name, make, others):
+    """The name of a file that `make` makes, or of one that commonly isn't there."""
+    if r.random() < .25:
+        return r.choice(others)
+    case.files[name] = make(r, .3)
+    return name
+
+
+def case_of_order(r):
+    """Several files, of which more than one may be refused."""
+    case = Case()
+    command = r.choice(['run', 'cup', 'view'])
+
+    def world(number):
+        """The name of a world."""
+        return name_of_any(case, r, 'w%d' % number, any_world, ['nofile', 'sub', '-'])
+
+    def brain(number):
+        """The name of a brain."""
+        return name_of_any(case, r, 'b%d' % number, any_brain, ['nofile', 'sub', '-', 'nofile%d' % number])
+
+    case.stdin = r.choice([b'', b'Drop 0\n', ONE_ANT, b'\x80'])
+    tail = ['--seed', '1', '--rounds', str(r.randrange(4))]
+    if command == 'cup':
+        worlds = [world(number) for number in range(r.choice([1, 2]))]
+        brains = [brain(number) for number in range(r.choice([2, 3]))]
+        case.words = ['cup', '--worlds'] + worlds + ['--brains'] + brains + tail
+        return case
+    words = [command, world(0), brain(0), brain(1)]
+    if command == 'view':
+        if chance(r, .2):
+            words.append(r.choice(['nofile', '-', 'sub']))
+        else:
+            case.files['k'] = break_text(r, .5, Game(10, 10, 30, 12))
+            words.append('k')
+    case.words = words + tail
+    return case
+
+
+def world_of(width, height, cell):
+    """The text of a world with one kind of cells in its rim."""
+    rim = '#' * width
+    rows = [rim] + ['#' + cell * (width - 2) + '#'] * (height - 2) + [rim]
+    return ('%d\n%d\n' % (width, height) + '\n'.join(rows)).encode()
+
+
+def long_brain(r):
+    """A brain of about as many bytes as a file may have."""
+    size = r.choice([4194303, 4194304, 4194305, 4194306])
+    case = Case()
+    case.files['f'] = b'Drop 0 ;'.ljust(size)
+    case.words = [r.choice(['brain', 'minimise']), 'f']
+    return case
+
+
+def long_world(r):
+    """A world of about as many bytes as a file may have."""
+    case = Case(['show', 'f', '1'])
+    case.files['f'] = ONE_ANT.ljust(r.choice([4194304, 4194305]), b'\n')
+    return case
+
+
+def many_instructions(r):
+    """About as many instructions as a brain may have."""
+    count = r.choice([9999, 10000, 10001, 10002])
+    case = Case(['brain', '-'])
+    last = r.choice([b'Drop 0\n', b'x', b'\x80', b';x\n', b'  \n'])
+    case.stdin = b'Drop 0\n' * min(count, 10000) + last * (count - 10000)
+    return case
+
+
+def high_states(r):
+    """A large brain with a state that may be beyond it."""
+    state = r.choice([9998, 9999, 10000, 10001])
+    case = Case(['brain', 'f'])
+    case.files['f'] = b'Move 0 %d\n' % state * r.choice([9999, 10000])
+    return case
+
+
+def many_ants(r):
+    """About as many ants as a world may have."""
+    width, height = r.choice([(130, 130), (131, 130), (130, 131)])
+    case = Case(['show', 'f', '1'])
+    text = world_of(width, height, '+')
+    if chance(r, .4):
+        text = text.replace(b'#+', b'#.', r.choice([125, 126, 127, 128, 129]))
+    case.files['f'] = text
+    return case
+
+
+def wide_world(r):
+    """A world as wide or as high as one may be."""
+    width, height = r.choice([(512, 3), (3, 512), (512, 10), (513, 3)])
+    case = Case(['show', 'f', '1'])
+    case.files['f'] = world_of(width, height, '.')
+    return case
+
+
+def full_output(r):
+    """A case whose output is taken by nobody."""
+    case = r.choice([case_of_show, case_of_gen, case_of_brain, case_of_run])(r)
+    case.is_full = True
+    return case
+
+
+def many_breaks(r):
+    """About as many breaks as there may be."""
+    count = r.choice([255, 256, 257])
+    case = Case(['view', 'w', 'b', 'b', 'k', '--seed', '1', '--rounds', '4'])
+    breaks = b'Round 3\n' * min(count, 256) + r.choice([b'x', b'Round 1']) * (count - 256)
+    case.files = {'w': ONE_ANT, 'b': b'Drop 0', 'k': breaks}
+    return case
+
+
+def many_states(r):
+    """A brain of some hundred states to minimise."""
+    count = r.choice([200, 500])
+    case = Case(['minimise', 'f'])
+    case.files['f'] = '\n'.join(instruction(r, count) for _ in range(count)).encode()
+    return case
+
+
+LARGE_CASES = [
+    long_brain, long_world, many_instructions, high_states, many_ants, wide_world, full_output, many_breaks,
+    many_states,
+]
+
+
+def case_of_size(r):
+    """Files at a limit of their size, and a full output."""
+    return LARGE_CASES[r.randrange(len(LARGE_CASES))](r)

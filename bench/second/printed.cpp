@@ -1,0 +1,76 @@
+// What is printed of a world: the section "What is printed" of docs/RULES.md.
+#include "printed.hpp"
+
+#include "text.hpp"
+
+namespace {
+
+const std::string colours[2] = {"red", "black"};
+
+std::string marks_text(int colour, int marks) {
+    if (marks == 0) {
+        return "";
+    }
+    std::string text = colours[colour] + " marks: ";
+    for (int marker = 0; marker < 6; marker++) {
+        if ((marks >> marker & 1) == 1) {
+            text += decimal(marker);
+        }
+    }
+    return text + "; ";
+}
+
+std::string ant_text(const Ant& ant) {
+    return colours[ant.colour] + " ant of id " + decimal(ant.id) + ", dir " + decimal(ant.direction) + ", food " +
+           (ant.has_food ? "1" : "0") + ", state " + decimal(ant.state) + ", resting " + decimal(ant.resting);
+}
+
+std::string content_of(const Cell& cell) {
+    if (cell.is_rocky) {
+        return "rock";
+    }
+    std::string text;
+    if (cell.food > 0) {
+        text += decimal(cell.food) + " food; ";
+    }
+    if (cell.hill) {
+        text += colours[*cell.hill] + " hill; ";
+    }
+    text += marks_text(RED, cell.marks[RED]);
+    text += marks_text(BLACK, cell.marks[BLACK]);
+    if (cell.ant) {
+        text += ant_text(*cell.ant);
+    }
+    return text;
+}
+
+}  // namespace
+
+std::string seed_line(uint64_t seed) {
+    return "random seed: " + decimal(seed) + "\n";
+}
+
+std::string cells_text(const World& world) {
+    std::string text;
+    for (int y = 0; y < world.height; y++) {
+        for (int x = 0; x < world.width; x++) {
+            const Cell& cell = world.cells[static_cast<size_t>(y) * world.width + x];
+            text += "cell (" + decimal(x) + ", " + decimal(y) + "): " + content_of(cell) + "\n";
+        }
+    }
+    return text;
+}
+
+std::string dump_text(const World& world, uint64_t round) {
+    return "\nAfter round " + decimal(round) + "...\n" + cells_text(world);
+}
+
+std::string score_line(const World& world) {
+    const Score score = score_of(world);
+    return "score: red " + decimal(score.red) + " black " + decimal(score.black) + "\n";
+}
+
+std::string counts_line(const Counts& counts) {
+    return "turns " + decimal(counts.turns) + " taken " + decimal(counts.taken) + " redone " + decimal(counts.redone) +
+           "\n";
+}

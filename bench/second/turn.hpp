@@ -1,0 +1,62 @@
+// Turns and games: the sections "Rounds and turns", "Surrounded ants", "The sheet of the rules", "Random numbers" and
+// "Score and weight" of docs/RULES.md.
+#pragma once
+#include <cstdint>
+#include <vector>
+
+#include "brain.hpp"
+#include "world.hpp"
+
+class Random {
+  public:
+    explicit Random(uint64_t seed);
+    uint64_t draw_below(uint64_t bound);
+
+    // How many numbers were drawn.
+    uint64_t place() const {
+        return drawn;
+    }
+
+  private:
+    uint32_t state;  // s(drawn + 4), of which only the lowest 30 bits matter
+    uint64_t drawn = 0;
+};
+
+struct Sheet {
+    uint64_t surround = 5;
+    uint64_t corpse = 3;
+    uint64_t rest = 14;
+};
+
+// Brains by colour; they live longer than the rules.
+struct Rules {
+    const Brain* brains[2];
+    Sheet sheet;
+};
+
+// What a turn did: the places of the cells that it may have changed, and of those among them whose ants it killed.
+struct Trace {
+    std::vector<int> touched;
+    std::vector<int> killed;
+};
+
+int sensed_place(const World& world, int place, int direction, int sight);
+
+// Does the turn of an id, and tells in `trace` what it did.
+void take_turn(World& world, const Rules& rules, Random& random, int id, Trace& trace);
+
+struct Score {
+    uint64_t red = 0;
+    uint64_t black = 0;
+};
+
+Score score_of(const World& world);
+
+struct Game {
+    World world;
+    Rules rules;
+    Random random;
+
+    Game(const World& world, const Rules& rules, uint64_t seed);
+    void play_round();
+};
