@@ -36,7 +36,8 @@ pub record TurnsAreNear : Type 0 where
       → (w.cells p).ant ≡ Some ant → q ≢ p → (Contains (places_around (adjacent_pos p ant.facing)) q → ⊥) →
       (turn minds seed w place t).cells q ≡ w.cells q
   -- of these it changes none but its own and the one ahead where nobody is killed
-  pub spared : (minds : Minds) (seed : ℕ) (w : World) (place t : ℕ) (p : Pos) (ant : Ant) (q : Pos) → place_in w t ≡ Some p → (w.cells p).ant ≡ Some ant → q ≢ p → q ≢ adjacent_pos p ant.facing →
+  pub spared : (minds : Minds) (seed : ℕ) (w : World) (place t : ℕ) (p : Pos) (ant : Ant) (q : Pos) → place_in w t ≡ Some p →
+      (w.cells p).ant ≡ Some ant → q ≢ p → q ≢ adjacent_pos p ant.facing →
       ((u : ℕ) → Contains (killed_in minds seed w place t) u → holds_id u (w.cells q) ≡ false) → (turn minds seed w place t).cells q ≡ w.cells q
   -- and where an ant is left on its own cell, it changes no other
   pub stayed : (minds : Minds) (seed : ℕ) (w : World) (place t : ℕ) (p : Pos) (ant left : Ant) (q : Pos) → place_in w t ≡ Some p → (w.cells p).ant ≡ Some ant → q ≢ p →

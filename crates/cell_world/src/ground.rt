@@ -11,8 +11,8 @@ use hex_geometry::Pos;
 /// A world that can be read and changed cell by cell. The rules of a turn are written once, over any ground.
 ///
 /// Its meanings are a world, which keeps what every world keeps, and its room, the number of calls of `set` that it can still take. No call
-/// is refused, and reading changes neither of the two; it borrows the ground mutably, so that a ground may note what was read. A ground has to give `cell_at`, `place_of` and `set`: the other two calls follow
-/// from these, and a ground may have shorter ways for them.
+/// is refused, and reading changes neither of the two; it borrows the ground mutably, so that a ground may note what was read. A ground has
+/// to give `cell_at`, `place_of` and `set`: the other two calls follow from these, and a ground may have shorter ways for them.
 pub trait Ground {
     /// The world that it stands for.
     ghost world: { Self → World };

@@ -50,7 +50,14 @@ occupant_of (Some ant) = record { number = ant.id }
 
 -- the cell that a tile stands for
 abbrev pub cell_from : List Body → Tile → Cell
-cell_from bodies tile = record { rocky = tile.rocky; hill = tile.hill; food = tile.food; red = tile.red; black = tile.black; ant = ant_named bodies (occupant_id tile.ant) }
+cell_from bodies tile = record {
+  rocky = tile.rocky;
+  hill = tile.hill;
+  food = tile.food;
+  red = tile.red;
+  black = tile.black;
+  ant = ant_named bodies (occupant_id tile.ant);
+}
 
 -- the id of the ant, where there is one
 abbrev pub id_of : Option Ant → Option ℕ
