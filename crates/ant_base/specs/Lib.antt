@@ -7,6 +7,7 @@ pub mod Lines
 pub mod MemShelf
 pub mod MemSink
 pub mod Number
+pub mod NumberList
 pub mod Shelf
 pub mod Sink
 pub mod Streams

@@ -26,7 +26,7 @@ impl Model for MemSink {
 
     ghost Value = { MemSinkState };
 
-    ghost view = { λ s. record { held = s.bytes.items; room = s.room; failing = s.failing; calls = s.calls; faults = s.faults } };
+    ghost view = { λ s. record { held = s.bytes.items; room = s.room; failing = s.failing.numbers; calls = s.calls; faults = s.faults } };
 
     ghost invariant = { λ s. (vec_len s.bytes ≤ s.room) × (s.room ≤ vec_capacity s.bytes) };
 }
@@ -35,7 +35,7 @@ impl MemSink {
     /// A sink that holds nothing, with room for so many bytes, whose pushes of the given numbers fail; the first push has the number 1. It
     /// is refused where the room can't be had at once.
     pub fn with_room(alloc: Global, room: u64, failing: Calls) -> Result<Self, OutOfMemory>
-        ensures { IfOk result (λ s. s ≡ record { held = []; room = room; failing = failing; calls = 0; faults = 0 }) }
+        ensures { IfOk result (λ s. s ≡ record { held = []; room = room; failing = failing.numbers; calls = 0; faults = 0 }) }
     {
         Ok(MemSink {
             bytes: Vec::with_capacity(alloc, room as usize)?,

@@ -6,21 +6,21 @@ use Rattle.ant_turn.specs.declared.sheet.Sheet as code
 use Rattle.brain_read.specs.declared.instr.Instr.{Instr}
 use Rattle.cell_world.specs.Grid.{Grid, world_of}
 use Rattle.command_words.specs.Command.{RunSetup}
-use Rattle.match_run.specs.declared.dumps.Dumps.{Dumps}
 use Rattle.match_run.specs.declared.plan.Plan.{Plan}
 use Rattle.match_run.specs.Counts.{whole_text}
+use Rattle.match_run.specs.Dumps.{chooses}
 use Rattle.ants.specs.Files.Content.{BrainContent, WorldContent}
 use Rattle.ants.specs.Inner.Planning.{IsSheetOf, Plans}
 use Rattle.ants.specs.Jobs.{chosen_rounds, match_output, minds_named}
 
 pub output_planned : (setup : RunSetup) (plan : Plan) (sheet : code.Sheet) (grid : Grid) (red black : List Instr) → Plans setup plan → IsSheetOf setup sheet →
-    whole_text (record { red = red; black = black; sheet = sheet_of sheet }) plan.seed plan.rounds plan.dumps plan.window plan.stats (world_of grid) ≡ match_output setup (WorldContent grid) (BrainContent red) (BrainContent black)
+    whole_text (record { red = red; black = black; sheet = sheet_of sheet }) plan.seed plan.rounds (chooses plan.dumps) plan.window plan.stats (world_of grid) ≡ match_output setup (WorldContent grid) (BrainContent red) (BrainContent black)
 unfolding match_output
 output_planned setup plan sheet grid red black plans same =
     let minds : Sheet → Minds = λ s. record { red = red; black = black; sheet = s } in
-    ap (λ s. whole_text (minds s) plan.seed plan.rounds plan.dumps plan.window plan.stats (world_of grid)) same
-    ∙ ap (λ (seed : ℕ). whole_text (minds_named setup red black) seed plan.rounds plan.dumps plan.window plan.stats (world_of grid)) plans.seed_is
-    ∙ ap (λ (rounds : ℕ). whole_text (minds_named setup red black) setup.seed rounds plan.dumps plan.window plan.stats (world_of grid)) plans.rounds_are
-    ∙ ap (λ (dumps : Dumps). whole_text (minds_named setup red black) setup.seed setup.rounds dumps plan.window plan.stats (world_of grid)) plans.dumps_are
+    ap (λ s. whole_text (minds s) plan.seed plan.rounds (chooses plan.dumps) plan.window plan.stats (world_of grid)) same
+    ∙ ap (λ (seed : ℕ). whole_text (minds_named setup red black) seed plan.rounds (chooses plan.dumps) plan.window plan.stats (world_of grid)) plans.seed_is
+    ∙ ap (λ (rounds : ℕ). whole_text (minds_named setup red black) setup.seed rounds (chooses plan.dumps) plan.window plan.stats (world_of grid)) plans.rounds_are
+    ∙ ap (λ chosen. whole_text (minds_named setup red black) setup.seed setup.rounds chosen plan.window plan.stats (world_of grid)) plans.dumps_are
     ∙ ap (λ (window : ℕ). whole_text (minds_named setup red black) setup.seed setup.rounds (chosen_rounds setup.dumps) window plan.stats (world_of grid)) plans.window_is
     ∙ ap (λ (stats : Bool). whole_text (minds_named setup red black) setup.seed setup.rounds (chosen_rounds setup.dumps) setup.window stats (world_of grid)) plans.stats_are

@@ -1,5 +1,5 @@
 -- What each command reads and writes (this project's own): one equation a command.
-use Rattle.std.specs.Prelude.{◌≡◌, ℕ, List, [], ◌∷◌, ◌++◌, length, map, slice_index_or, codes, decimal, Option}
+use Rattle.std.specs.Prelude.{◌≡◌, ℕ, Bool, true, false, List, [], ◌∷◌, ◌++◌, length, map, slice_index_or, codes, decimal, Option}
 use Rattle.ant_base.specs.Layout.{◌+++◌}
 use Rattle.ant_turn.specs.Minds.{Minds, contest_minds}
 use Rattle.ant_turn.specs.Rounds.{start_of}
@@ -18,9 +18,8 @@ use Rattle.command_words.specs.declared.command.GenShape.{GenShape}
 use Rattle.command_words.specs.Slots.{DumpChoice}
 use Rattle.command_words.specs.Table.{default_blobs, default_rocks, default_side, default_window}
 use Rattle.command_words.specs.Slots.DumpChoice.{NoDump, EveryDump, ChosenDumps}
-use Rattle.match_run.specs.declared.dumps.Dumps.{Dumps}
-use Rattle.match_run.specs.declared.dumps.Dumps.TheVariants.{Nothing, All, Chosen}
 use Rattle.match_run.specs.Counts.{totals_of, whole_text}
+use Rattle.match_run.specs.Dumps.{has_round}
 use Rattle.match_run.specs.Run.{world_after}
 use Rattle.dump_print.specs.Texts.{seed_text, dump_text, score_text, stats_text}
 use Rattle.command_words.specs.Command.{PlainCommand, RunSetup}
@@ -77,11 +76,11 @@ unfoldable pub brain_output : Content → List ℕ
 brain_output (BrainContent list) = brain_text list
 brain_output content = []
 
--- the rounds that the words of a command choose
-abbrev pub chosen_rounds : DumpChoice → Dumps
-chosen_rounds NoDump = Nothing
-chosen_rounds EveryDump = All
-chosen_rounds (ChosenDumps numbers) = Chosen numbers
+-- whether the words of a command choose a round: none, every one, or those of a list
+abbrev pub chosen_rounds : DumpChoice → ℕ → Bool
+chosen_rounds NoDump round = false
+chosen_rounds EveryDump round = true
+chosen_rounds (ChosenDumps numbers) round = has_round numbers round
 
 -- the numbers of the rules that the words of a game name
 abbrev pub sheet_named : RunSetup → Sheet

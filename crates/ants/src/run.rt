@@ -7,6 +7,7 @@ ghost use Rattle.command_words.specs.Command.PlainCommand.{RunCommand};
 ghost use Rattle.command_words.specs.Command.{RunSetup};
 ghost use Rattle.command_words.specs.Words.{plain_dumps};
 ghost use Rattle.match_run.specs.Counts.{whole_text};
+ghost use Rattle.match_run.specs.Dumps.{chooses};
 ghost use Rattle.match_run.specs.Play.{PushedBy};
 ghost use Rattle.ants.specs.Inner.Planning.{CanPlay, IsSheetOf, Plans, setting_contents};
 ghost use Rattle.ants.specs.Inner.Reading.{CarriesOut, ReadsFiles, ending_of, outcome_of};
@@ -41,7 +42,7 @@ pub struct Setting {
 
 // The rounds of a list.
 fn rounds_of(alloc: Global, numbers: Numbers<'_>) -> Result<Rounds, OutOfMemory>
-    ensures { IfOk result (λ rounds. rounds ≡ numbers.entry) }
+    ensures { IfOk result (λ rounds. rounds.numbers ≡ numbers.entry) }
 {
     let mut rounds = Rounds::new(alloc);
     for number in numbers {
@@ -52,7 +53,7 @@ fn rounds_of(alloc: Global, numbers: Numbers<'_>) -> Result<Rounds, OutOfMemory>
 
 /// The choice of dumps that the words make.
 pub fn dumps_of(alloc: Global, word: DumpWord<'_>) -> Result<Dumps, OutOfMemory>
-    ensures { IfOk result (λ dumps. dumps ≡ chosen_rounds (plain_dumps word.entry)) }
+    ensures { IfOk result (λ dumps. chooses dumps ≡ chosen_rounds (plain_dumps word.entry)) }
 {
     match word {
         DumpWord::Nothing => Ok(Dumps::Nothing),
@@ -88,7 +89,7 @@ fn play_setting<C: Crew, K: Sink>(
     requires fit { Fits (world_of setting.world) (record { red = setting.red; black = setting.black; sheet = sheet_of sheet }) }
     requires planned { CanPlay plan.now }
     ensures { PushedBy (K.state out.old) (K.state out.new)
-        (whole_text (record { red = setting.red; black = setting.black; sheet = sheet_of sheet }) plan.now.seed plan.now.rounds plan.now.dumps plan.now.window plan.now.stats (world_of setting.world)) result }
+        (whole_text (record { red = setting.red; black = setting.black; sheet = sheet_of sheet }) plan.now.seed plan.now.rounds (chooses plan.now.dumps) plan.now.window plan.now.stats (world_of setting.world)) result }
 {
     let Setting { world, red, black } = setting;
     let brains = Brains {

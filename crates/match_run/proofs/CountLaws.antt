@@ -22,8 +22,8 @@ rounds_go_on = record {
 pub counts_come_last : CountsComeLast
 unfolding whole_text
 counts_come_last = record {
-  without = λ minds seed rounds dumps size w. append-nil (run_text minds seed rounds dumps w);
-  with_them = λ minds seed rounds dumps size w. refl;
+  without = λ minds seed rounds chosen size w. append-nil (run_text minds seed rounds chosen w);
+  with_them = λ minds seed rounds chosen size w. refl;
 }
 
 pub whole_rounds : WholeRounds

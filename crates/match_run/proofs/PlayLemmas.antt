@@ -10,7 +10,6 @@ use Rattle.cell_world.specs.Score.{score_of}
 use Rattle.cell_world.specs.World.{World}
 use Rattle.dump_print.specs.Texts.{score_text, seed_text}
 use Rattle.dump_print.specs.declared.totals.Totals.{Totals}
-use Rattle.match_run.specs.declared.dumps.Dumps.{Dumps}
 use Rattle.match_run.specs.declared.fault.PlayFault.{PlayFault}
 use Rattle.match_run.specs.declared.fault.PlayFault.TheVariants.{WriteFault, OutOfMemory}
 use Rattle.match_run.specs.Counts.{both, counts_text, round_totals, totals_of, whole_text}
@@ -42,11 +41,11 @@ stopped_then old mid new a b OutOfMemory p q = record {
 }
 
 -- the parts of a run's text with its counts
-pub whole_text-parts : (minds : Minds) (seed rounds : ℕ) (dumps : Dumps) (size : ℕ) (stats : Bool) (w : World) → whole_text minds seed rounds dumps size stats w
-    ≡ seed_text seed ++ (dumps_text minds seed dumps w (rounds + 1) ++ (score_text (score_of (world_after minds seed w rounds)) ++ counts_text stats (totals_of minds seed size (start_of w) rounds)))
+pub whole_text-parts : (minds : Minds) (seed rounds : ℕ) (chosen : ℕ → Bool) (size : ℕ) (stats : Bool) (w : World) → whole_text minds seed rounds chosen size stats w
+    ≡ seed_text seed ++ (dumps_text minds seed chosen w (rounds + 1) ++ (score_text (score_of (world_after minds seed w rounds)) ++ counts_text stats (totals_of minds seed size (start_of w) rounds)))
 unfolding whole_text run_text
-whole_text-parts minds seed rounds dumps size stats w =
-    let dumped = dumps_text minds seed dumps w (rounds + 1) in
+whole_text-parts minds seed rounds chosen size stats w =
+    let dumped = dumps_text minds seed chosen w (rounds + 1) in
     let scored = score_text (score_of (world_after minds seed w rounds)) in
     let counted = counts_text stats (totals_of minds seed size (start_of w) rounds) in
     append_assoc (seed_text seed) (dumped ++ scored) counted ∙ ap (λ t. seed_text seed ++ t) (append_assoc dumped scored counted)
@@ -101,15 +100,15 @@ module _ {minds : Minds} {seed : ℕ} {w : World} {size round : ℕ} {game : Gam
   IsAtRound-world = ap (λ (m : Moment). m.world) at.now
 
 -- a round that wasn't shown stops the dumps up to it
-pub stopped-shown : {minds : Minds} {seed : ℕ} {w : World} {size round : ℕ} {old : GameValue} (sink mid new_sink : SinkState) (dumps : Dumps) → IsAtRound minds seed w size round old → (new : GameValue) (fault : PlayFault)
-    → PushedAll sink mid (dumps_text minds seed dumps w (round + 1)) → RoundStopped old new dumps (round + 1) mid new_sink fault → StoppedBy sink new_sink (dumps_text minds seed dumps w (round + 1 + 1)) fault
-stopped-shown {minds} {seed} {w} {size} {round} {old} sink mid new_sink dumps at new WriteFault so_far stopped =
-    rw (dumps_text-more minds seed dumps w (round + 1), ← IsAtRound-world (IsAtRound-more at new stopped.0)) (front_then sink mid new_sink _ _ so_far stopped.1)
-stopped-shown {minds} {seed} {w} {size} {round} {old} sink mid new_sink dumps at new OutOfMemory so_far stopped = record {
-  front = dumps_text minds seed dumps w (round + 1);
-  rest = chosen_dump dumps (world_after minds seed w (round + 1)) (round + 1);
-  whole = dumps_text-more minds seed dumps w (round + 1);
-  pushed = subst (λ (state : SinkState). PushedAll sink state (dumps_text minds seed dumps w (round + 1))) (sym stopped) so_far;
+pub stopped-shown : {minds : Minds} {seed : ℕ} {w : World} {size round : ℕ} {old : GameValue} (sink mid new_sink : SinkState) (chosen : ℕ → Bool) → IsAtRound minds seed w size round old → (new : GameValue) (fault : PlayFault)
+    → PushedAll sink mid (dumps_text minds seed chosen w (round + 1)) → RoundStopped old new chosen (round + 1) mid new_sink fault → StoppedBy sink new_sink (dumps_text minds seed chosen w (round + 1 + 1)) fault
+stopped-shown {minds} {seed} {w} {size} {round} {old} sink mid new_sink chosen at new WriteFault so_far stopped =
+    rw (dumps_text-more minds seed chosen w (round + 1), ← IsAtRound-world (IsAtRound-more at new stopped.0)) (front_then sink mid new_sink _ _ so_far stopped.1)
+stopped-shown {minds} {seed} {w} {size} {round} {old} sink mid new_sink chosen at new OutOfMemory so_far stopped = record {
+  front = dumps_text minds seed chosen w (round + 1);
+  rest = chosen_dump chosen (world_after minds seed w (round + 1)) (round + 1);
+  whole = dumps_text-more minds seed chosen w (round + 1);
+  pushed = subst (λ (state : SinkState). PushedAll sink state (dumps_text minds seed chosen w (round + 1))) (sym stopped) so_far;
 }
 
 -- one text, and then a play that pushes another

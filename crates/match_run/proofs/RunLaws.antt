@@ -11,7 +11,6 @@ use Rattle.ant_turn.specs.Rounds.{Moment, start_of}
 use Rattle.ant_turn.proofs.KeptByRounds.{after_rounds-then}
 use Rattle.cell_world.specs.Score.{score_of}
 use Rattle.dump_print.specs.Texts.{dump_text, score_text, seed_text}
-use Rattle.match_run.specs.declared.dumps.Dumps.TheVariants.{Chosen}
 use Rattle.match_run.specs.Dumps.{has_round}
 use Rattle.match_run.specs.Run.{chosen_dump, dumps_text, run_text, world_after}
 use Rattle.match_run.specs.RunLaws.{AllDumps, NoDumps, SameRounds, RepeatAddsNothing, LaterAddsNothing, GoesOn}
@@ -50,7 +49,7 @@ pub same_rounds : SameRounds
 unfolding run_text dumps_text
 same_rounds minds seed rounds w list other to from =
     ap (λ t. seed_text seed ++ (t ++ score_text (score_of (world_after minds seed w rounds))))
-    (numbered-same (λ round. chosen_dump (Chosen list) (world_after minds seed w round) round) (λ round. chosen_dump (Chosen other) (world_after minds seed w round) round) (rounds + 1)
+    (numbered-same (λ round. chosen_dump (has_round list) (world_after minds seed w round) round) (λ round. chosen_dump (has_round other) (world_after minds seed w round) round) (rounds + 1)
     (λ round below. ap (λ has. cond has (dump_text (world_after minds seed w round) round) []) (has_round-same list other round (to round (omega arith)) (from round (omega arith)))))
 
 pub repeat_adds_nothing : RepeatAddsNothing

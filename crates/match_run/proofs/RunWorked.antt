@@ -12,7 +12,7 @@ use Rattle.ant_turn.specs.Sheet.{contest}
 use Rattle.dump_print.specs.Content.{content_text}
 use Rattle.dump_print.specs.Texts.{cell_line, row_text, cells_text, dump_text, seed_text, score_text}
 use Rattle.match_run.specs.declared.dumps.Dumps.TheVariants.{Nothing, All, Chosen}
-use Rattle.match_run.specs.Dumps.{chooses}
+use Rattle.match_run.specs.Dumps.{chooses, has_round}
 use Rattle.match_run.specs.Run.{dumps_text, run_text, world_after}
 
 -- the rounds of a game of four rounds
@@ -20,7 +20,7 @@ abbrev rounds : List ℕ
 rounds = 0 ∷ 1 ∷ 2 ∷ 3 ∷ 4 ∷ []
 
 -- of a list the rounds that the game has, each once and in order
-pub list_chooses : filter (chooses (Chosen (7 ∷ 3 ∷ 0 ∷ 3 ∷ []))) rounds ≡ 0 ∷ 3 ∷ []
+pub list_chooses : filter (chooses (Chosen (record { numbers = 7 ∷ 3 ∷ 0 ∷ 3 ∷ []; spare = 0 }))) rounds ≡ 0 ∷ 3 ∷ []
 list_chooses = refl
 
 pub all_choose : filter (chooses All) rounds ≡ rounds
@@ -37,7 +37,7 @@ abbrev nobody : Minds
 nobody = record { red = []; black = []; sheet = contest }
 
 -- the text of two rounds of which the start and the last one are dumped
-pub two_rounds : run_text nobody 12345 2 (Chosen (2 ∷ 0 ∷ 2 ∷ [])) stone ≡
+pub two_rounds : run_text nobody 12345 2 (has_round (2 ∷ 0 ∷ 2 ∷ [])) stone ≡
     codes "random seed: 12345\n"
     +++ codes "\nAfter round 0...\ncell (0, 0): rock\n"
     +++ codes "\nAfter round 2...\ncell (0, 0): rock\n"

@@ -1,12 +1,11 @@
 -- Laws of the counts of games (this project's own).
-use Rattle.std.specs.Prelude.{◌≡◌, ℕ, ◌+◌, ◌*◌, ◌^◌, ◌<◌, ◌≤◌, true, false}
+use Rattle.std.specs.Prelude.{◌≡◌, ℕ, ◌+◌, ◌*◌, ◌^◌, ◌<◌, ◌≤◌, Bool, true, false}
 use Rattle.ant_base.specs.Layout.{◌+++◌}
 use Rattle.ant_turn.specs.Minds.{AreSound, Fits, Minds}
 use Rattle.ant_turn.specs.Rounds.{Moment, after_round, after_rounds, start_of}
 use Rattle.cell_world.specs.Valid.{Valid}
 use Rattle.cell_world.specs.World.{World}
 use Rattle.dump_print.specs.Texts.{stats_text}
-use Rattle.match_run.specs.declared.dumps.Dumps.{Dumps}
 use Rattle.match_run.specs.Counts.{both, round_totals, totals_of, whole_text}
 use Rattle.match_run.specs.Game.{GameValue, IsRoundPlayed, IsRoundRefused, now_of}
 use Rattle.match_run.specs.Run.{run_text}
@@ -28,9 +27,9 @@ LoneWindowsAreTaken = (minds : Minds) (seed : ℕ) (m : Moment) (r : ℕ) → Ar
 
 -- the counts come last: without their line the text is the same whatever the size of a window
 pub record CountsComeLast : Type 0 where
-  pub without : (minds : Minds) (seed rounds : ℕ) (dumps : Dumps) (size : ℕ) (w : World) → whole_text minds seed rounds dumps size false w ≡ run_text minds seed rounds dumps w
-  pub with_them : (minds : Minds) (seed rounds : ℕ) (dumps : Dumps) (size : ℕ) (w : World) →
-      whole_text minds seed rounds dumps size true w ≡ run_text minds seed rounds dumps w +++ stats_text (totals_of minds seed size (start_of w) rounds)
+  pub without : (minds : Minds) (seed rounds : ℕ) (chosen : ℕ → Bool) (size : ℕ) (w : World) → whole_text minds seed rounds chosen size false w ≡ run_text minds seed rounds chosen w
+  pub with_them : (minds : Minds) (seed rounds : ℕ) (chosen : ℕ → Bool) (size : ℕ) (w : World) →
+      whole_text minds seed rounds chosen size true w ≡ run_text minds seed rounds chosen w +++ stats_text (totals_of minds seed size (start_of w) rounds)
 
 -- a round that begins with the turn of id 0 and is played to its end is a round
 pub record WholeRounds : Type 0 where

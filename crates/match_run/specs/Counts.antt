@@ -7,7 +7,6 @@ use Rattle.ant_turn.specs.Rounds.{Moment, after_rounds, after_turns, start_of}
 use Rattle.cell_world.specs.World.{World}
 use Rattle.dump_print.specs.declared.totals.Totals.{Totals}
 use Rattle.dump_print.specs.Texts.{stats_text}
-use Rattle.match_run.specs.declared.dumps.Dumps.{Dumps}
 use Rattle.match_run.specs.Run.{run_text}
 use Rattle.round_book.specs.Counts.{counts_of}
 use Rattle.round_book.specs.Window.{Window}
@@ -60,5 +59,5 @@ counts_text false totals = []
 counts_text true totals = stats_text totals
 
 -- the text of a run, and the line of its counts where they are asked for
-unfoldable pub whole_text : Minds → ℕ → ℕ → Dumps → ℕ → Bool → World → List ℕ
-whole_text minds seed rounds dumps size stats w = run_text minds seed rounds dumps w +++ counts_text stats (totals_of minds seed size (start_of w) rounds)
+unfoldable pub whole_text : Minds → ℕ → ℕ → (ℕ → Bool) → ℕ → Bool → World → List ℕ
+whole_text minds seed rounds chosen size stats w = run_text minds seed rounds chosen w +++ counts_text stats (totals_of minds seed size (start_of w) rounds)

@@ -12,4 +12,4 @@ has_round rounds round = list_any (λ other. nat_eq other round) rounds
 abbrev pub chooses : Dumps → ℕ → Bool
 chooses Nothing round = false
 chooses All round = true
-chooses (Chosen rounds) round = has_round rounds round
+chooses (Chosen rounds) round = has_round rounds.numbers round

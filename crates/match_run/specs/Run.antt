@@ -1,5 +1,5 @@
 -- The text of a run (the task's game play; the layout is this project's own).
-use Rattle.std.specs.Prelude.{ℕ, ◌+◌, List, [], if◌then◌else◌, Result, Ok, Err}
+use Rattle.std.specs.Prelude.{ℕ, ◌+◌, Bool, List, [], if◌then◌else◌, Result, Ok, Err}
 use Rattle.ant_base.specs.Layout.{numbered, ◌+++◌}
 use Rattle.ant_base.specs.declared.sink.Failed.{Failed}
 use Rattle.ant_turn.specs.Minds.{Minds}
@@ -8,8 +8,6 @@ use Rattle.cell_world.specs.Score.{score_of}
 use Rattle.cell_world.specs.declared.score.Score.{Score}
 use Rattle.cell_world.specs.World.{World}
 use Rattle.dump_print.specs.Texts.{dump_text, score_text, seed_text}
-use Rattle.match_run.specs.declared.dumps.Dumps.{Dumps}
-use Rattle.match_run.specs.Dumps.{chooses}
 
 -- the most rounds of a game (this project's own)
 abbrev pub most_rounds : ℕ
@@ -20,18 +18,18 @@ unfoldable pub world_after : Minds → ℕ → World → ℕ → World
 world_after minds seed w round = (after_rounds minds seed (start_of w) round).world
 
 -- the dump after a round, where it is chosen
-abbrev pub chosen_dump : Dumps → World → ℕ → List ℕ
-chosen_dump dumps w round = if chooses dumps round then dump_text w round else []
+abbrev pub chosen_dump : (ℕ → Bool) → World → ℕ → List ℕ
+chosen_dump chosen w round = if chosen round then dump_text w round else []
 
 -- the dumps after the rounds below n that are chosen, from 0 on in order
-unfoldable pub dumps_text : Minds → ℕ → Dumps → World → ℕ → List ℕ
-dumps_text minds seed dumps w n = numbered (λ round. chosen_dump dumps (world_after minds seed w round) round) n
+unfoldable pub dumps_text : Minds → ℕ → (ℕ → Bool) → World → ℕ → List ℕ
+dumps_text minds seed chosen w n = numbered (λ round. chosen_dump chosen (world_after minds seed w round) round) n
 
 -- the text of a run without its counts: the line of the seed, the dump after each round that is chosen, from 0 to the number of rounds in order, and the score
-unfoldable pub run_text : Minds → ℕ → ℕ → Dumps → World → List ℕ
-run_text minds seed rounds dumps w =
+unfoldable pub run_text : Minds → ℕ → ℕ → (ℕ → Bool) → World → List ℕ
+run_text minds seed rounds chosen w =
     seed_text seed
-    +++ dumps_text minds seed dumps w (rounds + 1)
+    +++ dumps_text minds seed chosen w (rounds + 1)
     +++ score_text (score_of (world_after minds seed w rounds))
 
 -- how a run ended, whatever its score

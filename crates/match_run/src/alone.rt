@@ -6,6 +6,7 @@ ghost use Rattle.ant_turn.specs.Minds.{Fits, minds_of};
 ghost use Rattle.cell_world.specs.Grid.{world_of};
 ghost use Rattle.cell_world.specs.Score.{score_of};
 ghost use Rattle.dump_print.specs.Texts.{score_text};
+ghost use Rattle.match_run.specs.Dumps.{chooses};
 ghost use Rattle.match_run.specs.Run.{most_rounds, dumps_text, ended, run_text, world_after};
 
 use crate::dumps::push_chosen;
@@ -34,7 +35,7 @@ pub fn play_alone<K: Sink>(
     requires fit { Fits (world_of world) (minds_of brains) }
     requires few_rounds { plan.now.rounds ≤ most_rounds }
     ensures text { Pushed (K.state sink.old) (K.state sink.new)
-        (run_text (minds_of brains.entry) plan.now.seed plan.now.rounds plan.now.dumps (world_of world)) (ended result) }
+        (run_text (minds_of brains.entry) plan.now.seed plan.now.rounds (chooses plan.now.dumps) (world_of world)) (ended result) }
     ensures score { IfOk result (λ s. s ≡ score_of (world_after (minds_of brains.entry) plan.now.seed (world_of world) plan.now.rounds)) }
 {
     push_seed(plan.seed, sink)?;
@@ -51,7 +52,7 @@ fn play_to_score<K: Sink>(
     requires fit { Fits (world_of world) (minds_of brains) }
     requires few_rounds { plan.now.rounds ≤ most_rounds }
     ensures text { Pushed (K.state sink.old) (K.state sink.new)
-        (dumps_text (minds_of brains.entry) plan.now.seed plan.now.dumps (world_of world) (plan.now.rounds + 1)
+        (dumps_text (minds_of brains.entry) plan.now.seed (chooses plan.now.dumps) (world_of world) (plan.now.rounds + 1)
         +++ score_text (score_of (world_after (minds_of brains.entry) plan.now.seed (world_of world) plan.now.rounds))) (ended result) }
     ensures score { IfOk result (λ s. s ≡ score_of (world_after (minds_of brains.entry) plan.now.seed (world_of world) plan.now.rounds)) }
 {
@@ -72,7 +73,7 @@ fn play_rounds<K: Sink>(
     requires fit { Fits (world_of world.old) (minds_of brains) }
     requires few_rounds { plan.now.rounds ≤ most_rounds }
     ensures text { Pushed (K.state sink.old) (K.state sink.new)
-        (dumps_text (minds_of brains.entry) plan.now.seed plan.now.dumps (world_of world.old) (plan.now.rounds + 1)) result }
+        (dumps_text (minds_of brains.entry) plan.now.seed (chooses plan.now.dumps) (world_of world.old) (plan.now.rounds + 1)) result }
     ensures world { OnOk result (world_of world.new ≡ world_after (minds_of brains.entry) plan.now.seed (world_of world.old) plan.now.rounds) }
 {
     let mut stream = Stream::from_seed(plan.seed);

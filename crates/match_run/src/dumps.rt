@@ -1,5 +1,5 @@
 // Which rounds are dumped, and their dumps.
-ghost use Rattle.std.specs.Prelude.{◌≡◌, [], ◌∷◌, ◌++◌, OnOk, OnErr};
+ghost use Rattle.std.specs.Prelude.{◌≡◌, ◌+◌, ◌≤◌, [], ◌∷◌, ◌++◌, OnOk, OnErr};
 ghost use Rattle.ant_base.specs.Sink.{Pushed};
 ghost use Rattle.cell_world.specs.Grid.{world_of};
 ghost use Rattle.match_run.specs.Dumps.{chooses, has_round};
@@ -12,44 +12,48 @@ use hex_geometry::OutOfMemory;
 use std::alloc::Global;
 use std::marker::Model;
 
-/// A list of rounds, each counted from 0 for the start of the game; contracts see it as the list of their numbers. Order and repeats make no
-/// difference to a run (this project's own).
+/// A list of rounds, each counted from 0 for the start of the game; contracts see their numbers, and how many more it takes before it is full.
+/// Order and repeats make no difference to a run (this project's own).
 #[derive(Drop)]
 pub struct Rounds {
     list: Vec<u32>,
 }
 
 impl Model for Rounds {
-    ghost use Rattle.std.specs.Prelude.{List, ℕ};
+    ghost use Rattle.std.specs.Prelude.{◌-◌, vec_len, vec_capacity};
+    ghost use Rattle.ant_base.specs.NumberList.{NumberList};
 
-    ghost Value = { List ℕ };
+    ghost Value = { NumberList };
 
-    ghost view = { λ rounds. rounds.list.items };
+    ghost view = { λ rounds. record { numbers = rounds.list.items; spare = vec_capacity rounds.list - vec_len rounds.list } };
 }
 
 impl Rounds {
     /// The empty list, which takes no memory (this project's own).
     pub fn new(alloc: Global) -> Rounds
-        ensures { result ≡ [] }
+        ensures { result ≡ record { numbers = []; spare = 0 } }
     {
         Rounds {
             list: Vec::new(alloc),
         }
     }
 
-    /// Adds a round last, whether or not it is there already (this project's own). It is refused for want of memory alone; the list is as
-    /// before then.
+    /// Adds a round last, whether or not it is there already (this project's own). It is refused only where the list is full and memory for
+    /// more could not be had; the list is as before then. An add takes at most one of the places that are spare.
     pub fn add(&mut self, round: u32) -> Result<(), OutOfMemory>
-        ensures added { OnOk result (self.new ≡ self.old ++ round ∷ []) }
+        ensures added { OnOk result (self.new.numbers ≡ self.old.numbers ++ round ∷ []) }
         ensures unchanged { OnErr result (self.new ≡ self.old) }
+        ensures full { OnErr result (self.old.spare ≡ 0) }
+        ensures spare { self.old.spare ≤ self.new.spare + 1 }
     {
+        self.list.reserve(1)?;
         self.list.push(round)?;
         Ok(())
     }
 
     // Whether the round is in the list.
     fn has(&self, round: u32) -> bool
-        ensures { result ≡ has_round self.now round }
+        ensures { result ≡ has_round self.now.numbers round }
     {
         self.list.contains(&round)
     }
@@ -87,7 +91,7 @@ pub(crate) fn push_chosen<K: Sink>(
     round: u32,
     sink: &mut K,
 ) -> Result<(), Failed>
-    ensures { Pushed (K.state sink.old) (K.state sink.new) (chosen_dump dumps.now (world_of world.now) round) result }
+    ensures { Pushed (K.state sink.old) (K.state sink.new) (chosen_dump (chooses dumps.now) (world_of world.now) round) result }
 {
     if dumps.chooses(round) {
         push_dump(world, round, sink)

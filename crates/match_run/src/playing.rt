@@ -8,6 +8,7 @@ ghost use Rattle.cell_world.specs.Grid.{world_of};
 ghost use Rattle.cell_world.specs.Score.{score_of};
 ghost use Rattle.dump_print.specs.Texts.{score_text};
 ghost use Rattle.match_run.specs.Counts.{counts_text, totals_of, whole_text};
+ghost use Rattle.match_run.specs.Dumps.{chooses};
 ghost use Rattle.match_run.specs.Game.{beginning, counted_on};
 ghost use Rattle.match_run.specs.Inner.Rounds.{IsAtRound, RoundShown};
 ghost use Rattle.match_run.specs.Play.{PushedBy};
@@ -49,7 +50,7 @@ pub fn play<C: Crew, K: Sink>(
     requires sized { 1 ≤ plan.now.window }
     ensures ready { C.ready crew.new }
     ensures text { PushedBy (K.state sink.old) (K.state sink.new)
-        (whole_text (minds_of brains.entry) plan.now.seed plan.now.rounds plan.now.dumps plan.now.window plan.now.stats (world_of world)) result }
+        (whole_text (minds_of brains.entry) plan.now.seed plan.now.rounds (chooses plan.now.dumps) plan.now.window plan.now.stats (world_of world)) result }
     ensures score { IfOk result (λ s. s ≡ score_of (world_after (minds_of brains.entry) plan.now.seed (world_of world) plan.now.rounds)) }
     ensures turns { OnOk result (C.played crew.new ≡ counted_on (C.played crew.old) (world.ids * plan.now.rounds)) }
 {
@@ -87,7 +88,7 @@ fn play_game<C: Crew, K: Sink>(
     requires sized { 1 ≤ plan.now.window }
     ensures ready { C.ready crew.new }
     ensures text { PushedBy (K.state sink.old) (K.state sink.new)
-        (dumps_text game.old.field.minds plan.now.seed plan.now.dumps (world_of game.old.field.world) (plan.now.rounds + 1)
+        (dumps_text game.old.field.minds plan.now.seed (chooses plan.now.dumps) (world_of game.old.field.world) (plan.now.rounds + 1)
         +++ score_text (score_of (world_after game.old.field.minds plan.now.seed (world_of game.old.field.world) plan.now.rounds))
         +++ counts_text plan.now.stats (totals_of game.old.field.minds plan.now.seed plan.now.window (start_of (world_of game.old.field.world)) plan.now.rounds)) result }
     ensures score { IfOk result (λ s. s ≡ score_of (world_after game.old.field.minds plan.now.seed (world_of game.old.field.world) plan.now.rounds)) }
@@ -111,7 +112,7 @@ fn play_rounds<C: Crew, K: Sink>(
     requires sized { 1 ≤ plan.now.window }
     ensures ready { C.ready crew.new }
     ensures text { PushedBy (K.state sink.old) (K.state sink.new)
-        (dumps_text game.old.field.minds plan.now.seed plan.now.dumps (world_of game.old.field.world) (plan.now.rounds + 1)) result }
+        (dumps_text game.old.field.minds plan.now.seed (chooses plan.now.dumps) (world_of game.old.field.world) (plan.now.rounds + 1)) result }
     ensures played { OnOk result (IsAtRound game.old.field.minds plan.now.seed (world_of game.old.field.world) plan.now.window plan.now.rounds game.new) }
     ensures turns { OnOk result (C.played crew.new ≡ counted_on (C.played crew.old) (game.old.field.world.ids * plan.now.rounds)) }
 {
@@ -136,7 +137,7 @@ fn play_round<C: Crew, K: Sink>(
     requires ready { C.ready crew.old }
     requires few { game.old.done < most_rounds }
     ensures ready { C.ready crew.new }
-    ensures shown { RoundShown game.old game.new dumps.now round (K.state sink.old) (K.state sink.new) result }
+    ensures shown { RoundShown game.old game.new (chooses dumps.now) round (K.state sink.old) (K.state sink.new) result }
     ensures turns { C.played crew.new ≡ counted_on (C.played crew.old) (game.new.totals.turns - game.old.totals.turns) }
 {
     game.round(alloc, crew)?;

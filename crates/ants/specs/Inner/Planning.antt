@@ -7,6 +7,7 @@ use Rattle.cell_world.specs.Grid.{Grid}
 use Rattle.match_run.specs.declared.fault.PlayFault.{PlayFault}
 use Rattle.match_run.specs.declared.fault.PlayFault.TheVariants as play
 use Rattle.match_run.specs.declared.plan.Plan.{Plan}
+use Rattle.match_run.specs.Dumps.{chooses}
 use Rattle.world_gen.specs.declared.shape.Shape.{Shape}
 use Rattle.world_gen.specs.Painting.{IsGenerated}
 use Rattle.world_gen.specs.Placing.{HasNoRoom}
@@ -21,7 +22,7 @@ use Rattle.ants.specs.Jobs.{chosen_rounds, sheet_named}
 pub record Plans (setup : RunSetup) (plan : Plan) : Type 0 where
   pub seed_is : plan.seed ≡ setup.seed
   pub rounds_are : plan.rounds ≡ setup.rounds
-  pub dumps_are : plan.dumps ≡ chosen_rounds setup.dumps
+  pub dumps_are : chooses plan.dumps ≡ chosen_rounds setup.dumps
   pub window_is : plan.window ≡ setup.window
   pub stats_are : plan.stats ≡ setup.stats
 

@@ -3,4 +3,4 @@ use Rattle.std.proofs.Common.{◌≡◌, ◌++◌}
 use Rattle.ants.proofs.run.rounds_of.Given as goal
 
 abbrev pub invariant-loop-number : goal.invariant-loop-number
-invariant-loop-number l = l.rounds ++ l.number-iterator ≡ l.fn.numbers
+invariant-loop-number l = l.rounds.numbers ++ l.number-iterator ≡ l.fn.numbers

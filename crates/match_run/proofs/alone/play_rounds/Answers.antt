@@ -3,6 +3,7 @@ use Rattle.std.proofs.lemmas.Result.{err_from_is_err_and}
 use Rattle.ant_base.proofs.Pushing.{all_then, front_then, front_more}
 use Rattle.ant_turn.specs.Minds.{minds_of}
 use Rattle.cell_world.specs.Grid.{world_of}
+use Rattle.match_run.specs.Dumps.{chooses}
 use Rattle.match_run.specs.Run.{world_after}
 use Rattle.match_run.proofs.RunLemmas.{dumps_text-first, dumps_text-front, dumps_text-more}
 use Rattle.match_run.proofs.SequentialLemmas.{IsAfter, IsAfter-none, IsAfter-more, IsAfter-world}
@@ -14,7 +15,7 @@ loop-round-init g c =
     let plan = c.args.plan.now in
     record {
       after = IsAfter-none minds plan.seed c.args.world.now c.from_seed-stream.result c.from_seed-stream.ensures.seed c.from_seed-stream.ensures.place c.requires.fit;
-      text = rw (dumps_text-first minds plan.seed plan.dumps (world_of c.args.world.now)) c.in_ok-push_chosen.ensures;
+      text = rw (dumps_text-first minds plan.seed (chooses plan.dumps) (world_of c.args.world.now)) c.in_ok-push_chosen.ensures;
     }
 
 pub play_round-requires-clause-fit : goal.play_round-requires-clause-fit
@@ -31,7 +32,7 @@ loop-round-preserved g c =
     IsAfter-more c.loop-round.invariant.after _ _ c.play_round.ensures.moment c.play_round.ensures.seed c.play_round.ensures.place c.play_round.ensures.fit in
     record {
       after = after;
-      text = rw (dumps_text-more minds plan.seed plan.dumps (world_of c.args.world.now) (c.loop-round.round + 1), ← IsAfter-world after)
+      text = rw (dumps_text-more minds plan.seed (chooses plan.dumps) (world_of c.args.world.now) (c.loop-round.round + 1), ← IsAfter-world after)
           (all_then _ _ _ _ _ c.loop-round.invariant.text c.in_ok-push_chosen-2.ensures);
     }
 
@@ -41,8 +42,8 @@ returns-in_err-push_chosen-clause-text g c =
     let plan = c.args.plan.now in
     let w = world_of c.args.world.now in
     let p = err_from_is_err_and c.from_residual.result c.from_residual.ensures.1 in
-    let rest = dumps_text-front minds plan.seed plan.dumps w 1 (plan.rounds + 1) (omega arith) in
-    rw (p.1, rest.1, dumps_text-first minds plan.seed plan.dumps w) (front_more _ _ _ _ c.in_err-push_chosen.ensures)
+    let rest = dumps_text-front minds plan.seed (chooses plan.dumps) w 1 (plan.rounds + 1) (omega arith) in
+    rw (p.1, rest.1, dumps_text-first minds plan.seed (chooses plan.dumps) w) (front_more _ _ _ _ c.in_err-push_chosen.ensures)
 
 pub returns-in_err-push_chosen-2-clause-text : goal.returns-in_err-push_chosen-2-clause-text
 returns-in_err-push_chosen-2-clause-text g c =
@@ -53,8 +54,8 @@ returns-in_err-push_chosen-2-clause-text g c =
     let p = err_from_is_err_and c.from_residual-in_err-push_chosen-2.result c.from_residual-in_err-push_chosen-2.ensures.1 in
     let after : IsAfter minds plan.seed w (round + 1) c.play_round.new.world c.play_round.new.stream =
     IsAfter-more c.loop-round.invariant.after _ _ c.play_round.ensures.moment c.play_round.ensures.seed c.play_round.ensures.place c.play_round.ensures.fit in
-    let rest = dumps_text-front minds plan.seed plan.dumps w (round + 1 + 1) (plan.rounds + 1) (omega (arith, c.loop-round-test.true)) in
-    rw (p.1, rest.1, dumps_text-more minds plan.seed plan.dumps w (round + 1), ← IsAfter-world after)
+    let rest = dumps_text-front minds plan.seed (chooses plan.dumps) w (round + 1 + 1) (plan.rounds + 1) (omega (arith, c.loop-round-test.true)) in
+    rw (p.1, rest.1, dumps_text-more minds plan.seed (chooses plan.dumps) w (round + 1), ← IsAfter-world after)
     (front_more _ _ _ _ (front_then _ _ _ _ _ c.loop-round.invariant.text c.in_err-push_chosen-2.ensures))
 
 pub returns-clause-world : goal.returns-clause-world

@@ -2,6 +2,7 @@ use Rattle.std.proofs.Common.{◌+◌, arith}
 use Rattle.std.proofs.lemmas.Result.{err_from_is_err_and}
 use Rattle.ant_base.proofs.Pushing.{all_then, front_more}
 use Rattle.cell_world.specs.Grid.{world_of}
+use Rattle.match_run.specs.Dumps.{chooses}
 use Rattle.match_run.specs.Inner.Rounds.{IsAtRound}
 use Rattle.match_run.specs.Run.{dumps_text}
 use Rattle.match_run.proofs.PlayLemmas.{IsAtRound-more, IsAtRound-turns, IsAtRound-world, counted-round, counted-start, stopped-shown, stopped_more}
@@ -14,8 +15,8 @@ returns-in_err-push_chosen-clause-text g c =
     let plan = c.args.plan.now in
     let w = world_of c.args.game.now.field.world in
     let p = err_from_is_err_and c.from_residual.result c.from_residual.ensures.1 in
-    let rest = dumps_text-front minds plan.seed plan.dumps w 1 (plan.rounds + 1) (omega arith) in
-    rw (p.1, p.2, rest.1, dumps_text-first minds plan.seed plan.dumps w, ← c.world.ensures) (front_more _ _ _ _ c.in_err-push_chosen.ensures)
+    let rest = dumps_text-front minds plan.seed (chooses plan.dumps) w 1 (plan.rounds + 1) (omega arith) in
+    rw (p.1, p.2, rest.1, dumps_text-first minds plan.seed (chooses plan.dumps) w, ← c.world.ensures) (front_more _ _ _ _ c.in_err-push_chosen.ensures)
 
 pub loop-round-init : goal.loop-round-init
 loop-round-init g c =
@@ -24,7 +25,7 @@ loop-round-init g c =
     record {
       ready = c.requires.ready;
       at = c.requires.begins;
-      text = rw (dumps_text-first minds plan.seed plan.dumps (world_of c.args.game.now.field.world), ← c.world.ensures) c.in_ok-push_chosen.ensures;
+      text = rw (dumps_text-first minds plan.seed (chooses plan.dumps) (world_of c.args.game.now.field.world), ← c.world.ensures) c.in_ok-push_chosen.ensures;
       turns = counted-start (g.C.Crew.played c.args.crew.now) c.args.game.now.field.world.ids (omega (arith, c.turns-count.ensures, c.turns-count.type_inv));
     }
 
@@ -43,10 +44,10 @@ returns-in_err-play_round-clause-text g c =
     let w = world_of c.args.game.now.field.world in
     let round = c.loop-round.round in
     let p = err_from_is_err_and c.from_residual-in_err-play_round.result c.from_residual-in_err-play_round.ensures.1 in
-    let rest = dumps_text-front minds plan.seed plan.dumps w (round + 1 + 1) (plan.rounds + 1) (omega (arith, c.loop-round-test.true)) in
+    let rest = dumps_text-front minds plan.seed (chooses plan.dumps) w (round + 1 + 1) (plan.rounds + 1) (omega (arith, c.loop-round-test.true)) in
     rw (p.1, p.2, rest.1)
-    (stopped_more (g.K.Sink.state c.args.sink.now) (g.K.Sink.state c.play_round.new.sink) (dumps_text minds plan.seed plan.dumps w (round + 1 + 1)) rest.0 c.in_err-play_round.field-0.0
-    (stopped-shown (g.K.Sink.state c.args.sink.now) (g.K.Sink.state c.loop-round.sink) (g.K.Sink.state c.play_round.new.sink) plan.dumps c.loop-round.invariant.at c.play_round.new.game c.in_err-play_round.field-0.0 c.loop-round.invariant.text c.in_err-play_round.ensures.shown))
+    (stopped_more (g.K.Sink.state c.args.sink.now) (g.K.Sink.state c.play_round.new.sink) (dumps_text minds plan.seed (chooses plan.dumps) w (round + 1 + 1)) rest.0 c.in_err-play_round.field-0.0
+    (stopped-shown (g.K.Sink.state c.args.sink.now) (g.K.Sink.state c.loop-round.sink) (g.K.Sink.state c.play_round.new.sink) (chooses plan.dumps) c.loop-round.invariant.at c.play_round.new.game c.in_err-play_round.field-0.0 c.loop-round.invariant.text c.in_err-play_round.ensures.shown))
 
 pub loop-round-preserved : goal.loop-round-preserved
 loop-round-preserved g c =
@@ -59,6 +60,6 @@ loop-round-preserved g c =
     record {
       ready = c.in_ok-play_round.ensures.ready;
       at = more;
-      text = rw (dumps_text-more minds plan.seed plan.dumps w (round + 1), ← IsAtRound-world more) (all_then _ _ _ _ _ c.loop-round.invariant.text c.in_ok-play_round.ensures.shown.1);
+      text = rw (dumps_text-more minds plan.seed (chooses plan.dumps) w (round + 1), ← IsAtRound-world more) (all_then _ _ _ _ _ c.loop-round.invariant.text c.in_ok-play_round.ensures.shown.1);
       turns = counted-round _ _ _ _ _ c.args.game.now.field.world.ids round c.loop-round.invariant.turns c.in_ok-play_round.ensures.turns (IsAtRound-turns old c.requires.sized) (IsAtRound-turns more c.requires.sized);
     }
