@@ -1,4 +1,4 @@
--- The files of a command, and what is accepted of them (this project's own).
+-- The files of a command, and what is accepted of them.
 use Rattle.std.specs.Prelude.{◌≡◌, ℕ, List, [], ◌∷◌, ◌++◌, map, Ok, Err, ◌⊎◌}
 use Rattle.ant_base.specs.Fetched.{Fetched}
 use Rattle.ant_base.specs.declared.shelf.FetchFault.TheVariants as answer

@@ -180,7 +180,7 @@ fn carry_out<'w, R: Threads + Sync, S: Shelf, K: Sink, G: Gate>(
     }
 }
 
-/// Does all that the program does, over a shelf of files, an output and a place for faults (this project's own).
+/// Does all that the program does, over a shelf of files, an output and a place for faults.
 ///
 /// `words` doesn't hold the program's name. The words are read first; then each file is fetched and read before the next one, in the order
 /// of its word, and each once; then the text is written. The answer is
@@ -230,8 +230,7 @@ fn report<E: Sink>(stop: &Stop<'_>, err: &mut E) -> Status
     stop.status()
 }
 
-/// Does what `run_ants` does, and gives the number of its status as an exit code: all that `main` does once it has its words and its
-/// memory (this project's own).
+/// Does what `run_ants` does, and gives the number of its status as an exit code: all that `main` does once it has its words and its memory.
 pub fn run_to_exit<R: Threads + Sync, S: Shelf, K: Sink, E: Sink, G: Gate>(
     rt: &R,
     alloc: Global,
@@ -246,7 +245,7 @@ pub fn run_to_exit<R: Threads + Sync, S: Shelf, K: Sink, E: Sink, G: Gate>(
     exit_of(run_ants(rt, alloc, words, shelf, out, err, gate))
 }
 
-/// Says that memory can't be had, and gives that status as an exit code: what `main` does before it has a command (this project's own).
+/// Says that memory can't be had, and gives that status as an exit code: what `main` does before it has a command.
 pub fn exit_without_memory<E: Sink>(err: &mut E) -> ExitCode
     ensures reports { Reports (E.state err.old) (E.state err.new) (Some AtMemory) }
     ensures status { exit_status result ≡ number_of Status.Memory }

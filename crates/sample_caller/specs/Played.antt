@@ -1,4 +1,4 @@
--- What was played: which score it is, by the bytes that three fetches answered (this project's own).
+-- What was played: which score it is, by the bytes that three fetches answered.
 use Rattle.std.specs.Prelude.{◌≡◌, ℕ, List, [], ◌∷◌, ◌++◌, Ok}
 use Rattle.ant_base.specs.Fetched.{Fetched}
 use Rattle.ant_turn.specs.Minds.{contest_minds}

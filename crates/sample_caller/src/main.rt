@@ -1,5 +1,5 @@
 //! A caller of the library, as short as one can be: it reads a world and two brains, plays a game by the contest's rules, and prints the
-//! score. What it promises is the clause of `play`, in the words of the crates that it stands on (this project's own).
+//! score. What it promises is the clause of `play`, in the words of the crates that it stands on. It is this project's own.
 #![tactic(auto)]
 
 ghost use Rattle.std.specs.Prelude.{◌≤◌, IfSome};
