@@ -1,4 +1,4 @@
--- The files of a command, and what is accepted of them (this project's own).
+-- The files of a command, and what is accepted of them.
 use Rattle.std.specs.Prelude.{◌≡◌, ℕ, List, [], ◌∷◌, ◌++◌, map, Ok, Err, ◌⊎◌}
 use Rattle.ant_base.specs.Fetched.{Fetched}
 use Rattle.ant_base.specs.declared.shelf.FetchFault.TheVariants as answer
@@ -80,7 +80,9 @@ StopsAt IsSuch (file ∷ files) (fetch ∷ fetches) =
 
 -- the file was fetched: its bytes came, or memory could not be had for them
 abbrev pub IsFetched : File → Fetched → Type 0
-IsFetched file fetch = ((bytes : List ℕ) × (fetch ≡ record { name = file.name; answer = Ok bytes })) ⊎ (fetch ≡ record { name = file.name; answer = Err answer.OutOfMemory })
+IsFetched file fetch =
+    ((bytes : List ℕ) × (fetch ≡ record { name = file.name; answer = Ok bytes }))
+    ⊎ (fetch ≡ record { name = file.name; answer = Err answer.OutOfMemory })
 
 -- the first of the files were fetched, each once and in order: each but perhaps the last was accepted, and none failed or was too long
 abbrev pub AreBegun : List File → List Fetched → Type 0

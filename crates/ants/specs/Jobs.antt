@@ -1,4 +1,4 @@
--- What each command reads and writes (this project's own): one equation a command.
+-- What each command reads and writes: one equation a command.
 use Rattle.std.specs.Prelude.{◌≡◌, ℕ, Bool, true, false, List, [], ◌∷◌, ◌++◌, length, map, slice_index_or, codes, decimal, Option}
 use Rattle.ant_base.specs.Layout.{◌+++◌}
 use Rattle.ant_turn.specs.Minds.{Minds, contest_minds}

@@ -1,4 +1,4 @@
--- What the files of a command are judged as (this project's own).
+-- What the files of a command are judged as.
 use Rattle.std.specs.Prelude.{◌≡◌, ℕ, List, Option, Some, IsSome}
 use Rattle.std.specs.List.{AllByRecursion}
 use Rattle.ant_base.specs.Fetched.{Fetched}

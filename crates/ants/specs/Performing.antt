@@ -1,4 +1,4 @@
--- How a command ends, by the fetches that it made (this project's own).
+-- How a command ends, by the fetches that it made.
 use Rattle.std.specs.Prelude.{◌≡◌, ◌⊎◌, ℕ, false, List, Err, Option, Some, None}
 use Rattle.ant_base.specs.Faults.{Rose}
 use Rattle.ant_base.specs.Fetched.{Fetched}

@@ -1,4 +1,4 @@
--- How the whole program ends (this project's own).
+-- How the whole program ends.
 use Rattle.std.specs.Prelude.{◌≡◌, ◌≢◌, ℕ, List, [], ◌++◌, Option, Some, None, Result, ◌⊎◌}
 use Rattle.ant_base.specs.Faults.{Rose}
 use Rattle.ant_base.specs.Fetched.{Fetched}
@@ -19,7 +19,8 @@ use Rattle.ants.specs.Stopping.{Reason, fault_line, status_of}
 use Rattle.ants.specs.Stopping.Reason.{AtWord, AtFile, AtOutput, AtInput, AtRoom, AtMemory}
 
 -- the words are a command, and it ended so
-pub record IsCarriedOut (words : List (List ℕ)) (shelf new_shelf : ShelfState) (fetches : List Fetched) (out new_out : SinkState) (ending : Option Reason) : Type 0 where
+pub record IsCarriedOut
+    (words : List (List ℕ)) (shelf new_shelf : ShelfState) (fetches : List Fetched) (out new_out : SinkState) (ending : Option Reason) : Type 0 where
   pub command : PlainCommand
   pub is_command : IsCommand words command
   pub ends : EndsBy command shelf new_shelf fetches out new_out ending
@@ -83,16 +84,20 @@ pub record IsJudgedCommand (words : List (List ℕ)) (shelf : ShelfState) (verdi
 -- done, or wants memory
 abbrev pub IsComplete : List (List ℕ) → ShelfState → ShelfState → SinkState → SinkState → Status → Type 0
 IsComplete words shelf new_shelf out new_out ended =
-    (contents : List Content) (is : IsJudgedCommand words shelf (AllAccepted contents)) → HasRoom is.command → ¬ Rose shelf.faults new_shelf.faults → ¬ Rose out.faults new_out.faults → (ended ≡ status.Done) ⊎ (ended ≡ status.Memory)
+    (contents : List Content) (is : IsJudgedCommand words shelf (AllAccepted contents)) → HasRoom is.command
+    → ¬ Rose shelf.faults new_shelf.faults → ¬ Rose out.faults new_out.faults → (ended ≡ status.Done) ⊎ (ended ≡ status.Memory)
 
 -- where an element of a world to be generated has no room, a run ends as refused input, or wants memory
 abbrev pub IsCrowding : List (List ℕ) → Status → Type 0
-IsCrowding words ended = (command : PlainCommand) (element : ℕ) → IsCommand words command → LacksRoom command element → (ended ≡ status.Input) ⊎ (ended ≡ status.Memory)
+IsCrowding words ended =
+    (command : PlainCommand) (element : ℕ) → IsCommand words command → LacksRoom command element
+    → (ended ≡ status.Input) ⊎ (ended ≡ status.Memory)
 
 -- where a file is refused, and the shelf didn't fail, a run ends as refused input, or wants memory
 abbrev pub IsRefusing : List (List ℕ) → ShelfState → ShelfState → Status → Type 0
 IsRefusing words shelf new_shelf ended =
-    (name : List ℕ) (fault : FileFault) → IsJudgedCommand words shelf (FirstRefused name fault) → ¬ Rose shelf.faults new_shelf.faults → (ended ≡ status.Input) ⊎ (ended ≡ status.Memory)
+    (name : List ℕ) (fault : FileFault) → IsJudgedCommand words shelf (FirstRefused name fault)
+    → ¬ Rose shelf.faults new_shelf.faults → (ended ≡ status.Input) ⊎ (ended ≡ status.Memory)
 
 -- where the shelf is sure of the files up to the first that is refused, or of all where none is, no run ends at a file that was not read
 abbrev pub NeverUnread : List (List ℕ) → ShelfState → Status → Type 0

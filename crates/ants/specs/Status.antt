@@ -1,4 +1,4 @@
--- Exit statuses (this project's own).
+-- Exit statuses.
 use Rattle.std.specs.Prelude.{ℕ}
 use Rattle.ants.specs.declared.status.Status.{Status}
 use Rattle.ants.specs.declared.status.Status.TheVariants.{Done, Words, Read, Write, Input, Memory}

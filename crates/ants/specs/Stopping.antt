@@ -1,4 +1,4 @@
--- Why a command stops, and the line that says so (this project's own).
+-- Why a command stops, and the line that says so.
 use Rattle.std.specs.Prelude.{ℕ, List, codes, decimal}
 use Rattle.ant_base.specs.Layout.{◌+++◌}
 use Rattle.brain_read.specs.declared.fault.BrainFault.{BrainFault}

@@ -1,7 +1,8 @@
 // The command `cup`.
-ghost use Rattle.std.specs.Prelude.{◌≡◌, ◌≤◌, ◌∷◌, [], length, map, IfOk};
+ghost use Rattle.std.specs.Prelude.{◌≡◌, ◌≤◌, length, IfOk};
 ghost use Rattle.command_words.specs.Command.PlainCommand.{CupCommand};
-ghost use Rattle.command_words.specs.Laws.{CupWithin};
+ghost use Rattle.command_words.specs.Laws.{CupWithin, IsWithin};
+ghost use Rattle.command_words.specs.declared.limits.NumberKind.TheVariants.{WorkerCount};
 ghost use Rattle.command_words.specs.Slots.{AllDiffer};
 ghost use Rattle.command_words.specs.Words.{texts};
 ghost use Rattle.match_run.specs.Run.{most_rounds};
@@ -77,7 +78,8 @@ fn roster_of<'w, S: Shelf>(
     entry: Entry<'w>,
     shelf: &mut S,
 ) -> Result<Roster, Stop<'w>>
-    ensures { ReadsFiles (S.state shelf.old) (S.state shelf.new) (cup_files (texts entry.entry.worlds.now) (texts entry.entry.brains.now)) (outcome_of (λ roster. cup_contents roster.worlds.items roster.players.items) result) }
+    ensures { ReadsFiles (S.state shelf.old) (S.state shelf.new) (cup_files (texts entry.entry.worlds.now) (texts entry.entry.brains.now))
+        (outcome_of (λ roster. cup_contents roster.worlds.items roster.players.items) result) }
 {
     let worlds = read_files(alloc, shelf, entry.worlds)?;
     let players = read_files(alloc, shelf, entry.brains)?;
@@ -95,8 +97,9 @@ fn standing_of<R: Threads + Sync>(
 ) -> Result<Standing, OutOfMemory>
     requires ready { AreReady roster.now.worlds.items roster.now.players.items }
     requires few_rounds { rounds ≤ most_rounds }
-    requires workers { (1 ≤ workers) × (workers ≤ 16) }
-    ensures { IfOk result (λ standing. IsStandingOf (length roster.now.players.items) (length roster.now.worlds.items) (score_between roster.now.worlds.items roster.now.players.items seed rounds) standing) }
+    requires workers { IsWithin WorkerCount workers }
+    ensures { IfOk result (λ standing. IsStandingOf (length roster.now.players.items) (length roster.now.worlds.items)
+        (score_between roster.now.worlds.items roster.now.players.items seed rounds) standing) }
 {
     let games = Games {
         worlds: &roster.worlds,
@@ -130,7 +133,9 @@ pub fn cup<'w, R: Threads + Sync, S: Shelf, K: Sink>(
     out: &mut K,
 ) -> Result<(), Stop<'w>>
     requires { CupWithin (texts entry.worlds.now) (texts entry.brains.now) entry.seed entry.rounds entry.workers }
-    ensures { CarriesOut (CupCommand (texts entry.entry.worlds.now) (texts entry.entry.brains.now) entry.entry.seed entry.entry.rounds entry.entry.workers) (S.state shelf.old) (S.state shelf.new) (K.state out.old) (K.state out.new) (ending_of result) }
+    ensures { CarriesOut
+        (CupCommand (texts entry.entry.worlds.now) (texts entry.entry.brains.now) entry.entry.seed entry.entry.rounds entry.entry.workers)
+        (S.state shelf.old) (S.state shelf.new) (K.state out.old) (K.state out.new) (ending_of result) }
 {
     let roster = roster_of(alloc, entry, shelf)?;
     let standing = standing_of(rt, alloc, &roster, entry.seed, entry.rounds, entry.workers)?;

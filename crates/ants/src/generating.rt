@@ -1,9 +1,8 @@
 // The command `gen`.
 ghost use Rattle.std.specs.Prelude.{◌≡◌};
-ghost use Rattle.ant_base.specs.Sink.{Pushed};
 ghost use Rattle.command_words.specs.Command.PlainCommand.{GenCommand};
 ghost use Rattle.command_words.specs.Laws.{ShapeWithin};
-ghost use Rattle.world_gen.specs.Painting.{IsAnswer};
+ghost use Rattle.world_gen.specs.Painting.{IsShape};
 ghost use Rattle.ants.specs.Inner.Reading.{CarriesOut, ending_of};
 ghost use Rattle.ants.specs.Inner.Planning.{IsGenerating};
 ghost use Rattle.ants.specs.Jobs.{shape_named};
@@ -16,23 +15,29 @@ use std::alloc::Global;
 use world_gen::{GenFault, Shape, generate};
 use world_read::write_world;
 
-/// The world of a seed and a shape.
-pub fn generated<'w>(alloc: Global, seed: u32, shape: GenShape) -> Result<World, Stop<'w>>
-    requires { ShapeWithin shape }
-    ensures { IsGenerating seed (shape_named shape) result }
+// The shape that the words name.
+fn shape_of(named: GenShape) -> Shape
+    ensures { result ≡ shape_named named }
 {
     let GenShape {
         width,
         height,
         rocks,
         blobs,
-    } = shape;
-    let shape = Shape {
+    } = named;
+    Shape {
         width,
         height,
         rocks,
         blobs,
-    };
+    }
+}
+
+/// The world of a seed and a shape, or why there is none: an element that has no room, or memory that could not be had.
+pub fn generated<'w>(alloc: Global, seed: u32, shape: Shape) -> Result<World, Stop<'w>>
+    requires { IsShape shape }
+    ensures { IsGenerating seed shape result }
+{
     match generate(alloc, seed, shape) {
         Ok(world) => Ok(world),
         Err(GenFault::NoRoom { element }) => Err(Stop::NoRoom(element)),
@@ -51,7 +56,7 @@ pub fn gen_world<'w, S: Shelf, K: Sink>(
     requires { ShapeWithin shape }
     ensures { CarriesOut (GenCommand seed shape) (S.state shelf.old) (S.state shelf.new) (K.state out.old) (K.state out.new) (ending_of result) }
 {
-    let world = generated(alloc, seed, shape)?;
+    let world = generated(alloc, seed, shape_of(shape))?;
     write_world(&world, out)?;
     Ok(())
 }

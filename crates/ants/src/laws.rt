@@ -2,7 +2,7 @@
 ghost use Rattle.ants.specs.Judged.{JudgesOnce};
 
 /// Contents judge the files of a command in exactly one way: all are accepted, as the same contents, or one and the same file is the first
-/// that is refused, with the same fault (this project's own).
+/// that is refused, with the same fault.
 pub fn contents_judge_once()
     ensures { JudgesOnce }
 {}

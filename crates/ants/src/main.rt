@@ -2,6 +2,8 @@
 //!
 //! `run_ants` does all that the program does, over any shelf of files and any two sinks; `main` hands it the real ones. Each command's
 //! files, its text, its faults and their lines are definitions in specs/, and the clauses of `run_ants` say how every run ends.
+//!
+//! What names no section of the contest's task is this project's own: the commands and what they print, the faults, and the statuses.
 #![tactic(auto)]
 
 mod brain;

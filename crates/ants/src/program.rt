@@ -1,7 +1,8 @@
 // The whole program, over any shelf and any sinks.
 ghost use Rattle.std.specs.Prelude.{◌≡◌, ◌↔◌, ◌≤◌, Some};
 ghost use Rattle.command_words.specs.Command.PlainCommand.{RunCommand, WorkloadCommand};
-ghost use Rattle.command_words.specs.Laws.{SetupWithin};
+ghost use Rattle.command_words.specs.Laws.{IsWithin, SetupWithin};
+ghost use Rattle.command_words.specs.declared.limits.NumberKind.TheVariants.{WorkerCount};
 ghost use Rattle.command_words.specs.Words.{plain_setup, texts};
 ghost use Rattle.match_run.specs.Run.{most_rounds};
 ghost use Rattle.round_book.specs.Book.{CanBegin};
@@ -59,7 +60,8 @@ fn carry_out_run<'w, R: Threads + Sync, S: Shelf, K: Sink, G: Gate>(
     gate: &G,
 ) -> Result<(), Stop<'w>>
     requires within { SetupWithin (plain_setup options) }
-    ensures { CarriesOut (RunCommand names.entry.world.now names.entry.red.now names.entry.black.now (plain_setup options.entry)) (S.state shelf.old) (S.state shelf.new) (K.state out.old) (K.state out.new) (ending_of result) }
+    ensures { CarriesOut (RunCommand names.entry.world.now names.entry.red.now names.entry.black.now (plain_setup options.entry))
+        (S.state shelf.old) (S.state shelf.new) (K.state out.old) (K.state out.new) (ending_of result) }
 {
     let sheet = Sheet::new(options.surround, options.corpse, options.rest);
     let mut board = BoardCrew::new(rt, options.workers, gate);
@@ -85,7 +87,7 @@ fn carry_out_workload<'w, R: Threads + Sync, S: Shelf, K: Sink, G: Gate>(
     gate: &G,
 ) -> Result<(), Stop<'w>>
     requires few_rounds { rounds ≤ most_rounds }
-    requires workers { (1 ≤ workers) × (workers ≤ 16) }
+    requires workers { IsWithin WorkerCount workers }
     ensures { CarriesOut (WorkloadCommand seed rounds workers) (S.state shelf.old) (S.state shelf.new) (K.state out.old) (K.state out.new) (ending_of result) }
 {
     let mut board = BoardCrew::new(rt, workers, gate);
@@ -180,7 +182,7 @@ fn carry_out<'w, R: Threads + Sync, S: Shelf, K: Sink, G: Gate>(
     }
 }
 
-/// Does all that the program does, over a shelf of files, an output and a place for faults (this project's own).
+/// Does all that the program does, over a shelf of files, an output and a place for faults.
 ///
 /// `words` doesn't hold the program's name. The words are read first; then each file is fetched and read before the next one, in the order
 /// of its word, and each once; then the text is written. The answer is
@@ -230,8 +232,7 @@ fn report<E: Sink>(stop: &Stop<'_>, err: &mut E) -> Status
     stop.status()
 }
 
-/// Does what `run_ants` does, and gives the number of its status as an exit code: all that `main` does once it has its words and its
-/// memory (this project's own).
+/// Does what `run_ants` does, and gives the number of its status as an exit code: all that `main` does once it has its words and its memory.
 pub fn run_to_exit<R: Threads + Sync, S: Shelf, K: Sink, E: Sink, G: Gate>(
     rt: &R,
     alloc: Global,
@@ -241,12 +242,13 @@ pub fn run_to_exit<R: Threads + Sync, S: Shelf, K: Sink, E: Sink, G: Gate>(
     err: &mut E,
     gate: &G,
 ) -> ExitCode
-    ensures { IsRunTo (texts words.now) (S.state shelf.old) (S.state shelf.new) (K.state out.old) (K.state out.new) (E.state err.old) (E.state err.new) (exit_status result) }
+    ensures { IsRunTo (texts words.now) (S.state shelf.old) (S.state shelf.new) (K.state out.old) (K.state out.new)
+        (E.state err.old) (E.state err.new) (exit_status result) }
 {
     exit_of(run_ants(rt, alloc, words, shelf, out, err, gate))
 }
 
-/// Says that memory can't be had, and gives that status as an exit code: what `main` does before it has a command (this project's own).
+/// Says that memory can't be had, and gives that status as an exit code: what `main` does before it has a command.
 pub fn exit_without_memory<E: Sink>(err: &mut E) -> ExitCode
     ensures reports { Reports (E.state err.old) (E.state err.new) (Some AtMemory) }
     ensures status { exit_status result ≡ number_of Status.Memory }

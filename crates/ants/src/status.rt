@@ -2,7 +2,7 @@
 ghost use Rattle.std.specs.Prelude.{◌≡◌};
 ghost use Rattle.ants.specs.Status.{number_of};
 
-/// How a command ended (this project's own).
+/// How a command ended.
 #[derive(Clone, Copy, Debug, PartialEq, Eq)]
 pub enum Status {
     /// The whole text was written.
@@ -20,8 +20,8 @@ pub enum Status {
 }
 
 impl Status {
-    /// The number with which the program exits: 0, 2, 3, 4, 5, 6 in the order of the variants (this project's own). 1 is that of a program
-    /// that the system gave no words.
+    /// The number with which the program exits: 0, 2, 3, 4, 5, 6 in the order of the variants. 1 is that of a program that the system gave
+    /// no words.
     pub fn number(&self) -> u8
         ensures { result ≡ number_of self.now }
     {

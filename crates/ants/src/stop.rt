@@ -10,7 +10,7 @@ use match_run::{OutOfMemory, PlayFault};
 use std::alloc::AllocFailed;
 use world_read::WorldFault;
 
-/// Why a file was refused (this project's own).
+/// Why a file was refused.
 #[derive(Clone, Copy, Debug, PartialEq, Eq)]
 pub enum FileFault {
     /// It has more than 4,194,304 bytes.
@@ -23,7 +23,7 @@ pub enum FileFault {
     Breaks(BreakFault),
 }
 
-/// Why a command stopped before its whole text was written (this project's own).
+/// Why a command stopped before its whole text was written.
 #[derive(Clone, Copy, Debug)]
 pub enum Stop<'w> {
     /// The words are no command, and this word, counted from 1, is the first with which they begin none.
@@ -213,7 +213,7 @@ impl Layout for Stop<'_> {
 }
 
 impl Stop<'_> {
-    /// The status of a command that stopped so (this project's own).
+    /// The status of a command that stopped so.
     pub fn status(&self) -> Status
         ensures { result ≡ status_of (reason_of self.now) }
     {

@@ -53,7 +53,8 @@ pub fn view<'w, S: Shelf, K: Sink>(
     out: &mut K,
 ) -> Result<(), Stop<'w>>
     requires { rounds ≤ most_rounds }
-    ensures { CarriesOut (ViewCommand names.entry.world.now names.entry.red.now names.entry.black.now breaks.now seed rounds) (S.state shelf.old) (S.state shelf.new) (K.state out.old) (K.state out.new) (ending_of result) }
+    ensures { CarriesOut (ViewCommand names.entry.world.now names.entry.red.now names.entry.black.now breaks.now seed rounds)
+        (S.state shelf.old) (S.state shelf.new) (K.state out.old) (K.state out.new) (ending_of result) }
 {
     let setting = setting_of(alloc, names, shelf)?;
     let breaks: Breaks = read_file(alloc, shelf, breaks)?;

@@ -20,23 +20,12 @@ use ant_base::{Failed, Layout, Shelf, Sink, layout};
 use ant_turn::{Brains, Sheet};
 use brain_read::Brain;
 use cell_world::{Colour, Score, World};
-use command_words::GenShape;
+use command_words::DEFAULT_WINDOW;
 use dump_print::{push_score, push_stats};
 use match_run::{Game, OutOfMemory, Totals};
 use round_book::{Crew, Field};
 use std::alloc::Global;
-use world_gen::food_on_cells;
-
-// The shape of a world of the contest.
-const CONTEST_SHAPE: GenShape = GenShape {
-    width: 150,
-    height: 150,
-    rocks: 14,
-    blobs: 11,
-};
-
-// How many turns a window has.
-const WINDOW: u32 = 16_384;
+use world_gen::{Shape, food_on_cells};
 
 /// What a workload tells of its game.
 #[derive(Clone, Copy)]
@@ -68,7 +57,7 @@ fn played<'b, C: Crew>(
     requires few_rounds { rounds ≤ most_rounds }
     ensures { IfOk result (λ game. IsAtRound field.entry.minds field.entry.seed (world_of field.entry.world) default_window rounds game) }
 {
-    let mut game = Game::begin(field, WINDOW);
+    let mut game = Game::begin(field, DEFAULT_WINDOW);
     for _ in 0..rounds {
         game.round(alloc, crew)?;
     }
@@ -166,9 +155,10 @@ pub fn workload<'w, C: Crew, S: Shelf, K: Sink>(
 ) -> Result<(), Stop<'w>>
     requires ready { C.ready crew.old }
     requires few_rounds { rounds ≤ most_rounds }
-    ensures { (workers : ℕ) → CarriesOut (WorkloadCommand seed rounds workers) (S.state shelf.old) (S.state shelf.new) (K.state out.old) (K.state out.new) (ending_of result) }
+    ensures { (workers : ℕ) → CarriesOut (WorkloadCommand seed rounds workers)
+        (S.state shelf.old) (S.state shelf.new) (K.state out.old) (K.state out.new) (ending_of result) }
 {
-    let world = generated(alloc, seed, CONTEST_SHAPE)?;
+    let world = generated(alloc, seed, Shape::contest())?;
     let brain = sample_brain(alloc)?;
     let summary = summary_of(alloc, crew, world, &brain, seed, rounds)?;
     push_summary(seed, rounds, summary, out)?;

@@ -28,4 +28,4 @@ pub use limits::NumberKind;
 pub use numbers::Numbers;
 pub use read::read_words;
 pub use slot::{Place, Slot};
-pub use table::{Choice, CommandKind, NameList};
+pub use table::{Choice, CommandKind, DEFAULT_WINDOW, NameList};

@@ -1,5 +1,5 @@
 // The command that the words are.
-ghost use Rattle.std.specs.Prelude.{IfErr, IfOk, option_map, ◌≡◌, ℕ};
+ghost use Rattle.std.specs.Prelude.{IfErr, IfOk, option_map, ◌≡◌};
 ghost use Rattle.command_words.specs.Command.{IsCommand, IsRefusedAt, PlainCommand, number_or};
 ghost use Rattle.command_words.specs.Inner.Walk.{command_in, plain_result, read_of, setup_in, shape_in, word_after};
 ghost use Rattle.command_words.specs.Table.{default_workers};

@@ -71,7 +71,8 @@ pub(crate) const MOST_NAMES: usize = 16;
 // What holds where a number's option isn't given.
 pub(crate) const DEFAULT_WORKERS: u32 = 1;
 
-pub(crate) const DEFAULT_WINDOW: u32 = 16_384;
+/// How many turns a window has where no option says it: 16,384, which is a whole round.
+pub const DEFAULT_WINDOW: u32 = 16_384;
 
 pub(crate) const DEFAULT_SURROUND: u8 = 5;
 

@@ -27,4 +27,6 @@ pub record StepsChangeByOne : Type 0 where
 
 -- the ball of radius r has 3 r (r + 1) + 1 positions
 abbrev pub BallsAreCounted : Type 0
-BallsAreCounted = (centre : Pos) (radius : ℕ) (items : List Pos) → HasBall centre radius → ListsBall centre radius items → length items ≡ 3 * radius * (radius + 1) + 1
+BallsAreCounted =
+    (centre : Pos) (radius : ℕ) (items : List Pos) → HasBall centre radius → ListsBall centre radius items
+    → length items ≡ 3 * radius * (radius + 1) + 1

@@ -1,5 +1,5 @@
 //! A caller of the library, as short as one can be: it reads a world and two brains, plays a game by the contest's rules, and prints the
-//! score. What it promises is the clause of `play`, in the words of the crates that it stands on (this project's own).
+//! score. What it promises is the clause of `play`, in the words of the crates that it stands on. It is this project's own.
 #![tactic(auto)]
 
 ghost use Rattle.std.specs.Prelude.{◌≤◌, IfSome};
@@ -17,6 +17,12 @@ use std::env;
 use std::io::BufWriter;
 use std::process::ExitCode;
 use world_read::read_world;
+
+// The seed of the random numbers.
+const SEED: u32 = 12345;
+
+// The most rounds of a game.
+const MOST_ROUNDS: u64 = 1_000_000;
 
 /// The score after so many rounds, at most 1,000,000, of the game of two files' brains on the world of a third, by the random numbers of
 /// seed 12345; None where a file is not read, or is no world or no brain, or memory is wanting.
@@ -52,7 +58,7 @@ fn play<S: Shelf>(
         black: &black,
         sheet: Sheet::contest(),
     };
-    Some(play_score(world, brains, 12345, rounds))
+    Some(play_score(world, brains, SEED, rounds))
 }
 
 fn main(rt: HostRuntime) -> ExitCode {
@@ -67,7 +73,7 @@ fn main(rt: HostRuntime) -> ExitCode {
     let [world, red, black, number] = words.as_slice() else {
         return ExitCode::FAILURE;
     };
-    let Some(rounds) = read_number_within(number.as_bytes(), 0, 1_000_000) else {
+    let Some(rounds) = read_number_within(number.as_bytes(), 0, MOST_ROUNDS) else {
         return ExitCode::FAILURE;
     };
     match play(

@@ -6,8 +6,10 @@ use Rattle.brain_read.specs.declared.instr.Instr.{Instr}
 use Rattle.cell_world.specs.Grid.{Grid, world_of}
 use Rattle.cell_world.specs.Opening.{opening}
 use Rattle.cell_world.specs.declared.kind.Kind.{Kind}
+use Rattle.command_words.specs.Table.{fewest_names, most_names}
+use Rattle.command_words.specs.declared.table.NameList.TheVariants.{Brains, Worlds}
 use Rattle.match_run.specs.Run.{most_rounds}
-use Rattle.ants.specs.Files.{Content, File, FileKind}
+use Rattle.ants.specs.Files.{File, FileKind}
 use Rattle.ants.specs.Jobs.{minds_between, nowhere}
 
 -- the files of these names, of one kind
@@ -21,10 +23,10 @@ pub record Opens (world : Grid) : Type 0 where
 
 -- the worlds and the players of a cup: as many as a cup may have, worlds at the start of a game, and brains with a state at least
 pub record AreReady (worlds : List Grid) (players : List (List Instr)) : Type 0 where
-  pub some_worlds : 1 ≤ length worlds
-  pub few_worlds : length worlds ≤ 16
-  pub some_players : 2 ≤ length players
-  pub few_players : length players ≤ 16
+  pub some_worlds : fewest_names Worlds ≤ length worlds
+  pub few_worlds : length worlds ≤ most_names
+  pub some_players : fewest_names Brains ≤ length players
+  pub few_players : length players ≤ most_names
   pub opened : AllByRecursion Opens worlds
   pub sound : AllByRecursion (λ (player : List Instr). 1 ≤ length player) players
 

@@ -8,6 +8,7 @@ use Rattle.match_run.specs.declared.fault.PlayFault.{PlayFault}
 use Rattle.match_run.specs.declared.fault.PlayFault.TheVariants as play
 use Rattle.match_run.specs.declared.plan.Plan.{Plan}
 use Rattle.match_run.specs.Dumps.{chooses}
+use Rattle.match_run.specs.Run.{most_rounds}
 use Rattle.world_gen.specs.declared.shape.Shape.{Shape}
 use Rattle.world_gen.specs.Painting.{IsGenerated}
 use Rattle.world_gen.specs.Placing.{HasNoRoom}
@@ -26,9 +27,9 @@ pub record Plans (setup : RunSetup) (plan : Plan) : Type 0 where
   pub window_is : plan.window ≡ setup.window
   pub stats_are : plan.stats ≡ setup.stats
 
--- a plan that can be played: its rounds are at most 1,000,000, and its windows have turns
+-- a plan that can be played: its rounds are no more than a game has, and its windows have turns
 pub record CanPlay (plan : Plan) : Type 0 where
-  pub few : plan.rounds ≤ 1000000
+  pub few : plan.rounds ≤ most_rounds
   pub sized : 1 ≤ plan.window
 
 -- the sheet has the numbers that the words name

@@ -1,7 +1,7 @@
 -- Reading words one after another.
 use denote.Ref.{Bor}
-use Rattle.std.specs.Prelude.{ℕ, ◌+◌, Bool, true, false, not, ◌||◌, ◌&&◌, nat_le, nat_lt, List, [], ◌∷◌, ◌++◌, length, take, drop, slice_get, find, Option, Some, None}
-use Rattle.std.specs.Prelude.{Result, Ok, Err, ok_or, if◌then◌else◌}
+use Rattle.std.specs.Prelude.{ℕ, ◌+◌, Bool, true, false, not, ◌||◌, ◌&&◌, nat_le, nat_lt, Option, Some, None, Result, Ok, Err, ok_or, if◌then◌else◌}
+use Rattle.std.specs.Prelude.{List, [], ◌∷◌, ◌++◌, length, take, drop, slice_get, find}
 use Rattle.std.specs.List.{list_any, list_all}
 use Rattle.std.specs.Str.{bytes_eq}
 use Rattle.command_words.specs.declared.command.Command.{Command}
@@ -138,7 +138,8 @@ minimise_with (Some file) = Some (MinimiseCommand file)
 minimise_with _ = None
 
 -- what the options of `run` say, one after another
-abbrev pub setup_with : Option ℕ → Option ℕ → Option DumpChoice → Option ℕ → Option ℕ → Option ℕ → Option ℕ → Option ℕ → Bool → Option RunSetup
+abbrev pub setup_with :
+    Option ℕ → Option ℕ → Option DumpChoice → Option ℕ → Option ℕ → Option ℕ → Option ℕ → Option ℕ → Bool → Option RunSetup
 setup_with (Some seed) (Some rounds) (Some dumps) (Some workers) (Some window) (Some surround) (Some corpse) (Some rest) stats =
     Some (record {
       seed = seed;

@@ -24,4 +24,6 @@ line x y (suc n) = line x y n ++ record { x = x + n; y = y } ∷ []
 -- the first n rows of the ball
 unfoldable pub rows : Pos → ℕ → ℕ → List Pos
 rows centre radius zero = []
-rows centre radius (suc n) = rows centre radius n ++ line (first_column centre radius (centre.y - radius + n)) (centre.y - radius + n) (column_count centre radius (centre.y - radius + n))
+rows centre radius (suc n) =
+    rows centre radius n
+    ++ line (first_column centre radius (centre.y - radius + n)) (centre.y - radius + n) (column_count centre radius (centre.y - radius + n))
