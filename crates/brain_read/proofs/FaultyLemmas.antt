@@ -1,59 +1,28 @@
 -- A text has exactly one brain or exactly one fault, and the reading answers it.
-use Rattle.std.proofs.Common.{◌≡◌, ◌+◌, ◌<◌, ◌≤◌, ℕ, Bool, true, false, List, [], ◌∷◌, ◌++◌, length, map, Option, Some, None, Ok, Err, option_map, cond, nat_le, ◌⊎◌, inl, inr, refl, sym, ap, ◌∙◌, subst, arith, leb-false}
-use Rattle.std.proofs.lemmas.Bool.{lt-leb}
+use Rattle.std.proofs.Common.{◌≡◌, ◌+◌, ◌≤◌, ℕ, List, [], ◌∷◌, ◌++◌, length, map, Option, Some, None, Ok, Err, Result, option_map, ◌⊎◌, inl, inr, refl, sym, ap, ◌∙◌, subst, arith}
+use Rattle.std.specs.Option.{option_or}
 use Rattle.std.proofs.lemmas.List.{length-map}
 use Rattle.brain_read.specs.declared.fault.BrainFault.{BrainFault}
-use Rattle.brain_read.specs.declared.fault.BrainFault.TheVariants.{TooMany, Empty, NoSuchState}
+use Rattle.brain_read.specs.declared.fault.BrainFault.TheVariants.{Empty, NoSuchState}
 use Rattle.brain_read.specs.declared.instr.Instr.{Instr}
 use Rattle.brain_read.specs.Soundness.{most_states}
-use Rattle.brain_read.specs.Judging.{first_fault}
-use Rattle.brain_read.specs.Judging.Position.{FormToken}
 use Rattle.brain_read.specs.Forms.{InstrLine}
 use Rattle.brain_read.specs.Steps.{Read}
-use Rattle.brain_read.specs.Inner.Reading.{read_line}
 use Rattle.brain_read.specs.Grammar.{TokenLine, lines_with_tokens, AreLines, states_of, StatesBelow, IsBrainText}
-use Rattle.brain_read.specs.Faulty.{or_later, too_many, first_not_below, IsBrainFault}
-use Rattle.brain_read.specs.Inner.FirstFault.{first_line_fault, first_state_fault}
+use Rattle.brain_read.specs.Faulty.{line_fault, first_not_below, IsBrainFault}
+use Rattle.brain_read.specs.Inner.FirstFault.{first_state_fault}
+use Rattle.brain_read.specs.Inner.LineByLine.{put_before, read_lines, first_line_fault}
 use Rattle.brain_read.specs.Faulty.IsBrainFault.{OfLine, OfNothing, OfState}
-use Rattle.brain_read.specs.Refusals.{refusal_at}
-use Rattle.brain_read.specs.Inner.Verdict.{Placed, Judged, put_before, unless, at_line, judged_line, line_then, read_lines, or_state, settled_then, settle_all, settle, settle_read, read_text}
-use Rattle.brain_read.proofs.FormsLemmas.{line_spelled, line_again}
-use Rattle.brain_read.proofs.JudgingLemmas.{fault_in, line_faulted}
-use Rattle.brain_read.proofs.FirstFaults.{NamesNoState, first_line_fault-found, first_line_fault-first, first_state_fault-found, first_state_fault-first, none_not_below, not_below_none}
+use Rattle.brain_read.specs.Inner.Verdict.{Placed, Judged, brain_reader, or_state, settled_then, settle_all, settle, settle_read, read_text}
+use Rattle.brain_read.proofs.FormsLemmas.{line_again}
+use Rattle.brain_read.proofs.FirstFaults.{first_of_line, faithful, NamesNoState, first_state_fault-found, first_state_fault-first, none_not_below, not_below_none}
+use Rattle.brain_read.proofs.LineFaults.{first_line_fault-found, first_line_fault-first}
+use Rattle.brain_read.proofs.LineLemmas.{fault_of_judged, judged_err, judged_ok, put_before_fault, put_before_ok, kept, lines_again}
+use Rattle.brain_read.proofs.LineLemmas as generic
 
--- the fault of what was judged, if there is one
-abbrev pub fault_of_judged : {A : Type 0} → Judged A → Option BrainFault
-fault_of_judged (Ok x) = None
-fault_of_judged (Err fault) = Some fault
-
-judged_err : {A : Type 0} (r : Judged A) (fault : BrainFault) → fault_of_judged r ≡ Some fault → r ≡ Err fault
-judged_err (Ok x) fault e = (let never : None ≡ Some fault = e in absurd (cc))
-judged_err (Err other) fault e = (let same : Some other ≡ Some fault = e in cc)
-
-judged_ok : {A : Type 0} (r : Judged A) → fault_of_judged r ≡ None → (x : A) × (r ≡ Ok x)
-judged_ok (Ok x) e = (x, refl)
-judged_ok (Err fault) e = (let never : Some fault ≡ None = e in absurd (cc))
-
-put_before_fault : {A : Type 0} (x : A) (r : Judged (List A)) → fault_of_judged (put_before x r) ≡ fault_of_judged r
-put_before_fault x (Ok xs) = refl
-put_before_fault x (Err fault) = refl
-
--- what put_before made
-put_before_ok : {A : Type 0} (x : A) (r : Judged (List A)) (ys : List A) → put_before x r ≡ Ok ys → (xs : List A) × (r ≡ Ok xs) × (ys ≡ x ∷ xs)
-put_before_ok {A} x (Ok xs) ys e = (xs, refl, (let same : ◌≡◌ {A = Judged (List A)} (Ok (x ∷ xs)) (Ok ys) = e in cc))
-put_before_ok {A} x (Err fault) ys e = (let never : ◌≡◌ {A = Judged (List A)} (Err fault) (Ok ys) = e in absurd (cc))
-
--- The reading stops at the first line at fault.
-pub lines_faulted : (before : ℕ) (lines : List TokenLine) → first_line_fault before lines ≡ fault_of_judged (read_lines before lines)
-unfolding judged_line
-lines_faulted before [] = refl
-lines_faulted before (line ∷ lines) = go (too_many before line.number) (read_line line.tokens) (line_faulted line.number line.tokens) (lines_faulted (before + 1) lines)
-  where
-    go : (full : Option BrainFault) (r : Read Instr) → first_fault line.number line.tokens (FormToken ∷ []) ≡ fault_in line.number r → first_line_fault (before + 1) lines ≡ fault_of_judged (read_lines (before + 1) lines)
-        → or_later (or_later full (first_fault line.number line.tokens (FormToken ∷ []))) (first_line_fault (before + 1) lines) ≡ fault_of_judged (line_then line.number (unless full (at_line line.number r)) (read_lines (before + 1) lines))
-    go (Some fault) r here later = refl
-    go None (Ok i) here later = ap (λ f. or_later f (first_line_fault (before + 1) lines)) here ∙ later ∙ sym (put_before_fault (record { line = line.number; instruction = i }) (read_lines (before + 1) lines))
-    go None (Err refusal) here later = ap (λ f. or_later f (first_line_fault (before + 1) lines)) here
+-- the reading stops at the first line at fault
+lines_faulted : (lines : List TokenLine) → first_line_fault line_fault 0 lines ≡ fault_of_judged (read_lines brain_reader 0 lines)
+lines_faulted lines = generic.lines_faulted brain_reader InstrLine first_of_line faithful 0 lines
 
 -- the instructions that were read are those of the lines, with their numbers
 abbrev pub ArePlaced : List TokenLine → List Placed → Type 0
@@ -71,60 +40,28 @@ pub record AreRead (before : ℕ) (lines : List TokenLine) (list : List Placed) 
   pub placed : ArePlaced lines list
   pub few : before ≤ most_states → before + length list ≤ most_states
 
--- a line that was read, and those after it
-record IsLineThen (number : ℕ) (here : Judged Instr) (later : Judged (List Placed)) (list : List Placed) : Type 0 where
-  instruction : Instr
-  rest : List Placed
-  read : here ≡ Ok instruction
-  others : later ≡ Ok rest
-  whole : list ≡ record { line = number; instruction = instruction } ∷ rest
+-- what is kept of the instructions of the lines is they, with their numbers
+placed_kept : (lines : List TokenLine) (list : List Instr) → AreLines lines list → ArePlaced lines (kept brain_reader lines list)
+placed_kept [] [] are = tt
+placed_kept [] (i ∷ list) are = absurd are
+placed_kept (line ∷ lines) [] are = absurd are
+placed_kept (line ∷ lines) (i ∷ list) are = (refl, are.0, placed_kept lines list are.1)
 
-line_then_ok : (number : ℕ) (here : Judged Instr) (later : Judged (List Placed)) (list : List Placed) → line_then number here later ≡ Ok list → IsLineThen number here later list
-line_then_ok number (Ok i) later list e = let p = put_before_ok (record { line = number; instruction = i }) later list e in record { instruction = i; rest = p.0; read = refl; others = p.1; whole = p.2 }
-line_then_ok number (Err fault) later list e = (let never : ◌≡◌ {A = Judged (List Placed)} (Err fault) (Ok list) = e in absurd (cc))
+instructions_kept : (lines : List TokenLine) (list : List Instr) → AreLines lines list → instructions (kept brain_reader lines list) ≡ list
+instructions_kept [] [] are = refl
+instructions_kept [] (i ∷ list) are = absurd are
+instructions_kept (line ∷ lines) [] are = absurd are
+instructions_kept (line ∷ lines) (i ∷ list) are = ap (λ is. i ∷ is) (instructions_kept lines list are.1)
 
--- before a line that was read there is room, and its tokens are read
-record IsJudged (before number : ℕ) (tokens : List (List ℕ)) (i : Instr) : Type 0 where
-  room : before < most_states
-  read : read_line tokens ≡ Ok i
-
-judged_line-read : (before number : ℕ) (tokens : List (List ℕ)) (i : Instr) → judged_line before number tokens ≡ Ok i → IsJudged before number tokens i
-unfolding judged_line
-judged_line-read before number tokens i e = go (nat_le most_states before) refl (read_line tokens) refl e
-  where
-    go : (full : Bool) → nat_le most_states before ≡ full → (r : Read Instr) → read_line tokens ≡ r → unless (cond full (Some (TooMany number)) None) (at_line number r) ≡ Ok i → IsJudged before number tokens i
-    go true t r is q = (let never : ◌≡◌ {A = Judged Instr} (Err (TooMany number)) (Ok i) = q in absurd (cc))
-    go false t (Ok j) is q = let same : j ≡ i = (let s : ◌≡◌ {A = Judged Instr} (Ok j) (Ok i) = q in cc) in record { room = leb-false most_states before t; read = is ∙ ap Ok same }
-    go false t (Err refusal) is q = (let never : ◌≡◌ {A = Judged Instr} (Err (refusal_at number refusal)) (Ok i) = q in absurd (cc))
-
-judged_line-again : (before number : ℕ) (tokens : List (List ℕ)) (i : Instr) → before < most_states → read_line tokens ≡ Ok i → judged_line before number tokens ≡ Ok i
-unfolding judged_line
-judged_line-again before number tokens i room read =
-    ap (λ full. unless (cond full (Some (TooMany number)) None) (at_line number (read_line tokens))) (lt-leb most_states before room) ∙ ap (at_line number) read
-
-pub lines_read : (lines : List TokenLine) (before : ℕ) (list : List Placed) → read_lines before lines ≡ Ok list → AreRead before lines list
-lines_read [] before list e =
-    let none : list ≡ [] = (let same : ◌≡◌ {A = Judged (List Placed)} (Ok []) (Ok list) = e in cc) in
-    subst (AreRead before []) (sym none) (record { placed = tt; few = λ few. omega arith })
-lines_read (line ∷ lines) before list e =
-    let p = line_then_ok line.number (judged_line before line.number line.tokens) (read_lines (before + 1) lines) list e in
-    let here = judged_line-read before line.number line.tokens p.instruction p.read in
-    let rest = lines_read lines (before + 1) p.rest p.others in
-    let few : before + 1 + length p.rest ≤ most_states = rest.few (omega (arith, here.room)) in
-    subst (AreRead before (line ∷ lines)) (sym p.whole) (record { placed = (refl, line_spelled line.tokens p.instruction here.read, rest.placed); few = λ _. omega arith })
-
--- lines of instructions are read
-pub lines_again : (lines : List TokenLine) (before : ℕ) (list : List Instr) → AreLines lines list → before + length list ≤ most_states → (placed : List Placed) × (read_lines before lines ≡ Ok placed) × (instructions placed ≡ list)
-lines_again [] before [] are few = ([], refl, refl)
-lines_again [] before (i ∷ list) are few = absurd are
-lines_again (line ∷ lines) before [] are few = absurd are
-lines_again (line ∷ lines) before (i ∷ list) are few =
-    let rest = lines_again lines (before + 1) list are.1 (omega (arith, few)) in (
-      record { line = line.number; instruction = i } ∷ rest.0,
-      ap (λ here. line_then line.number here (read_lines (before + 1) lines)) (judged_line-again before line.number line.tokens i (omega (arith, few)) (line_again i line.tokens are.0))
-          ∙ ap (put_before (record { line = line.number; instruction = i })) rest.1,
-      ap (λ is. i ∷ is) rest.2,
-    )
+pub lines_read : (lines : List TokenLine) (before : ℕ) (list : List Placed) → read_lines brain_reader before lines ≡ Ok list → AreRead before lines list
+lines_read lines before list e =
+    let read = generic.lines_read brain_reader InstrLine first_of_line faithful lines before list e in
+    let size : length list ≡ length read.items =
+    ap length read.is ∙ sym (length-map (kept brain_reader lines read.items) (λ k. k.instruction)) ∙ ap length (instructions_kept lines read.items read.are) in
+    record {
+      placed = subst (ArePlaced lines) (sym read.is) (placed_kept lines read.items read.are);
+      few = λ room. omega (arith, size, read.few room);
+    }
 
 pub are_lines : (lines : List TokenLine) (list : List Placed) → ArePlaced lines list → AreLines lines (instructions list)
 are_lines [] [] are = tt
@@ -144,7 +81,7 @@ one_list (line ∷ lines) (i ∷ a) (j ∷ b) h k =
     let rest = one_list lines a b h.1 k.1 in
     ap (λ x. x ∷ a) same ∙ ap (λ xs. j ∷ xs) rest
 
-settled_fault : (n line : ℕ) (i : Instr) (o : Option ℕ) (later : Judged (List Instr)) → fault_of_judged (settled_then line (or_state o i) later) ≡ or_later (option_map (NoSuchState line) o) (fault_of_judged later)
+settled_fault : (n line : ℕ) (i : Instr) (o : Option ℕ) (later : Judged (List Instr)) → fault_of_judged (settled_then line (or_state o i) later) ≡ option_or (option_map (NoSuchState line) o) (fault_of_judged later)
 settled_fault n line i None later = put_before_fault i later
 settled_fault n line i (Some state) later = refl
 
@@ -154,8 +91,8 @@ settle_faulted n [] [] are = refl
 settle_faulted n [] (placed ∷ list) are = absurd are
 settle_faulted n (line ∷ lines) [] are = absurd are
 settle_faulted n (line ∷ lines) (placed ∷ list) are =
-    ap (λ k. or_later (option_map (NoSuchState k) (first_not_below n (states_of placed.instruction))) (first_state_fault n lines (instructions list))) (sym are.0)
-    ∙ ap (or_later (option_map (NoSuchState placed.line) (first_not_below n (states_of placed.instruction)))) (settle_faulted n lines list are.2)
+    ap (λ k. option_or (option_map (NoSuchState k) (first_not_below n (states_of placed.instruction))) (first_state_fault n lines (instructions list))) (sym are.0)
+    ∙ ap (option_or (option_map (NoSuchState placed.line) (first_not_below n (states_of placed.instruction)))) (settle_faulted n lines list are.2)
     ∙ sym (settled_fault n placed.line placed.instruction (first_not_below n (states_of placed.instruction)) (settle_all n list))
 
 settled_then_ok : (n line : ℕ) (i : Instr) (o : Option ℕ) (later : Judged (List Instr)) (list : List Instr) → settled_then line (or_state o i) later ≡ Ok list → (rest : List Instr) × (o ≡ None) × (later ≡ Ok rest) × (list ≡ i ∷ rest)
@@ -186,9 +123,9 @@ module _ (text : List ℕ) where
   -- what is read is the brain of the text
   pub brain_read_of : (list : List Instr) → read_text text ≡ Ok list → IsBrainText text list
   unfolding read_text
-  brain_read_of list e = go (read_lines 0 (lines_with_tokens text)) refl e
+  brain_read_of list e = go (read_lines brain_reader 0 (lines_with_tokens text)) refl e
     where
-      go : (r : Judged (List Placed)) → read_lines 0 (lines_with_tokens text) ≡ r → settle_read r ≡ Ok list → IsBrainText text list
+      go : (r : Judged (List Placed)) → read_lines brain_reader 0 (lines_with_tokens text) ≡ r → settle_read r ≡ Ok list → IsBrainText text list
       go (Err fault) is q = (let never : ◌≡◌ {A = Judged (List Instr)} (Err fault) (Ok list) = q in absurd (cc))
       go (Ok []) is q = (let never : ◌≡◌ {A = Judged (List Instr)} (Err Empty) (Ok list) = q in absurd (cc))
       go (Ok (p ∷ placed)) is q =
@@ -207,23 +144,25 @@ module _ (text : List ℕ) where
   pub brain_read_again : (list : List Instr) → IsBrainText text list → read_text text ≡ Ok list
   unfolding read_text
   brain_read_again list b =
-      let placed = lines_again (lines_with_tokens text) 0 list b.lines (let few = b.few in omega arith) in
-      let size : length placed.0 ≡ length list = sym (length-map placed.0 (λ k. k.instruction)) ∙ ap length placed.2 in
-      let some : 1 ≤ length placed.0 = (let one = b.some in omega arith) in
-      let below : StatesBelow (length placed.0) (instructions placed.0) = subst (StatesBelow (length placed.0)) (sym placed.2) (subst (λ n. StatesBelow n list) (sym size) b.states) in
-      ap settle_read placed.1 ∙ settle_some placed.0 some ∙ settle_again (length placed.0) placed.0 below ∙ ap Ok placed.2
+      let placed = kept brain_reader (lines_with_tokens text) list in
+      let same = instructions_kept (lines_with_tokens text) list b.lines in
+      let size : length placed ≡ length list = sym (length-map placed (λ k. k.instruction)) ∙ ap length same in
+      let some : 1 ≤ length placed = (let one = b.some in omega arith) in
+      let below : StatesBelow (length placed) (instructions placed) = subst (StatesBelow (length placed)) (sym same) (subst (λ n. StatesBelow n list) (sym size) b.states) in
+      ap settle_read (lines_again brain_reader InstrLine first_of_line faithful (lines_with_tokens text) 0 list b.lines (let few = b.few in omega arith))
+      ∙ settle_some placed some ∙ settle_again (length placed) placed below ∙ ap Ok same
 
   -- the fault that is answered is the text's
   pub fault_read_of : (fault : BrainFault) → read_text text ≡ Err fault → IsBrainFault text fault
   unfolding read_text
-  fault_read_of fault e = go (read_lines 0 (lines_with_tokens text)) refl e
+  fault_read_of fault e = go (read_lines brain_reader 0 (lines_with_tokens text)) refl e
     where
       nothing : (lines : List TokenLine) → ArePlaced lines [] → lines ≡ []
       nothing [] are = refl
       nothing (line ∷ lines) are = absurd are
 
-      go : (r : Judged (List Placed)) → read_lines 0 (lines_with_tokens text) ≡ r → settle_read r ≡ Err fault → IsBrainFault text fault
-      go (Err other) is q = OfLine (first_line_fault-first text fault (lines_faulted 0 (lines_with_tokens text) ∙ ap fault_of_judged is ∙ ap fault_of_judged q))
+      go : (r : Judged (List Placed)) → read_lines brain_reader 0 (lines_with_tokens text) ≡ r → settle_read r ≡ Err fault → IsBrainFault text fault
+      go (Err other) is q = OfLine (first_line_fault-first brain_reader InstrLine first_of_line faithful text fault (lines_faulted (lines_with_tokens text) ∙ ap fault_of_judged is ∙ ap fault_of_judged q))
       go (Ok []) is q = OfNothing (nothing (lines_with_tokens text) (lines_read (lines_with_tokens text) 0 [] is).placed) (let same : ◌≡◌ {A = Judged (List Instr)} (Err Empty) (Err fault) = q in cc)
       go (Ok (p ∷ placed)) is q =
           let read = lines_read (lines_with_tokens text) 0 (p ∷ placed) is in
@@ -237,8 +176,8 @@ module _ (text : List ℕ) where
   pub fault_read_again : (fault : BrainFault) → IsBrainFault text fault → read_text text ≡ Err fault
   unfolding read_text
   fault_read_again fault (OfLine h) =
-      ap settle_read (judged_err (read_lines 0 (lines_with_tokens text)) fault (sym (lines_faulted 0 (lines_with_tokens text)) ∙ first_line_fault-found text fault h))
-  fault_read_again fault (OfNothing none empty) = ap (λ lines. settle_read (read_lines 0 lines)) none ∙ ap Err (sym empty)
+      ap settle_read (judged_err (read_lines brain_reader 0 (lines_with_tokens text)) fault (sym (lines_faulted (lines_with_tokens text)) ∙ first_line_fault-found brain_reader InstrLine first_of_line faithful text fault h))
+  fault_read_again fault (OfNothing none empty) = ap (λ lines. settle_read (read_lines brain_reader 0 lines)) none ∙ ap Err (sym empty)
   fault_read_again fault (OfState h) = names (h.read ++ h.instruction ∷ h.unread) (first_state_fault-found text fault h)
     where
       never_none : (n : ℕ) (lines : List TokenLine) (list : List Instr) → ArePlaced lines [] → first_state_fault n lines list ≡ Some fault → ⊥
@@ -255,9 +194,9 @@ module _ (text : List ℕ) where
           ∙ ap (first_state_fault (length (p ∷ placed)) (lines_with_tokens text)) same
           ∙ ap (λ n. first_state_fault n (lines_with_tokens text) list) (sym size) ∙ names.found)
 
-      names : (list : List Instr) → NamesNoState text fault list → settle_read (read_lines 0 (lines_with_tokens text)) ≡ Err fault
+      names : (list : List Instr) → NamesNoState text fault list → settle_read (read_lines brain_reader 0 (lines_with_tokens text)) ≡ Err fault
       names list h =
-          let ok = judged_ok (read_lines 0 (lines_with_tokens text)) (sym (lines_faulted 0 (lines_with_tokens text)) ∙ h.none) in
+          let ok = judged_ok (read_lines brain_reader 0 (lines_with_tokens text)) (sym (lines_faulted (lines_with_tokens text)) ∙ h.none) in
           ap settle_read ok.1 ∙ settles list h ok.0 (lines_read (lines_with_tokens text) 0 ok.0 ok.1).placed
 
   -- a text has a brain or a fault

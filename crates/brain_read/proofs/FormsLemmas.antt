@@ -41,7 +41,7 @@ unfolding condition_words
 condition_names = record { distinct = refl; good = refl; count = refl; named = refl }
 
 -- one step after another
-bind_step : {A B : Type 0} (m : Read A) (f : A → Read B) (x : A) (y : Read B) → m ≡ Ok x → f x ≡ y → (m >>= f) ≡ y
+pub bind_step : {A B : Type 0} (m : Read A) (f : A → Read B) (x : A) (y : Read B) → m ≡ Ok x → f x ≡ y → (m >>= f) ≡ y
 bind_step m f x y e k = ap (λ r. r >>= f) e ∙ k
 
 -- the front token is taken, and this holds of it
@@ -100,7 +100,7 @@ pub within-again : (least most n : ℕ) (token : List ℕ) → IsWithin least mo
 within-again least most n token w =
     ap (within least most) w.value ∙ ap (λ b. cond b (Some n) None) (and_from (nat_le least n) (nat_le n most) (le-leb least n w.low) (le-leb n most w.high))
 
-number_takes : (least most : ℕ) → Takes (take_number least most) (IsWithin least most)
+pub number_takes : (least most : ℕ) → Takes (take_number least most) (IsWithin least most)
 number_takes least most = record {
   taken = taken;
   again = λ n token rest w. ap (λ o. or_refused o rest token BadNumber) (within-again least most n token w);
@@ -132,8 +132,8 @@ abbrev pub as_named : {A : Type 0} → (ℕ → A) → ℕ × List (List ℕ) �
 as_named at word = Ok (at word.0, word.1)
 
 -- the step of a word, and what it stands for
-named : {A : Type 0} (words : List (List ℕ)) (at : ℕ → A) (word : A → List ℕ) (n : ℕ) → Names words n (λ i. word (at i)) → (place : A → ℕ) → ((x : A) → slice_get words (place x) ≡ Some (word x)) → ((x : A) → at (place x) ≡ x) → Takes (λ tokens. take_word words tokens >>= as_named at) (λ x. IsSameWord (word x))
-named {A} words at word n names place stands back = record { taken = taken; again = again }
+pub named_takes : {A : Type 0} (words : List (List ℕ)) (at : ℕ → A) (word : A → List ℕ) (n : ℕ) → Names words n (λ i. word (at i)) → (place : A → ℕ) → ((x : A) → slice_get words (place x) ≡ Some (word x)) → ((x : A) → at (place x) ≡ x) → Takes (λ tokens. take_word words tokens >>= as_named at) (λ x. IsSameWord (word x))
+named_takes {A} words at word n names place stands back = record { taken = taken; again = again }
   where
     taken : (tokens : List (List ℕ)) (x : A) (rest : List (List ℕ)) → (take_word words tokens >>= as_named at) ≡ Ok (x, rest) → IsTaken (λ y. IsSameWord (word y)) tokens x rest
     taken tokens x rest e = go (take_word words tokens) refl e
@@ -174,14 +174,14 @@ side_back Right = refl
 
 pub sight_takes : Takes take_sight (λ s. IsSameWord (word_of_sight s))
 unfolding take_sight
-sight_takes = named sight_words sight_at word_of_sight 4 sight_names place_of_sight sight_stands sight_back
+sight_takes = named_takes sight_words sight_at word_of_sight 4 sight_names place_of_sight sight_stands sight_back
 
 pub side_takes : Takes take_side (λ s. IsSameWord (word_of_side s))
 unfolding take_side
-side_takes = named side_words side_at word_of_side 2 side_names place_of_side side_stands side_back
+side_takes = named_takes side_words side_at word_of_side 2 side_names place_of_side side_stands side_back
 
 -- the word that was taken, and what comes after it
-then_word : {words : List (List ℕ)} {n : ℕ} {word : ℕ → List ℕ} {B : Type 0} → Names words n word → (tokens : List (List ℕ)) (f : ℕ × List (List ℕ) → Read B) (y : B) (P : List (List ℕ) → Type 0) → (take_word words tokens >>= f) ≡ Ok y → ((i : ℕ) (token : List ℕ) (rest : List (List ℕ)) → IsSameWord (word i) token → f (i, rest) ≡ Ok y → P (token ∷ rest)) → P tokens
+pub then_word : {words : List (List ℕ)} {n : ℕ} {word : ℕ → List ℕ} {B : Type 0} → Names words n word → (tokens : List (List ℕ)) (f : ℕ × List (List ℕ) → Read B) (y : B) (P : List (List ℕ) → Type 0) → (take_word words tokens >>= f) ≡ Ok y → ((i : ℕ) (token : List ℕ) (rest : List (List ℕ)) → IsSameWord (word i) token → f (i, rest) ≡ Ok y → P (token ∷ rest)) → P tokens
 then_word {words} {n} {word} {B} names tokens f y P e k = go (take_word words tokens) refl e
   where
     go : (r : Step ℕ) → take_word words tokens ≡ r → (r >>= f) ≡ Ok y → P tokens
@@ -189,11 +189,11 @@ then_word {words} {n} {word} {B} names tokens f y P e k = go (take_word words to
     go (Err refusal) is next = (let never : ◌≡◌ {A = Read B} (Err refusal) (Ok y) = next in absurd (cc))
 
 -- a word that is taken again
-word_step : {words : List (List ℕ)} {n : ℕ} {word : ℕ → List ℕ} → Names words n word → (i : ℕ) (w token : List ℕ) (rest : List (List ℕ)) → slice_get words i ≡ Some w → IsSameWord w token → take_word words (token ∷ rest) ≡ Ok (i, rest)
+pub word_step : {words : List (List ℕ)} {n : ℕ} {word : ℕ → List ℕ} → Names words n word → (i : ℕ) (w token : List ℕ) (rest : List (List ℕ)) → slice_get words i ≡ Some w → IsSameWord w token → take_word words (token ∷ rest) ≡ Ok (i, rest)
 word_step names i w token rest stands same = ap (λ o. or_refused o rest token UnknownWord) (word-again names i w token stands same)
 
 -- the end of the line
-then_end : {B : Type 0} (tokens : List (List ℕ)) (x y : B) (P : List (List ℕ) → Type 0) → (take_end tokens >>= (λ end. Ok x)) ≡ Ok y → (x ≡ y → P []) → P tokens
+pub then_end : {B : Type 0} (tokens : List (List ℕ)) (x y : B) (P : List (List ℕ) → Type 0) → (take_end tokens >>= (λ end. Ok x)) ≡ Ok y → (x ≡ y → P []) → P tokens
 then_end {B} [] x y P e k = k (ok_value x y e)
   where
     ok_value : (a b : B) → ◌≡◌ {A = Read B} (Ok a) (Ok b) → a ≡ b
@@ -306,11 +306,11 @@ unfolding read_line
 line_spelled tokens i e = then_word form_names tokens (λ w. read_form (form_at w.0) w.1) i (λ ts. InstrLine ts i) e (λ p first rest h q. form_spelled (form_at p) first rest i h q)
 
 -- the first of several fields, and the last
-given : (field : Field) (fields : List Field) (tokens : List (List ℕ)) (P : List (List ℕ) → Type 0) → SpellsAll (field ∷ fields) tokens → ((token : List ℕ) (rest : List (List ℕ)) → Spells field token → SpellsAll fields rest → P (token ∷ rest)) → P tokens
+pub given : (field : Field) (fields : List Field) (tokens : List (List ℕ)) (P : List (List ℕ) → Type 0) → SpellsAll (field ∷ fields) tokens → ((token : List ℕ) (rest : List (List ℕ)) → Spells field token → SpellsAll fields rest → P (token ∷ rest)) → P tokens
 given field fields [] P h k = absurd h
 given field fields (token ∷ rest) P h k = k token rest h.0 h.1
 
-given_end : (tokens : List (List ℕ)) (P : List (List ℕ) → Type 0) → SpellsAll [] tokens → P [] → P tokens
+pub given_end : (tokens : List (List ℕ)) (P : List (List ℕ) → Type 0) → SpellsAll [] tokens → P [] → P tokens
 given_end [] P h k = k
 given_end (token ∷ tokens) P h k = absurd h
 

@@ -21,12 +21,12 @@ use Rattle.brain_read.specs.Refusals.{fault_at, refusal_at}
 use Rattle.brain_read.specs.Judging.{Position, positions_of, positions_of_condition, nothing_more, accepted, fault_of, judged, first_fault}
 use Rattle.brain_read.specs.Judging.Position.{FormToken, SightToken, SideToken, ConditionToken, MarkerToken, StateToken, BoundToken}
 use Rattle.brain_read.proofs.PlacesLemmas.{Names, word-good, named-place, number_of-good, number_within-any}
+use Rattle.brain_read.proofs.LineFaults.{fault_of_read}
 use Rattle.brain_read.proofs.FormsLemmas.{form_names, sight_names, side_names, condition_names, within-some, bind_assoc, as_named, ending}
 
 -- the fault of a line of this number that was read
 abbrev pub fault_in : ℕ → Read Instr → Option BrainFault
-fault_in line (Ok instruction) = None
-fault_in line (Err refusal) = Some (refusal_at line refusal)
+fault_in line read = fault_of_read refusal_at line read
 
 -- a step judges its position
 pub record Judges {A : Type 0} (position : Position) (take : List (List ℕ) → Step A) (brings : A → List Position) : Type 0 where

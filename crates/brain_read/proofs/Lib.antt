@@ -3,6 +3,8 @@ pub mod FaultyLemmas
 mod FirstFaults
 pub mod FormsLemmas
 pub mod JudgingLemmas
+pub mod LineFaults
+pub mod LineLemmas
 pub mod PlacesLemmas
 pub mod SoundnessLemmas
 pub mod TokensLemmas

@@ -1,9 +1,10 @@
 -- That want of memory is no text's fault.
 use Rattle.std.proofs.Common.{◌≡◌, ℕ, Bool, true, false, if◌then◌else◌, List, [], ◌∷◌, ◌++◌, Option, Some, None, subst}
+use Rattle.std.specs.Option.{option_or}
 use Rattle.std.specs.Prelude.{⊤, length, nat_le}
 use Rattle.brain_read.specs.declared.fault.BrainFault.{BrainFault}
 use Rattle.brain_read.specs.declared.fault.BrainFault.TheVariants.{BadByte, ExtraToken, TooMany, Empty, NoSuchState, OutOfMemory}
-use Rattle.brain_read.specs.Faulty.{IsBrainFault, line_fault, or_later, too_many}
+use Rattle.brain_read.specs.Faulty.{IsBrainFault, line_fault, too_many}
 use Rattle.brain_read.specs.Grammar.{TokenLine}
 use Rattle.brain_read.specs.Faulty.IsBrainFault.{OfLine, OfNothing, OfState}
 use Rattle.brain_read.specs.Judging.{Position, accepted, fault_of, first_fault, judged}
@@ -28,9 +29,9 @@ either_later true fault later one other = one
 either_later false fault later one other = other
 
 -- the first of two
-or_later-of_text : (first second : Option BrainFault) → OfText first → OfText second → OfText (or_later first second)
-or_later-of_text None second one other = other
-or_later-of_text (Some fault) second one other = one
+option_or-of_text : (first second : Option BrainFault) → OfText first → OfText second → OfText (option_or first second)
+option_or-of_text None second one other = other
+option_or-of_text (Some fault) second one other = one
 
 -- the fault of a token at its position
 fault_of-of_text : (position : Position) (line : ℕ) → OfText (Some (fault_of position line))
@@ -59,7 +60,7 @@ first_fault-of_text line (token ∷ tokens) (position ∷ positions) =
 -- that of a line before which so many instructions stand
 line_fault-of_text : (before : ℕ) (line : TokenLine) → OfText (line_fault before line)
 line_fault-of_text before line =
-    or_later-of_text (too_many before line.number) (first_fault line.number line.tokens (FormToken ∷ []))
+    option_or-of_text (too_many most_states TooMany before line.number) (first_fault line.number line.tokens (FormToken ∷ []))
     (either_later (nat_le most_states before) (TooMany line.number) None tt tt)
     (first_fault-of_text line.number line.tokens (FormToken ∷ []))
 

@@ -8,9 +8,11 @@ use Rattle.brain_read.specs.declared.instr.Cond.TheVariants.{Food}
 use Rattle.brain_read.specs.declared.instr.Instr.TheVariants.{Sense, PickUp, Drop, Move, Flip}
 use Rattle.brain_read.specs.Tokens.{tokens_of}
 use Rattle.brain_read.specs.Forms.{InstrLine}
-use Rattle.brain_read.specs.Faulty.{IsBrainFault, too_many}
+use Rattle.brain_read.specs.Faulty.{IsBrainFault, line_fault}
 use Rattle.brain_read.specs.Faulty.IsBrainFault.{OfLine, OfState}
-use Rattle.brain_read.proofs.FirstFaults.{first_line_fault-first, first_state_fault-first}
+use Rattle.brain_read.specs.Inner.Verdict.{brain_reader}
+use Rattle.brain_read.proofs.FirstFaults.{first_of_line, faithful, first_state_fault-first}
+use Rattle.brain_read.proofs.LineFaults.{first_line_fault-first}
 use Rattle.brain_read.specs.Canonical.{instruction_text, brain_text}
 
 -- a line is its instruction's
@@ -26,17 +28,17 @@ flip_line = record { spelled = (refl, (refl, (refl, (refl, tt)))); in_range = (o
 -- there is no marker 6
 marker_6 : IsBrainFault (codes "Mark 6 0") (BadNumber 1)
 unfolding number_of
-marker_6 = OfLine (first_line_fault-first (codes "Mark 6 0") (BadNumber 1) refl)
+marker_6 = OfLine (first_line_fault-first brain_reader InstrLine first_of_line faithful (codes "Mark 6 0") (BadNumber 1) refl)
 
 -- the second state of a Move is missing; lines are counted with the empty ones
 missing_state : IsBrainFault (codes "Drop 0\n\nMove 2") (MissingToken 3)
 unfolding number_of
-missing_state = OfLine (first_line_fault-first (codes "Drop 0\n\nMove 2") (MissingToken 3) refl)
+missing_state = OfLine (first_line_fault-first brain_reader InstrLine first_of_line faithful (codes "Drop 0\n\nMove 2") (MissingToken 3) refl)
 
 -- a Drop names one state
 extra_state : IsBrainFault (codes "Drop 0 0") (ExtraToken 1)
 unfolding number_of
-extra_state = OfLine (first_line_fault-first (codes "Drop 0 0") (ExtraToken 1) refl)
+extra_state = OfLine (first_line_fault-first brain_reader InstrLine first_of_line faithful (codes "Drop 0 0") (ExtraToken 1) refl)
 
 -- the first line that names a state beyond the last one, and its first such state
 no_such_state : IsBrainFault (codes "Drop 1\nMove 0 7\nMove 8 9") (NoSuchState 2 7)
@@ -46,11 +48,13 @@ no_such_state =
     (record { spelled = (refl, (refl, tt)); in_range = tt }, (record { spelled = (refl, (refl, (refl, tt))); in_range = tt }, (record { spelled = (refl, (refl, (refl, tt))); in_range = tt }, tt)))
     (omega arith) refl)
 
--- the 10,000th instruction has its place, the next one has none
-last_instruction : too_many 9999 7 ≡ None
+-- the 10,000th instruction has its place, the next one has none, whatever its line says
+last_instruction : line_fault 9999 (record { number = 10007; tokens = codes "drop" ∷ codes "0" ∷ [] }) ≡ None
+unfolding number_of
 last_instruction = refl
 
-one_instruction_more : too_many 10000 7 ≡ Some (TooMany 7)
+one_instruction_more : line_fault 10000 (record { number = 10007; tokens = codes "Jump" ∷ [] }) ≡ Some (TooMany 10007)
+unfolding number_of
 one_instruction_more = refl
 
 -- the first three lines of the task's sample brain

@@ -1,40 +1,37 @@
 -- What is wrong with a text that is no brain's (this project's own).
 use Rattle.std.specs.Prelude.{◌≡◌, ℕ, ◌≤◌, not, nat_lt, nat_le, List, [], ◌∷◌, ◌++◌, length, find, Option, Some, None, if◌then◌else◌}
+use Rattle.std.specs.Option.{option_or}
 use Rattle.brain_read.specs.declared.fault.BrainFault.{BrainFault}
 use Rattle.brain_read.specs.declared.fault.BrainFault.TheVariants.{TooMany, Empty, NoSuchState}
 use Rattle.brain_read.specs.declared.instr.Instr.{Instr}
 use Rattle.brain_read.specs.Soundness.{most_states}
 use Rattle.brain_read.specs.Judging.{first_fault}
 use Rattle.brain_read.specs.Judging.Position.{FormToken}
-use Rattle.brain_read.specs.Grammar.{TokenLine, lines_with_tokens, AreLines, states_of, StatesBelow}
+use Rattle.brain_read.specs.Forms.{InstrLine}
+use Rattle.brain_read.specs.Grammar.{TokenLine, lines_with_tokens, AreLinesOf, AreLines, states_of, StatesBelow}
 
--- the first of two faults
-abbrev pub or_later : Option BrainFault → Option BrainFault → Option BrainFault
-or_later None later = later
-or_later (Some fault) later = Some fault
+-- the fault of a line of this number, before which there are as many items as there may be
+abbrev pub too_many : {F : Type 0} → ℕ → (ℕ → F) → ℕ → ℕ → Option F
+too_many most fault before line = if nat_le most before then Some (fault line) else None
 
--- the fault of a line before which there are as many instructions as a brain may have
-abbrev pub too_many : ℕ → ℕ → Option BrainFault
-too_many before line = if nat_le most_states before then Some (TooMany line) else None
-
--- the fault of a line before which so many instructions stand
-abbrev pub line_fault : ℕ → TokenLine → Option BrainFault
-line_fault before line = or_later (too_many before line.number) (first_fault line.number line.tokens (FormToken ∷ []))
-
--- the first state that isn't below n
-abbrev pub first_not_below : ℕ → List ℕ → Option ℕ
-first_not_below n states = find (λ state. not (nat_lt state n)) states
-
--- a line at fault, and none before it: those are the lines of instructions, and no more than a brain may have
-pub record HasLineFault (text : List ℕ) (fault : BrainFault) : Type 0 where
+-- a line has this fault, and none before it is at fault: those are the lines of items, and no more than there may be
+pub record HasLineFault {A F : Type 0} (Says : List (List ℕ) → A → Type 0) (line_fault : ℕ → TokenLine → Option F) (most : ℕ) (text : List ℕ) (fault : F) : Type 0 where
   pub before : List TokenLine
   pub line : TokenLine
   pub after : List TokenLine
   pub lines : lines_with_tokens text ≡ before ++ line ∷ after
-  pub read : List Instr
-  pub good : AreLines before read
-  pub few : length before ≤ most_states
+  pub read : List A
+  pub good : AreLinesOf Says before read
+  pub few : length before ≤ most
   pub wrong : line_fault (length before) line ≡ Some fault
+
+-- the fault of a line before which so many instructions stand
+abbrev pub line_fault : ℕ → TokenLine → Option BrainFault
+line_fault before line = option_or (too_many most_states TooMany before line.number) (first_fault line.number line.tokens (FormToken ∷ []))
+
+-- the first state that isn't below n
+abbrev pub first_not_below : ℕ → List ℕ → Option ℕ
+first_not_below n states = find (λ state. not (nat_lt state n)) states
 
 -- no line is at fault, and one names a state that isn't below the number of instructions, the first such; no line before it does
 pub record HasNoSuchState (text : List ℕ) (fault : BrainFault) : Type 0 where
@@ -55,6 +52,6 @@ pub record HasNoSuchState (text : List ℕ) (fault : BrainFault) : Type 0 where
 
 -- the fault of a text: its first line at fault has it, or it has no instruction, or it names a state that there isn't
 pub data IsBrainFault (text : List ℕ) (fault : BrainFault) : Type 0 where
-  OfLine : HasLineFault text fault → IsBrainFault text fault
+  OfLine : HasLineFault InstrLine line_fault most_states text fault → IsBrainFault text fault
   OfNothing : lines_with_tokens text ≡ [] → fault ≡ Empty → IsBrainFault text fault
   OfState : HasNoSuchState text fault → IsBrainFault text fault

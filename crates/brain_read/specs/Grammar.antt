@@ -27,12 +27,16 @@ token_lines number (line ∷ lines) = with_line number (tokens_of line) (token_l
 abbrev pub lines_with_tokens : List ℕ → List TokenLine
 lines_with_tokens text = token_lines 1 (lines_of text)
 
--- the lines are those of the instructions, one to one and in order
+-- the lines are those of the items of a list, one to one and in order; Says tells of which item a line's tokens are
+abbrev pub AreLinesOf : {A : Type 0} → (List (List ℕ) → A → Type 0) → List TokenLine → List A → Type 0
+AreLinesOf Says [] [] = Unit {0}
+AreLinesOf Says [] (item ∷ list) = ⊥
+AreLinesOf Says (line ∷ lines) [] = ⊥
+AreLinesOf Says (line ∷ lines) (item ∷ list) = Says line.tokens item × AreLinesOf Says lines list
+
+-- the lines are those of the instructions
 abbrev pub AreLines : List TokenLine → List Instr → Type 0
-AreLines [] [] = Unit {0}
-AreLines [] (instruction ∷ list) = ⊥
-AreLines (line ∷ lines) [] = ⊥
-AreLines (line ∷ lines) (instruction ∷ list) = InstrLine line.tokens instruction × AreLines lines list
+AreLines lines list = AreLinesOf InstrLine lines list
 
 -- the states that an instruction names, in the order of its line
 abbrev pub states_of : Instr → List ℕ

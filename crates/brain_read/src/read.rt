@@ -7,8 +7,9 @@ ghost use Rattle.brain_read.specs.Faulty.{IsBrainFault};
 ghost use Rattle.brain_read.specs.Answers.{IsFaultOf};
 ghost use Rattle.brain_read.specs.declared.fault.BrainFault.{BrainFault};
 ghost use Rattle.brain_read.specs.declared.instr.Instr.{Instr};
-ghost use Rattle.brain_read.specs.Inner.Verdict.{judged_line, read_lines, settle_all, settle, read_text};
-ghost use Rattle.brain_read.specs.Inner.Answered.{placed_of, FailsAs, Gives, as_judged, reading_from};
+ghost use Rattle.brain_read.specs.Inner.LineByLine.{judged_line, read_lines, reading_from};
+ghost use Rattle.brain_read.specs.Inner.Verdict.{brain_reader, settle_all, settle, read_text};
+ghost use Rattle.brain_read.specs.Inner.Answered.{placed_of, FailsAs, Gives, as_judged};
 ghost use Rattle.brain_read.specs.Answers.{AnswersBrain, AnswersFault};
 
 use crate::brain::Brain;
@@ -57,7 +58,7 @@ fn read_instructions(alloc: Global, text: &[u8]) -> Result<Vec<Instr>, BrainFaul
 fn read_drafts(alloc: Global, text: &[u8]) -> Result<Vec<DraftLine>, BrainFault>
     requires { length text.now ≤ longest }
     ensures lines { Gives (λ drafts. map placed_of drafts.items) result
-        (read_lines 0 (lines_with_tokens text.now)) }
+        (read_lines brain_reader 0 (lines_with_tokens text.now)) }
     ensures few { IfOk result (λ drafts. vec_len drafts ≤ most_states) }
 {
     let mut drafts = Vec::new(alloc);
@@ -74,10 +75,10 @@ fn read_line(line: &[u8], number: u32, drafts: &mut Vec<DraftLine>) -> Result<()
     requires few { vec_len drafts.old ≤ most_states }
     ensures few { OnOk result (vec_len drafts.new ≤ most_states) }
     ensures on { (lines : List (List ℕ)) → OnOk result
-        (reading_from (map placed_of drafts.new.items) (number + 1) lines
-        ≡ reading_from (map placed_of drafts.old.items) number (line.now ∷ lines)) }
+        (reading_from brain_reader (map placed_of drafts.new.items) (number + 1) lines
+        ≡ reading_from brain_reader (map placed_of drafts.old.items) number (line.now ∷ lines)) }
     ensures fault { (lines : List (List ℕ)) → IfErr result (λ fault.
-        FailsAs fault (reading_from (map placed_of drafts.old.items) number (line.now ∷ lines))) }
+        FailsAs fault (reading_from brain_reader (map placed_of drafts.old.items) number (line.now ∷ lines))) }
 {
     let mut tokens = Tokens::new(line);
     if !tokens.has_next() {
@@ -92,9 +93,9 @@ fn read_line(line: &[u8], number: u32, drafts: &mut Vec<DraftLine>) -> Result<()
 }
 
 // The instruction of a line before which so many stand.
-#[tactic(auto, unfolding(crate::specs::Inner::Verdict::judged_line))]
+#[tactic(auto, unfolding(crate::specs::Inner::LineByLine::judged_line))]
 fn draft_of(tokens: &mut Tokens, line: u32, before: usize) -> Result<Draft, BrainFault>
-    ensures read { judged_line before line tokens.old ≡ as_judged result }
+    ensures read { judged_line brain_reader before line tokens.old ≡ as_judged result }
     ensures few { IfOk result (λ draft. before < most_states) }
 {
     if before >= MOST_STATES {

@@ -1,10 +1,11 @@
 -- Searching the turns of a game in order finds its first stop.
 use Rattle.std.proofs.Common.{◌≡◌, ◌<◌, ℕ, zero, suc, Bool, true, false, List, Option, Some, None, option_map, inl, inr, nat_lt, refl, sym, ap₂, ◌∙◌, subst, arith, ltb-true, ltb-false}
+use Rattle.std.specs.Option.{option_or}
 use Rattle.cell_world.specs.World.{World}
 use Rattle.ant_turn.specs.Minds.{Minds}
 use Rattle.break_view.specs.declared.breaks.Break.{Break}
 use Rattle.break_view.specs.declared.stop.Stop.{Stop}
-use Rattle.break_view.specs.Stops.{met_at, IsTurn, IsBefore, IsFirstStop, HasNoStop, EndsAt, or_next, first_in_round, first_stop, end_of}
+use Rattle.break_view.specs.Stops.{met_at, IsTurn, IsBefore, IsFirstStop, HasNoStop, EndsAt, first_in_round, first_stop, end_of}
 use Rattle.break_view.specs.Texts.{view_of, view_text}
 use Rattle.break_view.specs.Laws.{EndsAreFound}
 use Rattle.break_view.proofs.ViewLaws.{later_rounds_add_nothing, one_first_stop}
@@ -22,7 +23,7 @@ module _ (minds : Minds) (seed : ℕ) (w : World) (items : List Break) where
   InRound r n None = (t : ℕ) → t < n → met_at minds seed w items r t ≡ None
   InRound r n (Some stop) = IsFirstBelow r n stop
 
-  in_round_more : (r n : ℕ) (o : Option Stop) → InRound r n o → (m : Option ℕ) → met_at minds seed w items r n ≡ m → InRound r (suc n) (or_next o (option_map (λ which. record { round = r; id = n; which = which }) m))
+  in_round_more : (r n : ℕ) (o : Option Stop) → InRound r n o → (m : Option ℕ) → met_at minds seed w items r n ≡ m → InRound r (suc n) (option_or o (option_map (λ which. record { round = r; id = n; which = which }) m))
   in_round_more r n (Some stop) here m e = record { round = here.round; below = (let below = here.below in omega (arith, below)); met = here.met; quiet = here.quiet }
   in_round_more r n None here (Some which) e = record { round = refl; below = omega arith; met = e; quiet = here }
   in_round_more r n None here None e = λ t below. go t below (nat_lt t n) refl
@@ -40,7 +41,7 @@ module _ (minds : Minds) (seed : ℕ) (w : World) (items : List Break) where
   InGame rounds None = HasNoStop minds seed rounds w items
   InGame rounds (Some stop) = IsFirstStop minds seed rounds w items stop
 
-  in_game_more : (n : ℕ) (o : Option Stop) → InGame n o → (next : Option Stop) → InRound (suc n) w.ids next → InGame (suc n) (or_next o next)
+  in_game_more : (n : ℕ) (o : Option Stop) → InGame n o → (next : Option Stop) → InRound (suc n) w.ids next → InGame (suc n) (option_or o next)
   in_game_more n (Some stop) here next there = later_rounds_add_nothing minds seed n (suc n) w items stop (omega arith) here
   in_game_more n None here (Some stop) there = record {
     turn = record { begun = (let now = there.round in omega (arith, now)); played = (let now = there.round in omega (arith, now)); made = there.below };

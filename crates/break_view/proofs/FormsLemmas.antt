@@ -9,14 +9,13 @@ use Rattle.brain_read.specs.declared.fault.LineFault.TheVariants.{UnknownWord, B
 use Rattle.brain_read.specs.Steps.{Read, Step, ◌>>=◌, missing, refused, or_refused, take_word, take_number, take_end}
 use Rattle.brain_read.specs.Forms.{Field, Spells, SpellsAll}
 use Rattle.brain_read.specs.Forms.Field.{Word, Number}
-use Rattle.brain_read.proofs.PlacesLemmas.{Names, word-found, word-again}
-use Rattle.brain_read.proofs.FormsLemmas.{IsTaken, Takes, then_taken, then_again, IsWithin, within-some, within-again, as_named}
+use Rattle.brain_read.proofs.PlacesLemmas.{Names}
+use Rattle.brain_read.proofs.FormsLemmas.{Takes, then_taken, then_again, bind_step, word_step, then_word, then_end, number_takes, named_takes, IsWithin, given, given_end}
 use Rattle.break_view.specs.declared.breaks.Break.{Break}
 use Rattle.break_view.specs.declared.breaks.Break.TheVariants.{Round, State, Stand, Food, Killed, Score}
 use Rattle.break_view.specs.declared.words.BreakWord.{BreakWord}
 use Rattle.break_view.specs.Forms.{word_of_break, word_of_colour, most_number, BreakLine}
-use Rattle.break_view.specs.Inner.Places.{break_words, colour_words}
-use Rattle.break_view.specs.Inner.Places.{break_at, colour_at, place_of_colour}
+use Rattle.break_view.specs.Inner.Places.{break_words, colour_words, break_at, colour_at, place_of_colour}
 use Rattle.break_view.specs.Inner.Steps.{take_colour, take_any}
 use Rattle.break_view.specs.Inner.Reading.{read_number, read_coloured, read_stand, read_food, read_form, read_line}
 
@@ -28,33 +27,13 @@ pub colour_names : Names colour_words 2 (λ i. word_of_colour (colour_at i))
 unfolding colour_words
 colour_names = record { distinct = refl; good = refl; count = refl; named = refl }
 
-ok_same : {A : Type 0} (p q : A × List (List ℕ)) → ◌≡◌ {A = Step A} (Ok p) (Ok q) → p ≡ q
-ok_same p q e = cc
-
--- a token that is taken where it stands for something
-taken_some : {A : Type 0} (o : Option A) (token : List ℕ) (rest : List (List ℕ)) (fault : LineFault) (x : A) (left : List (List ℕ)) → or_refused o rest token fault ≡ Ok (x, left) → (o ≡ Some x) × (rest ≡ left)
-taken_some {A} None token rest fault x left e = (let never : ◌≡◌ {A = Step A} (Err (refused token fault)) (Ok (x, left)) = e in absurd (cc))
-taken_some (Some z) token rest fault x left e = let same = ok_same (z, rest) (x, left) e in (ap (λ p. Some p.0) same, ap (λ p. p.1) same)
-
-word_takes : {words : List (List ℕ)} {n : ℕ} {word : ℕ → List ℕ} → Names words n word → (tokens : List (List ℕ)) (i : ℕ) (rest : List (List ℕ)) → take_word words tokens ≡ Ok (i, rest) → IsTaken (λ j. IsSameWord (word j)) tokens i rest
-word_takes names [] i rest e = (let never : ◌≡◌ {A = Step ℕ} (Err missing) (Ok (i, rest)) = e in absurd (cc))
-word_takes {words} names (token ∷ tokens) i rest e =
-    let found = taken_some (word_place words token) token tokens UnknownWord i rest e in
-    record { token = token; front = ap (λ r. token ∷ r) found.1; spelled = word-found names token i found.0 }
-
 -- a number that a break may have
 abbrev pub IsAny : ℕ → List ℕ → Type 0
 IsAny = IsWithin 0 most_number
 
 pub any_takes : Takes take_any IsAny
 unfolding take_any
-any_takes = record { taken = taken; again = λ n token rest w. ap (λ o. or_refused o rest token BadNumber) (within-again 0 most_number n token w) }
-  where
-    taken : (tokens : List (List ℕ)) (n : ℕ) (rest : List (List ℕ)) → take_number 0 most_number tokens ≡ Ok (n, rest) → IsTaken IsAny tokens n rest
-    taken [] n rest e = (let never : ◌≡◌ {A = Step ℕ} (Err missing) (Ok (n, rest)) = e in absurd (cc))
-    taken (token ∷ tokens) n rest e =
-        let found = taken_some (number_within 0 most_number token) token tokens BadNumber n rest e in
-        record { token = token; front = ap (λ r. token ∷ r) found.1; spelled = within-some 0 most_number n token (number_of token) refl found.0 }
+any_takes = number_takes 0 most_number
 
 pub colour_stands : (c : Colour) → slice_get colour_words (place_of_colour c) ≡ Some (word_of_colour c)
 unfolding colour_words
@@ -71,38 +50,7 @@ IsColour c = IsSameWord (word_of_colour c)
 
 pub colour_takes : Takes take_colour IsColour
 unfolding take_colour
-colour_takes = record { taken = taken; again = again }
-  where
-    taken : (tokens : List (List ℕ)) (c : Colour) (rest : List (List ℕ)) → (take_word colour_words tokens >>= as_named colour_at) ≡ Ok (c, rest) → IsTaken IsColour tokens c rest
-    taken tokens c rest e = go (take_word colour_words tokens) refl e
-      where
-        go : (r : Step ℕ) → take_word colour_words tokens ≡ r → (r >>= as_named colour_at) ≡ Ok (c, rest) → IsTaken IsColour tokens c rest
-        go (Ok p) is q =
-            let same = ok_same (colour_at p.0, p.1) (c, rest) q in
-            let t = word_takes colour_names tokens p.0 p.1 is in
-            subst (λ (v : Colour × List (List ℕ)). IsTaken IsColour tokens v.0 v.1) same (record { token = t.token; front = t.front; spelled = t.spelled })
-        go (Err refusal) is q = (let never : ◌≡◌ {A = Step Colour} (Err refusal) (Ok (c, rest)) = q in absurd (cc))
-
-    again : (c : Colour) (token : List ℕ) (rest : List (List ℕ)) → IsColour c token → (take_word colour_words (token ∷ rest) >>= as_named colour_at) ≡ Ok (c, rest)
-    again c token rest h =
-        ap (λ o. or_refused o rest token UnknownWord >>= as_named colour_at) (word-again colour_names (place_of_colour c) (word_of_colour c) token (colour_stands c) h)
-        ∙ ap (λ v. Ok (v, rest)) (colour_back c)
-
--- the word that was taken, and what comes after it
-then_word : (tokens : List (List ℕ)) (f : ℕ × List (List ℕ) → Read Break) (y : Break) (P : List (List ℕ) → Type 0) → (take_word break_words tokens >>= f) ≡ Ok y → ((i : ℕ) (token : List ℕ) (rest : List (List ℕ)) → IsSameWord (word_of_break (break_at i)) token → f (i, rest) ≡ Ok y → P (token ∷ rest)) → P tokens
-then_word tokens f y P e k = go (take_word break_words tokens) refl e
-  where
-    go : (r : Step ℕ) → take_word break_words tokens ≡ r → (r >>= f) ≡ Ok y → P tokens
-    go (Ok p) is next = let t = word_takes break_names tokens p.0 p.1 is in subst P (sym t.front) (k p.0 t.token p.1 t.spelled next)
-    go (Err refusal) is next = (let never : ◌≡◌ {A = Read Break} (Err refusal) (Ok y) = next in absurd (cc))
-
--- the end of the line
-then_end : (tokens : List (List ℕ)) (x y : Break) (P : List (List ℕ) → Type 0) → (take_end tokens >>= (λ end. Ok x)) ≡ Ok y → (x ≡ y → P []) → P tokens
-then_end [] x y P e k = k (ok_value x y e)
-  where
-    ok_value : (a b : Break) → ◌≡◌ {A = Read Break} (Ok a) (Ok b) → a ≡ b
-    ok_value a b h = cc
-then_end (token ∷ tokens) x y P e k = (let never : ◌≡◌ {A = Read Break} (Err (refused token ExtraToken)) (Ok y) = e in absurd (cc))
+colour_takes = named_takes colour_words colour_at word_of_colour 2 colour_names place_of_colour colour_stands colour_back
 
 -- after this first word the tokens are those of the break
 record IsRest (word : List ℕ) (item : Break) (tokens : List (List ℕ)) : Type 0 where
@@ -150,16 +98,7 @@ form_spelled BreakWord.Score first rest item h e = (coloured_spelled (codes "Sco
 -- what is read of a line is spelled so
 pub line_spelled : (tokens : List (List ℕ)) (item : Break) → read_line tokens ≡ Ok item → BreakLine tokens item
 unfolding read_line
-line_spelled tokens item e = then_word tokens (λ w. read_form (break_at w.0) w.1) item (λ ts. BreakLine ts item) e (λ p first rest h q. form_spelled (break_at p) first rest item h q)
-
--- the first of several fields, and the last
-given : (field : Field) (fields : List Field) (tokens : List (List ℕ)) (P : List (List ℕ) → Type 0) → SpellsAll (field ∷ fields) tokens → ((token : List ℕ) (rest : List (List ℕ)) → Spells field token → SpellsAll fields rest → P (token ∷ rest)) → P tokens
-given field fields [] P h k = absurd h
-given field fields (token ∷ rest) P h k = k token rest h.0 h.1
-
-given_end : (tokens : List (List ℕ)) (P : List (List ℕ) → Type 0) → SpellsAll [] tokens → P [] → P tokens
-given_end [] P h k = k
-given_end (token ∷ tokens) P h k = absurd h
+line_spelled tokens item e = then_word break_names tokens (λ w. read_form (break_at w.0) w.1) item (λ ts. BreakLine ts item) e (λ p first rest h q. form_spelled (break_at p) first rest item h q)
 
 -- a number of a break
 any : (n : ℕ) (token : List ℕ) → number_of token ≡ Some n → n ≤ most_number → IsAny n token
@@ -202,7 +141,7 @@ food_again x y n tokens h x_high y_high n_high =
 form_step : (i : ℕ) (w first : List ℕ) (rest : List (List ℕ)) (item : Break) → slice_get break_words i ≡ Some w → IsSameWord w first → read_form (break_at i) rest ≡ Ok item → read_line (first ∷ rest) ≡ Ok item
 unfolding read_line
 form_step i w first rest item stands same next =
-    ap (λ o. or_refused o rest first UnknownWord >>= (λ p. read_form (break_at p.0) p.1)) (word-again break_names i w first stands same) ∙ next
+    bind_step (take_word break_words (first ∷ rest)) (λ p. read_form (break_at p.0) p.1) (i, rest) (Ok item) (word_step break_names i w first rest stands same) next
 
 -- what is spelled so is read
 pub line_again : (item : Break) (tokens : List (List ℕ)) → BreakLine tokens item → read_line tokens ≡ Ok item

@@ -5,6 +5,7 @@ use Rattle.cell_world.specs.declared.ant.Colour.{Colour}
 use Rattle.word_table.specs.Words.{word_place}
 use Rattle.brain_read.specs.declared.fault.LineFault.{LineFault}
 use Rattle.brain_read.specs.Steps.{Read, Step, ◌>>=◌, or_refused, take_word, take_number, take_end}
+use Rattle.brain_read.proofs.LineFaults.{fault_of_read}
 use Rattle.brain_read.proofs.PlacesLemmas.{named-place}
 use Rattle.brain_read.proofs.FormsLemmas.{bind_assoc, as_named}
 use Rattle.break_view.specs.declared.breaks.Break.{Break}
@@ -12,18 +13,16 @@ use Rattle.break_view.specs.declared.breaks.Break.TheVariants.{Round, State, Sta
 use Rattle.break_view.specs.declared.fault.BreakFault.{BreakFault}
 use Rattle.break_view.specs.declared.words.BreakWord.{BreakWord}
 use Rattle.break_view.specs.Forms.{word_of_break, word_of_colour, break_kinds, colours, most_number}
-use Rattle.break_view.specs.Inner.Places.{break_words, colour_words}
+use Rattle.break_view.specs.Inner.Places.{break_words, colour_words, break_at, colour_at}
 use Rattle.break_view.specs.Judging.{Position, positions_of, none_more, accepted, fault_of, judged, first_fault}
 use Rattle.break_view.specs.Judging.Position.{BreakToken, ColourToken, NumberToken}
-use Rattle.break_view.specs.Inner.Places.{break_at, colour_at}
 use Rattle.break_view.specs.Inner.Steps.{take_colour, take_any}
 use Rattle.break_view.specs.Inner.Reading.{read_number, read_coloured, read_stand, read_food, read_form, read_line}
-use Rattle.break_view.specs.Inner.Verdict.{fault_at}
+use Rattle.break_view.specs.Inner.Verdict.{fault_at, refusal_at}
 
 -- the fault of a line of this number that was read
 abbrev pub fault_in : ℕ → Read Break → Option BreakFault
-fault_in line (Ok item) = None
-fault_in line (Err refusal) = Some (fault_at line refusal.fault)
+fault_in line read = fault_of_read refusal_at line read
 
 -- a step judges its position
 record Judges {A : Type 0} (position : Position) (take : List (List ℕ) → Step A) (brings : A → List Position) : Type 0 where

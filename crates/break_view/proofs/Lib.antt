@@ -1,5 +1,4 @@
 pub mod FaultyLemmas
-mod FirstFaults
 pub mod FirstStops
 pub mod FormsLemmas
 pub mod HillFood
@@ -11,5 +10,6 @@ pub mod ViewLaws
 pub mod Viewing
 pub mod WorkedBreaks
 pub mod WorkedEdges
+pub mod WorkedEnds
 pub mod WorkedGame
 pub mod WorkedTexts

@@ -2,7 +2,7 @@
 use Rattle.std.proofs.Common.{◌≡◌, true, false, [], ◌∷◌, Some, None, codes, refl, arith}
 use Rattle.std.specs.Fmt.{digits}
 use Rattle.hex_geometry.specs.Position.{same_pos}
-use Rattle.cell_world.specs.declared.ant.Colour.TheVariants.{Red}
+use Rattle.cell_world.specs.declared.ant.Colour.TheVariants.{Red, Black}
 use Rattle.cell_world.specs.declared.kind.Kind.TheVariants.{Rock, RedHill}
 use Rattle.cell_world.specs.Cell.{rock}
 use Rattle.cell_world.specs.Grid.{cell_in, world_of}
@@ -32,10 +32,20 @@ from_so_much_on : (meets (break.Food 1 1 1) fed 1 0 ≡ true) × (meets (break.F
 unfolding opening cell_in rock floor hill_food_of put_cell same_pos
 from_so_much_on = (refl, refl, refl, refl, refl, refl)
 
+-- Stand is any ant's, whosever turn it was; Round any turn's of the round
+any_ant_any_turn : (meets (break.Stand Red 1 1) fed 1 1 ≡ true) × (meets (break.Stand Red 2 1) fed 1 0 ≡ true) × (meets (break.Round 3) fed 3 1 ≡ true)
+unfolding opening cell_in rock floor put_cell same_pos
+any_ant_any_turn = (refl, refl, refl)
+
+-- a score of 0 is reached without food, and without a hill
+no_score : (meets (break.Score Black 0) fed 1 0 ≡ true) × (meets (break.Score Black 1) fed 1 0 ≡ false)
+unfolding opening cell_in rock floor hill_food_of put_cell same_pos
+no_score = (refl, refl)
+
 -- the line of a stop, and that of a game without one
-stop_told : (stop_line (record { round = 1; id = 20; which = 3 }) ≡ codes "stop: round 1, ant 20, break 3\n") × (no_stop_line 9 ≡ codes "no stop in 9 rounds\n")
+stop_told : (stop_line (record { round = 1; id = 20; which = 3 }) ≡ codes "stop: round 1, ant 20, break 3\n") × (no_stop_line 9 ≡ codes "no stop in 9 rounds\n") × (no_stop_line 1 ≡ codes "no stop in 1 rounds\n")
 unfolding digits stop_line no_stop_line
-stop_told = (refl, refl)
+stop_told = (refl, refl, refl)
 
 -- the view of a game without a stop: no cells
 no_stop_told : view_text fed 7 9 None ≡ codes "random seed: 7\nno stop in 9 rounds\n"

@@ -66,3 +66,8 @@ killed_first = record {
 two_hold : (met_at minds 12345 start (Score Red 3 ∷ Stand Black 2 3 ∷ []) 1 1 ≡ Some 1) × (met_at minds 12345 start (Stand Black 2 3 ∷ []) 1 1 ≡ Some 1) × (met_at minds 12345 start (Score Red 3 ∷ Stand Black 2 3 ∷ []) 1 0 ≡ None)
 unfolding world_in_round after_turn turn place_in opening cell_in rock floor put_cell same_pos adjacent_pos neighbours_of directions stepped is_surrounded check_at killed_at places_around drawn random_at state_at hill_food_of
 two_hold = (refl, refl, refl)
+
+-- the turn of a dead ant is a turn: after the one of id 2, which died before it, there is a stop in round 2
+dead_turns : IsTurn start 5 2 2 × (met_at minds 12345 start (Killed 2 ∷ []) 1 2 ≡ Some 1)
+unfolding opening world_in_round after_turn turn place_in cell_in rock floor put_cell same_pos adjacent_pos neighbours_of directions stepped is_surrounded check_at killed_at places_around drawn random_at state_at
+dead_turns = (record { begun = omega arith; played = omega arith; made = omega arith }, refl)

@@ -3,12 +3,19 @@ use Rattle.std.proofs.Common.{◌≡◌, ℕ, zero, suc, List, [], ◌∷◌, �
 use Rattle.cell_world.specs.declared.ant.Colour.TheVariants.{Red, Black}
 use Rattle.ant_base.specs.Number.{number_of}
 use Rattle.brain_read.specs.Grammar.{lines_with_tokens}
-use Rattle.break_view.specs.declared.breaks.Break.TheVariants.{Stand, Killed, Score}
+use Rattle.break_view.specs.declared.breaks.Break.TheVariants.{Round, State, Stand, Food, Killed, Score}
 use Rattle.break_view.specs.declared.fault.BreakFault.TheVariants.{UnknownWord, MissingToken, BadNumber, ExtraToken, TooMany}
 use Rattle.break_view.specs.Grammar.{IsBreakText}
-use Rattle.break_view.specs.Faulty.{IsBreakFault, too_many}
-use Rattle.break_view.specs.Inner.FirstFault.{first_line_fault}
-use Rattle.break_view.proofs.FirstFaults.{first_line_fault-first}
+use Rattle.brain_read.specs.Inner.LineByLine.{judged_line, first_line_fault}
+use Rattle.brain_read.proofs.LineFaults as faults
+use Rattle.break_view.specs.declared.fault.BreakFault.{BreakFault}
+use Rattle.break_view.specs.Forms.{BreakLine}
+use Rattle.break_view.specs.Faulty.{line_fault, IsBreakFault}
+use Rattle.break_view.specs.Inner.Places.{break_words, colour_words}
+use Rattle.break_view.specs.Inner.Reading.{read_line, read_number, read_coloured, read_stand, read_food}
+use Rattle.break_view.specs.Inner.Steps.{take_colour, take_any}
+use Rattle.break_view.specs.Inner.Verdict.{break_reader, read_text}
+use Rattle.break_view.proofs.FaultyLemmas.{first_of_line, faithful, list_read_of}
 
 -- a text without a break is accepted: an empty one, and one of comments and empty lines
 no_text : IsBreakText (codes "") []
@@ -33,6 +40,16 @@ two_breaks = record {
   few = omega arith;
 }
 
+first_line_fault-first : (text : List ℕ) (fault : BreakFault) → first_line_fault line_fault 0 (lines_with_tokens text) ≡ Some fault → IsBreakFault text fault
+first_line_fault-first = faults.first_line_fault-first break_reader BreakLine first_of_line faithful
+
+-- each form takes its numbers from 0 to the largest
+every_form :
+    IsBreakText (codes "Round 0\nState Red 4294967295\nState Black 0\nStand Red 4294967295 0\nFood 4294967295 0 4294967295\nFood 0 4294967295 0\nKilled 4294967295\nScore Black 4294967295\nScore Red 0")
+    (Round 0 ∷ State Red 4294967295 ∷ State Black 0 ∷ Stand Red 4294967295 0 ∷ Food 4294967295 0 4294967295 ∷ Food 0 4294967295 0 ∷ Killed 4294967295 ∷ Score Black 4294967295 ∷ Score Red 0 ∷ [])
+unfolding number_of read_text read_line read_number read_coloured read_stand read_food take_colour take_any break_words colour_words judged_line
+every_form = list_read_of _ _ refl
+
 -- one fault of each kind, and the line that has it
 no_such_word : IsBreakFault (codes "Jump 1") (UnknownWord 1)
 unfolding number_of
@@ -45,6 +62,16 @@ short_food = first_line_fault-first (codes "Food 1 2") (MissingToken 1) refl
 round_x : IsBreakFault (codes "Round x") (BadNumber 1)
 unfolding number_of
 round_x = first_line_fault-first (codes "Round x") (BadNumber 1) refl
+
+-- of two faults of a line the first position's, whatever stands behind it
+faults_of_a_line : (IsBreakFault (codes "Round x 2") (BadNumber 1)) × (IsBreakFault (codes "State Green") (UnknownWord 1)) × (IsBreakFault (codes "Food x") (BadNumber 1)) × (IsBreakFault (codes "Score Red") (MissingToken 1))
+unfolding number_of
+faults_of_a_line = (first_line_fault-first (codes "Round x 2") (BadNumber 1) refl, first_line_fault-first (codes "State Green") (UnknownWord 1) refl, first_line_fault-first (codes "Food x") (BadNumber 1) refl, first_line_fault-first (codes "Score Red") (MissingToken 1) refl)
+
+-- of two lines at fault the first
+faults_of_lines : IsBreakFault (codes "Round 1\nFood 1\nJump") (MissingToken 2)
+unfolding number_of
+faults_of_lines = first_line_fault-first (codes "Round 1\nFood 1\nJump") (MissingToken 2) refl
 
 long_round : IsBreakFault (codes "Round 1 2") (ExtraToken 1)
 unfolding number_of
@@ -71,11 +98,13 @@ strange_bytes : (IsBreakFault (codes "Round 1" ++ 200 ∷ []) (BadNumber 1)) × 
 unfolding number_of
 strange_bytes = (first_line_fault-first (codes "Round 1" ++ 200 ∷ []) (BadNumber 1) refl, first_line_fault-first (1 ∷ codes "Round 1") (UnknownWord 1) refl, first_line_fault-first (codes "Round 1 " ++ 200 ∷ []) (ExtraToken 1) refl)
 
--- the 256th break has its place, the next one has none
-last_break : too_many 255 300 ≡ None
+-- the 256th break has its place, the next one has none, whatever its line says
+last_break : line_fault 255 (record { number = 300; tokens = codes "Round" ∷ codes "1" ∷ [] }) ≡ None
+unfolding number_of
 last_break = refl
 
-one_break_more : too_many 256 257 ≡ Some (TooMany 257)
+one_break_more : line_fault 256 (record { number = 257; tokens = codes "Jump" ∷ [] }) ≡ Some (TooMany 257)
+unfolding number_of
 one_break_more = refl
 
 -- so many lines of one break
@@ -84,6 +113,6 @@ rounds zero = []
 rounds (suc n) = codes "Round 1\n" ++ rounds n
 
 -- a text of 257 breaks is refused at the last of them, and one of 256 has no line at fault
-line_257 : (IsBreakFault (rounds 257) (TooMany 257)) × (first_line_fault 0 (lines_with_tokens (rounds 256)) ≡ None)
+line_257 : (IsBreakFault (rounds 257) (TooMany 257)) × (first_line_fault line_fault 0 (lines_with_tokens (rounds 256)) ≡ None)
 unfolding number_of
 line_257 = (first_line_fault-first (rounds 257) (TooMany 257) refl, refl)

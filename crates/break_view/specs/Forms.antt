@@ -1,4 +1,4 @@
--- The words and the forms of breaks; the clauses of the public calls rest on them (this project's own).
+-- The words and the forms of breaks; the clauses of the public calls rest on them.
 use Rattle.std.specs.Prelude.{ℕ, ◌≤◌, List, [], ◌∷◌, codes}
 use Rattle.std.specs.List.{AllByRecursion}
 use Rattle.cell_world.specs.declared.ant.Colour.{Colour}

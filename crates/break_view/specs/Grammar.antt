@@ -1,6 +1,6 @@
--- Which texts are lists of breaks (this project's own).
-use Rattle.std.specs.Prelude.{ℕ, ◌≤◌, List, [], ◌∷◌, length}
-use Rattle.brain_read.specs.Grammar.{TokenLine, lines_with_tokens}
+-- Which texts are lists of breaks.
+use Rattle.std.specs.Prelude.{ℕ, ◌≤◌, List, length}
+use Rattle.brain_read.specs.Grammar.{TokenLine, AreLinesOf, lines_with_tokens}
 use Rattle.break_view.specs.declared.breaks.Break.{Break}
 use Rattle.break_view.specs.Forms.{BreakLine}
 
@@ -10,10 +10,7 @@ most_breaks = 256
 
 -- the lines are those of the breaks, one to one and in order
 abbrev pub AreBreaks : List TokenLine → List Break → Type 0
-AreBreaks [] [] = Unit {0}
-AreBreaks [] (item ∷ list) = ⊥
-AreBreaks (line ∷ lines) [] = ⊥
-AreBreaks (line ∷ lines) (item ∷ list) = BreakLine line.tokens item × AreBreaks lines list
+AreBreaks lines list = AreLinesOf BreakLine lines list
 
 -- the text is that of the breaks: a line without a token is skipped, and every other is one break
 pub record IsBreakText (text : List ℕ) (list : List Break) : Type 0 where

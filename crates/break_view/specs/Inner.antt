@@ -1,6 +1,5 @@
 pub mod Answered
 pub mod Feeding
-pub mod FirstFault
 pub mod Places
 pub mod Reading
 pub mod Rounds

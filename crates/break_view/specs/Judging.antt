@@ -1,4 +1,4 @@
--- Which position of a line is at fault; the clauses of `read_breaks` rest on it (this project's own: the rule of faults).
+-- Which position of a line is at fault: the rule of faults, on which the clauses of `read_breaks` rest.
 use Rattle.std.specs.Prelude.{ℕ, List, [], ◌∷◌, ◌++◌, Option, Some, None, option_map}
 use Rattle.ant_base.specs.Number.{number_within}
 use Rattle.brain_read.specs.Forms.{named}

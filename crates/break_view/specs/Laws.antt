@@ -1,4 +1,4 @@
--- What holds of all texts of breaks and of all games with breaks (this project's own).
+-- What holds of all texts of breaks and of all games with breaks.
 use Rattle.std.specs.Prelude.{◌≡◌, ◌⊎◌, ℕ, ◌≤◌, List, [], Option}
 use Rattle.std.specs.List.{Contains}
 use Rattle.cell_world.specs.World.{World}

@@ -1,4 +1,4 @@
--- When a break holds: what a caller of `find_stop` believes (this project's own).
+-- When a break holds: what a caller of `find_stop` believes.
 use Rattle.std.specs.Prelude.{ℕ, ◌+◌, Bool, false, not, ◌&&◌, ◌==◌, nat_lt, nat_le, List, [], ◌∷◌, Option, Some, None, if◌then◌else◌}
 use Rattle.std.specs.Option.{is_some}
 use Rattle.hex_geometry.specs.declared.position.Pos.{Pos}

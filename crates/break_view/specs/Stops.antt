@@ -1,5 +1,6 @@
--- The first stop of a game: what a caller of `find_stop` believes (this project's own; turns and rounds are the task's kinetics).
+-- The first stop of a game: what a caller of `find_stop` believes.
 use Rattle.std.specs.Prelude.{◌≡◌, ◌⊎◌, ℕ, zero, suc, ◌+◌, ◌-◌, ◌<◌, ◌≤◌, List, Option, Some, None, option_map}
+use Rattle.std.specs.Option.{option_or}
 use Rattle.cell_world.specs.World.{World}
 use Rattle.ant_turn.specs.Minds.{Minds}
 use Rattle.ant_turn.specs.Rounds.{Moment, after_turns, after_rounds, start_of}
@@ -57,20 +58,15 @@ EndsAt minds seed rounds w items None end = HasNoStop minds seed rounds w items 
 abbrev pub stop_at : Minds → ℕ → World → List Break → ℕ → ℕ → Option Stop
 stop_at minds seed w items r t = option_map (λ which. record { round = r; id = t; which = which }) (met_at minds seed w items r t)
 
--- this stop, or else the next
-abbrev pub or_next : Option Stop → Option Stop → Option Stop
-or_next None next = next
-or_next (Some stop) next = Some stop
-
 -- the first stop after the turns of the ids below a number in round r
 abbrev pub first_in_round : Minds → ℕ → World → List Break → ℕ → ℕ → Option Stop
 first_in_round minds seed w items r zero = None
-first_in_round minds seed w items r (suc t) = or_next (first_in_round minds seed w items r t) (stop_at minds seed w items r t)
+first_in_round minds seed w items r (suc t) = option_or (first_in_round minds seed w items r t) (stop_at minds seed w items r t)
 
 -- the first stop of so many rounds of a game that begins in w, by search
 abbrev pub first_stop : Minds → ℕ → World → List Break → ℕ → Option Stop
 first_stop minds seed w items zero = None
-first_stop minds seed w items (suc r) = or_next (first_stop minds seed w items r) (first_in_round minds seed w items (suc r) w.ids)
+first_stop minds seed w items (suc r) = option_or (first_stop minds seed w items r) (first_in_round minds seed w items (suc r) w.ids)
 
 -- the world at a stop; without one, the world after all rounds
 abbrev pub end_of : Minds → ℕ → ℕ → World → Option Stop → World

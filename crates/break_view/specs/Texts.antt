@@ -1,4 +1,4 @@
--- The text of a view (this project's own layout).
+-- The text of a view.
 use Rattle.std.specs.Prelude.{◌≡◌, ℕ, List, codes, decimal, Option, Some, None}
 use Rattle.ant_base.specs.Layout.{◌+++◌}
 use Rattle.cell_world.specs.World.{World}

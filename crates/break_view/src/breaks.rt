@@ -49,7 +49,7 @@ impl Breaks {
         Breaks { list }
     }
 
-    /// How many breaks there are, from 0 to 256.
+    /// How many breaks there are, from 0 to 256. It takes no memory.
     pub fn len(&self) -> usize
         ensures length { result ≡ length self.now }
         ensures few { length self.now ≤ most_breaks }
@@ -57,7 +57,7 @@ impl Breaks {
         self.list.len()
     }
 
-    /// The break at place `i`, counted from 0 and below the length; it is the break of number `i + 1`.
+    /// The break at place `i`, counted from 0 and below the length; it is the break of number `i + 1`. It takes no memory.
     pub fn item(&self, i: usize) -> Break
         requires { i < length self.now }
         ensures { slice_get self.now i ≡ Some result }

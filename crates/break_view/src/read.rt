@@ -5,10 +5,10 @@ ghost use Rattle.break_view.specs.declared.breaks.Break.{Break};
 ghost use Rattle.break_view.specs.declared.fault.BreakFault.{BreakFault};
 ghost use Rattle.break_view.specs.Grammar.{most_breaks, IsBreakText};
 ghost use Rattle.break_view.specs.Faulty.{IsBreakFault};
-ghost use Rattle.break_view.specs.Answers.{IsFaultOf};
-ghost use Rattle.break_view.specs.Answers.{AnswersBreaks, AnswersFault};
-ghost use Rattle.break_view.specs.Inner.Verdict.{judged_line, read_text};
-ghost use Rattle.break_view.specs.Inner.Answered.{FailsAs, Gives, reading_from};
+ghost use Rattle.break_view.specs.Answers.{IsFaultOf, AnswersBreaks, AnswersFault};
+ghost use Rattle.brain_read.specs.Inner.LineByLine.{judged_line, reading_from};
+ghost use Rattle.break_view.specs.Inner.Verdict.{break_reader, read_text};
+ghost use Rattle.break_view.specs.Inner.Answered.{FailsAs, Gives};
 
 use crate::breaks::{Break, Breaks};
 use crate::fault::{BreakFault, fault_at};
@@ -54,9 +54,9 @@ fn read_line(line: &[u8], number: u32, list: &mut Vec<Break>) -> Result<(), Brea
     requires few { vec_len list.old ≤ most_breaks }
     ensures few { OnOk result (vec_len list.new ≤ most_breaks) }
     ensures on { (lines : List (List ℕ)) → OnOk result
-        (reading_from list.new.items (number + 1) lines ≡ reading_from list.old.items number (line.now ∷ lines)) }
+        (reading_from break_reader list.new.items (number + 1) lines ≡ reading_from break_reader list.old.items number (line.now ∷ lines)) }
     ensures fault { (lines : List (List ℕ)) → IfErr result (λ fault.
-        FailsAs fault (reading_from list.old.items number (line.now ∷ lines))) }
+        FailsAs fault (reading_from break_reader list.old.items number (line.now ∷ lines))) }
 {
     let mut tokens = Tokens::new(line);
     if !tokens.has_next() {
@@ -68,9 +68,9 @@ fn read_line(line: &[u8], number: u32, list: &mut Vec<Break>) -> Result<(), Brea
 }
 
 // The break of a line before which so many stand.
-#[tactic(auto, unfolding(crate::specs::Inner::Verdict::judged_line))]
+#[tactic(auto, unfolding(brain_read::specs::Inner::LineByLine::judged_line))]
 fn item_of(tokens: &mut Tokens, line: u32, before: usize) -> Result<Break, BreakFault>
-    ensures read { judged_line before line tokens.old ≡ result }
+    ensures read { judged_line break_reader before line tokens.old ≡ result }
     ensures few { IfOk result (λ item. before < most_breaks) }
 {
     if before >= MOST_BREAKS {

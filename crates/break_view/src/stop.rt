@@ -32,7 +32,7 @@ pub struct Stop {
 }
 
 /// Plays a game until a break holds after a turn, and gives the first such stop; `None` exactly where no break holds after any turn of
-/// the rounds (this project's own; turns and rounds are the task's kinetics).
+/// the rounds.
 ///
 /// Each ant's state is below the length of its colour's brain, as in every opening world; the seed is any, and the rounds are at most
 /// 1,000,000. The turns are those of the ids in rising order, from 0, round after round, with the random numbers of the seed from place 0

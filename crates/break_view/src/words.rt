@@ -1,6 +1,5 @@
 // The words of breaks, and what they stand for.
 ghost use Rattle.std.specs.Prelude.{◌≡◌};
-ghost use Rattle.break_view.specs.Inner.Places.{break_words, colour_words};
 ghost use Rattle.break_view.specs.Inner.Places as places;
 
 use cell_world::Colour;
@@ -20,7 +19,7 @@ pub enum BreakWord {
 // The words that begin a break.
 #[tactic(auto, unfolding(crate::specs::Inner::Places::break_words))]
 pub(crate) fn break_table() -> WordTable<6>
-    ensures { result ≡ break_words }
+    ensures { result ≡ places.break_words }
 {
     WordTable::new(["Round", "State", "Stand", "Food", "Killed", "Score"])
 }
@@ -28,7 +27,7 @@ pub(crate) fn break_table() -> WordTable<6>
 // The words of the colours.
 #[tactic(auto, unfolding(crate::specs::Inner::Places::colour_words))]
 pub(crate) fn colour_table() -> WordTable<2>
-    ensures { result ≡ colour_words }
+    ensures { result ≡ places.colour_words }
 {
     WordTable::new(["Red", "Black"])
 }

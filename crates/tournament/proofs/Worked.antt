@@ -6,7 +6,7 @@ use Rattle.std.proofs.lemmas.List.Sorted.{IsPermutation-append_comm}
 use Rattle.cell_world.specs.declared.score.Score.{Score}
 use Rattle.tournament.specs.declared.games.Game.{Game}
 use Rattle.tournament.specs.declared.standing.Line.{Line}
-use Rattle.tournament.specs.Names.{has_name}
+use Rattle.tournament.specs.Names.{has_name, with_name}
 use Rattle.tournament.specs.Games.{below, above, games_with, games_on, games_of, all_played}
 use Rattle.tournament.specs.Standing.{line_of, StandsAbove, IsStandingOf}
 use Rattle.tournament.specs.Text.{line_text, standing_text, IsCupText}
@@ -58,6 +58,15 @@ text_is = refl
 pub worked : IsCupText (codes "a" ∷ codes "b" ∷ []) 2 1 score (codes "3 points: b (1 won, 1 drawn, 0 lost)\n1 points: a (0 won, 1 drawn, 1 lost)\n")
 worked = record { lines = line_b ∷ line_a ∷ []; standing = b_then_a; is = text_is }
 
+-- on world 1 the players draw, so that only the games on world 0 tell them apart; one particle more wins
+abbrev two_worlds : ℕ → ℕ → ℕ → Score
+two_worlds world red black = cond (world == 0) (record { red = red; black = black }) (record { red = 4; black = 4 })
+
+by_world : map (line_of (all_played 2 2 two_worlds)) (below 2)
+    ≡ record { player = 0; points = 2; won = 0; drawn = 2; lost = 2 } ∷ record { player = 1; points = 6; won = 2; drawn = 2; lost = 0 } ∷ []
+unfolding games_of games_on games_with above line_of
+by_world = refl
+
 -- more points stand above, whoever won more games; equal points go by the players' numbers, and not by wins
 points_before_wins :
     StandsAbove (record { player = 1; points = 3; won = 0; drawn = 3; lost = 0 }) (record { player = 0; points = 2; won = 1; drawn = 0; lost = 2 })
@@ -72,3 +81,7 @@ points_before_wins = (
 -- names are known byte for byte
 names_known : (has_name (codes "a" ∷ codes "ab" ∷ []) (codes "ab") ≡ true) × (has_name (codes "a" ∷ codes "ab" ∷ []) (codes "A") ≡ false) × (has_name (codes "ab" ∷ []) (codes "a") ≡ false)
 names_known = (refl, refl, refl)
+
+-- a new name goes last, and one that is there stays
+names_added : (with_name (codes "b" ∷ codes "a" ∷ []) (codes "c") ≡ codes "b" ∷ codes "a" ∷ codes "c" ∷ []) × (with_name (codes "b" ∷ codes "a" ∷ []) (codes "b") ≡ codes "b" ∷ codes "a" ∷ [])
+names_added = (refl, refl)

@@ -1,4 +1,4 @@
--- The text of a cup (this project's own layout).
+-- The text of a cup.
 use Rattle.std.specs.Prelude.{◌≡◌, ℕ, List, codes, decimal}
 use Rattle.std.specs.List.{flat_map}
 use Rattle.ant_base.specs.Layout.{◌+++◌}

@@ -1,13 +1,12 @@
 -- What the calls that read parts of a text answer.
-use Rattle.std.specs.Prelude.{◌≡◌, ℕ, List, length, Result, Ok, Err}
+use Rattle.std.specs.Prelude.{◌≡◌, Result, Ok, Err}
 use Rattle.brain_read.specs.declared.draft.Draft.{Draft}
 use Rattle.brain_read.specs.declared.fault.BrainFault.{BrainFault}
 use Rattle.brain_read.specs.declared.fault.BrainFault.TheVariants.{OutOfMemory}
 use Rattle.brain_read.specs.declared.instr.Instr.{Instr}
 use Rattle.brain_read.specs.declared.read.DraftLine.{DraftLine}
 use Rattle.brain_read.specs.Inner.Draft.{drafted}
-use Rattle.brain_read.specs.Grammar.{token_lines}
-use Rattle.brain_read.specs.Inner.Verdict.{Placed, Judged, with_front, read_lines}
+use Rattle.brain_read.specs.Inner.Verdict.{Placed, Judged}
 
 -- the instruction of a draft, beside its line
 abbrev pub placed_of : DraftLine → Placed
@@ -27,7 +26,3 @@ Gives view (Err fault) judged = FailsAs fault judged
 abbrev pub as_judged : Result Draft BrainFault → Judged Instr
 as_judged (Ok draft) = Ok (drafted draft)
 as_judged (Err fault) = Err fault
-
--- what is read of these lines, the first of which has this number, behind what was read before
-unfoldable pub reading_from : List Placed → ℕ → List (List ℕ) → Judged (List Placed)
-reading_from front number lines = with_front front (read_lines (length front) (token_lines number lines))

@@ -15,7 +15,9 @@ colour_words = map word_of_colour colours
 
 -- what the word at a place of its table begins
 abbrev pub break_at : ℕ → BreakWord
-break_at i = if i == 0 then BreakWord.Round else (if i == 1 then BreakWord.State else (if i == 2 then BreakWord.Stand else (if i == 3 then BreakWord.Food else (if i == 4 then BreakWord.Killed else BreakWord.Score))))
+break_at i = if i == 0 then BreakWord.Round else (if i == 1 then BreakWord.State
+    else (if i == 2 then BreakWord.Stand else (if i == 3 then BreakWord.Food
+    else (if i == 4 then BreakWord.Killed else BreakWord.Score))))
 
 -- the colour of the word at a place of its table
 abbrev pub colour_at : ℕ → Colour

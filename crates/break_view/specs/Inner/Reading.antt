@@ -5,8 +5,7 @@ use Rattle.brain_read.specs.Steps.{Read, ◌>>=◌, take_word, take_end}
 use Rattle.break_view.specs.declared.breaks.Break.{Break}
 use Rattle.break_view.specs.declared.breaks.Break.TheVariants.{Round, State, Stand, Food, Killed, Score}
 use Rattle.break_view.specs.declared.words.BreakWord.{BreakWord}
-use Rattle.break_view.specs.Inner.Places.{break_words}
-use Rattle.break_view.specs.Inner.Places.{break_at}
+use Rattle.break_view.specs.Inner.Places.{break_words, break_at}
 use Rattle.break_view.specs.Inner.Steps.{take_colour, take_any}
 
 -- what stands after `Round` and `Killed`: a number

@@ -2,9 +2,8 @@
 use Rattle.std.specs.Prelude.{ℕ, List, Ok}
 use Rattle.cell_world.specs.declared.ant.Colour.{Colour}
 use Rattle.brain_read.specs.Steps.{Step, ◌>>=◌, take_word, take_number}
-use Rattle.break_view.specs.Inner.Places.{colour_words}
 use Rattle.break_view.specs.Forms.{most_number}
-use Rattle.break_view.specs.Inner.Places.{colour_at}
+use Rattle.break_view.specs.Inner.Places.{colour_words, colour_at}
 
 -- the word of a colour
 unfoldable pub take_colour : List (List ℕ) → Step Colour

@@ -1,9 +1,11 @@
 use Rattle.std.proofs.Common.{◌≡◌, length, map, sym, ap, ◌∙◌}
 use Rattle.std.proofs.lemmas.Result.{err_from_is_err_and}
 use Rattle.brain_read.specs.Tokens.{tokens_of, has_token}
-use Rattle.brain_read.specs.Inner.Verdict.{judged_line}
+use Rattle.brain_read.specs.Inner.LineByLine.{judged_line}
+use Rattle.brain_read.specs.Inner.Verdict.{brain_reader}
 use Rattle.brain_read.specs.Inner.Answered.{placed_of}
-use Rattle.brain_read.proofs.VerdictLemmas.{reading_from-skip, reading_from-more, reading_from-fault, fails}
+use Rattle.brain_read.proofs.LineLemmas.{reading_from-skip}
+use Rattle.brain_read.proofs.VerdictLemmas.{reading_from-more, reading_from-fault, fails}
 use Rattle.brain_read.proofs.read.read_line.Goals as goal
 use Rattle.brain_read.proofs.read.read_line.Goals.{After-has_next, After-draft_of}
 
@@ -12,15 +14,15 @@ has : (c : After-has_next) → c.has_next.result ≡ has_token (tokens_of c.args
 has c = c.has_next.ensures ∙ ap has_token c.new-tokens.ensures
 
 -- what was judged of the line
-judged : (c : After-draft_of) → judged_line c.len.result c.args.number c.new-tokens.result ≡ judged_line (length c.args.drafts.now.items) c.args.number (tokens_of c.args.line.now)
+judged : (c : After-draft_of) → judged_line brain_reader c.len.result c.args.number c.new-tokens.result ≡ judged_line brain_reader (length c.args.drafts.now.items) c.args.number (tokens_of c.args.line.now)
 judged c =
-    ap (λ n. judged_line n c.args.number c.new-tokens.result) (c.len.ensures ∙ c.args.drafts.now.ok.0)
-    ∙ ap (judged_line (length c.args.drafts.now.items) c.args.number) c.new-tokens.ensures
+    ap (λ n. judged_line brain_reader n c.args.number c.new-tokens.result) (c.len.ensures ∙ c.args.drafts.now.ok.0)
+    ∙ ap (judged_line brain_reader (length c.args.drafts.now.items) c.args.number) c.new-tokens.ensures
 
 pub returns-then-not-has_next-clause-on : goal.returns-then-not-has_next-clause-on
 returns-then-not-has_next-clause-on c = λ lines.
     let none = sym (has (goal.at.returns-then-not-has_next-clause-on c).After-has_next) ∙ c.if-not-has_next.true in
-    reading_from-skip (map placed_of c.args.drafts.now.items) c.args.number c.args.line.now lines none
+    reading_from-skip brain_reader (map placed_of c.args.drafts.now.items) c.args.number c.args.line.now lines none
 
 pub returns-in_err-draft-clause-fault : goal.returns-in_err-draft-clause-fault
 returns-in_err-draft-clause-fault c = λ lines.

@@ -1,6 +1,7 @@
-use Rattle.break_view.proofs.VerdictLemmas.{IsUnderway}
+use Rattle.brain_read.proofs.LineLemmas.{IsUnderway}
+use Rattle.break_view.specs.Inner.Verdict.{break_reader}
 use Rattle.break_view.proofs.read.read_list.Given as goal
 
 -- the lines before were read, and the others are still to be read
 abbrev pub invariant-loop-line : goal.invariant-loop-line
-invariant-loop-line l = IsUnderway l.list.items l.number l.line-iterator l.text
+invariant-loop-line l = IsUnderway break_reader l.list.items l.number l.line-iterator l.text
