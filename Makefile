@@ -10,8 +10,8 @@ build: $(PROGRAM)
 
 # `rt run` builds before it runs, and there is no command that builds alone: so a command is run that needs no file.
 $(PROGRAM): crates.txt $(shell find crates -name out -prune -o \( -name '*.rt' -o -name '*.antt' \) -print)
-	cd crates/ants && rt run -- show - 1 < stdin > /dev/null
-	touch $@
+	@cd crates/ants && rt run -- show - 1 < stdin > /dev/null
+	@touch $@
 
 run: build
 	@$(PROGRAM) $(ARGS)

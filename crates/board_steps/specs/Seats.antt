@@ -38,7 +38,7 @@ second_at basis = newcomer (has_seen (first_seat basis))
 abbrev pub taken : View → ℕ → View
 taken v ticket = record v { phase = Resting; took = v.took ++ ticket ∷ [] }
 
--- a board is for the turns 0 to 7 of a field, which is lent for them
+-- a board is for the turns 0 to 6 of a field, which is lent for them
 pub record IsFor (field : FieldValue) (board : Board) : Type 0 where
   pub lent : IsLentFor field (window_of board)
   pub from : (basis_of board).from ≡ 0
