@@ -9,3 +9,4 @@ pub mod Refining
 pub mod Texts
 pub mod Uniqueness
 pub mod Worked
+pub mod WorkedTen

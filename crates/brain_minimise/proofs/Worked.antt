@@ -1,14 +1,23 @@
 -- Minimising, worked out on small brains.
-use Rattle.std.proofs.Common.{◌≡◌, List, [], ◌∷◌, map, Some, None, codes, refl}
+use Rattle.std.proofs.Common.{◌≡◌, ℕ, List, [], ◌∷◌, map, true, Some, None, codes, refl, ap, arith}
 use Rattle.std.specs.Fmt.{digits}
+use Rattle.hex_geometry.specs.declared.direction.Dir.{Dir}
+use Rattle.hex_geometry.specs.declared.direction.Dir.TheVariants.{East, West}
 use Rattle.hex_geometry.specs.declared.direction.Side.TheVariants.{Left}
 use Rattle.hex_geometry.specs.declared.neighbourhood.Sight.TheVariants.{Ahead}
+use Rattle.cell_world.specs.declared.ant.Ant.{Ant}
+use Rattle.cell_world.specs.declared.ant.Colour.{Colour}
+use Rattle.cell_world.specs.declared.ant.Colour.TheVariants.{Red, Black}
+use Rattle.cell_world.specs.declared.cell.Cell.{Cell}
+use Rattle.cell_world.specs.Opening.{floor}
+use Rattle.cell_world.specs.World.{World}
 use Rattle.brain_read.specs.declared.instr.Cond.TheVariants.{Marker}
 use Rattle.brain_read.specs.declared.instr.Instr.{Instr}
 use Rattle.brain_read.specs.declared.instr.Instr.TheVariants.{Sense, Mark, Unmark, PickUp, Drop, Turn, Flip, Move}
 use Rattle.brain_read.specs.Canonical.{brain_text, instruction_text}
 use Rattle.brain_minimise.specs.Equivalence.{AreEquivalent, shape_of}
 use Rattle.brain_minimise.specs.Laws.{kept_before, left_of}
+use Rattle.brain_minimise.specs.Match.{DiffersInStates, IsSameAnt}
 use Rattle.brain_minimise.specs.Text.{minimised_text}
 
 -- the brain
@@ -51,3 +60,30 @@ second_counts : AreEquivalent other_second 0 1 → ⊥
 second_counts equivalent =
     let onward = equivalent.bisimulation.onward 0 1 equivalent.holds in
     let shapes = equivalent.bisimulation.shape 0 2 onward.1.0 in cc
+
+-- two games whose worlds differ in the states of red ants alone
+abbrev ant : Colour → ℕ → Dir → Ant
+ant colour state facing = record { id = 4; colour = colour; state = state; resting = 2; facing = facing; laden = true }
+
+red_in_another_state : IsSameAnt Red (Some (ant Red 1 East)) (Some (ant Red 2 East))
+red_in_another_state = (refl, λ other. absurd (other refl))
+
+-- a black ant in another state is another ant
+black_stays : IsSameAnt Red (Some (ant Black 1 East)) (Some (ant Black 2 East)) → ⊥
+black_stays same = let states = same.1 (λ is. cc) in omega (arith, states)
+
+-- and so is a red one with another direction
+red_turned : IsSameAnt Red (Some (ant Red 1 East)) (Some (ant Red 2 West)) → ⊥
+red_turned same = let facing : West ≡ East = ap (λ (a : Ant). a.facing) same.0 in cc
+
+-- or one where there was none
+red_added : IsSameAnt Red None (Some (ant Red 1 East)) → ⊥
+red_added same = same
+
+-- another particle of food is another world
+abbrev all : Cell → World
+all cell = record { width = 3; height = 3; ids = 0; cells = λ _. cell }
+
+food_stays : DiffersInStates Red (all floor) (all (record floor { food = 1 })) → ⊥
+unfolding floor
+food_stays differs = let food = ap (λ (cell : Cell). cell.food) (differs.cells (record { x = 1; y = 1 })) in omega (arith, food)

@@ -1,4 +1,4 @@
--- Equivalent states of a brain (the task's neurology; merging them is this project's own).
+-- Equivalent states of a brain (the task's neurology).
 use Rattle.std.specs.Prelude.{◌≡◌, ℕ, ◌<◌, Bool, true, List, [], ◌∷◌, length}
 use Rattle.brain_read.specs.declared.instr.Instr.{Instr}
 use Rattle.brain_read.specs.Grammar.{states_of}

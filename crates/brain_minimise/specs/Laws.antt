@@ -1,4 +1,4 @@
--- What minimising comes to, in its own words (this project's own).
+-- What minimising comes to, in its own words.
 use Rattle.std.specs.Prelude.{◌≡◌, ℕ, zero, suc, ◌<◌, ◌≤◌, List, [], ◌∷◌, length, map, Option, Some, None}
 use Rattle.brain_read.specs.declared.instr.Instr.{Instr}
 use Rattle.ant_turn.specs.Renumber.{number_of, redirected}

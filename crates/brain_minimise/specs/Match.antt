@@ -1,4 +1,4 @@
--- Games with a brain and with its minimised one (the task's game play; minimising is this project's own).
+-- Games with a brain and with its minimised one (the task's game play).
 use Rattle.std.specs.Prelude.{◌≡◌, ◌≢◌, ℕ, List, Option, Some, None}
 use Rattle.hex_geometry.specs.declared.position.Pos.{Pos}
 use Rattle.cell_world.specs.declared.ant.Ant.{Ant}

@@ -1,4 +1,4 @@
--- A minimised brain and the map to its states (this project's own).
+-- A minimised brain and the map to its states.
 use Rattle.std.specs.Prelude.{◌≡◌, ℕ, ◌<◌, ◌≤◌, List, length, slice_index_or, slice_get, Option, Some, None, IsSome}
 use Rattle.brain_read.specs.declared.instr.Instr.{Instr}
 use Rattle.ant_turn.specs.Renumber.{number_of, redirected}

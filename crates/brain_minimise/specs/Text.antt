@@ -1,4 +1,4 @@
--- The text that tells of a minimised brain (this project's own).
+-- The text that tells of a minimised brain.
 use Rattle.std.specs.Prelude.{ℕ, List, length, codes, decimal}
 use Rattle.ant_base.specs.Layout.{◌+++◌}
 use Rattle.brain_read.specs.declared.instr.Instr.{Instr}

@@ -4,7 +4,7 @@
 //! condition, marker, side or bound, and their successors are equivalent again. [`minimise`] merges the equivalent states among those
 //! that state 0 leads to, drops all others, and says which state became which. Merging drops no instruction that does something: a
 //! Flip whose branches are equal still draws, and a Sense still takes its turn. So the minimised brain plays every game as the brain does,
-//! but for the numbers of its states; that is a law of this crate. All of it is this project's own, over the task's neurology. It
+//! but for the numbers of its states; that is a law of this crate. What names no section of the contest's task is this project's own. It
 //! stands on `brain_read` and on the definitions of `ant_turn`, and numbers the classes by the kit's `indexmap`.
 #![tactic(auto)]
 

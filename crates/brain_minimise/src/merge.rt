@@ -19,8 +19,7 @@ pub struct Minimised {
     pub map: StateMap,
 }
 
-/// Merges the equivalent states of a brain among those that state 0 leads to, and drops all others (this project's own, over the task's
-/// neurology).
+/// Merges the equivalent states of a brain among those that state 0 leads to, and drops all others (over the task's neurology).
 ///
 /// Two states are equivalent by the greatest relation in which related states have equal kinds and parameters and related successors. The
 /// kept states are numbered from 0 in rising order of their least reachable member; each has its members' instruction with the

@@ -10,6 +10,7 @@ use Rattle.std.proofs.lemmas.Bool.{cases_Bool, false≢true}
 use Rattle.std.proofs.lemmas.Int.{ints}
 use Rattle.std.specs.Prelude.{Bool, ℤ, pos, negsuc, ◌+ℤ◌, ◌-ℤ◌}
 use Rattle.world_gen.proofs.Steps.{point_one}
+use Rattle.world_gen.specs.Fitting.{IsOffRim}
 use Rattle.world_gen.specs.Inner.Open.{BallIsOpen, IsFenced, IsOpen, IsShut, IsWithin, RowIsOpen, in_row, is_open}
 
 -- what is at a distance in a ball is within its radius
@@ -65,39 +66,39 @@ module _ (P : Pos → Type 0) (centre : Pos) (radius : ℕ) (all : (q : Point) �
       let row : pos found.0.y ≡ pos centre.y +ℤ pos radius = ap (λ (q : Point). q.y) found.1 in
       (found.0, omega (arith, ints), found.2)
 
+  pub sides : HasSides P centre radius
+  sides = record { left = left_side; right = right_side; top = top_side; bottom = bottom_side }
+
 -- a ball whose positions have neighbours is one of positions
 pub ball_has : (centre : Pos) (radius : ℕ) → ((q : Point) → IsInBall (point_of centre) radius q → (p : Pos) × (point_of p ≡ q) × HasNeighbours p) → HasBall centre radius
 ball_has centre radius all =
-    let left = left_side HasNeighbours centre radius all in
-    let right = right_side HasNeighbours centre radius all in
-    let top = top_side HasNeighbours centre radius all in
-    let bottom = bottom_side HasNeighbours centre radius all in
-    let a = left.1 in
-    let b = right.1 in
-    let c = top.1 in
-    let d = bottom.1 in
-    let e = right.2 in
-    let f = bottom.2 in
+    let at = sides HasNeighbours centre radius all in
+    let a = at.left.1 in
+    let b = at.right.1 in
+    let c = at.top.1 in
+    let d = at.bottom.1 in
+    let e = at.right.2 in
+    let f = at.bottom.2 in
     record { from_left = omega arith; to_right = omega arith; from_top = omega arith; to_bottom = omega arith }
 
--- an open ball ends before the rim
+-- a ball off the rim ends before it
+pub off_rim_within : (width height : ℕ) (centre : Pos) (radius : ℕ) → ((q : Point) → IsInBall (point_of centre) radius q → IsOffRim width height q) → IsWithin width height centre radius
+off_rim_within width height centre radius all =
+    let at = sides (IsInner width height) centre radius all in
+    let a = at.left.1 in
+    let b = at.right.1 in
+    let c = at.top.1 in
+    let d = at.bottom.1 in
+    let e = at.left.2 in
+    let f = at.right.2 in
+    let g = at.top.2 in
+    let h = at.bottom.2 in
+    record { from_left = omega arith; from_top = omega arith; to_right = omega arith; to_bottom = omega arith }
+
+-- so does an open ball
 pub open_within : (width height : ℕ) (blocked : List Bool) (centre : Pos) (radius : ℕ) → IsFenced width height blocked → BallIsOpen width height blocked (point_of centre) radius → IsWithin width height centre radius
 open_within width height blocked centre radius fence all =
-    let inner : (q : Point) → IsInBall (point_of centre) radius q → (p : Pos) × (point_of p ≡ q) × IsInner width height p =
-    λ q ball. let found = all q ball in (found.0, found.1, fence.rim found.0 found.2) in
-    let left = left_side (IsInner width height) centre radius inner in
-    let right = right_side (IsInner width height) centre radius inner in
-    let top = top_side (IsInner width height) centre radius inner in
-    let bottom = bottom_side (IsInner width height) centre radius inner in
-    let a = left.1 in
-    let b = right.1 in
-    let c = top.1 in
-    let d = bottom.1 in
-    let e = left.2 in
-    let f = right.2 in
-    let g = top.2 in
-    let h = bottom.2 in
-    record { from_left = omega arith; from_top = omega arith; to_right = omega arith; to_bottom = omega arith }
+    off_rim_within width height centre radius (λ q ball. let found = all q ball in (found.0, found.1, fence.rim found.0 found.2))
 
 -- rows that are open are an open ball
 row_of : (width height : ℕ) (blocked : List Bool) (centre : Pos) (radius n : ℕ) (x y : ℤ) → IsWithin width height centre radius → 2 * radius + 1 ≤ n

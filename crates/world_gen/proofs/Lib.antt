@@ -13,3 +13,4 @@ pub mod Steps
 pub mod Trials
 pub mod Unique
 pub mod Worked
+pub mod WorkedPlacing

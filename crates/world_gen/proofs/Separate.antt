@@ -12,7 +12,7 @@ use Rattle.world_gen.specs.PlacingLaws.{AreApart, ElementsLieApart, IsSeparated}
 use Rattle.world_gen.specs.declared.shape.Shape.{Shape}
 use Rattle.world_gen.specs.declared.spot.Spot.{Spot}
 
-no_member : {X : Type 0} (z : X) → Contains [] z → ⊥
+pub no_member : {X : Type 0} (z : X) → Contains [] z → ⊥
 no_member z found = let h = found.1 in omega arith
 
 apart_none : (width height : ℕ) → IsSeparated width height []

@@ -12,7 +12,7 @@ use Rattle.world_gen.specs.Placing.{after_begun, begun, try_of}
 use Rattle.world_gen.specs.declared.element.Element.TheVariants as element
 use Rattle.world_gen.specs.declared.spot.Form.TheVariants.{Hill, Rock, Blob}
 
-abbrev place : ℕ → ℕ → Pos
+abbrev pub place : ℕ → ℕ → Pos
 place x y = record { x = x; y = y }
 
 abbrev point : ℕ → ℕ → Point

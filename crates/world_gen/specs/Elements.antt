@@ -1,4 +1,4 @@
--- The elements of a generated world, and their cells (this project's own).
+-- The elements of a generated world, and their cells.
 use Rattle.std.specs.Prelude.{◌≡◌, ℕ, zero, suc, ◌+◌, ◌≤◌, cond, nat_lt}
 use Rattle.cell_world.specs.declared.ant.Colour.TheVariants.{Red, Black}
 use Rattle.hex_geometry.specs.Direction.{turned_by}

@@ -1,4 +1,4 @@
--- The kinds of a generated world, and the world (this project's own).
+-- The kinds of a generated world, and the world.
 use Rattle.std.specs.Prelude.{◌≡◌, ℕ, ◌*◌, ◌≤◌, List, length, Contains, Result, Ok, Err}
 use Rattle.cell_world.specs.Grid.{Grid}
 use Rattle.cell_world.specs.Limits.{least_size, most_size}

@@ -1,4 +1,4 @@
--- How the elements are placed with random numbers (this project's own).
+-- How the elements are placed with random numbers.
 use Rattle.std.specs.Prelude.{◌≡◌, ℕ, ◌+◌, ◌*◌, ◌<◌, List, [], ◌∷◌, ◌++◌, length, ◌⊎◌}
 use Rattle.ant_random.specs.Stream.{drawn}
 use Rattle.hex_geometry.specs.Direction.{dir_of}
@@ -82,7 +82,8 @@ pub record IsBarred (fits : Spot → Type 0) (seed width height : ℕ) (form : F
 -- where an element that is begun at place g goes, and the place of the stream after it
 abbrev pub Goes : (Spot → Type 0) → ℕ → ℕ → ℕ → Element → ℕ → Spot → ℕ → Type 0
 Goes fits seed width height element g spot after =
-    IsTaken fits seed width height (begun seed g element) (after_begun g element) spot after ⊎ IsFound fits seed width height (begun seed g element) (after_begun g element) spot after
+    IsTaken fits seed width height (begun seed g element) (after_begun g element) spot after
+    ⊎ IsFound fits seed width height (begun seed g element) (after_begun g element) spot after
 
 -- it has no room
 abbrev pub HasNone : (Spot → Type 0) → ℕ → ℕ → ℕ → Element → ℕ → Type 0

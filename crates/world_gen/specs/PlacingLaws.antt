@@ -1,4 +1,4 @@
--- What holds of placed elements (this project's own).
+-- What holds of placed elements.
 use Rattle.std.specs.Prelude.{◌≡◌, ℕ, List, Contains, AllPairs}
 use Rattle.cell_world.specs.Grid.{Grid}
 use Rattle.hex_geometry.specs.Position.{Point}

@@ -18,7 +18,7 @@ use std::alloc::Global;
 pub enum GenFault {
     /// This element fits at no place of the grid: 0 is the red hill, 1 the black hill, then come the rocks, then the blobs.
     NoRoom {
-        /// the number of the element
+        /// The number of the element.
         element: u32,
     },
     /// There was no memory.
@@ -36,7 +36,7 @@ impl From<OutOfMemory> for GenFault {
 }
 
 /// The world of a seed, from 0 to 4,294,967,295, and a shape, whose width and height are from 3 to 512. The rim and the rocks are rocky,
-/// each blob's cells have 5 food particles each, all else but the hills is clear, and an ant begins on each hill cell. An element goes to
+/// each cell of a blob has 5 food particles, all else but the hills is clear, and an ant begins on each hill cell. An element goes to
 /// the first of its 50 tries that fits, else to the first place that fits in row order; `NoRoom` comes exactly where there is none for an
 /// element, the first such. Apart from that it is refused for want of memory alone.
 pub fn generate(alloc: Global, seed: u32, shape: Shape) -> Result<World, GenFault>

@@ -1,9 +1,10 @@
 //! Worlds made from a number: the contest's shape, and others like it.
 //!
-//! The generator is this project's own, in the manner of the contest's worlds: two hills, then rocks, then blobs of food, each placed at
-//! random where it touches neither the rim nor what was placed before. [`generate`] gives the opening world of exactly the placed
-//! elements, or says which element has no room; the laws say that placed elements lie apart, and that a seed and a shape have one
-//! outcome. No place that is tried takes memory. This crate stands on `hex_geometry`, `ant_random` and `cell_world`.
+//! The generator makes worlds in the manner of the contest's: two hills, then rocks, then blobs of food, each placed at random where it
+//! touches neither the rim nor what was placed before. [`generate`] gives the opening world of exactly the placed elements, or says which
+//! element has no room; the laws say that placed elements lie apart, and that a seed and a shape have one outcome. No place that is tried
+//! takes memory. What names no section of the contest's task is this project's own. This crate stands on `hex_geometry`, `ant_random` and
+//! `cell_world`.
 #![tactic(auto)]
 
 mod cells;

@@ -12,9 +12,9 @@ pub struct Shape {
     pub width: u16,
     /// How many rows there are, from 3 to 512.
     pub height: u16,
-    /// How many rocks.
+    /// How many rocks, from 0 to 255.
     pub rocks: u8,
-    /// How many blobs of food.
+    /// How many blobs of food, from 0 to 255.
     pub blobs: u8,
 }
 

@@ -113,7 +113,6 @@ fn index_of(width: u16, p: Pos) -> usize
     p.y as usize * width as usize + p.x as usize
 }
 
-// Paints a cell.
 fn paint(kinds: &mut [Kind], width: u16, p: Pos, kind: Kind)
     requires { index_of width p < length kinds.old }
     ensures { kinds.new ≡ slice_set kinds.old (index_of width p) kind }
@@ -121,7 +120,6 @@ fn paint(kinds: &mut [Kind], width: u16, p: Pos, kind: Kind)
     kinds[index_of(width, p)] = kind;
 }
 
-// Blocks a cell.
 fn block(blocked: &mut [bool], width: u16, p: Pos)
     requires { index_of width p < length blocked.old }
     ensures { blocked.new ≡ slice_set blocked.old (index_of width p) true }
