@@ -1,4 +1,4 @@
-use Rattle.std.proofs.Common.{◌≡◌, ◌+◌, ◌≤◌, add-one, sym, ◌∙◌, ap, arith}
+use Rattle.std.proofs.Common.{◌≡◌, add-one, sym, ◌∙◌, ap, arith}
 use Rattle.ant_random.specs.Stream.{SeedAndPlace}
 use Rattle.cell_world.specs.Cell.{one_if}
 use Rattle.cell_world.specs.Grid.{world_of}
