@@ -107,7 +107,6 @@ fn summary_of<C: Crew>(
     })
 }
 
-// Pushes what a workload tells.
 #[tactic(auto, unfolding(crate::specs::Jobs::workload_text))]
 fn push_summary<K: Sink>(
     seed: u32,
