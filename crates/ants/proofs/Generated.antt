@@ -1,5 +1,5 @@
 -- The endings of a command that generates a world and reads no file.
-use Rattle.std.proofs.Common.{◌≡◌, ℕ, List, [], refl, sym, subst, Result, Ok, Err}
+use Rattle.std.proofs.Common.{◌≡◌, ◌∙◌, ℕ, List, [], ap₂, refl, sym, subst, Result, Ok, Err}
 use Rattle.std.specs.Prelude.{IsErrAnd}
 use Rattle.ant_base.proofs.Fetching.{fetches_none}
 use Rattle.ant_base.specs.Shelf.{ShelfState}
@@ -21,9 +21,17 @@ use Rattle.ants.specs.declared.stop.Stop.TheVariants as stop
 use Rattle.ants.specs.Files.{AreAccepted, File}
 use Rattle.ants.specs.Inner.Planning.{IsGenerating}
 use Rattle.ants.specs.Inner.Reading.{CarriesOut, ending_of}
-use Rattle.ants.specs.Jobs.{LacksRoom, files_of, sample_minds, shape_named}
+use Rattle.ants.specs.Jobs.{LacksRoom, contest_shape, files_of, sample_minds, shape_named}
 use Rattle.ants.proofs.Readings.{carries_done, carries_failure, carries_wanting, ending_stopped, reads_none}
 use Rattle.ants.proofs.SampleWorked.{sample_brain-sound}
+
+-- a shape with the contest's numbers is the contest's
+pub contest_shape-of : (shape : Shape) → shape.width ≡ 150 → shape.height ≡ 150 → shape.rocks ≡ 14 → shape.blobs ≡ 11 → shape ≡ contest_shape
+contest_shape-of shape width height rocks blobs =
+    ap₂ (λ (w h : ℕ). sized w h shape.rocks shape.blobs) width height ∙ ap₂ (λ (r b : ℕ). sized 150 150 r b) rocks blobs
+  where
+    sized : ℕ → ℕ → ℕ → ℕ → Shape
+    sized w h r b = record { width = w; height = h; rocks = r; blobs = b }
 
 -- a generated world is one at the start of a game
 pub opens_generated : (seed : ℕ) (shape : Shape) (world : Grid) → IsGenerated seed shape world → IsOpeningWorld world

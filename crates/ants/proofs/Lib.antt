@@ -9,4 +9,5 @@ pub mod SampleWorked
 pub mod Texts
 pub mod Verdicts
 pub mod Viewed
+pub mod WorkedStops
 pub mod Workloads

@@ -69,11 +69,13 @@ files_of (WorkloadCommand seed rounds workers) = []
 -- the output of `show`: the line of the seed, and the dump after round 0
 unfoldable pub show_output : ℕ → Content → List ℕ
 show_output seed (WorldContent grid) = seed_text seed +++ dump_text (world_of grid) 0
+-- never: its file is a world
 show_output seed content = []
 
 -- the output of `brain`: the canonical text
 unfoldable pub brain_output : Content → List ℕ
 brain_output (BrainContent list) = brain_text list
+-- never: its file is a brain
 brain_output content = []
 
 -- whether the words of a command choose a round: none, every one, or those of a list
@@ -94,6 +96,7 @@ minds_named setup red black = record { red = red; black = black; sheet = sheet_n
 unfoldable pub match_output : RunSetup → Content → Content → Content → List ℕ
 match_output setup (WorldContent grid) (BrainContent red) (BrainContent black) =
     whole_text (minds_named setup red black) setup.seed setup.rounds (chosen_rounds setup.dumps) setup.window setup.stats (world_of grid)
+-- never: its files are a world and two brains
 match_output setup world red black = []
 
 -- the output of `minimise`: what is told of this brain, minimised
@@ -105,12 +108,14 @@ pub record TellsMinimised (old : List Instr) (text : List ℕ) : Type 0 where
 
 abbrev pub IsMinimisedOutput : Content → List ℕ → Type 0
 IsMinimisedOutput (BrainContent list) text = TellsMinimised list text
+-- never: its file is a brain
 IsMinimisedOutput content text = ⊥
 
 -- the output of `view`: the view of the game, by the contest's rules, with these breaks
 abbrev pub IsViewOutput : ℕ → ℕ → Content → Content → Content → Content → List ℕ → Type 0
 IsViewOutput seed rounds (WorldContent grid) (BrainContent red) (BrainContent black) (BreakContent items) text =
     IsViewText (contest_minds red black) seed rounds (world_of grid) items text
+-- never: its files are a world, two brains and a list of breaks
 IsViewOutput seed rounds world red black breaks text = ⊥
 
 -- no cells, for places past the end of a list

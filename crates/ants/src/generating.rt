@@ -1,5 +1,4 @@
 // The command `gen`.
-ghost use Rattle.std.specs.Prelude.{◌≡◌};
 ghost use Rattle.command_words.specs.Command.PlainCommand.{GenCommand};
 ghost use Rattle.command_words.specs.Laws.{ShapeWithin};
 ghost use Rattle.world_gen.specs.Painting.{IsShape};
@@ -15,24 +14,6 @@ use std::alloc::Global;
 use world_gen::{GenFault, Shape, generate};
 use world_read::write_world;
 
-// The shape that the words name.
-fn shape_of(named: GenShape) -> Shape
-    ensures { result ≡ shape_named named }
-{
-    let GenShape {
-        width,
-        height,
-        rocks,
-        blobs,
-    } = named;
-    Shape {
-        width,
-        height,
-        rocks,
-        blobs,
-    }
-}
-
 /// The world of a seed and a shape, or why there is none: an element that has no room, or memory that could not be had.
 pub fn generated<'w>(alloc: Global, seed: u32, shape: Shape) -> Result<World, Stop<'w>>
     requires { IsShape shape }
@@ -43,6 +24,26 @@ pub fn generated<'w>(alloc: Global, seed: u32, shape: Shape) -> Result<World, St
         Err(GenFault::NoRoom { element }) => Err(Stop::NoRoom(element)),
         Err(GenFault::OutOfMemory) => Err(Stop::Memory),
     }
+}
+
+// The world of a seed and the shape that the words name.
+fn named_world<'w>(alloc: Global, seed: u32, named: GenShape) -> Result<World, Stop<'w>>
+    requires { ShapeWithin named }
+    ensures { IsGenerating seed (shape_named named) result }
+{
+    let GenShape {
+        width,
+        height,
+        rocks,
+        blobs,
+    } = named;
+    let shape = Shape {
+        width,
+        height,
+        rocks,
+        blobs,
+    };
+    generated(alloc, seed, shape)
 }
 
 /// Writes the canonical text of the world of a seed and a shape.
@@ -56,7 +57,7 @@ pub fn gen_world<'w, S: Shelf, K: Sink>(
     requires { ShapeWithin shape }
     ensures { CarriesOut (GenCommand seed shape) (S.state shelf.old) (S.state shelf.new) (K.state out.old) (K.state out.new) (ending_of result) }
 {
-    let world = generated(alloc, seed, shape_of(shape))?;
+    let world = named_world(alloc, seed, shape)?;
     write_world(&world, out)?;
     Ok(())
 }

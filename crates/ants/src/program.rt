@@ -100,7 +100,6 @@ fn carry_out_workload<'w, R: Threads + Sync, S: Shelf, K: Sink, G: Gate>(
     workload(alloc, &mut crew, seed, rounds, shelf, out)
 }
 
-// Carries out the command that the words are.
 fn carry_out<'w, R: Threads + Sync, S: Shelf, K: Sink, G: Gate>(
     rt: &R,
     alloc: Global,
@@ -256,7 +255,6 @@ pub fn exit_without_memory<E: Sink>(err: &mut E) -> ExitCode
     exit_of(report(&Stop::Memory, err))
 }
 
-// The exit code of a status.
 fn exit_of(status: Status) -> ExitCode
     ensures { exit_status result ≡ number_of status }
 {

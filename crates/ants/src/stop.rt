@@ -83,7 +83,6 @@ impl From<PlayFault> for Stop<'_> {
     }
 }
 
-// What a world file's fault says.
 #[derive(Clone, Copy)]
 struct WorldWords(WorldFault);
 
@@ -108,7 +107,6 @@ impl Layout for WorldWords {
     }
 }
 
-// What a brain file's fault says.
 #[derive(Clone, Copy)]
 struct BrainWords(BrainFault);
 
@@ -140,7 +138,6 @@ impl Layout for BrainWords {
     }
 }
 
-// What the fault of a file of breaks says.
 #[derive(Clone, Copy)]
 struct BreakWords(BreakFault);
 
@@ -167,7 +164,6 @@ impl Layout for BreakWords {
     }
 }
 
-// What a file's fault says.
 #[derive(Clone, Copy)]
 struct FileWords(FileFault);
 

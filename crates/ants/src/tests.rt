@@ -116,8 +116,18 @@ fn answer_by<R: Threads + Sync, G: Gate>(
     job: &Job<'_>,
     gate: &G,
 ) -> Result<Outcome, Fail> {
+    answer_over(rt, alloc, job, files_of(alloc, job)?, gate)
+}
+
+// Carries out a command over these files.
+fn answer_over<R: Threads + Sync, G: Gate>(
+    rt: &R,
+    alloc: Global,
+    job: &Job<'_>,
+    files: Files,
+    gate: &G,
+) -> Result<Outcome, Fail> {
     let words = split(alloc, job.line)?;
-    let files = files_of(alloc, job)?;
     let mut shelf = MemShelf::new(files, only(alloc, job.failing_fetch)?);
     let mut out = MemSink::with_room(alloc, job.room, only(alloc, job.failing_push)?)?;
     let mut err = MemSink::with_room(alloc, job.err_room, Calls::new(alloc))?;
@@ -148,6 +158,7 @@ fn check<R: Threads + Sync + Abort>(
 enum Given {
     Line,
     World,
+    Red,
     Black,
     Breaks,
 }
@@ -161,6 +172,7 @@ impl<'t> Job<'t> {
                 world: text,
                 ..self
             },
+            Given::Red => Job { red: text, ..self },
             Given::Black => Job {
                 black: text,
                 ..self

@@ -10,7 +10,8 @@ ghost use Rattle.dump_print.specs.Texts.{score_text, stats_text};
 ghost use Rattle.match_run.specs.Inner.Rounds.{IsAtRound};
 ghost use Rattle.match_run.specs.Run.{most_rounds};
 ghost use Rattle.ants.specs.Inner.Reading.{CarriesOut, ending_of};
-ghost use Rattle.ants.specs.Jobs.{sample_minds, summary_lines, summary_of, workload_text};
+ghost use Rattle.ants.specs.Inner.Planning.{IsGenerating};
+ghost use Rattle.ants.specs.Jobs.{contest_shape, sample_minds, summary_lines, summary_of, workload_text};
 ghost use Rattle.ants.specs.Sample.{sample_brain};
 
 use crate::generating::generated;
@@ -42,6 +43,13 @@ pub struct Summary {
     pub score: Score,
     /// What came of the turns.
     pub totals: Totals,
+}
+
+// The world of a seed and the contest's shape.
+fn contest_world<'w>(alloc: Global, seed: u32) -> Result<World, Stop<'w>>
+    ensures { IsGenerating seed contest_shape result }
+{
+    generated(alloc, seed, Shape::contest())
 }
 
 // The game on a field after so many rounds.
@@ -99,7 +107,6 @@ fn summary_of<C: Crew>(
     })
 }
 
-// Pushes what a workload tells.
 #[tactic(auto, unfolding(crate::specs::Jobs::workload_text))]
 fn push_summary<K: Sink>(
     seed: u32,
@@ -158,7 +165,7 @@ pub fn workload<'w, C: Crew, S: Shelf, K: Sink>(
     ensures { (workers : ℕ) → CarriesOut (WorkloadCommand seed rounds workers)
         (S.state shelf.old) (S.state shelf.new) (K.state out.old) (K.state out.new) (ending_of result) }
 {
-    let world = generated(alloc, seed, Shape::contest())?;
+    let world = contest_world(alloc, seed)?;
     let brain = sample_brain(alloc)?;
     let summary = summary_of(alloc, crew, world, &brain, seed, rounds)?;
     push_summary(seed, rounds, summary, out)?;

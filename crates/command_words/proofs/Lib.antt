@@ -12,3 +12,4 @@ pub mod ReadLemmas
 pub mod WordLaws
 pub mod WorkedFronts
 pub mod WorkedLines
+pub mod WorkedOptions

@@ -1,15 +1,11 @@
 -- Words that are fronts of a command's own words, refused at their word.
-use Rattle.std.proofs.Common.{List, ℕ, codes, ◌==◌, refl}
-use Rattle.std.specs.List.{slice_split}
+use Rattle.std.proofs.Common.{codes, refl}
 use Rattle.ant_base.specs.Number.{number_of}
 use Rattle.command_words.specs.Command.{IsRefusedAt}
 use Rattle.command_words.specs.Inner.Walk.{kind_of, choice_of, is_among, rest_after}
 use Rattle.command_words.specs.Slots.{dumps_of, is_dumps, is_file_name}
 use Rattle.command_words.proofs.ReadLemmas.{read-refuses}
-
--- the words of a line with one space between each two
-abbrev words_of : List ℕ → List (List ℕ)
-words_of line = slice_split (λ byte. byte == 32) line
+use Rattle.command_words.proofs.WorkedLines.{words_of}
 
 -- a front of a command's word is no command
 pub command_cut : IsRefusedAt (words_of (codes "sho w 1")) 1

@@ -11,7 +11,7 @@ use Rattle.command_words.specs.Inner.Walk.{kind_of, choice_of, is_among, rest_af
 use Rattle.command_words.proofs.ReadLemmas.{read-accepts, read-refuses}
 
 -- the words of a line with one space between each two
-abbrev words_of : List ℕ → List (List ℕ)
+abbrev pub words_of : List ℕ → List (List ℕ)
 words_of line = slice_split (λ byte. byte == 32) line
 
 -- the numbers of a game, in the order of its record

@@ -28,7 +28,6 @@ pub enum NumberKind {
 }
 
 impl NumberKind {
-    // The least number of this kind.
     fn least(self) -> u64
         ensures { result ≡ least_of self }
     {
@@ -45,7 +44,6 @@ impl NumberKind {
         }
     }
 
-    // The greatest number of this kind.
     fn most(self) -> u64
         ensures most { result ≡ most_of self }
         ensures small { result < 4294967296 }

@@ -24,7 +24,6 @@ impl<'t> Model for Pieces<'t> {
 }
 
 impl<'t> Pieces<'t> {
-    // All pieces of the text.
     pub(crate) fn new(text: &'t [u8]) -> Self
         ensures { result ≡ pieces_of text.now }
     {
@@ -55,7 +54,6 @@ fn cut_piece(text: &[u8]) -> (&[u8], Option<&[u8]>)
     (piece, after_byte(rest))
 }
 
-// What stands after the first byte, if there is one.
 fn after_byte(text: &[u8]) -> Option<&[u8]>
     ensures { option_copied result ≡ after_byte text.now }
 {

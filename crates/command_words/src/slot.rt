@@ -28,7 +28,6 @@ pub enum Place {
 }
 
 impl Slot {
-    // Whether a word fits.
     pub(crate) fn fits(self, word: &str) -> bool
         ensures { result ≡ fits self word.now }
     {

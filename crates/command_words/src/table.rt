@@ -65,7 +65,6 @@ pub enum NameList {
     Brains,
 }
 
-// The most names of a list.
 pub(crate) const MOST_NAMES: usize = 16;
 
 // What holds where a number's option isn't given.
@@ -86,7 +85,6 @@ pub(crate) const DEFAULT_ROCKS: u8 = 14;
 
 pub(crate) const DEFAULT_BLOBS: u8 = 11;
 
-// All commands that are known.
 pub(crate) fn kinds() -> &'static [CommandKind]
     ensures { result.now ≡ kinds }
 {
@@ -103,7 +101,6 @@ pub(crate) fn kinds() -> &'static [CommandKind]
 }
 
 impl CommandKind {
-    // Its first word.
     pub(crate) fn word(self) -> &'static str
         ensures { result.now ≡ word_of self }
     {
@@ -184,7 +181,6 @@ impl CommandKind {
 }
 
 impl Choice {
-    // Its word.
     pub(crate) fn word(self) -> &'static str
         ensures { result.now ≡ option_of self }
     {
@@ -249,7 +245,6 @@ impl Choice {
 }
 
 impl NameList {
-    // The word before it.
     pub(crate) fn keyword(self) -> &'static str
         ensures { result.now ≡ keyword_of self }
     {
@@ -259,7 +254,6 @@ impl NameList {
         }
     }
 
-    // Its fewest names.
     pub(crate) fn fewest(self) -> usize
         ensures { result ≡ fewest_names self }
     {
@@ -269,7 +263,6 @@ impl NameList {
         }
     }
 
-    // Whether its names are different.
     pub(crate) fn must_differ(self) -> bool
         ensures { result ≡ must_differ self }
     {

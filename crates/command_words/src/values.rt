@@ -45,7 +45,6 @@ pub(crate) fn names_of<'w>(list: NameList, words: &'w [String]) -> &'w [String]
     names_front(rest_after(list.keyword(), words))
 }
 
-// The names at the front of some words.
 fn names_front<'w>(words: &'w [String]) -> &'w [String]
     ensures { texts result.now ≡ names_front (texts words.now) }
 {

@@ -132,7 +132,6 @@ fn names_from(due: &'static [Place], from: usize, at: usize) -> usize
     }
 }
 
-// Whether names are enough for a list.
 fn has_enough(list: NameList, names: &[String]) -> bool
     ensures { result ≡ has_enough list (texts names.now) }
 {
@@ -164,7 +163,6 @@ fn choice_of(kind: CommandKind, word: &str) -> Option<Choice>
         .find(|choice| choice.word() == word)
 }
 
-// Whether a word stands among others.
 pub(crate) fn is_among(word: &str, words: &[String]) -> bool
     ensures { result ≡ is_among word.now (texts words.now) }
 {

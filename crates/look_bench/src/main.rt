@@ -23,24 +23,18 @@ use std::alloc::{AllocError, Global};
 use std::env;
 use world_read::read_world;
 
-// The most bytes of a file.
-const MOST_BYTES: usize = 4_194_304;
-
-// The seed of the random numbers.
 const SEED: u32 = 12345;
 
-// The bytes of a file, if it is there and not too long.
+// The bytes of a file, if it could be fetched.
 fn bytes_of<S: Shelf>(alloc: Global, shelf: &mut S, name: &str) -> Option<Vec<u8>>
     ensures { IfSome result (λ bytes. length bytes.items ≤ longest) }
 {
-    let bytes = shelf.fetch(alloc, name).ok()?;
-    if bytes.len() > MOST_BYTES {
-        return None;
+    match shelf.fetch(alloc, name) {
+        Ok(bytes) => Some(bytes),
+        Err(_) => None,
     }
-    Some(bytes)
 }
 
-// The world of a file.
 fn world_in<S: Shelf>(alloc: Global, shelf: &mut S, name: &str) -> Option<World>
     ensures { IfSome result IsOpeningWorld }
 {
@@ -48,7 +42,6 @@ fn world_in<S: Shelf>(alloc: Global, shelf: &mut S, name: &str) -> Option<World>
     read_world(alloc, &bytes).ok()
 }
 
-// The brain of a file.
 fn brain_in<S: Shelf>(alloc: Global, shelf: &mut S, name: &str) -> Option<Brain> {
     let bytes = bytes_of(alloc, shelf, name)?;
     read_brain(alloc, &bytes).ok()

@@ -18,10 +18,8 @@ use std::io::BufWriter;
 use std::process::ExitCode;
 use world_read::read_world;
 
-// The seed of the random numbers.
 const SEED: u32 = 12345;
 
-// The most rounds of a game.
 const MOST_ROUNDS: u64 = 1_000_000;
 
 /// The score after so many rounds, at most 1,000,000, of the game of two files' brains on the world of a third, by the random numbers of

@@ -1,6 +1,7 @@
 // The command `brain`.
 use crate::status::Status;
-use crate::tests::{Given, Job, NO_JOB, check_rows};
+use crate::tests::{Given, Job, NO_JOB, answer_over, check_rows};
+use ant_base::{Files, NoGate};
 use std::test::Fail;
 
 // The sample brain of the contest's task.
@@ -155,6 +156,26 @@ fn a_brain_has_up_to_10000_instructions_and_4194304_bytes(rt: HostRuntime) -> Re
     )
 }
 
+// Brains with a byte that is no character, and the line that names the first fault of each.
+const NO_TEXT: [(&[u8], &str); 3] = [
+    (b"Drop \x80", "ants: b: line 1: bad byte\n"),
+    (b"Drop 0 0\x80", "ants: b: line 1: bad byte\n"),
+    (b"Drop x \x80", "ants: b: line 1: bad number\n"),
+];
+
+#[test]
+fn a_file_may_have_any_bytes(rt: HostRuntime) -> Result<(), Fail> {
+    for (bytes, line) in NO_TEXT {
+        let mut files = Files::new(rt.alloc());
+        files.add("b", bytes)?;
+        let outcome = answer_over(&rt, rt.alloc(), &PRINT, files, &NoGate)?;
+        assert_eq!(rt; outcome.status, Status::Input, "at {bytes:?}");
+        assert_eq!(rt; outcome.out.held(), b"".as_slice(), "at {bytes:?}");
+        assert_eq!(rt; outcome.err.held(), line.as_bytes(), "at {bytes:?}");
+    }
+    Ok(())
+}
+
 // Brains, and what is told of them minimised.
 const MINIMISED: [(&str, &str); 2] = [
     (
@@ -167,6 +188,21 @@ const MINIMISED: [(&str, &str); 2] = [
     ),
 ];
 
+// Texts that are no brain to be minimised, and the line that names the first fault of each.
+const UNMINIMISED: [(&str, &str); 8] = [
+    ("", "ants: b: no instruction\n"),
+    ("M", "ants: b: line 1: unknown word\n"),
+    ("Move 0", "ants: b: line 1: missing token\n"),
+    ("Drop 0 0", "ants: b: line 1: extra token\n"),
+    ("Flip 0 0 0", "ants: b: line 1: bad number\n"),
+    ("Drop \u{e4}", "ants: b: line 1: bad byte\n"),
+    ("Drop 1\n", "ants: b: line 1: no such state 1\n"),
+    (
+        "Drop 0\nMove 0 2\n",
+        "ants: b: line 2: no such state 2\n",
+    ),
+];
+
 #[test]
 fn a_brain_is_told_minimised(rt: HostRuntime) -> Result<(), Fail> {
     let job = Job {
@@ -174,6 +210,12 @@ fn a_brain_is_told_minimised(rt: HostRuntime) -> Result<(), Fail> {
         ..NO_JOB
     };
     check_rows(&rt, rt.alloc(), job, Given::Black, Status::Done, &MINIMISED)?;
-    let faulty = [("Drop 1\n", "ants: b: line 1: no such state 1\n")];
-    check_rows(&rt, rt.alloc(), job, Given::Black, Status::Input, &faulty)
+    check_rows(
+        &rt,
+        rt.alloc(),
+        job,
+        Given::Black,
+        Status::Input,
+        &UNMINIMISED,
+    )
 }

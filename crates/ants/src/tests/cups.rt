@@ -16,6 +16,8 @@ const CUP: Job<'static> = Job {
         ("d", "Flip 2 0 0"),
         ("-c", "Flip 2 0 0"),
         ("none", ""),
+        ("half", "Move 0"),
+        ("cut", "4\n4\n# # # #\n"),
     ],
     ..NO_JOB
 };
@@ -61,7 +63,7 @@ const PLAYED: [(&str, &str); 9] = [
 ];
 
 // Words that name files that aren't there, or in which they don't find what they want, and the line that names the first of them.
-const REFUSED: [(&str, &str); 4] = [
+const REFUSED: [(&str, &str); 10] = [
     (
         "cup --worlds w a --brains x c --seed 1 --rounds 1",
         "ants: a: bad width\n",
@@ -77,6 +79,30 @@ const REFUSED: [(&str, &str); 4] = [
     (
         "cup --worlds a y --brains a c --seed 1 --rounds 1",
         "ants: a: bad width\n",
+    ),
+    (
+        "cup --worlds w x - w cut --brains half none --seed 1 --rounds 1",
+        "ants: cut: row 1: missing\n",
+    ),
+    (
+        "cup --worlds cut cut --brains a c --seed 1 --rounds 1",
+        "ants: cut: row 1: missing\n",
+    ),
+    (
+        "cup --worlds w w --brains a c d r half none --seed 1 --rounds 1",
+        "ants: half: line 1: missing token\n",
+    ),
+    (
+        "cup --worlds w x --brains none half --seed 1 --rounds 0",
+        "ants: none: no instruction\n",
+    ),
+    (
+        "cup --worlds none w --brains a c --seed 1 --rounds 1",
+        "ants: none: bad width\n",
+    ),
+    (
+        "cup --worlds w --brains half - --seed 1 --rounds 1 --workers 16",
+        "ants: half: line 1: missing token\n",
     ),
 ];
 

@@ -2,10 +2,13 @@
 ghost use Rattle.std.specs.Prelude.{◌≡◌, ◌≤◌, true, IfOk, length};
 ghost use Rattle.ant_base.specs.Shelf.{longest};
 
-use crate::tests::CLOSING;
+use crate::tests::ROOM;
+use crate::tests::runs::{KILLED, KILLING};
+use ant_base::{Calls, MemSink};
 use ant_turn::{Brains, Sheet};
 use brain_read::{Brain, read_brain};
-use hex_geometry::{OutOfMemory, Pos};
+use dump_print::push_dump;
+use hex_geometry::OutOfMemory;
 use match_run::{Game, Totals};
 use round_book::{Counts, Crew, Field, SoloCrew};
 use std::alloc::Global;
@@ -13,8 +16,14 @@ use std::process::Abort;
 use std::test::Fail;
 use world_read::read_world;
 
+// The seed of that game.
+pub const SEED: u32 = 12345;
+
 // The most bytes of a file.
-pub const MOST_BYTES: usize = 4_194_304;
+const MOST_BYTES: usize = 4_194_304;
+
+// The most rounds of a game.
+const MOST_ROUNDS: u32 = 1_000_000;
 
 // A crew that plays as another does, but for the window of one call, which it refuses.
 #[derive(Drop)]
@@ -56,7 +65,7 @@ pub fn brain_of<R: Abort>(rt: &R, alloc: Global, text: &str) -> Result<Brain, Fa
 }
 
 // A whole field with the world of a text, at the start of a seed's random numbers.
-pub fn field_on<'b>(
+fn field_on<'b>(
     alloc: Global,
     text: &[u8],
     brains: Brains<'b>,
@@ -69,6 +78,25 @@ pub fn field_on<'b>(
     let _red_states = brains.red.len();
     let _black_states = brains.black.len();
     Ok(Field::new(alloc, world, brains, seed, 0)?)
+}
+
+// A whole field at the start of the game in which a surrounded ant dies, with these brains.
+pub fn killing_field<'b, R: Abort>(
+    rt: &R,
+    alloc: Global,
+    red: &'b Brain,
+    black: &'b Brain,
+) -> Result<Field<'b>, Fail>
+    ensures { IfOk result (λ field. (field.whole ≡ true) × (field.place ≡ 0)) }
+{
+    let bytes = KILLING.world.as_bytes();
+    assert!(rt; bytes.len() <= MOST_BYTES);
+    let brains = Brains {
+        red,
+        black,
+        sheet: Sheet::contest(),
+    };
+    field_on(alloc, bytes, brains, SEED)
 }
 
 // Asserts what came of the turns of a game so far, and how many rounds are done.
@@ -84,61 +112,48 @@ fn check_game<R: Abort>(rt: &R, game: &Game<'_>, done: u32, totals: (u64, u64, u
 
 #[test]
 fn a_game_is_played_by_any_crew(rt: HostRuntime) -> Result<(), Fail> {
-    let red = brain_of(&rt, rt.alloc(), "Flip 2 0 0")?;
-    let black = brain_of(&rt, rt.alloc(), "Move 0 0")?;
-    let brains = Brains {
-        red: &red,
-        black: &black,
-        sheet: Sheet::contest(),
-    };
-    let bytes = CLOSING.as_bytes();
-    assert!(rt; bytes.len() <= MOST_BYTES);
-    let mut game = Game::begin(field_on(rt.alloc(), bytes, brains, 12345)?, 3);
+    let red = brain_of(&rt, rt.alloc(), KILLING.red)?;
+    let black = brain_of(&rt, rt.alloc(), KILLING.black)?;
+    let mut game = Game::begin(killing_field(&rt, rt.alloc(), &red, &black)?, 3);
     let mut crew = SoloCrew::new();
-    assert!(rt; game.done() < 1_000_000);
+    assert!(rt; game.done() < MOST_ROUNDS);
     game.round(rt.alloc(), &mut crew)?;
     check_game(&rt, &game, 1, (7, 6, 1));
     assert_eq!(rt; game.place(), 1);
-    assert!(rt; game.done() < 1_000_000);
+    assert!(rt; game.done() < MOST_ROUNDS);
     game.round(rt.alloc(), &mut crew)?;
     check_game(&rt, &game, 2, (14, 13, 1));
     assert_eq!(rt; game.place(), 2);
     assert!(rt; game.at_round_end());
     assert_eq!(rt; game.window(), 3);
-    assert_eq!(rt; game.field().seed(), 12345);
+    assert_eq!(rt; game.field().seed(), SEED);
     assert_eq!(rt; crew.turns(), 14);
     Ok(())
 }
 
 #[test]
 fn a_round_that_was_refused_goes_on(rt: HostRuntime) -> Result<(), Fail> {
-    let red = brain_of(&rt, rt.alloc(), "Flip 2 0 0")?;
-    let black = brain_of(&rt, rt.alloc(), "Move 0 0")?;
-    let brains = Brains {
-        red: &red,
-        black: &black,
-        sheet: Sheet::contest(),
-    };
-    let bytes = CLOSING.as_bytes();
-    assert!(rt; bytes.len() <= MOST_BYTES);
-    let mut game = Game::begin(field_on(rt.alloc(), bytes, brains, 12345)?, 3);
+    let red = brain_of(&rt, rt.alloc(), KILLING.red)?;
+    let black = brain_of(&rt, rt.alloc(), KILLING.black)?;
+    let mut game = Game::begin(killing_field(&rt, rt.alloc(), &red, &black)?, 3);
     let mut crew = Refusing {
         crew: SoloCrew::new(),
         calls: 0,
         refused: 2,
     };
-    assert!(rt; game.done() < 1_000_000);
+    assert!(rt; game.done() < MOST_ROUNDS);
     assert_eq!(rt; game.round(rt.alloc(), &mut crew), Err(OutOfMemory));
     check_game(&rt, &game, 0, (3, 2, 1));
     assert!(rt; !game.at_round_end());
     assert_eq!(rt; game.world().ant_place(2), None);
     assert_eq!(rt; crew.turns(), 3);
-    assert!(rt; game.done() < 1_000_000);
+    assert!(rt; game.done() < MOST_ROUNDS);
     game.round(rt.alloc(), &mut crew)?;
     check_game(&rt, &game, 1, (7, 6, 1));
     assert!(rt; game.at_round_end());
-    assert_eq!(rt; game.world().ant_place(1), Some(Pos { x: 2, y: 3 }));
-    assert_eq!(rt; game.world().score().red, 3);
+    let mut sink = MemSink::with_room(rt.alloc(), ROOM, Calls::new(rt.alloc()))?;
+    push_dump(game.world(), 1, &mut sink)?;
+    assert!(rt; KILLED.contains(str::from_utf8(sink.held())?));
     assert_eq!(rt; crew.turns(), 7);
     Ok(())
 }

@@ -1,8 +1,11 @@
 // The command `gen`.
 use crate::status::Status;
 use crate::tests::runs::has_lines;
-use crate::tests::{Given, Job, NO_JOB, answer, check_rows};
+use crate::tests::{Given, Job, NO_JOB, answer, check, check_rows};
 use std::test::Fail;
+
+// Words of `gen`.
+const GEN: &str = "gen 12345 --width 64 --height 64 --rocks 0 --blobs 1";
 
 // Sizes and rows 1 and 7 of the world of 64 by 64 cells that the seed 12345 gives with no rock and one blob: the upper rows of the black
 // hill, which is the ball of radius 6 round (18, 7).
@@ -13,13 +16,27 @@ const HILL: &str = "64\n64\n\
 #[test]
 fn a_world_is_generated_from_its_seed(rt: HostRuntime) -> Result<(), Fail> {
     let job = Job {
-        line: "gen 12345 --width 64 --height 64 --rocks 0 --blobs 1",
+        line: GEN,
         ..NO_JOB
     };
     let outcome = answer(&rt, rt.alloc(), &job)?;
     let out = str::from_utf8(outcome.out.held())?;
     assert_eq!(rt; outcome.status, Status::Done);
     assert!(rt; has_lines(out, HILL), "in {out:?}");
+    Ok(())
+}
+
+#[test]
+fn output_that_is_full_holds_the_front_of_a_world(rt: HostRuntime) -> Result<(), Fail> {
+    for (room, front) in [(0, ""), (1, "6"), (6, "64\n64\n"), (9, "64\n64\n# #")] {
+        let job = Job {
+            line: GEN,
+            room,
+            ..NO_JOB
+        };
+        let line = "ants: output failed\n";
+        check(&rt, rt.alloc(), &job, Status::Write, front, line)?;
+    }
     Ok(())
 }
 

@@ -5,9 +5,8 @@ ghost use Rattle.spec_record.specs.Guess.{guesses_of};
 ghost use Rattle.round_book.specs.Book.{CanBegin, IsSameWindow, StandsOn, window_of};
 ghost use Rattle.round_book.specs.Window.{look_for};
 
-use crate::tests::CLOSING;
-use crate::tests::games::{MOST_BYTES, brain_of, field_on};
-use ant_turn::{Brains, Sheet};
+use crate::tests::games::{brain_of, killing_field};
+use crate::tests::runs::KILLING;
 use cell_world::Part;
 use hex_geometry::{OutOfMemory, Pos};
 use round_book::{Book, Cause, Counts, Field};
@@ -82,16 +81,9 @@ fn play_by_looks(
 // A black ant kills the red ant of id 2 in its turn, and the red ant of id 4 draws the number that was guessed to be that one's.
 #[test]
 fn the_looks_of_a_killed_ant_and_of_the_next_flip_do_not_hold(rt: HostRuntime) -> Result<(), Fail> {
-    let red = brain_of(&rt, rt.alloc(), "Flip 2 0 0")?;
-    let black = brain_of(&rt, rt.alloc(), "Move 0 0")?;
-    let brains = Brains {
-        red: &red,
-        black: &black,
-        sheet: Sheet::contest(),
-    };
-    let bytes = CLOSING.as_bytes();
-    assert!(rt; bytes.len() <= MOST_BYTES);
-    let mut field = field_on(rt.alloc(), bytes, brains, 12345)?;
+    let red = brain_of(&rt, rt.alloc(), KILLING.red)?;
+    let black = brain_of(&rt, rt.alloc(), KILLING.black)?;
+    let mut field = killing_field(&rt, rt.alloc(), &red, &black)?;
     assert!(rt; field.world().ant_count() >= 7);
     assert!(rt; field.place() == 0);
     let mut causes = Vec::new(rt.alloc());

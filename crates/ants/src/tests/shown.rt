@@ -5,7 +5,7 @@ use std::alloc::Global;
 use std::test::Fail;
 
 // The seed 12345, and the world of one red ant between rocks.
-const SHOWN: &str = "random seed: 12345\n\
+pub const SHOWN: &str = "random seed: 12345\n\
     \n\
     After round 0...\n\
     cell (0, 0): rock\n\
@@ -33,7 +33,7 @@ const SPELLED: [(&str, &str); 3] = [
 ];
 
 // Texts that are no world, and the line that names the first fault of each.
-const REFUSED: [(&str, &str); 10] = [
+const REFUSED: [(&str, &str); 11] = [
     ("", "ants: w: bad width\n"),
     ("2\n3\n", "ants: w: bad width\n"),
     ("513\n3\n", "ants: w: bad width\n"),
@@ -49,6 +49,10 @@ const REFUSED: [(&str, &str); 10] = [
     (
         "4\n3\n. # # #\n # + . #\n# # # #\n",
         "ants: w: rim open at (0, 0)\n",
+    ),
+    (
+        "4\n3\n# # . #\n # + . #\n# # # #\n",
+        "ants: w: rim open at (2, 0)\n",
     ),
 ];
 

@@ -64,7 +64,13 @@ const TOGETHER: [(&str, &str); 8] = [
 ];
 
 // Texts that are no breaks, and the line that names the first fault of each.
-const REFUSED: [(&str, &str); 8] = [
+const REFUSED: [(&str, &str); 14] = [
+    ("K", "ants: k: line 1: unknown word\n"),
+    ("Ki", "ants: k: line 1: unknown word\n"),
+    ("Kil", "ants: k: line 1: unknown word\n"),
+    ("Kill", "ants: k: line 1: unknown word\n"),
+    ("Kille", "ants: k: line 1: unknown word\n"),
+    ("Killed", "ants: k: line 1: missing token\n"),
     ("Jump 1", "ants: k: line 1: unknown word\n"),
     ("Food 1 2", "ants: k: line 1: missing token\n"),
     ("Round x", "ants: k: line 1: bad number\n"),
@@ -77,6 +83,30 @@ const REFUSED: [(&str, &str); 8] = [
     ("Score 3", "ants: k: line 1: unknown word\n"),
     ("Round \u{7f}", "ants: k: line 1: bad number\n"),
 ];
+
+// Texts in place of a file, each before the file of breaks, which is at fault as well; and the line that names the first of both.
+const EARLIER: [(Given, &str, &str); 6] = [
+    (
+        Given::World,
+        "7\n6\n# # # # # # #\n # . .",
+        "ants: w: row 1: short\n",
+    ),
+    (Given::World, "7\n", "ants: w: bad height\n"),
+    (Given::Red, "Flip 2 0", "ants: r: line 1: missing token\n"),
+    (Given::Red, "", "ants: r: no instruction\n"),
+    (Given::Black, "Mov", "ants: b: line 1: unknown word\n"),
+    (Given::Black, "Move 0 1", "ants: b: line 1: no such state 1\n"),
+];
+
+#[test]
+fn a_file_of_a_view_at_fault_is_named_before_its_breaks(rt: HostRuntime) -> Result<(), Fail> {
+    let job = VIEW.with(Given::Breaks, "Killed");
+    for (given, text, line) in EARLIER {
+        let job = job.with(given, text);
+        check(&rt, rt.alloc(), &job, Status::Input, "", line)?;
+    }
+    Ok(())
+}
 
 #[test]
 fn a_view_stops_after_the_first_turn_at_which_a_break_holds(rt: HostRuntime) -> Result<(), Fail> {

@@ -1,10 +1,10 @@
 // Runs by any number of workers; and looks that two workers make at the same time, each of them once.
 use crate::status::Status;
-use crate::tests::games::{MOST_BYTES, brain_of, field_on};
+use crate::tests::games::{brain_of, killing_field};
 use crate::tests::runs::{KILLED, KILLING};
-use crate::tests::{CLOSING, Job, answer, answer_by};
+use crate::tests::{Job, answer, answer_by};
 use ant_base::Gate;
-use ant_turn::{Brains, Sheet};
+use round_book::Counts;
 use round_workers::{BoardCrew, PieceCrew};
 use std::hint::spin_loop;
 use std::process::Abort;
@@ -115,49 +115,37 @@ fn any_number_of_workers_writes_the_same_bytes(rt: HostRuntime) -> Result<(), Fa
     Ok(())
 }
 
+// Asserts what came of the round of the game in which a surrounded ant dies: its counts, the turns that a crew of two says it played and the
+// place to which it came; and that the two met.
+fn check_round<R: Abort>(rt: &R, counts: Counts, turns: u64, place: u64, meeting: &Meeting) {
+    assert_eq!(rt; (counts.taken(), counts.redone()), (5, 2));
+    assert_eq!(rt; (turns, place), (7, 1));
+    meeting.check(rt);
+}
+
 #[test]
 fn a_crew_of_two_looks_at_the_same_time(rt: HostRuntime) -> Result<(), Fail> {
-    let red = brain_of(&rt, rt.alloc(), "Flip 2 0 0")?;
-    let black = brain_of(&rt, rt.alloc(), "Move 0 0")?;
-    let brains = Brains {
-        red: &red,
-        black: &black,
-        sheet: Sheet::contest(),
-    };
-    let bytes = CLOSING.as_bytes();
-    assert!(rt; bytes.len() <= MOST_BYTES);
-    let mut field = field_on(rt.alloc(), bytes, brains, 12345)?;
+    let red = brain_of(&rt, rt.alloc(), KILLING.red)?;
+    let black = brain_of(&rt, rt.alloc(), KILLING.black)?;
+    let mut field = killing_field(&rt, rt.alloc(), &red, &black)?;
     let meeting = Meeting::new();
     let mut crew = PieceCrew::new(&rt, 2, &meeting);
     let ids = field.world().ant_count();
     let counts = crew.window(rt.alloc(), &mut field, 0, ids)?;
-    assert_eq!(rt; (counts.taken(), counts.redone()), (5, 2));
-    assert_eq!(rt; crew.turns(), 7);
-    assert_eq!(rt; field.place(), 1);
-    meeting.check(&rt);
+    check_round(&rt, counts, crew.turns(), field.place(), &meeting);
     Ok(())
 }
 
 #[test]
 fn a_crew_of_two_with_a_board_looks_at_the_same_time(rt: HostRuntime) -> Result<(), Fail> {
-    let red = brain_of(&rt, rt.alloc(), "Flip 2 0 0")?;
-    let black = brain_of(&rt, rt.alloc(), "Move 0 0")?;
-    let brains = Brains {
-        red: &red,
-        black: &black,
-        sheet: Sheet::contest(),
-    };
-    let bytes = CLOSING.as_bytes();
-    assert!(rt; bytes.len() <= MOST_BYTES);
-    let mut field = field_on(rt.alloc(), bytes, brains, 12345)?;
+    let red = brain_of(&rt, rt.alloc(), KILLING.red)?;
+    let black = brain_of(&rt, rt.alloc(), KILLING.black)?;
+    let mut field = killing_field(&rt, rt.alloc(), &red, &black)?;
     let meeting = Meeting::new();
     let mut crew = BoardCrew::new(&rt, 2, &meeting);
     let ids = field.world().ant_count();
     let counts = crew.window(rt.alloc(), &mut field, 0, ids)?;
-    assert_eq!(rt; (counts.taken(), counts.redone()), (5, 2));
-    assert_eq!(rt; crew.turns(), 7);
-    assert_eq!(rt; field.place(), 1);
-    meeting.check(&rt);
+    check_round(&rt, counts, crew.turns(), field.place(), &meeting);
     Ok(())
 }
 

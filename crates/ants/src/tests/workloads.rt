@@ -1,21 +1,53 @@
 // The command `workload`.
 use crate::status::Status;
-use crate::tests::{Given, NO_JOB, check_rows};
+use crate::tests::{Given, Job, NO_JOB, answer, check_rows};
 use std::test::Fail;
 
 // The world of the seed 12345 before a round: two hills of 127 cells, and eleven blobs of 25 cells with 5 particles each.
-const UNPLAYED: &str = "workload seed 12345 rounds 0\n\
+pub const UNTOUCHED: &str = "workload seed 12345 rounds 0\n\
     ants 254\n\
     food 1375\n\
     alive red 127 black 127\n\
     score: red 0 black 0\n\
     turns 0 taken 0 redone 0\n";
 
+// The world of the seed 55 after 100 rounds, as another program plays them too: two black ants died, and food came to the red hill.
+const PLAYED: &str = "workload seed 55 rounds 100\n\
+    ants 254\n\
+    food 1375\n\
+    alive red 127 black 125\n\
+    score: red 6 black 0\n\
+    turns 25400 taken 25377 redone 23\n";
+
 #[test]
 fn a_workload_tells_of_its_world_and_its_game(rt: HostRuntime) -> Result<(), Fail> {
     let rows = [
-        ("workload 12345 0 4", UNPLAYED),
-        ("workload 0000012345 00 16", UNPLAYED),
+        ("workload 12345 0 4", UNTOUCHED),
+        ("workload 0000012345 00 16", UNTOUCHED),
+        ("workload 55 100 1", PLAYED),
+        ("workload 55 100 3", PLAYED),
     ];
     check_rows(&rt, rt.alloc(), NO_JOB, Given::Line, Status::Done, &rows)
+}
+
+#[test]
+fn a_thousand_rounds_are_the_same_with_any_number_of_workers(rt: HostRuntime) -> Result<(), Fail> {
+    for line in [
+        "workload 12345 1000 1",
+        "workload 12345 1000 4",
+        "workload 12345 1000 16",
+    ] {
+        let outcome = answer(&rt, rt.alloc(), &Job { line, ..NO_JOB })?;
+        let out = str::from_utf8(outcome.out.held())?;
+        assert_eq!(rt; outcome.status, Status::Done, "at {line}");
+        assert!(rt;
+            out.starts_with("workload seed 12345 rounds 1000\nants 254\nfood 1375\n"),
+            "at {line}: {out:?}"
+        );
+        assert!(rt;
+            out.ends_with("\nturns 254000 taken 253622 redone 378\n"),
+            "at {line}: {out:?}"
+        );
+    }
+    Ok(())
 }

@@ -1,0 +1,37 @@
+-- Lines, statuses and numbers of endings, among them those that no test brings about.
+use Rattle.std.proofs.Common.{◌≡◌, ℕ, List, [], ◌∷◌, codes, map, refl}
+use Rattle.brain_read.specs.declared.fault.BrainFault.TheVariants as brain
+use Rattle.world_read.specs.declared.fault.WorldFault.TheVariants as world
+use Rattle.ants.specs.declared.status.Status.TheVariants.{Done, Words, Read, Write, Input, Memory}
+use Rattle.ants.specs.declared.stop.FileFault.TheVariants as file
+use Rattle.ants.specs.Status.{number_of}
+use Rattle.ants.specs.Stopping.{fault_line, status_of}
+use Rattle.ants.specs.Stopping.Reason.{AtFile, AtInput, AtMemory, AtOutput, AtRoom, AtWord}
+
+-- the numbers with which the program exits
+pub numbers : map number_of (Done ∷ Words ∷ Read ∷ Write ∷ Input ∷ Memory ∷ []) ≡ 0 ∷ 2 ∷ 3 ∷ 4 ∷ 5 ∷ 6 ∷ []
+numbers = refl
+
+-- the status of each reason
+pub statuses : map status_of (AtWord 3 ∷ AtFile (codes "w") ∷ AtOutput ∷ AtInput (codes "w") file.TooLong ∷ AtRoom 1 ∷ AtMemory ∷ []) ≡ Words ∷ Read ∷ Write ∷ Input ∷ Input ∷ Memory ∷ []
+statuses = refl
+
+-- want of memory
+pub memory_line : fault_line AtMemory ≡ codes "ants: out of memory\n"
+unfolding fault_line
+memory_line = refl
+
+-- the column of a position stands before its row
+pub open_rim_line : fault_line (AtInput (codes "w") (file.World (world.OpenRim 2 0))) ≡ codes "ants: w: rim open at (2, 0)\n"
+unfolding fault_line
+open_rim_line = refl
+
+-- the row of a bad cell stands before its column
+pub bad_cell_line : fault_line (AtInput (codes "w") (file.World (world.BadCell 1 2))) ≡ codes "ants: w: row 1: bad cell at column 2\n"
+unfolding fault_line
+bad_cell_line = refl
+
+-- a line of a brain stands before its state
+pub no_state_line : fault_line (AtInput (codes "b") (file.Brain (brain.NoSuchState 2 5))) ≡ codes "ants: b: line 2: no such state 5\n"
+unfolding fault_line
+no_state_line = refl
