@@ -22,7 +22,7 @@ const TEN: &str =
 const EIGHT: &str =
     "Sense Ahead 1 5 Food\nPickUp 3 3\nMove 0 4\nTurn Left 2\nFlip 2 6 7\nMark 0 2\nTurn Right 2\nDrop 0\n";
 
-// What became of the states, one after another: the new number, or `-` where state 0 doesn't lead to it.
+// What became of the states, each after a space: the new number, or `-` where state 0 doesn't lead to it.
 fn spelled(alloc: Global, map: &StateMap) -> Result<String, Fail> {
     let mut words = String::new(alloc);
     for state in 0..map.len() {
