@@ -154,7 +154,7 @@ agree_claims v w [] all = tt
 agree_claims v w (c ∷ claims) all = (all.0, agree_claims v w claims all.1)
 
 -- why the look doesn't hold is what may be said of its turn
-IsVerdict-cause : (window : Window) (now : Moment) (t : ℕ) (found : Cause) → IsCause (look_for window t) now found → IsVerdict window now t (Redone found)
+pub IsVerdict-cause : (window : Window) (now : Moment) (t : ℕ) (found : Cause) → IsCause (look_for window t) now found → IsVerdict window now t (Redone found)
 unfolding look_for look_of
 IsVerdict-cause window now t (cause.Part at k) changed =
     let claimed = find_claim window.base.cells (reads window.minds window.base t) changed.read changed.is_read in

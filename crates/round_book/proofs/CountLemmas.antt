@@ -104,7 +104,7 @@ marks-test a b = (
 )
 
 -- of a part
-part-test : (k : Part) (c d : Cell) → (is_alike k c d ≡ true) ↔ Alike k c d
+pub part-test : (k : Part) (c d : Cell) → (is_alike k c d ≡ true) ↔ Alike k c d
 part-test Who c d = any-test identity_of same_identity identity-test c.ant d.ant
 part-test Mind c d = any-test posture_of same_posture posture-test c.ant d.ant
 part-test Load c d = any-test (λ (a : Ant). a.laden) same_load load-test c.ant d.ant
@@ -117,7 +117,7 @@ part_if-test true k c d = (λ e. λ _. (part-test k c d).0 e, λ f. (part-test k
 part_if-test false k c d = (λ e. λ is. absurd (false≢true is), λ f. refl)
 
 -- of a set of parts
-parts-test : (parts : Parts) (c d : Cell) → (do_agree parts c d ≡ true) ↔ Agree parts c d
+pub parts-test : (parts : Parts) (c d : Cell) → (do_agree parts c d ≡ true) ↔ Agree parts c d
 parts-test parts c d = (
   λ e. each e,
   λ agree. and_from _ _ ((part_if-test parts.who Who c d).1 (agree Who))
@@ -143,7 +143,7 @@ parts-test parts c d = (
       ]
 
 -- of all that was read
-reads-test : (list : List Sighting) (cells : Cells) → (is_unchanged list cells ≡ true) ↔ AllByRecursion (λ read. Agree read.1 read.2 (cells read.0)) list
+pub reads-test : (list : List Sighting) (cells : Cells) → (is_unchanged list cells ≡ true) ↔ AllByRecursion (λ read. Agree read.1 read.2 (cells read.0)) list
 reads-test [] cells = (λ e. tt, λ all. refl)
 reads-test (read ∷ list) cells = (
   λ e. let both = and_both (do_agree read.1 read.2 (cells read.0)) (is_unchanged list cells) e in

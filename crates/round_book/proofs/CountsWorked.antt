@@ -27,7 +27,7 @@ use Rattle.round_book.specs.Counts.{counts_of, is_taken}
 use Rattle.round_book.specs.Window.{Window, guess_for, look_for, moment_before}
 
 -- a window of all seven turns: red ants flip, a black one moves and kills the red ant of id 2
-abbrev all_seven : Window
+abbrev pub all_seven : Window
 all_seven = record { minds = minds; seed = 12345; base = field; place = 0; from = 0; to = 7 }
 
 -- the turn of the killed ant, and that of the red ant whose random number is then another, are executed anew

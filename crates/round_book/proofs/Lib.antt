@@ -5,8 +5,11 @@ pub mod FieldLemmas
 pub mod LedLemmas
 pub mod LoneTurns
 pub mod MachineLemmas
+pub mod MachineWorked
 pub mod MarkLemmas
 pub mod PassLemmas
+pub mod ReachedBooks
 pub mod SoloLemmas
+pub mod VerdictLemmas
 pub mod WindowLemmas
 pub mod WorkspaceLemmas

@@ -1,4 +1,5 @@
 pub mod Book
+pub mod BookLaws
 pub mod CountLaws
 pub mod Counts
 pub mod Inner

@@ -1,12 +1,32 @@
 // Laws of windows.
+ghost use Rattle.round_book.specs.BookLaws.{BooksAreReached, StandingBooksSettle};
 ghost use Rattle.round_book.specs.CountLaws.{CausesRefute, CountsAddUp, LoneTurnsAreTaken, TakenWhereItHolds};
-ghost use Rattle.round_book.specs.MachineLaws.{EveryInterleaving};
+ghost use Rattle.round_book.specs.MachineLaws.{EveryInterleaving, PutTurnsSettle};
 
 /// Whatever workers do in whatever order, the turns that were settled did what the turns of the window do one after another, with their
 /// verdicts in order; each ticket that was drawn is in one hand, and each look was put by the hand that drew its ticket. The call does
 /// nothing: its clause is the law.
 pub fn every_interleaving()
     ensures { EveryInterleaving }
+{}
+
+/// Once the look at the next turn of a window is put, there is a verdict with which workers may settle it, in every state: what they do never
+/// comes to a stop for want of a verdict (this project's own). The call does nothing: its clause is the law.
+pub fn put_turns_settle()
+    ensures { PutTurnsSettle }
+{}
+
+/// Where a book stands on a field, and its next turn is one of the window, the conditions of `settle` are met by the look at that turn on the
+/// field's world at its guess; and after a `settle` that answers nothing, or one that answers a cause and the `redo` for that cause by the
+/// field's brains, the book stands on the field (this project's own). The call does nothing: its clause is the law.
+pub fn standing_books_settle()
+    ensures { StandingBooksSettle }
+{}
+
+/// A book with which a window begins is at the first state of the workers on that window; lawful events lead from there to every book that
+/// stands; and settling its next turn, whose look was put, is one event (this project's own). The call does nothing: its clause is the law.
+pub fn books_are_reached()
+    ensures { BooksAreReached }
 {}
 
 /// The looks of a window that are taken and its turns that are executed anew are as many as its turns (this project's own). The call does

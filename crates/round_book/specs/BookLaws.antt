@@ -1,0 +1,63 @@
+-- What holds of every book that stands: its next turn may be settled, and it is what the events of workers lead to (this project's own).
+use Rattle.std.specs.Prelude.{◌≡◌, ℕ, ◌-◌, ◌<◌, ◌≤◌, List, Option, Some, None}
+use Rattle.std.specs.List.{AllByRecursion}
+use Rattle.cell_world.specs.Grid.{world_of}
+use Rattle.ant_turn.specs.Minds.{Fits, Minds}
+use Rattle.ant_turn.specs.Rounds.{Moment}
+use Rattle.spec_record.specs.Look.{LookValue}
+use Rattle.round_book.specs.declared.verdict.Cause.{Cause}
+use Rattle.round_book.specs.declared.verdict.Verdict.{Verdict}
+use Rattle.round_book.specs.declared.verdict.Verdict.TheVariants.{Taken, Redone}
+use Rattle.round_book.specs.Book.{AgreesUnwritten, BookValue, CanTake, FieldValue, HoldsInBook, IsCause, IsRedone, IsSameWindow, IsTaken, StandsOn, begun, moment_of, window_of}
+use Rattle.round_book.specs.Machine.{AreLawful, Event, IsLawful, IsPut, State, first_state, happens, run}
+use Rattle.round_book.specs.Machine.Event.{Settles}
+use Rattle.round_book.specs.Window.{Window, look_for}
+
+-- the window of a field that a book is for
+abbrev pub window_for : FieldValue → BookValue → Window
+window_for field book = window_of field book.from book.to
+
+-- the look at a book's next turn, on the field's world at the turn's guess
+abbrev pub next_look : FieldValue → BookValue → LookValue
+next_look field book = look_for (window_for field book) book.next
+
+-- what settling a look asks for, and what executing its turn anew with these brains asks for
+pub record MaySettle (minds : Minds) (book : BookValue) (look : LookValue) : Type 0 where
+  pub turn : look.turn ≡ book.next
+  pub unwritten : AllByRecursion (AgreesUnwritten book) look.reads
+  pub writes : HoldsInBook book look → CanTake (world_of book.world) look.writes
+  pub fit : Fits (world_of book.world) minds
+
+-- a turn of a book was settled by a look: settling answered nothing, and the look was taken; or it answered why the look doesn't hold, and
+-- the turn was executed anew for that cause, by these brains
+abbrev pub IsSettled : Minds → LookValue → Option Cause → BookValue → BookValue → Type 0
+IsSettled minds look None book new = IsTaken look book new
+IsSettled minds look (Some found) book new = IsCause look (moment_of book) found × IsRedone minds found book new
+
+-- where a book stands on a field, and its next turn is one of the window, the look at that turn may be settled; and once it is settled the
+-- book stands on the field
+pub record StandingBooksSettle : Type 0 where
+  pub may : (field : FieldValue) (book : BookValue) → StandsOn field book → book.next < book.to → MaySettle field.minds book (next_look field book)
+  pub stands : (field : FieldValue) (answer : Option Cause) (book new : BookValue) →
+      StandsOn field book → book.next < book.to → IsSettled field.minds (next_look field book) answer book new → IsSameWindow book new → StandsOn field new
+
+-- a state of the workers on a window and a book of it have the same next turn, world, place and verdicts
+pub record IsAt (state : State) (book : BookValue) : Type 0 where
+  pub next : state.next ≡ book.next
+  pub now : state.now ≡ moment_of book
+  pub verdicts : state.verdicts ≡ book.verdicts
+
+-- the verdict of a turn whose look was settled with this answer
+abbrev pub verdict_of : Option Cause → Verdict
+verdict_of None = Taken
+verdict_of (Some found) = Redone found
+
+-- a book with which a window begins is at the first state; lawful events lead from there to every book that stands; and settling a book's
+-- next turn, whose look was put, is one lawful event
+pub record BooksAreReached : Type 0 where
+  pub first : (field : FieldValue) (from to : ℕ) → IsAt (first_state (window_of field from to)) (begun field from to)
+  pub reached : (field : FieldValue) (book : BookValue) → StandsOn field book → book.next ≤ book.to →
+      (events : List Event) × AreLawful (window_for field book) (first_state (window_for field book)) events × IsAt (run (window_for field book) (first_state (window_for field book)) events) book
+  pub settled : (field : FieldValue) (answer : Option Cause) (book new : BookValue) (state : State) →
+      StandsOn field book → book.next < book.to → IsSettled field.minds (next_look field book) answer book new → IsAt state book → IsPut state (book.next - book.from) →
+      IsLawful (window_for field book) state (Settles (verdict_of answer)) × IsAt (happens (window_for field book) state (Settles (verdict_of answer))) new
