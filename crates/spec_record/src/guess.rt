@@ -1,5 +1,5 @@
 // At which random number each turn of a window is guessed to stand.
-ghost use Rattle.std.specs.Prelude.{◌≡◌, ◌+◌, ◌-◌, ◌≤◌, ◌<◌, ◌^◌, IfOk, length, nat_eq};
+ghost use Rattle.std.specs.Prelude.{◌≡◌, ◌+◌, ◌-◌, ◌≤◌, ◌<◌, ◌^◌, ℕ, IfOk, length, nat_eq};
 ghost use Rattle.cell_world.specs.Grid.{world_of};
 ghost use Rattle.brain_read.specs.Soundness.{IsSound};
 ghost use Rattle.ant_turn.specs.Minds.{Fits, minds_of, mind_of};
@@ -89,7 +89,8 @@ fn acts(ant: &Ant) -> bool
 #[inline]
 pub(crate) fn instruction(brains: Brains<'_>, ant: &Ant) -> Instr
     requires { ant.now.state < length (mind_of (minds_of brains) ant.now.colour) }
-    ensures { result ≡ instruction_at (mind_of (minds_of brains.entry) ant.now.colour) ant.now.state }
+    ensures instruction { result ≡ instruction_at (mind_of (minds_of brains.entry) ant.now.colour) ant.now.state }
+    ensures sound { (states : ℕ) × IsSound states result }
 {
     match ant.colour {
         Colour::Red => brains.red.at(ant.state),

@@ -1,28 +1,30 @@
 // How a look is worked out, in the room of another.
-ghost use Rattle.std.specs.Prelude.{◌≡◌, ◌+◌, ◌-◌, ◌<◌, ◌≤◌, ◌^◌, [], Some, length};
+ghost use Rattle.std.specs.Prelude.{◌≡◌, ◌+◌, ◌-◌, ◌<◌, ◌≤◌, ◌^◌, ℕ, [], Some, None, length};
 ghost use Rattle.hex_geometry.specs.Position.{HasNeighbours, IsInner, IsInside};
 ghost use Rattle.cell_world.specs.Cell.{one_if};
 ghost use Rattle.cell_world.specs.Grid.{world_of};
 ghost use Rattle.cell_world.specs.Parts.{only};
 ghost use Rattle.cell_world.specs.Valid.{Valid};
 ghost use Rattle.cell_world.specs.World.{place_in, with_cells};
+ghost use Rattle.brain_read.specs.Soundness.{IsSound};
 ghost use Rattle.ant_turn.specs.Minds.{Fits, minds_of};
+ghost use Rattle.ant_turn.specs.Sheet.{Sheet};
 ghost use Rattle.ant_turn.specs.Turn as turn;
-ghost use Rattle.spec_record.specs.Inner.Going.{fallen, going_reads, going_writes};
+ghost use Rattle.spec_record.specs.Inner.Going.{destination, fallen, going_reads, going_writes};
 ghost use Rattle.spec_record.specs.Inner.Standing.{blank_look, read_at, rested_look, staying_reads, staying_writes};
 ghost use Rattle.spec_record.specs.Claims.{EachOnce, places_of};
-ghost use Rattle.spec_record.specs.Look.{look_of};
+ghost use Rattle.spec_record.specs.Look.{look_of, look_with};
 ghost use Rattle.spec_record.specs.Reads.{who_and_mind};
 ghost use Rattle.spec_record.specs.Trail.{trail_world};
 
 use crate::going::{note_checks, note_fallen, whole_ant};
 use crate::guess::instruction;
 use crate::record::Look;
-use crate::sightings::{note_read, union};
+use crate::sightings::{note_two, union};
 use crate::staying::{destination, read_at, read_parts, written_besides};
 use crate::trail::Trail;
 use ant_random::Stream;
-use ant_turn::{Brains, Deed, take_turn};
+use ant_turn::{Brains, Deed, take_turn, turn_in_place};
 use arrayvec::ArrayVec;
 use brain_read::Instr;
 use cell_world::{Ant, Cell, Part, Parts, World};
@@ -68,7 +70,7 @@ impl Look {
         if ant.resting > 0 {
             self.record_rest(p, &cell, ant);
         } else {
-            self.act(base, brains, stream, p, &ant);
+            self.act(base, brains, stream, p, &cell, &ant);
         }
     }
 
@@ -113,7 +115,16 @@ impl Look {
     }
 
     // Records the ant of `p`, which executes its instruction.
-    fn act(&mut self, base: &World, brains: Brains<'_>, stream: &mut Stream, p: Pos, ant: &Ant)
+    #[inline]
+    fn act(
+        &mut self,
+        base: &World,
+        brains: Brains<'_>,
+        stream: &mut Stream,
+        p: Pos,
+        cell: &Cell,
+        ant: &Ant,
+    )
         requires blank { self.old ≡ blank_look self.old.turn self.old.guess }
         requires guess { self.old.guess ≡ stream.old.place }
         requires fit { Fits (world_of base.now) (minds_of brains) }
@@ -121,17 +132,56 @@ impl Look {
         requires place { stream.old.place + 1 < 2 ^ 63 }
         requires valid { Valid (world_of base.now) }
         requires found { place_in (world_of base.now) self.old.turn ≡ Some p }
+        requires own { cell.now ≡ (world_of base.now).cells p }
         requires holds { ((world_of base.now).cells p).ant ≡ Some ant.now }
         requires ready { ant.now.resting ≡ 0 }
         ensures look { self.new ≡ look_of (minds_of brains.entry) stream.old.seed (world_of base.now) self.old.guess self.old.turn }
         ensures stream { stream.new ≡ record stream.old { place = stream.old.place + one_if self.new.drew } }
     {
         let instruction = instruction(brains, ant);
-        let trail = self.execute(base, brains, stream);
         match destination(base, p, ant, instruction) {
-            Some(q) => self.record_going(base, &trail, p, q),
-            None => self.record_staying(base, &trail, p, ant, instruction),
+            Some(q) => {
+                let trail = self.execute(base, brains, stream);
+                self.record_going(base, &trail, p, q);
+            }
+            None => self.stay(base, stream, p, cell, ant, instruction),
         }
+    }
+
+    // Records the ant of `p`, which stays there, and executes its instruction on its own cell.
+    #[inline]
+    fn stay(
+        &mut self,
+        base: &World,
+        stream: &mut Stream,
+        p: Pos,
+        cell: &Cell,
+        ant: &Ant,
+        instruction: Instr,
+    )
+        requires blank { self.old ≡ blank_look self.old.turn self.old.guess }
+        requires place { stream.old.place + 1 < 2 ^ 63 }
+        requires valid { Valid (world_of base.now) }
+        requires inner { IsInner base.now.width base.now.height p }
+        requires near { HasNeighbours p }
+        requires own { cell.now ≡ (world_of base.now).cells p }
+        requires sound { (states : ℕ) × IsSound states instruction }
+        requires stays { destination (world_of base.now).cells p ant.now instruction ≡ None }
+        requires reads_once { EachOnce (places_of (staying_reads (world_of base.now).cells p ant.now instruction)) }
+        ensures look { (sheet : Sheet) →
+          let outcome = turn.execute sheet stream.old.seed (world_of base.now).cells stream.old.place p ant.now instruction in
+          self.new ≡ look_with self.old.turn self.old.guess outcome
+            (staying_reads (world_of base.now).cells p ant.now instruction) (staying_writes outcome.cells p ant.now instruction) }
+        ensures stream { stream.new ≡ record stream.old { place = stream.old.place + one_if self.new.drew } }
+    {
+        let at = read_at(p, ant, instruction);
+        let there = base.cell(at);
+        let after = turn_in_place(cell, &there, *ant, instruction, stream);
+        self.drew = after.drew;
+        let parts = read_parts(ant.colour, instruction);
+        note_two(&mut self.reads, p, who_and_mind(), cell, at, parts, &there);
+        let written = union(mind(), written_besides(ant.colour, instruction));
+        self.writes.push((p, written, after.cell));
     }
 
     // Executes the turn on a trail, and records whether it draws and whom it kills.
@@ -155,41 +205,6 @@ impl Look {
         self.drew = drew;
         self.killed = killed;
         trail
-    }
-
-    // Records what an ant that stays on `p` reads and, by a trail on which its turn was executed, writes.
-    #[inline]
-    fn record_staying(
-        &mut self,
-        base: &World,
-        trail: &Trail<'_>,
-        p: Pos,
-        ant: &Ant,
-        instruction: Instr,
-    )
-        requires reads { self.old.reads ≡ [] }
-        requires writes { self.old.writes ≡ [] }
-        requires inside { IsInside base.now.width base.now.height p }
-        requires near { HasNeighbours p }
-        requires there { IsInside base.now.width base.now.height (read_at p ant.now instruction) }
-        requires wide { (trail_world trail.now).width ≡ base.now.width }
-        requires high { (trail_world trail.now).height ≡ base.now.height }
-        requires reads_once { EachOnce (places_of (staying_reads (world_of base.now).cells p ant.now instruction)) }
-        ensures { self.new ≡ record self.old {
-          reads = staying_reads (world_of base.now).cells p ant.now instruction;
-          writes = staying_writes (trail_world trail.now).cells p ant.now instruction;
-        } }
-    {
-        self.reads.push((p, who_and_mind(), base.cell(p)));
-        let at = read_at(p, ant, instruction);
-        note_read(
-            &mut self.reads,
-            at,
-            read_parts(ant.colour, instruction),
-            base.cell(at),
-        );
-        let written = union(mind(), written_besides(ant.colour, instruction));
-        self.writes.push((p, written, trail.cell(p)));
     }
 
     // Records what the ant of `p`, which goes to `q`, reads and, by a trail on which its turn was executed, writes.
