@@ -28,7 +28,26 @@ pub(crate) fn note_read(
     }
 }
 
-// Notes in an empty list that parts of the cell at `p` are read, and then parts of the one at `q`, which may be the same position.
+// Makes a list that of these parts of the cell at `p` alone, in the room that it has.
+#[inline]
+pub(crate) fn note_alone<const N: usize>(
+    list: &mut ArrayVec<(Pos, Parts, Cell), N>,
+    p: Pos,
+    parts: Parts,
+    cell: Cell,
+)
+    requires { 1 ≤ N }
+    ensures { list.new.items ≡ (p, parts, cell) ∷ [] }
+{
+    if list.is_empty() {
+        list.push((p, parts, cell));
+    } else {
+        list[0] = (p, parts, cell);
+        list.truncate(1);
+    }
+}
+
+// Makes a list that of these parts of the cell at `p`, and then of more parts of the one at `q`, which may be the same position.
 #[inline]
 pub(crate) fn note_two(
     list: &mut ArrayVec<(Pos, Parts, Cell), 19>,
@@ -39,13 +58,12 @@ pub(crate) fn note_two(
     more: Parts,
     there: &Cell,
 )
-    requires { list.old.items ≡ [] }
     ensures { list.new.items ≡ sighting.sighted ((p, parts, cell.now) ∷ []) (q, more, there.now) }
 {
     if is_same(p, q) {
-        list.push((p, union(parts, more), *cell));
+        note_alone(list, p, union(parts, more), *cell);
     } else {
-        list.push((p, parts, *cell));
+        note_alone(list, p, parts, *cell);
         list.push((q, more, *there));
     }
 }
