@@ -6,4 +6,5 @@ use Rattle.round_book.specs.Window.{Window, IsPlayable}
 -- whatever lawful events happen, in whatever order: the turns that were settled did what the turns of the window do one after another, each
 -- has its verdict, in order; each ticket that was drawn is in one hand, once; and each look was put by the hand that drew its ticket
 abbrev pub EveryInterleaving : Type 0
-EveryInterleaving = (window : Window) (events : List Event) → IsPlayable window → AreLawful window (first_state window) events → IsReached window (run window (first_state window) events)
+EveryInterleaving = (window : Window) (events : List Event) → IsPlayable window →
+    AreLawful window (first_state window) events → IsReached window (run window (first_state window) events)

@@ -16,6 +16,7 @@ use hex_geometry::Pos;
 
 // Sets the named parts of each write: of one alone at once; of more first where that doesn't raise the weight of the cell, then at the others, so that the world is
 // light enough at every step.
+#[inline]
 pub(crate) fn set_writes(world: &mut World, writes: &[(Pos, Parts, Cell)])
     requires once { EachOnce (places_of writes.now) }
     requires may { CanTake (world_of world.old) writes.now }

@@ -54,11 +54,15 @@ fallen cells last p q = flat_map (fallen_at cells last p q) (places_around q)
 
 -- the reads of an ant that goes to q
 abbrev pub going_reads : Cells → Cells → Pos → Pos → List Sighting
-going_reads cells last p q = all_sighted (all_sighted ((p, whole_ant, cells p) ∷ []) (sights cells (only part.Who) (seen_from cells p q))) (sights cells load_and_food (fallen cells last p q))
+going_reads cells last p q =
+    all_sighted
+    (all_sighted ((p, whole_ant, cells p) ∷ []) (sights cells (only part.Who) (seen_from cells p q)))
+    (sights cells load_and_food (fallen cells last p q))
 
 -- and its writes
 abbrev pub going_writes : Cells → Cells → Pos → Pos → List Sighting
-going_writes cells last p q = all_sighted ((p, whole_ant, last p) ∷ (q, whole_ant, last q) ∷ []) (sights last ant_and_food (fallen cells last p q))
+going_writes cells last p q =
+    all_sighted ((p, whole_ant, last p) ∷ (q, whole_ant, last q) ∷ []) (sights last ant_and_food (fallen cells last p q))
 
 -- the ant of p acts in the turn of id t, by an instruction by which it goes to q
 pub record GoesTo (minds : Minds) (w : World) (t : ℕ) (p q : Pos) : Type 0 where

@@ -47,10 +47,10 @@ impl Look {
     }
 
     /// Makes this look the one at the turn of the ant of this id in `base`, its random number guessed at the place of the stream, and
-    /// forgets what it was (this project's own). It takes no memory, and uses the room of the old look.
+    /// forgets what it was. It takes no memory, and uses the room of the old look.
     ///
-    /// Each ant's state is below the length of its colour's brain, the id is below the number of ids, and the stream stands below
-    /// 2^63 - 1. The stream goes on by one number where the turn draws one, so that looks at one turn after another are made at the guesses.
+    /// Each ant's state is below the length of its colour's brain, the id is below the number of ids, and the stream stands below 2^63 - 1.
+    /// The stream goes on by one number where the turn draws one, so that looks at one turn after another are made at the guesses.
     #[inline]
     pub fn renew(&mut self, base: &World, brains: Brains<'_>, stream: &mut Stream, id: u32)
         requires fit { Fits (world_of base.now) (minds_of brains) }
