@@ -45,7 +45,7 @@ unfolding guess_for moment_before after_turn turn stepped is_surrounded check_at
 causes-seven = (refl, refl, refl)
 
 -- a red ant that marks its cell, and a black ant that senses that cell after it
-abbrev marked_and_sensed : Cond → Window
+abbrev pub marked_and_sensed : Cond → Window
 marked_and_sensed asked = record {
   minds = contest_minds (Mark 0 0 ∷ []) (Sense LeftAhead 0 0 asked ∷ []);
   seed = 7;

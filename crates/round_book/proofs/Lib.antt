@@ -5,6 +5,7 @@ pub mod FieldLemmas
 pub mod LedLemmas
 pub mod LoneTurns
 pub mod MachineLemmas
+pub mod MachineWorked
 pub mod MarkLemmas
 pub mod PassLemmas
 pub mod SoloLemmas
