@@ -11,6 +11,7 @@
 
 mod brains;
 mod conditions;
+mod in_place;
 mod kills;
 mod own_cell;
 mod renumber_laws;
@@ -20,6 +21,7 @@ mod turn_laws;
 
 pub use brains::Brains;
 pub use conditions::matches;
+pub use in_place::{InPlace, turn_in_place};
 pub use kills::{check_around, surrounded};
 pub use renumber_laws::{rounds_renumber, turns_renumber};
 pub use sheet::Sheet;

@@ -52,7 +52,7 @@ pub(crate) fn faced(ant: Ant, side: Side, next: u16) -> Ant
 
 // The cell with this ant.
 #[inline]
-fn with_ant(cell: &Cell, ant: Ant) -> Cell
+pub(crate) fn with_ant(cell: &Cell, ant: Ant) -> Cell
     ensures { result ≡ turn.with_ant cell.now ant }
 {
     Cell {

@@ -11,11 +11,12 @@ use Rattle.cell_world.specs.declared.part.Part.TheVariants as part
 use Rattle.cell_world.specs.declared.part.Parts.{Parts}
 use Rattle.cell_world.specs.Cell.{cell_weight}
 use Rattle.cell_world.specs.Parts.{CanPatch, patched}
+use Rattle.cell_world.specs.Valid.{CanSet}
 use Rattle.cell_world.specs.World.{Cells, World, put, put_cell, with_cells}
 use Rattle.cell_world.proofs.Patches.{CanPatch-alike, patched-named, patched-others, patched-unchanged}
 use Rattle.cell_world.proofs.Puts.{cases_pos, put_cell-other, put_cell-same}
 use Rattle.spec_record.specs.Claims.{EachOnce, Sighting, places_of}
-use Rattle.spec_record.specs.Patching.{CanSetHeavier, CanSetLighter, after_lighter, patched_by_write, patched_cells, raises, with_heavier, with_lighter, with_write}
+use Rattle.spec_record.specs.Patching.{CanSetHeavier, CanWrite, CanSetLighter, after_lighter, patched_by_write, patched_cells, raises, with_heavier, with_lighter, with_write}
 use Rattle.round_book.specs.Book.{CanPatchIn, CanTake}
 use Rattle.round_book.specs.Inner.Passes.{CanSetInPass, CanSetPass, after_pass, is_in_pass, with_pass}
 
@@ -250,3 +251,19 @@ second-each w first writes once can one = subst (λ v. AllByRecursion (CanPatchI
 pub second-set : (w first : World) (writes : List Sighting) → CanTake w writes → first ≡ after_pass false w writes → CanSetPass true first writes
 second-set w first writes can one =
     subst (λ v. CanSetPass true v writes) (sym (one ∙ after-lighter writes w)) (CanSetPass-heavier writes (after_lighter w writes) can.in_order.heavier)
+
+-- a list of one
+pub one_alone : {A : Type 0} (xs : List A) (d : A) → length xs ≡ 1 → xs ≡ slice_index_or xs 0 d ∷ []
+one_alone [] d is = absurd (cc)
+one_alone (x ∷ []) d is = refl
+one_alone (x ∷ y ∷ xs) d is = absurd (cc)
+
+-- a write that is the only one may be set, whether it raises its cell's weight or not
+CanSet-either : (raised : Bool) (w : World) (write : Sighting) → raises w.cells write ≡ raised → CanTake w (write ∷ []) → CanSet w 9 write.0 (patched_by_write w.cells write)
+CanSet-either false w write is may = (may.in_order.lighter.0 is).can_set
+CanSet-either true w write is may =
+    let same : with_lighter w write ≡ w = cond-true _ _ _ is in
+    ((subst (λ (v : World). raises v.cells write ≡ true → CanWrite v 9 write) same may.in_order.heavier.0) is).can_set
+
+pub CanSet-alone : (w : World) (write : Sighting) → CanTake w (write ∷ []) → CanSet w 9 write.0 (patched_by_write w.cells write)
+CanSet-alone w write may = CanSet-either (raises w.cells write) w write refl may

@@ -113,7 +113,10 @@ Wrote written more new = (p : Pos) → Contains new p ↔ (Contains written p �
 -- a turn that does what a look says is settled with a verdict: the named parts of the look's writes are set and their positions written, the
 -- place rises by one if it drew, and the verdict is added last
 pub record IsEnded (look : LookValue) (verdict : Verdict) (book new : BookValue) : Type 0 where
-  pub now : moment_of new ≡ record { world = with_cells (world_of book.world) (patched_cells (world_of book.world).cells look.writes); place = book.place + one_if look.drew }
+  pub now : moment_of new ≡ record {
+    world = with_cells (world_of book.world) (patched_cells (world_of book.world).cells look.writes);
+    place = book.place + one_if look.drew;
+  }
   pub written : Wrote book.written (map (λ write. write.0) look.writes) new.written
   pub next : new.next ≡ book.next + 1
   pub verdicts : new.verdicts ≡ book.verdicts ++ verdict ∷ []

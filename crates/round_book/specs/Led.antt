@@ -29,4 +29,5 @@ module _ {F : Type 0} (g : Mut F (MutBor Field × (ℕ × (ℕ × Unit {0}))) (R
 
   -- each such call plays its window, or is refused and leaves the field as it was
   abbrev pub PlaysWindows : Type 0
-  PlaysWindows = (f : F) (old : FieldValue) (from to : ℕ) (result : Result Counts OutOfMemory) (f' : F) (new : FieldValue) → CanBegin old from to → Played f old from to result f' new → IsWindow result old from to new
+  PlaysWindows = (f : F) (old : FieldValue) (from to : ℕ) (result : Result Counts OutOfMemory) (f' : F) (new : FieldValue) →
+      CanBegin old from to → Played f old from to result f' new → IsWindow result old from to new

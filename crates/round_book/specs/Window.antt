@@ -78,4 +78,6 @@ IsVerdict window now t (Redone (cause.Place guessed actual)) = IsElsewhere windo
 -- the verdicts of n turns from `from` on, in order, each once
 abbrev pub AreVerdicts : Window → ℕ → List Verdict → Type 0
 AreVerdicts window zero verdicts = verdicts ≡ []
-AreVerdicts window (suc n) verdicts = (before : List Verdict) × (last : Verdict) × (verdicts ≡ before ++ last ∷ []) × AreVerdicts window n before × IsVerdict window (moment_before window (window.from + n)) (window.from + n) last
+AreVerdicts window (suc n) verdicts =
+    let t = window.from + n in
+    (before : List Verdict) × (last : Verdict) × (verdicts ≡ before ++ last ∷ []) × AreVerdicts window n before × IsVerdict window (moment_before window t) t last

@@ -7,9 +7,9 @@ use crate::book::Book;
 use crate::field::Field;
 use spec_record::Look;
 
-/// Settles the next turn of a window by the look at it: takes the look where it holds, and else executes the turn anew (this project's own).
-/// The book stands on the field, the next turn is one of the window, and the look is that at the turn on the field's world at its guess;
-/// the book stands on the field again, one turn further. So where a book stands, the conditions of `settle` are met.
+/// Settles the next turn of a window by the look at it: takes the look where it holds, and else executes the turn anew. The book stands on
+/// the field, the next turn is one of the window, and the look is that at the turn on the field's world at its guess; the book stands on
+/// the field again, one turn further. So where a book stands, the conditions of `settle` are met.
 #[inline]
 pub fn advance(book: &mut Book, field: &Field<'_>, look: &Look)
     requires stands { StandsOn field.now book.old }

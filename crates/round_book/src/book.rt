@@ -19,9 +19,9 @@ use cell_world::World;
 use spec_record::{Look, look};
 use std::marker::Model;
 
-/// A window of turns that is being settled, one after another (this project's own). It has a world of its own, which is that after the turns
-/// so far, the place in the stream that they left, the positions that they wrote, and what came of the look at each. Only a field's `begin`
-/// makes one, and it has no copy.
+/// A window of turns that is being settled, one after another. It has a world of its own, which is that after the turns so far, the place
+/// in the stream that they left, the positions that they wrote, and what came of the look at each. Only a field's `begin` makes one, and it
+/// has no copy.
 #[derive(Drop)]
 pub struct Book {
     seed: u32,
@@ -112,12 +112,13 @@ impl Book {
     }
 
     /// Settles the next turn by a look at it, where the look holds: where the book's world agrees with each cell that the look read in the
-    /// parts that it read, and the book's place is the look's guess, if the turn draws a random number. The named parts of its writes are set
-    /// then, the place rises by one if it drew, and it is noted that the look was taken. Else the answer says why it doesn't hold, and the
-    /// book is as before. It takes no memory (this project's own).
+    /// parts that it read, and the book's place is the look's guess, if the turn draws a random number. The named parts of its writes are
+    /// set then, the place rises by one if it drew, and it is noted that the look was taken. Else the answer says why it doesn't hold, and
+    /// the book is as before. It takes no memory.
     ///
     /// The next turn is one of the window, and the look's. Where a read position wasn't written, the look's cell agrees with the book's
-    /// world. Where the look holds, its writes can be patched and set, first those that don't raise the weight of their cell, then the others.
+    /// world. Where the look holds, its writes can be patched and set, first those that don't raise the weight of their cell, then the
+    /// others.
     #[inline]
     pub fn settle(&mut self, look: Look) -> Option<Cause>
         requires in_window { self.old.next < self.old.to }
@@ -174,8 +175,8 @@ impl Book {
         None
     }
 
-    /// Executes the next turn, by these brains, on the book's world at its place, and notes for which cause: world and place become those of
-    /// the turn, and the positions that it writes are written. It takes no memory (this project's own).
+    /// Executes the next turn, by these brains, on the book's world at its place, and notes for which cause: world and place become those
+    /// of the turn, and the positions that it writes are written. It takes no memory.
     ///
     /// The next turn is one of the window, and the brains fit the book's world. A book in which a turn was executed anew although its look
     /// holds, or for another cause than the look's, doesn't stand.
@@ -192,6 +193,7 @@ impl Book {
     }
 
     // Ends the next turn, which does what the look says, with a verdict.
+    #[inline]
     pub(crate) fn end_turn(&mut self, look: &Look, verdict: Verdict)
         requires in_window { self.old.next < self.old.to }
         requires writes { CanTake (world_of self.old.world) look.now.writes }

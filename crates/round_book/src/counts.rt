@@ -9,8 +9,8 @@ use crate::field::Field;
 use crate::verdict::Verdict;
 use std::marker::Model;
 
-/// How many looks of a window were taken, and how many of its turns were executed anew (this project's own). Only a field's `finish` makes
-/// one, and it has no copy.
+/// How many looks of a window were taken, and how many of its turns were executed anew. Only a field's `finish` makes one, and it has no
+/// copy.
 #[derive(Drop)]
 pub struct Counts {
     taken: u32,
@@ -44,8 +44,8 @@ impl Counts {
 }
 
 impl Field<'_> {
-    /// Ends a window: the field is whole, with the world and the place to which the window's turns lead, and the answer counts the looks that
-    /// were taken and the turns that were executed anew (this project's own). The book stands on this field, and all its turns are settled.
+    /// Ends a window: the field is whole, with the world and the place to which the window's turns lead, and the answer counts the looks
+    /// that were taken and the turns that were executed anew. The book stands on this field, and all its turns are settled.
     pub fn finish(&mut self, book: Book) -> Counts
         requires stands { StandsOn self.old book }
         requires done { book.next ≡ book.to }

@@ -14,8 +14,8 @@ use hex_geometry::{OutOfMemory, Pos};
 use std::alloc::Global;
 use std::marker::Model;
 
-/// Where a game stands: its world, its brains, its seed and its place in the stream (this project's own). It is whole, or lent for a window
-/// of turns; while it is lent it shows what it was when the window began.
+/// Where a game stands: its world, its brains, its seed and its place in the stream. It is whole, or lent for a window of turns; while it
+/// is lent it shows what it was when the window began.
 #[derive(Drop)]
 pub struct Field<'b> {
     world: World,
@@ -45,8 +45,8 @@ impl<'b> Model for Field<'b> {
 }
 
 impl<'b> Field<'b> {
-    /// A whole field (this project's own). Each ant's state is below the length of its colour's brain, and the place is below 2^62. It is
-    /// refused for want of memory alone.
+    /// A whole field. Each ant's state is below the length of its colour's brain, and the place is below 2^62. It is refused for want of
+    /// memory alone.
     pub fn new(
         alloc: Global,
         world: World,
@@ -69,7 +69,7 @@ impl<'b> Field<'b> {
         })
     }
 
-    /// The world; while the field is lent, that with which the window began (this project's own).
+    /// The world; while the field is lent, that with which the window began.
     #[inline]
     pub fn world(&self) -> &World
         ensures world { result.now ≡ self.now.world }
@@ -78,7 +78,7 @@ impl<'b> Field<'b> {
         &self.world
     }
 
-    /// The brains of the game (this project's own).
+    /// The brains of the game.
     #[inline]
     pub fn brains(&self) -> Brains<'b>
         ensures brains { minds_of result ≡ self.now.minds }
@@ -87,7 +87,7 @@ impl<'b> Field<'b> {
         self.brains
     }
 
-    /// The seed of the game's random numbers (this project's own).
+    /// The seed of the game's random numbers.
     #[inline]
     pub fn seed(&self) -> u32
         ensures { result ≡ self.now.seed }
@@ -95,7 +95,7 @@ impl<'b> Field<'b> {
         self.seed
     }
 
-    /// How many random numbers were drawn; while the field is lent, as the window began (this project's own).
+    /// How many random numbers were drawn; while the field is lent, as the window began.
     #[inline]
     pub fn place(&self) -> u64
         ensures { result ≡ self.now.place }
@@ -104,9 +104,9 @@ impl<'b> Field<'b> {
     }
 
     /// Begins the window of the turns of the ids from `from` up to, and not including, `to`: the field is lent, and the book stands on it,
-    /// with no turn settled yet (this project's own). The field is whole, `from` is at most `to`, `to` at most the number of ids, and the
-    /// place with the number of turns is below 2^63. It is refused for want of memory alone; the field is whole and as before then. No call
-    /// on the book takes memory.
+    /// with no turn settled yet. The field is whole, `from` is at most `to`, `to` at most the number of ids, and the place with the number
+    /// of turns is below 2^63. It is refused for want of memory alone; the field is whole and as before then. No call on the book takes
+    /// memory.
     pub fn begin(&mut self, _alloc: Global, from: u32, to: u32) -> Result<Book, OutOfMemory>
         requires { CanBegin self.old from to }
         ensures lent { OnOk result (self.new ≡ record self.old { whole = false }) }

@@ -11,43 +11,42 @@ pub fn every_interleaving()
 {}
 
 /// Once the look at the next turn of a window is put, there is a verdict with which workers may settle it, in every state: what they do never
-/// comes to a stop for want of a verdict (this project's own). The call does nothing: its clause is the law.
+/// comes to a stop for want of a verdict. The call does nothing: its clause is the law.
 pub fn put_turns_settle()
     ensures { PutTurnsSettle }
 {}
 
 /// Where a book stands on a field, and its next turn is one of the window, the conditions of `settle` are met by the look at that turn on the
 /// field's world at its guess; and after a `settle` that answers nothing, or one that answers a cause and the `redo` for that cause by the
-/// field's brains, the book stands on the field (this project's own). The call does nothing: its clause is the law.
+/// field's brains, the book stands on the field. The call does nothing: its clause is the law.
 pub fn standing_books_settle()
     ensures { StandingBooksSettle }
 {}
 
 /// A book with which a window begins is at the first state of the workers on that window; lawful events lead from there to every book that
-/// stands; and settling its next turn, whose look was put, is one event (this project's own). The call does nothing: its clause is the law.
+/// stands; and settling its next turn, whose look was put, is one event. The call does nothing: its clause is the law.
 pub fn books_are_reached()
     ensures { BooksAreReached }
 {}
 
-/// The looks of a window that are taken and its turns that are executed anew are as many as its turns (this project's own). The call does
-/// nothing: its clause is the law.
+/// The looks of a window that are taken and its turns that are executed anew are as many as its turns. The call does nothing: its clause is
+/// the law.
 pub fn counts_add_up()
     ensures { CountsAddUp }
 {}
 
-/// In a window of one turn the look is taken (this project's own). The call does nothing: its clause is the law.
+/// In a window of one turn the look is taken. The call does nothing: its clause is the law.
 pub fn lone_turns_are_taken()
     ensures { LoneTurnsAreTaken }
 {}
 
-/// A turn counts as taken exactly where its look holds when its turn comes: no worker, ticket or order of events has a part in it (this
-/// project's own). The call does nothing: its clause is the law.
+/// A turn counts as taken exactly where its look holds when its turn comes: no worker, ticket or order of events has a part in it. The call
+/// does nothing: its clause is the law.
 pub fn taken_where_it_holds()
     ensures { TakenWhereItHolds }
 {}
 
-/// Where a cause may be named for which a turn is executed anew, its look doesn't hold (this project's own). The call does nothing: its
-/// clause is the law.
+/// Where a cause may be named for which a turn is executed anew, its look doesn't hold. The call does nothing: its clause is the law.
 pub fn causes_refute()
     ensures { CausesRefute }
 {}

@@ -8,8 +8,8 @@ use crate::field::Field;
 use hex_geometry::OutOfMemory;
 use std::alloc::Global;
 
-/// A crew that plays each window by a function, which counts its own looks by `finish` (this project's own). It makes a crew of workers,
-/// which are started by a function, one that plays as any other.
+/// A crew that plays each window by a function, which counts its own looks by `finish`. It makes a crew of workers, which are started by a
+/// function, one that plays as any other.
 #[derive(Drop)]
 pub struct Led<F: Drop> {
     play: F,
@@ -17,7 +17,7 @@ pub struct Led<F: Drop> {
 }
 
 impl<F: FnMut(&mut Field<'_>, u32, u32) -> Result<Counts, OutOfMemory> + Drop> Led<F> {
-    /// A crew that plays by this function, and has played no turn yet (this project's own).
+    /// A crew that plays by this function, and has played no turn yet.
     pub fn by(play: F) -> Led<F>
         ensures play { result.play ≡ play }
         ensures turns { result.turns ≡ 0 }

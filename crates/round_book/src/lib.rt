@@ -2,7 +2,8 @@
 //!
 //! A window is a run of turns of one round. Its looks are made on the world with which it begins; then they are settled one after another: a
 //! look that still holds is taken, any other turn is executed anew. Whatever was looked at when, and by whom, what the window leaves is what
-//! its turns do one after another, and how many looks were taken depends on the turns and the window alone. This is this project's own.
+//! its turns do one after another, and how many looks were taken depends on the turns and the window alone. All of this is this project's
+//! own.
 #![tactic(auto)]
 
 mod advancing;

@@ -1,5 +1,5 @@
 // The writes of a look, set in a world.
-ghost use Rattle.std.specs.Prelude.{◌≡◌, if◌then◌else◌};
+ghost use Rattle.std.specs.Prelude.{◌≡◌, [], ◌∷◌, if◌then◌else◌};
 ghost use Rattle.hex_geometry.specs.Position.{IsInside};
 ghost use Rattle.cell_world.specs.Cell.{ant_weight, cell_weight};
 ghost use Rattle.cell_world.specs.Grid.{world_of};
@@ -14,15 +14,30 @@ ghost use Rattle.std.specs.List.{AllByRecursion};
 use cell_world::{Ant, Cell, Ground, Parts, World};
 use hex_geometry::Pos;
 
-// Sets the named parts of each write: first where that doesn't raise the weight of the cell, then at the others, so that the world is
+// Sets the named parts of each write: of one alone at once; of more first where that doesn't raise the weight of the cell, then at the others, so that the world is
 // light enough at every step.
+#[inline]
 pub(crate) fn set_writes(world: &mut World, writes: &[(Pos, Parts, Cell)])
     requires once { EachOnce (places_of writes.now) }
     requires may { CanTake (world_of world.old) writes.now }
     ensures { world_of world.new ≡ with_cells (world_of world.old) (patched_cells (world_of world.old).cells writes.now) }
 {
+    if writes.len() == 1 {
+        set_one(world, &writes[0]);
+        return;
+    }
     set_pass(world, writes, false);
     set_pass(world, writes, true);
+}
+
+// Sets the named parts of a write that is the only one.
+#[inline]
+fn set_one(world: &mut World, write: &(Pos, Parts, Cell))
+    requires { CanTake (world_of world.old) (write.now ∷ []) }
+    ensures { world_of world.new ≡ with_cells (world_of world.old) (patched_cells (world_of world.old).cells (write.now ∷ [])) }
+{
+    let cell = world.cell(write.0);
+    world.set(write.0, cell.patched(write.2, write.1));
 }
 
 // Sets those writes that raise the weight of their cell, or those that don't.

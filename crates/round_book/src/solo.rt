@@ -13,14 +13,14 @@ use hex_geometry::OutOfMemory;
 use spec_record::look;
 use std::alloc::Global;
 
-/// A crew that looks and settles on the caller's thread, one turn after another (this project's own).
+/// A crew that looks and settles on the caller's thread, one turn after another.
 #[derive(Drop)]
 pub struct SoloCrew {
     turns: u64,
 }
 
 impl SoloCrew {
-    /// A crew that has played no turn yet (this project's own).
+    /// A crew that has played no turn yet.
     pub fn new() -> SoloCrew
         ensures { result.turns ≡ 0 }
     {

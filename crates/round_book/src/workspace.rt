@@ -98,6 +98,7 @@ impl Workspace {
     }
 
     // The first part, in the order of the reads, that was read and is another now. It compares the written cells alone.
+    #[inline]
     pub(crate) fn first_change(&self, reads: &[(Pos, Parts, Cell)]) -> Option<Cause>
         requires marks { AreMarked self.now.world self.now.marked.items self.now.written.items }
         requires unwritten { AllByRecursion (AgreesIfUnwritten self.now.written.items (world_of self.now.world).cells) reads.now }
@@ -127,6 +128,7 @@ impl Workspace {
     }
 
     // Sets the named parts of writes, and marks their cells.
+    #[inline]
     pub(crate) fn write(&mut self, writes: &[(Pos, Parts, Cell)])
         requires marks { AreMarked self.old.world self.old.marked.items self.old.written.items }
         requires once { EachOnce (places_of writes.now) }
@@ -144,6 +146,7 @@ impl Workspace {
     }
 
     // Marks the cells of writes.
+    #[inline]
     fn mark_all(&mut self, writes: &[(Pos, Parts, Cell)])
         requires marks { AreMarked self.old.world self.old.marked.items self.old.written.items }
         requires inside { AllByRecursion (λ write. IsInside self.old.world.width self.old.world.height write.0) writes.now }

@@ -17,6 +17,7 @@ use Rattle.cell_world.proofs.Places.{ant-clear, clear_has_neighbours}
 use Rattle.cell_world.proofs.Puts.{put_cell-same}
 use Rattle.brain_read.specs.declared.instr.Instr.{Instr}
 use Rattle.brain_read.specs.declared.instr.Instr.TheVariants.{Sense, Mark, Unmark, PickUp, Drop, Turn, Move, Flip}
+use Rattle.ant_turn.specs.InPlace.{StaysSeeing}
 use Rattle.ant_turn.specs.Kills.{check_all, places_around}
 use Rattle.ant_turn.specs.Minds.{Minds, mind_of}
 use Rattle.ant_turn.specs.Sheet.{Sheet}
@@ -117,6 +118,22 @@ blocked_writes : (blocked : Bool) (sheet : Sheet) (cells : Cells) (p : Pos) (ant
     (if is_blocked (cells q) then [] else writes_going sheet cells p ant q met) ≡ []
 blocked_writes true sheet cells p ant q met is stays = cond-true _ _ _ is
 blocked_writes false sheet cells p ant q met is stays = absurd (cc)
+
+-- the cell ahead of an ant that doesn't go is blocked
+blocked_ahead : (blocked : Bool) (q : Pos) → (if blocked then None else Some q) ≡ None → blocked ≡ true
+blocked_ahead true q stays = refl
+blocked_ahead false q stays = absurd (cc)
+
+-- an ant that doesn't go stays, and senses the cell that it reads
+pub stays-seeing : (cells : Cells) (p : Pos) (ant : Ant) (seen : Cell) (instruction : Instr) → seen ≡ cells (read_at p ant instruction) → destination cells p ant instruction ≡ None → StaysSeeing cells p ant seen instruction
+stays-seeing cells p ant seen (Sense sight met unmet condition) is stays = is
+stays-seeing cells p ant seen (Mark i next) is stays = tt
+stays-seeing cells p ant seen (Unmark i next) is stays = tt
+stays-seeing cells p ant seen (PickUp met unmet) is stays = tt
+stays-seeing cells p ant seen (Drop next) is stays = tt
+stays-seeing cells p ant seen (Turn side next) is stays = tt
+stays-seeing cells p ant seen (Move met unmet) is stays = blocked_ahead (is_blocked (cells (adjacent_pos p ant.facing))) (adjacent_pos p ant.facing) stays
+stays-seeing cells p ant seen (Flip bound met unmet) is stays = tt
 
 -- what an ant that stays reads
 reads-stays : (sheet : Sheet) (cells : Cells) (p : Pos) (ant : Ant) (instruction : Instr) → destination cells p ant instruction ≡ None →
@@ -247,7 +264,7 @@ module _ {minds : Minds} {seed : ℕ} {w : World} {guess t : ℕ} {p : Pos} {ant
   acting-near = clear_has_neighbours w p acting.valid acting-clear
 
   -- what it does
-  acting-executes : outcome ≡ execute minds.sheet seed w.cells guess p ant instruction
+  pub acting-executes : outcome ≡ execute minds.sheet seed w.cells guess p ant instruction
   acting-executes = acting.is ∙ turn-instruction minds seed w guess t p ant acting.found acting.holds acting.ready ∙ ap (execute minds.sheet seed w.cells guess p ant) (sym acting.at)
 
   acting-look : look_of minds seed w guess t ≡ look_by minds.sheet seed w.cells guess t p ant instruction

@@ -52,7 +52,8 @@ pub record IsLookedAt (look : LookValue) (cells : Cells) (outcome : Outcome) : T
   -- each part that it writes is as in the look
   pub written : AllByRecursion (λ write. Agree write.1 (outcome.cells write.0) write.2) look.writes
   -- every part that it doesn't write stays, with the ground and the hill of each cell
-  pub others : (p : Pos) (k : Part) → AllByRecursion (λ write. write.0 ≡ p → has_part write.1 k ≡ false) look.writes → Alike k (outcome.cells p) (cells p)
+  pub others : (p : Pos) (k : Part) → AllByRecursion (λ write. write.0 ≡ p → has_part write.1 k ≡ false) look.writes →
+      Alike k (outcome.cells p) (cells p)
   pub rocks : (p : Pos) → (outcome.cells p).rocky ≡ (cells p).rocky
   pub hills : (p : Pos) → (outcome.cells p).hill ≡ (cells p).hill
 
@@ -78,12 +79,14 @@ TurnsArePatches = (minds : Minds) (seed : ℕ) (base : World) (guess : ℕ) (now
 
 -- a look in hand that holds tells what its turn does
 abbrev pub LooksTell : Type 0
-LooksTell = (minds : Minds) (seed : ℕ) (base : World) (guess : ℕ) (now : World) (place t : ℕ) → GoesOn base now t → LookHolds (look_of minds seed base guess t) now.cells place →
+LooksTell = (minds : Minds) (seed : ℕ) (base : World) (guess : ℕ) (now : World) (place t : ℕ) → GoesOn base now t →
+    LookHolds (look_of minds seed base guess t) now.cells place →
     turn minds seed now place t ≡ outcome_by (look_of minds seed base guess t) now.cells
 
 -- a turn changes no part but those that it writes, and no ground or hill
 pub record WritesAlone (minds : Minds) (seed : ℕ) (w : World) (place t : ℕ) : Type 0 where
-  pub parts : (p : Pos) (k : Part) → AllByRecursion (λ c. c.at ≡ p → has_part c.parts k ≡ false) (writes minds w t) → Alike k ((turn minds seed w place t).cells p) (w.cells p)
+  pub parts : (p : Pos) (k : Part) → AllByRecursion (λ c. c.at ≡ p → has_part c.parts k ≡ false) (writes minds w t) →
+      Alike k ((turn minds seed w place t).cells p) (w.cells p)
   pub rocks : (p : Pos) → ((turn minds seed w place t).cells p).rocky ≡ (w.cells p).rocky
   pub hills : (p : Pos) → ((turn minds seed w place t).cells p).hill ≡ (w.cells p).hill
 
@@ -101,6 +104,7 @@ TurnsDrawAtFlips = (minds : Minds) (seed : ℕ) (w : World) (place t : ℕ) → 
 -- the writes of a look that holds may be set in `now`, first those that don't raise the weight of their cell and then the others, and that
 -- makes the turn
 abbrev pub LooksSettle : Type 0
-LooksSettle = (minds : Minds) (seed : ℕ) (base : World) (guess : ℕ) (now : World) (place t room : ℕ) → AreSound minds → IsLater minds base now → Holds minds base guess now place t → 1 ≤ room →
+LooksSettle = (minds : Minds) (seed : ℕ) (base : World) (guess : ℕ) (now : World) (place t room : ℕ) →
+    AreSound minds → IsLater minds base now → Holds minds base guess now place t → 1 ≤ room →
     let written = (look_of minds seed base guess t).writes in
     CanSetWrites now room written × (after_heavier (after_lighter now written) written ≡ with_cells now (turn minds seed now place t).cells)

@@ -98,10 +98,14 @@ pub(crate) fn note_fallen(
     requires near { HasNeighbours q }
     requires wide { (trail_world trail.now).width ≡ base.now.width }
     requires high { (trail_world trail.now).height ≡ base.now.height }
-    requires reads { length (all_sighted reads.old.items (sights (world_of base.now).cells load_and_food (going.fallen (world_of base.now).cells (trail_world trail.now).cells p q))) ≤ 19 }
-    requires writes { length (all_sighted writes.old.items (sights (trail_world trail.now).cells ant_and_food (going.fallen (world_of base.now).cells (trail_world trail.now).cells p q))) ≤ 7 }
-    ensures reads { reads.new.items ≡ all_sighted reads.old.items (sights (world_of base.now).cells load_and_food (going.fallen (world_of base.now).cells (trail_world trail.now).cells p q)) }
-    ensures writes { writes.new.items ≡ all_sighted writes.old.items (sights (trail_world trail.now).cells ant_and_food (going.fallen (world_of base.now).cells (trail_world trail.now).cells p q)) }
+    requires reads { length (all_sighted reads.old.items
+        (sights (world_of base.now).cells load_and_food (going.fallen (world_of base.now).cells (trail_world trail.now).cells p q))) ≤ 19 }
+    requires writes { length (all_sighted writes.old.items
+        (sights (trail_world trail.now).cells ant_and_food (going.fallen (world_of base.now).cells (trail_world trail.now).cells p q))) ≤ 7 }
+    ensures reads { reads.new.items ≡ all_sighted reads.old.items
+        (sights (world_of base.now).cells load_and_food (going.fallen (world_of base.now).cells (trail_world trail.now).cells p q)) }
+    ensures writes { writes.new.items ≡ all_sighted writes.old.items
+        (sights (trail_world trail.now).cells ant_and_food (going.fallen (world_of base.now).cells (trail_world trail.now).cells p q)) }
 {
     note_if_fallen(reads, writes, base, trail, p, q, q);
     let around = neighbours(q);
@@ -124,10 +128,14 @@ fn note_if_fallen(
     requires inside { IsInside base.now.width base.now.height r }
     requires wide { (trail_world trail.now).width ≡ base.now.width }
     requires high { (trail_world trail.now).height ≡ base.now.height }
-    requires reads { length (all_sighted reads.old.items (sights (world_of base.now).cells load_and_food (going.fallen_at (world_of base.now).cells (trail_world trail.now).cells p q r))) ≤ 19 }
-    requires writes { length (all_sighted writes.old.items (sights (trail_world trail.now).cells ant_and_food (going.fallen_at (world_of base.now).cells (trail_world trail.now).cells p q r))) ≤ 7 }
-    ensures reads { reads.new.items ≡ all_sighted reads.old.items (sights (world_of base.now).cells load_and_food (going.fallen_at (world_of base.now).cells (trail_world trail.now).cells p q r)) }
-    ensures writes { writes.new.items ≡ all_sighted writes.old.items (sights (trail_world trail.now).cells ant_and_food (going.fallen_at (world_of base.now).cells (trail_world trail.now).cells p q r)) }
+    requires reads { length (all_sighted reads.old.items
+        (sights (world_of base.now).cells load_and_food (going.fallen_at (world_of base.now).cells (trail_world trail.now).cells p q r))) ≤ 19 }
+    requires writes { length (all_sighted writes.old.items
+        (sights (trail_world trail.now).cells ant_and_food (going.fallen_at (world_of base.now).cells (trail_world trail.now).cells p q r))) ≤ 7 }
+    ensures reads { reads.new.items ≡ all_sighted reads.old.items
+        (sights (world_of base.now).cells load_and_food (going.fallen_at (world_of base.now).cells (trail_world trail.now).cells p q r)) }
+    ensures writes { writes.new.items ≡ all_sighted writes.old.items
+        (sights (trail_world trail.now).cells ant_and_food (going.fallen_at (world_of base.now).cells (trail_world trail.now).cells p q r)) }
 {
     if has_fallen(base, trail, p, q, r) {
         note_read(reads, r, load_and_food(), base.cell(r));

@@ -1,5 +1,5 @@
 // At which random number each turn of a window is guessed to stand.
-ghost use Rattle.std.specs.Prelude.{◌≡◌, ◌+◌, ◌-◌, ◌≤◌, ◌<◌, ◌^◌, IfOk, length, nat_eq};
+ghost use Rattle.std.specs.Prelude.{◌≡◌, ◌+◌, ◌-◌, ◌≤◌, ◌<◌, ◌^◌, ℕ, IfOk, length, nat_eq};
 ghost use Rattle.cell_world.specs.Grid.{world_of};
 ghost use Rattle.brain_read.specs.Soundness.{IsSound};
 ghost use Rattle.ant_turn.specs.Minds.{Fits, minds_of, mind_of};
@@ -11,7 +11,7 @@ use brain_read::Instr;
 use cell_world::{Ant, Colour, OutOfMemory, World};
 use std::alloc::Global;
 
-/// Whether the ant of this id is alive, not resting and at a Flip, so that its turn draws a random number (this project's own).
+/// Whether the ant of this id is alive, not resting and at a Flip, so that its turn draws a random number.
 ///
 /// Each ant's state is below the length of its colour's brain.
 #[inline]
@@ -29,11 +29,11 @@ pub fn at_flip(base: &World, brains: Brains<'_>, id: u32) -> bool
     acts(&ant) && is_flip(instruction(brains, &ant))
 }
 
-/// The guess of each turn from `from` to `to - 1`, in order: at which random number the turn stands if each turn before it draws as it would
-/// in the base (this project's own).
+/// The guess of each turn from `from` to `to - 1`, in order: at which random number the turn stands if each turn before it draws as it
+/// would in the base.
 ///
-/// Each ant's state is below the length of its colour's brain, `from` is at most `to`, `to` at most the number of ids, and place + to - from
-/// is below 2^63. It is refused for want of memory alone.
+/// Each ant's state is below the length of its colour's brain, `from` is at most `to`, `to` at most the number of ids, and place + to -
+/// from is below 2^63. It is refused for want of memory alone.
 pub fn guesses(
     alloc: Global,
     base: &World,
@@ -57,11 +57,11 @@ pub fn guesses(
     Ok(all)
 }
 
-/// The guess of turn `t` alone: at which random number it stands if each turn from `from` on before it draws as it would in the base (this
-/// project's own). Whoever looks at the turns from `t` on begins there. It takes no memory.
+/// The guess of turn `t` alone: at which random number it stands if each turn from `from` on before it draws as it would in the base.
+/// Whoever looks at the turns from `t` on begins there. It takes no memory.
 ///
-/// Each ant's state is below the length of its colour's brain, `from` is at most `t`, `t` at most the number of ids, and place + t - from is
-/// below 2^63.
+/// Each ant's state is below the length of its colour's brain, `from` is at most `t`, `t` at most the number of ids, and place + t - from
+/// is below 2^63.
 pub fn guess_at(base: &World, brains: Brains<'_>, place: u64, from: u32, t: u32) -> u64
     requires fit { Fits (world_of base.now) (minds_of brains) }
     requires order { from ≤ t }
@@ -89,7 +89,8 @@ fn acts(ant: &Ant) -> bool
 #[inline]
 pub(crate) fn instruction(brains: Brains<'_>, ant: &Ant) -> Instr
     requires { ant.now.state < length (mind_of (minds_of brains) ant.now.colour) }
-    ensures { result ≡ instruction_at (mind_of (minds_of brains.entry) ant.now.colour) ant.now.state }
+    ensures instruction { result ≡ instruction_at (mind_of (minds_of brains.entry) ant.now.colour) ant.now.state }
+    ensures sound { (states : ℕ) × IsSound states result }
 {
     match ant.colour {
         Colour::Red => brains.red.at(ant.state),

@@ -12,49 +12,46 @@ ghost use Rattle.spec_record.specs.Locality.{
 };
 ghost use Rattle.spec_record.specs.Places.{PlacesCountFlips};
 
-/// A look names each position once, with all parts that the turn reads or writes there (this project's own). The call does nothing: its
-/// clause is the law.
+/// A look names each position once, with all parts that the turn reads or writes there. The call does nothing: its clause is the law.
 pub fn looks_are_merged()
     ensures { LooksAreMerged }
 {}
 
 /// The law of locality: what a turn reads is all that it depends on. Where a world `now` is the same as an earlier base in every part that
 /// the turn reads there, and the random number is at the same place if the turn draws one, the turn in `now` draws and kills as on the base
-/// and leaves in each part that it writes what it leaves there; every other part of every cell of `now` stays as it is (this project's own).
-/// Both are worlds that the brains fit, of the same sizes, number of ids, rocks and hills, and who is dead in the base is dead in `now`.
-/// The call does nothing: its clause is the law.
+/// and leaves in each part that it writes what it leaves there; every other part of every cell of `now` stays as it is. Both are worlds
+/// that the brains fit, of the same sizes, number of ids, rocks and hills, and who is dead in the base is dead in `now`. The call does
+/// nothing: its clause is the law.
 pub fn turns_are_local()
     ensures { TurnsAreLocal }
 {}
 
 /// The law of locality from no more premises than it needs: `now` has the sizes, rocks and hills of the base; the ant whose turn it is is
-/// dead in it where it is in the base, and on no two cells (this project's own). The call does nothing: its clause is the law.
+/// dead in it where it is in the base, and on no two cells. The call does nothing: its clause is the law.
 pub fn turns_are_local_alone()
     ensures { TurnsAreLocalAlone }
 {}
 
 /// The law of locality as one equation: the outcome of the turn in `now` is made by setting the writes of the look, each the named parts of
-/// its cell, in the cells of `now`, and it draws and kills as the look says (this project's own). The call does nothing: its clause is the
-/// law.
+/// its cell, in the cells of `now`, and it draws and kills as the look says. The call does nothing: its clause is the law.
 pub fn turns_are_patches()
     ensures { TurnsArePatches }
 {}
 
 /// A look in hand that holds tells what its turn does: where each read cell is the same in the parts that were read and, if the turn draws,
-/// the random number is at the guess, the turn's outcome is made of the look alone (this project's own). The call does nothing: its clause
-/// is the law.
+/// the random number is at the guess, the turn's outcome is made of the look alone. The call does nothing: its clause is the law.
 pub fn looks_tell()
     ensures { LooksTell }
 {}
 
 /// The writes of a look that holds may be set one after another, first those that don't raise the weight of their cell and then the others,
-/// and that makes the turn (this project's own). The call does nothing: its clause is the law.
+/// and that makes the turn. The call does nothing: its clause is the law.
 pub fn looks_settle()
     ensures { LooksSettle }
 {}
 
-/// A turn changes no part of a cell but those that it writes, and no ground or hill (the parts are this project's own; the task's
-/// kinetics). The call does nothing: its clause is the law.
+/// A turn changes no part of a cell but those that it writes, and no ground or hill (the task's kinetics). The call does nothing: its
+/// clause is the law.
 pub fn turns_write_alone()
     ensures { TurnsWriteAlone }
 {}

@@ -1,5 +1,5 @@
 // Sightings, joined one by one.
-ghost use Rattle.std.specs.Prelude.{◌≡◌, ◌≤◌, if◌then◌else◌, length};
+ghost use Rattle.std.specs.Prelude.{◌≡◌, ◌≤◌, [], ◌∷◌, if◌then◌else◌, length};
 ghost use Rattle.hex_geometry.specs.Position.{same_pos};
 ghost use Rattle.cell_world.specs.Parts.{union, with_part, has_part};
 ghost use Rattle.spec_record.specs.Inner.Sightings as sighting;
@@ -28,7 +28,47 @@ pub(crate) fn note_read(
     }
 }
 
-// The same of parts that are written.
+// Makes a list that of these parts of the cell at `p` alone, in the room that it has.
+#[inline]
+pub(crate) fn note_alone<const N: usize>(
+    list: &mut ArrayVec<(Pos, Parts, Cell), N>,
+    p: Pos,
+    parts: Parts,
+    cell: Cell,
+)
+    requires { 1 ≤ N }
+    ensures { list.new.items ≡ (p, parts, cell) ∷ [] }
+{
+    if list.is_empty() {
+        list.push((p, parts, cell));
+    } else {
+        list[0] = (p, parts, cell);
+        list.truncate(1);
+    }
+}
+
+// Makes a list that of these parts of the cell at `p`, and then of more parts of the one at `q`, which may be the same position.
+#[inline]
+pub(crate) fn note_two(
+    list: &mut ArrayVec<(Pos, Parts, Cell), 19>,
+    p: Pos,
+    parts: Parts,
+    cell: &Cell,
+    q: Pos,
+    more: Parts,
+    there: &Cell,
+)
+    ensures { list.new.items ≡ sighting.sighted ((p, parts, cell.now) ∷ []) (q, more, there.now) }
+{
+    if is_same(p, q) {
+        note_alone(list, p, union(parts, more), *cell);
+    } else {
+        note_alone(list, p, parts, *cell);
+        list.push((q, more, *there));
+    }
+}
+
+// As `note_read` of parts that are written.
 #[inline]
 pub(crate) fn note_write(
     list: &mut ArrayVec<(Pos, Parts, Cell), 7>,

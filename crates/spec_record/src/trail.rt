@@ -12,8 +12,8 @@ use cell_world::{Cell, Ground, World};
 use hex_geometry::Pos;
 use std::marker::Model;
 
-/// A world on which a turn is tried out: it begins as a world that is lent, which stays as it is, and keeps the cells that are set, at
-/// most 9, in a list (this project's own).
+/// A world on which a turn is tried out: it begins as a world that is lent, which stays as it is, and keeps the cells that are set, at most
+/// 9, in a list.
 #[derive(Drop)]
 pub struct Trail<'w> {
     base: &'w World,
@@ -33,7 +33,7 @@ impl<'w> Model for Trail<'w> {
 }
 
 impl<'w> Trail<'w> {
-    /// The trail that begins as this world, with room for 9 cells (this project's own). It takes no memory.
+    /// The trail that begins as this world, with room for 9 cells. It takes no memory.
     #[inline]
     pub fn over(base: &'w World) -> Trail<'w>
         ensures world { trail_world result ≡ world_of base.now }

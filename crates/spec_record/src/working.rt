@@ -12,9 +12,9 @@ use ant_random::Stream;
 use ant_turn::Brains;
 use cell_world::World;
 
-/// The look at the turn of the ant of this id in `base`, its random number guessed at a place of the seed's stream (this project's own):
-/// the positions that the turn reads, each once, with their parts and their cells in `base`; those that it writes, each once, with their
-/// parts and their cells after the turn; whether it draws; and whom it kills. The base stays as it is. It takes no memory.
+/// The look at the turn of the ant of this id in `base`, its random number guessed at a place of the seed's stream: the positions that the
+/// turn reads, each once, with their parts and their cells in `base`; those that it writes, each once, with their parts and their cells
+/// after the turn; whether it draws; and whom it kills. The base stays as it is. It takes no memory.
 ///
 /// Each ant's state is below the length of its colour's brain, the id is below the number of ids, and the guess is below 2^63 - 1.
 pub fn look(base: &World, brains: Brains<'_>, seed: u32, guess: u64, id: u32) -> Look
@@ -29,8 +29,8 @@ pub fn look(base: &World, brains: Brains<'_>, seed: u32, guess: u64, id: u32) ->
     look
 }
 
-/// The same look, its random number guessed at the place of a stream that stands there already (this project's own). The stream goes on by
-/// one number where the turn draws one, so that looks at one turn after another are made at the guesses. It takes no memory.
+/// The same look, its random number guessed at the place of a stream that stands there already. The stream goes on by one number where the
+/// turn draws one, so that looks at one turn after another are made at the guesses. It takes no memory.
 ///
 /// Each ant's state is below the length of its colour's brain, the id is below the number of ids, and the stream stands below 2^63 - 1.
 #[inline]

@@ -1,5 +1,5 @@
 -- A Move that goes, as a look finds what it reads.
-use Rattle.std.specs.Prelude.{Bool, not, ◌&&◌, ◌||◌, if◌then◌else◌, List, [], ◌∷◌, ◌++◌, Option, Some, None}
+use Rattle.std.specs.Prelude.{◌≡◌, ℕ, Bool, not, ◌&&◌, ◌||◌, if◌then◌else◌, List, [], ◌∷◌, ◌++◌, Option, Some, None}
 use Rattle.std.specs.List.{flat_map}
 use Rattle.hex_geometry.specs.declared.position.Pos.{Pos}
 use Rattle.hex_geometry.specs.Neighbourhood.{adjacent_pos, neighbours_of}
@@ -7,11 +7,12 @@ use Rattle.hex_geometry.specs.Position.{same_pos}
 use Rattle.cell_world.specs.declared.ant.Ant.{Ant}
 use Rattle.cell_world.specs.declared.part.Part.TheVariants as part
 use Rattle.cell_world.specs.Parts.{only}
-use Rattle.cell_world.specs.World.{Cells}
+use Rattle.cell_world.specs.World.{Cells, World, place_in}
 use Rattle.brain_read.specs.declared.instr.Instr.{Instr}
 use Rattle.brain_read.specs.declared.instr.Instr.TheVariants.{Sense, Mark, Unmark, PickUp, Drop, Turn, Move, Flip}
 use Rattle.ant_turn.specs.Kills.{places_around}
-use Rattle.ant_turn.specs.Turn.{has_ant, is_blocked}
+use Rattle.ant_turn.specs.Minds.{Minds, mind_of}
+use Rattle.ant_turn.specs.Turn.{has_ant, instruction_at, is_blocked}
 use Rattle.spec_record.specs.Claims.{Sighting}
 use Rattle.spec_record.specs.Reads.{ant_and_food, load_and_food, whole_ant}
 use Rattle.spec_record.specs.Inner.Sightings.{all_sighted, sights}
@@ -53,8 +54,20 @@ fallen cells last p q = flat_map (fallen_at cells last p q) (places_around q)
 
 -- the reads of an ant that goes to q
 abbrev pub going_reads : Cells → Cells → Pos → Pos → List Sighting
-going_reads cells last p q = all_sighted (all_sighted ((p, whole_ant, cells p) ∷ []) (sights cells (only part.Who) (seen_from cells p q))) (sights cells load_and_food (fallen cells last p q))
+going_reads cells last p q =
+    all_sighted
+    (all_sighted ((p, whole_ant, cells p) ∷ []) (sights cells (only part.Who) (seen_from cells p q)))
+    (sights cells load_and_food (fallen cells last p q))
 
 -- and its writes
 abbrev pub going_writes : Cells → Cells → Pos → Pos → List Sighting
-going_writes cells last p q = all_sighted ((p, whole_ant, last p) ∷ (q, whole_ant, last q) ∷ []) (sights last ant_and_food (fallen cells last p q))
+going_writes cells last p q =
+    all_sighted ((p, whole_ant, last p) ∷ (q, whole_ant, last q) ∷ []) (sights last ant_and_food (fallen cells last p q))
+
+-- the ant of p acts in the turn of id t, by an instruction by which it goes to q
+pub record GoesTo (minds : Minds) (w : World) (t : ℕ) (p q : Pos) : Type 0 where
+  pub ant : Ant
+  pub found : place_in w t ≡ Some p
+  pub holds : (w.cells p).ant ≡ Some ant
+  pub ready : ant.resting ≡ 0
+  pub way : destination w.cells p ant (instruction_at (mind_of minds ant.colour) ant.state) ≡ Some q

@@ -67,7 +67,9 @@ rested_look t guess p cell ant = record {
 
 -- the reads of an ant that stays
 abbrev pub staying_reads : Cells → Pos → Ant → Instr → List Sighting
-staying_reads cells p ant instruction = sighted ((p, who_and_mind, cells p) ∷ []) (read_at p ant instruction, read_parts ant.colour instruction, cells (read_at p ant instruction))
+staying_reads cells p ant instruction =
+    let at = read_at p ant instruction in
+    sighted ((p, who_and_mind, cells p) ∷ []) (at, read_parts ant.colour instruction, cells at)
 
 -- and its writes, where these are the cells then
 abbrev pub staying_writes : Cells → Pos → Ant → Instr → List Sighting

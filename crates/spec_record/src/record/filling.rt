@@ -1,28 +1,30 @@
 // How a look is worked out, in the room of another.
-ghost use Rattle.std.specs.Prelude.{◌≡◌, ◌+◌, ◌-◌, ◌<◌, ◌≤◌, ◌^◌, [], Some, length};
+ghost use Rattle.std.specs.Prelude.{◌≡◌, ◌+◌, ◌-◌, ◌<◌, ◌≤◌, ◌^◌, ℕ, [], Some, None, length};
 ghost use Rattle.hex_geometry.specs.Position.{HasNeighbours, IsInner, IsInside};
 ghost use Rattle.cell_world.specs.Cell.{one_if};
 ghost use Rattle.cell_world.specs.Grid.{world_of};
 ghost use Rattle.cell_world.specs.Parts.{only};
 ghost use Rattle.cell_world.specs.Valid.{Valid};
 ghost use Rattle.cell_world.specs.World.{place_in, with_cells};
+ghost use Rattle.brain_read.specs.Soundness.{IsSound};
 ghost use Rattle.ant_turn.specs.Minds.{Fits, minds_of};
+ghost use Rattle.ant_turn.specs.Sheet.{Sheet};
 ghost use Rattle.ant_turn.specs.Turn as turn;
-ghost use Rattle.spec_record.specs.Inner.Going.{fallen, going_reads, going_writes};
-ghost use Rattle.spec_record.specs.Inner.Standing.{blank_look, read_at, rested_look, staying_reads, staying_writes};
+ghost use Rattle.spec_record.specs.Inner.Going.{GoesTo, destination, fallen, going_reads, going_writes};
+ghost use Rattle.spec_record.specs.Inner.Standing.{blank_look, rested_look, staying_reads, staying_writes};
 ghost use Rattle.spec_record.specs.Claims.{EachOnce, places_of};
-ghost use Rattle.spec_record.specs.Look.{look_of};
+ghost use Rattle.spec_record.specs.Look.{look_of, look_with};
 ghost use Rattle.spec_record.specs.Reads.{who_and_mind};
 ghost use Rattle.spec_record.specs.Trail.{trail_world};
 
 use crate::going::{note_checks, note_fallen, whole_ant};
 use crate::guess::instruction;
 use crate::record::Look;
-use crate::sightings::{note_read, union};
+use crate::sightings::{note_alone, note_two, union};
 use crate::staying::{destination, read_at, read_parts, written_besides};
 use crate::trail::Trail;
 use ant_random::Stream;
-use ant_turn::{Brains, Deed, take_turn};
+use ant_turn::{Brains, Deed, take_turn, turn_in_place};
 use arrayvec::ArrayVec;
 use brain_read::Instr;
 use cell_world::{Ant, Cell, Part, Parts, World};
@@ -45,10 +47,10 @@ impl Look {
     }
 
     /// Makes this look the one at the turn of the ant of this id in `base`, its random number guessed at the place of the stream, and
-    /// forgets what it was (this project's own). It takes no memory, and uses the room of the old look.
+    /// forgets what it was. It takes no memory, and uses the room of the old look.
     ///
-    /// Each ant's state is below the length of its colour's brain, the id is below the number of ids, and the stream stands below
-    /// 2^63 - 1. The stream goes on by one number where the turn draws one, so that looks at one turn after another are made at the guesses.
+    /// Each ant's state is below the length of its colour's brain, the id is below the number of ids, and the stream stands below 2^63 - 1.
+    /// The stream goes on by one number where the turn draws one, so that looks at one turn after another are made at the guesses.
     #[inline]
     pub fn renew(&mut self, base: &World, brains: Brains<'_>, stream: &mut Stream, id: u32)
         requires fit { Fits (world_of base.now) (minds_of brains) }
@@ -57,18 +59,20 @@ impl Look {
         ensures look { self.new ≡ look_of (minds_of brains.entry) stream.old.seed (world_of base.now) stream.old.place id }
         ensures stream { stream.new ≡ record stream.old { place = stream.old.place + one_if self.new.drew } }
     {
-        self.begin(id, stream.place());
+        let guess = stream.place();
         let Some(p) = base.ant_place(id) else {
+            self.begin(id, guess);
             return;
         };
         let cell = base.cell(p);
         let Some(ant) = cell.ant else {
+            self.begin(id, guess);
             return;
         };
         if ant.resting > 0 {
-            self.record_rest(p, &cell, ant);
+            self.record_rest(id, guess, p, &cell, ant);
         } else {
-            self.act(base, brains, stream, p, &ant);
+            self.act(base, brains, stream, id, p, &cell, &ant);
         }
     }
 
@@ -95,12 +99,14 @@ impl Look {
 
     // Records the ant of `p`, which rests.
     #[inline]
-    fn record_rest(&mut self, p: Pos, cell: &Cell, ant: Ant)
-        requires blank { self.old ≡ blank_look self.old.turn self.old.guess }
+    fn record_rest(&mut self, turn: u32, guess: u64, p: Pos, cell: &Cell, ant: Ant)
         requires rests { 1 ≤ ant.resting }
-        ensures { self.new ≡ rested_look self.old.turn self.old.guess p cell.now (record ant { resting = ant.resting - 1 }) }
+        ensures { self.new ≡ rested_look turn guess p cell.now (record ant { resting = ant.resting - 1 }) }
     {
-        self.reads.push((p, who_and_mind(), *cell));
+        self.turn = turn;
+        self.guess = guess;
+        self.drew = false;
+        self.killed.clear();
         let ant_after = Ant {
             resting: ant.resting - 1,
             ..ant
@@ -109,87 +115,122 @@ impl Look {
             ant: Some(ant_after),
             ..*cell
         };
-        self.writes.push((p, mind(), cell_after));
+        note_alone(&mut self.reads, p, who_and_mind(), *cell);
+        note_alone(&mut self.writes, p, mind(), cell_after);
     }
 
     // Records the ant of `p`, which executes its instruction.
-    fn act(&mut self, base: &World, brains: Brains<'_>, stream: &mut Stream, p: Pos, ant: &Ant)
-        requires blank { self.old ≡ blank_look self.old.turn self.old.guess }
-        requires guess { self.old.guess ≡ stream.old.place }
+    #[inline]
+    fn act(
+        &mut self,
+        base: &World,
+        brains: Brains<'_>,
+        stream: &mut Stream,
+        id: u32,
+        p: Pos,
+        cell: &Cell,
+        ant: &Ant,
+    )
         requires fit { Fits (world_of base.now) (minds_of brains) }
-        requires id { self.old.turn < base.now.ids }
+        requires id { id < base.now.ids }
         requires place { stream.old.place + 1 < 2 ^ 63 }
         requires valid { Valid (world_of base.now) }
-        requires found { place_in (world_of base.now) self.old.turn ≡ Some p }
+        requires found { place_in (world_of base.now) id ≡ Some p }
+        requires own { cell.now ≡ (world_of base.now).cells p }
         requires holds { ((world_of base.now).cells p).ant ≡ Some ant.now }
         requires ready { ant.now.resting ≡ 0 }
-        ensures look { self.new ≡ look_of (minds_of brains.entry) stream.old.seed (world_of base.now) self.old.guess self.old.turn }
+        ensures look { self.new ≡ look_of (minds_of brains.entry) stream.old.seed (world_of base.now) stream.old.place id }
         ensures stream { stream.new ≡ record stream.old { place = stream.old.place + one_if self.new.drew } }
     {
         let instruction = instruction(brains, ant);
-        let trail = self.execute(base, brains, stream);
         match destination(base, p, ant, instruction) {
-            Some(q) => self.record_going(base, &trail, p, q),
-            None => self.record_staying(base, &trail, p, ant, instruction),
+            Some(q) => self.go(base, brains, stream, id, p, q),
+            None => self.stay(base, stream, id, p, cell, ant, instruction),
         }
     }
 
-    // Executes the turn on a trail, and records whether it draws and whom it kills.
+    // Records the ant of `p`, which stays there, and executes its instruction on its own cell.
     #[inline]
-    fn execute<'w>(&mut self, base: &'w World, brains: Brains<'_>, stream: &mut Stream) -> Trail<'w>
-        requires fit { Fits (world_of base.now) (minds_of brains) }
-        requires id { self.old.turn < base.now.ids }
-        requires place { stream.old.place + 1 < 2 ^ 63 }
-        ensures look { self.new ≡ record self.old {
-          drew = (turn.turn (minds_of brains.entry) stream.old.seed (world_of base.now) stream.old.place self.old.turn).drew;
-          killed = (turn.turn (minds_of brains.entry) stream.old.seed (world_of base.now) stream.old.place self.old.turn).killed;
-        } }
-        ensures world { trail_world result ≡ with_cells (world_of base.now)
-            (turn.turn (minds_of brains.entry) stream.old.seed (world_of base.now) stream.old.place self.old.turn).cells }
-        ensures stream { stream.new ≡ record stream.old {
-          place = stream.old.place + one_if (turn.turn (minds_of brains.entry) stream.old.seed (world_of base.now) stream.old.place self.old.turn).drew;
-        } }
-    {
-        let mut trail = Trail::over(base);
-        let Deed { drew, killed } = take_turn(&mut trail, brains, stream, self.turn);
-        self.drew = drew;
-        self.killed = killed;
-        trail
-    }
-
-    // Records what an ant that stays on `p` reads and, by a trail on which its turn was executed, writes.
-    #[inline]
-    fn record_staying(
+    fn stay(
         &mut self,
         base: &World,
-        trail: &Trail<'_>,
+        stream: &mut Stream,
+        id: u32,
         p: Pos,
+        cell: &Cell,
         ant: &Ant,
         instruction: Instr,
     )
-        requires reads { self.old.reads ≡ [] }
-        requires writes { self.old.writes ≡ [] }
-        requires inside { IsInside base.now.width base.now.height p }
+        requires place { stream.old.place + 1 < 2 ^ 63 }
+        requires valid { Valid (world_of base.now) }
+        requires inner { IsInner base.now.width base.now.height p }
         requires near { HasNeighbours p }
-        requires there { IsInside base.now.width base.now.height (read_at p ant.now instruction) }
-        requires wide { (trail_world trail.now).width ≡ base.now.width }
-        requires high { (trail_world trail.now).height ≡ base.now.height }
+        requires own { cell.now ≡ (world_of base.now).cells p }
+        requires sound { (states : ℕ) × IsSound states instruction }
+        requires stays { destination (world_of base.now).cells p ant.now instruction ≡ None }
         requires reads_once { EachOnce (places_of (staying_reads (world_of base.now).cells p ant.now instruction)) }
-        ensures { self.new ≡ record self.old {
-          reads = staying_reads (world_of base.now).cells p ant.now instruction;
-          writes = staying_writes (trail_world trail.now).cells p ant.now instruction;
+        ensures look { (sheet : Sheet) →
+            let outcome = turn.execute sheet stream.old.seed (world_of base.now).cells stream.old.place p ant.now instruction in
+            self.new ≡ look_with id stream.old.place outcome
+            (staying_reads (world_of base.now).cells p ant.now instruction) (staying_writes outcome.cells p ant.now instruction) }
+        ensures stream { stream.new ≡ record stream.old { place = stream.old.place + one_if self.new.drew } }
+    {
+        let guess = stream.place();
+        let at = read_at(p, ant, instruction);
+        let there = base.cell(at);
+        let after = turn_in_place(cell, &there, *ant, instruction, stream);
+        self.turn = id;
+        self.guess = guess;
+        self.drew = after.drew;
+        self.killed.clear();
+        let parts = read_parts(ant.colour, instruction);
+        note_two(&mut self.reads, p, who_and_mind(), cell, at, parts, &there);
+        let written = union(mind(), written_besides(ant.colour, instruction));
+        note_alone(&mut self.writes, p, written, after.cell);
+    }
+
+    // Records the ant of `p`, which goes to `q`, by a trail on which it takes its turn.
+    fn go(&mut self, base: &World, brains: Brains<'_>, stream: &mut Stream, id: u32, p: Pos, q: Pos)
+        requires fit { Fits (world_of base.now) (minds_of brains) }
+        requires id { id < base.now.ids }
+        requires place { stream.old.place + 1 < 2 ^ 63 }
+        requires valid { Valid (world_of base.now) }
+        requires goes { GoesTo (minds_of brains) (world_of base.now) id p q }
+        ensures look { self.new ≡ look_of (minds_of brains.entry) stream.old.seed (world_of base.now) stream.old.place id }
+        ensures stream { stream.new ≡ record stream.old { place = stream.old.place + one_if self.new.drew } }
+    {
+        self.begin(id, stream.place());
+        let trail = self.execute(base, brains, stream, id);
+        self.record_going(base, &trail, p, q);
+    }
+
+    // Executes the turn of this id on a trail, and records whether it draws and whom it kills.
+    #[inline]
+    fn execute<'w>(
+        &mut self,
+        base: &'w World,
+        brains: Brains<'_>,
+        stream: &mut Stream,
+        id: u32,
+    ) -> Trail<'w>
+        requires fit { Fits (world_of base.now) (minds_of brains) }
+        requires id { id < base.now.ids }
+        requires place { stream.old.place + 1 < 2 ^ 63 }
+        ensures look { self.new ≡ record self.old {
+          drew = (turn.turn (minds_of brains.entry) stream.old.seed (world_of base.now) stream.old.place id).drew;
+          killed = (turn.turn (minds_of brains.entry) stream.old.seed (world_of base.now) stream.old.place id).killed;
+        } }
+        ensures world { trail_world result ≡ with_cells (world_of base.now)
+            (turn.turn (minds_of brains.entry) stream.old.seed (world_of base.now) stream.old.place id).cells }
+        ensures stream { stream.new ≡ record stream.old {
+          place = stream.old.place + one_if (turn.turn (minds_of brains.entry) stream.old.seed (world_of base.now) stream.old.place id).drew;
         } }
     {
-        self.reads.push((p, who_and_mind(), base.cell(p)));
-        let at = read_at(p, ant, instruction);
-        note_read(
-            &mut self.reads,
-            at,
-            read_parts(ant.colour, instruction),
-            base.cell(at),
-        );
-        let written = union(mind(), written_besides(ant.colour, instruction));
-        self.writes.push((p, written, trail.cell(p)));
+        let mut trail = Trail::over(base);
+        let Deed { drew, killed } = take_turn(&mut trail, brains, stream, id);
+        self.drew = drew;
+        self.killed = killed;
+        trail
     }
 
     // Records what the ant of `p`, which goes to `q`, reads and, by a trail on which its turn was executed, writes.

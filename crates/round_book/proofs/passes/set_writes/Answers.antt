@@ -1,5 +1,9 @@
 use Rattle.cell_world.specs.Grid.{world_of}
-use Rattle.round_book.proofs.PassLemmas.{CanSetPass-lighter, passes-set, second-each, second-set}
+use Rattle.std.proofs.Common.{List, subst, sym}
+use Rattle.cell_world.specs.World.{with_cells}
+use Rattle.spec_record.specs.Claims.{Sighting}
+use Rattle.round_book.specs.Book.{CanTake}
+use Rattle.round_book.proofs.PassLemmas.{CanSetPass-lighter, one_alone, passes-set, second-each, second-set}
 use Rattle.round_book.proofs.passes.set_writes.Goals as goal
 
 pub set_pass-requires-clause-set : goal.set_pass-requires-clause-set
@@ -14,3 +18,6 @@ set_pass-requires-2-clause-set c = second-set (world_of c.args.world.now) (world
 pub returns : goal.returns
 returns c =
     passes-set (world_of c.args.world.now) (world_of c.set_pass.new.world) (world_of c.set_pass-2.new.world) c.args.writes.now c.requires.once c.requires.may c.set_pass.ensures c.set_pass-2.ensures
+
+pub set_one-requires : goal.set_one-requires
+set_one-requires c = subst (λ (list : List Sighting). CanTake (world_of c.args.world.now) list) (one_alone c.args.writes.now _ c.if-writes-eq1.true) c.requires.may

@@ -26,7 +26,7 @@ returns-then-acts c =
     let ant = c.in-Some-ant.ant in
     let here = flips-at minds (world_of c.args.base.now) c.args.id c.in-Some.p (sym c.ant_place.ensures.place ∙ c.in-Some.is) ∙ ap (λ (cell : Cell). ant_flips minds cell.ant) (sym c.cell-cell.ensures.content) ∙ ap (ant_flips minds) c.in-Some-ant.is in
     let ready : ant.resting ≡ 0 = eqb-true ant.resting 0 (sym c.acts.ensures ∙ c.if-acts.true) in
-    c.is_flip.ensures ∙ ap is_flip c.instruction.ensures ∙ sym (here ∙ flips_now-ready ant.resting minds ant ready)
+    c.is_flip.ensures ∙ ap is_flip c.instruction.ensures.instruction ∙ sym (here ∙ flips_now-ready ant.resting minds ant ready)
 
 pub returns-else-acts : goal.returns-else-acts
 returns-else-acts c =
