@@ -1,5 +1,5 @@
 pub mod Answered
-pub mod Feeding
+pub mod Counting
 pub mod Places
 pub mod Reading
 pub mod Rounds

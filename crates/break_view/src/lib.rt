@@ -9,8 +9,8 @@
 #![tactic(auto)]
 
 mod breaks;
+mod counting;
 mod fault;
-mod feeding;
 mod laws;
 mod line;
 mod met;

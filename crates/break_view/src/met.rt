@@ -1,5 +1,5 @@
 // Whether breaks hold.
-ghost use Rattle.std.specs.Prelude.{◌≡◌, ◌+◌, ◌≤◌, ◌&&◌, nat_lt, not, length};
+ghost use Rattle.std.specs.Prelude.{◌≡◌, ℕ, ◌+◌, ◌≤◌, ◌&&◌, nat_lt, not, length};
 ghost use Rattle.std.specs.Option.{is_some};
 ghost use Rattle.cell_world.specs.Grid.{world_of};
 ghost use Rattle.cell_world.specs.Score.{hill_food_of, score_of};
@@ -9,7 +9,7 @@ ghost use Rattle.break_view.specs.Grammar.{most_breaks};
 ghost use Rattle.break_view.specs.Met as met;
 
 use crate::breaks::Break;
-use cell_world::{Cell, Colour, Score, World};
+use cell_world::{Ant, Cell, Colour, Score, World};
 use hex_geometry::Pos;
 
 // The number, counted from 1, of the first of these breaks that holds in a world after the turn of an id in a round.
@@ -24,9 +24,10 @@ pub(crate) fn first_met(
     requires score { score ≡ score_of (world_of world.now) }
     ensures { result ≡ met.first_met 1 items.now (world_of world.now) round id }
 {
+    let ant = ant_of(world, id);
     let mut number = 1;
     for item in items {
-        if meets(*item, world, score, round, id) {
+        if meets(*item, world, score, ant, round) {
             return Some(number);
         }
         number += 1;
@@ -34,14 +35,25 @@ pub(crate) fn first_met(
     None
 }
 
-// Whether a break holds in a world after the turn of an id in a round.
-fn meets(item: Break, world: &World, score: Score, round: u32, id: u32) -> bool
+// The ant of an id, if it is alive.
+fn ant_of(world: &World, id: u32) -> Option<Ant>
+    ensures { result ≡ met.ant_at (world_of world.now) (place_in (world_of world.now) id) }
+{
+    let Some(place) = world.ant_place(id) else {
+        return None;
+    };
+    world.cell(place).ant
+}
+
+// Whether a break holds in a world of this score after the turn of an id in a round, where this ant has the id, or it is dead.
+fn meets(item: Break, world: &World, score: Score, ant: Option<Ant>, round: u32) -> bool
     requires { score ≡ score_of (world_of world.now) }
-    ensures { result ≡ met.meets item (world_of world.now) round id }
+    ensures { (t : ℕ) → ant ≡ met.ant_at (world_of world.now) (place_in (world_of world.now) t)
+        → result ≡ met.meets item (world_of world.now) round t }
 {
     match item {
         Break::Round(wanted) => wanted == round,
-        Break::State { colour, state } => is_in_state(world, colour, state, id),
+        Break::State { colour, state } => is_in_state(colour, state, ant),
         Break::Stand { colour, x, y } => is_manned(world, colour, x, y),
         Break::Food { x, y, least } => is_fed(world, x, y, least),
         Break::Killed { id: wanted } => is_dead(world, wanted),
@@ -60,18 +72,14 @@ fn food_of(score: Score, colour: Colour) -> u32
     }
 }
 
-// Whether the ant of an id is alive, of this colour and in this state.
-fn is_in_state(world: &World, colour: Colour, state: u32, id: u32) -> bool
-    ensures { result ≡ met.is_in_state colour state (met.ant_at (world_of world.now) (place_in (world_of world.now) id)) }
+// Whether there is an ant, of this colour and in this state.
+fn is_in_state(colour: Colour, state: u32, ant: Option<Ant>) -> bool
+    ensures { result ≡ met.is_in_state colour state ant }
 {
-    let Some(place) = world.ant_place(id) else {
-        return false;
-    };
-    let cell = world.cell(place);
-    let Some(ant) = cell.ant else {
-        return false;
-    };
-    colour == ant.colour && u32::from(ant.state) == state
+    match ant {
+        Some(ant) => colour == ant.colour && u32::from(ant.state) == state,
+        None => false,
+    }
 }
 
 // Whether an ant of this colour stands on the cell in column `x` of row `y`.

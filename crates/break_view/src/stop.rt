@@ -1,12 +1,9 @@
 // A game played to its first stop.
-ghost use Rattle.std.specs.Prelude.{◌≡◌, ◌+◌, ◌<◌, ◌≤◌, ◌^◌, length};
+ghost use Rattle.std.specs.Prelude.{◌≡◌, ◌+◌, ◌≤◌, length};
 ghost use Rattle.ant_turn.specs.Minds.{Fits, minds_of};
-ghost use Rattle.ant_turn.specs.Turn.{turn};
-ghost use Rattle.cell_world.specs.Cell.{one_if};
 ghost use Rattle.cell_world.specs.Grid.{world_of};
 ghost use Rattle.cell_world.specs.Limits.{most_ants};
 ghost use Rattle.cell_world.specs.Score.{score_of};
-ghost use Rattle.cell_world.specs.World.{with_cells};
 ghost use Rattle.match_run.specs.Inner.Sequential.{LastsARound, moment_of};
 ghost use Rattle.match_run.specs.Run.{most_rounds};
 ghost use Rattle.break_view.specs.Grammar.{most_breaks};
@@ -14,10 +11,10 @@ ghost use Rattle.break_view.specs.Stops.{EndsAt};
 ghost use Rattle.break_view.specs.Inner.Rounds.{RoundEnds};
 
 use crate::breaks::{Break, Breaks};
-use crate::feeding::feeds;
+use crate::counting::take_counted;
 use crate::met::first_met;
 use ant_random::Stream;
-use ant_turn::{Brains, take_turn};
+use ant_turn::Brains;
 use cell_world::{Score, World};
 
 /// A stop of a game: the turn after which a break held, and which break.
@@ -40,8 +37,8 @@ pub struct Stop {
 /// the first turn counts only if it holds after it.
 ///
 /// It takes no memory. After a turn each break costs one look-up at most: of a cell, of the place of an ant, or of the food on the hills,
-/// which is kept from turn to turn. The hills are counted again only after a turn that killed, and after one of an ant that doesn't rest, on
-/// a hill and at a `PickUp` or `Drop`, since no other changes the food there: each time that costs a look at every cell.
+/// which is kept from turn to turn. All cells are looked at only once, and once more after each turn that killed: any other turn changes the
+/// food on the ant's own cell alone.
 pub fn find_stop(
     world: &mut World,
     brains: Brains<'_>,
@@ -91,30 +88,4 @@ fn stop_in_round(
         }
     }
     None
-}
-
-// Takes the turn of an id, and counts the score again where the turn may have changed it.
-fn take_counted(
-    world: &mut World,
-    brains: Brains<'_>,
-    stream: &mut Stream,
-    score: &mut Score,
-    id: u32,
-)
-    requires fit { Fits (world_of world.old) (minds_of brains) }
-    requires id { id < world.old.ids }
-    requires place { stream.old.place + 1 < 2 ^ 63 }
-    requires score { score.old ≡ score_of (world_of world.old) }
-    ensures world { world_of world.new ≡ with_cells (world_of world.old) (turn (minds_of brains.entry) stream.old.seed (world_of world.old) stream.old.place id).cells }
-    ensures stream { stream.new ≡ record stream.old {
-      place = stream.old.place + one_if (turn (minds_of brains.entry) stream.old.seed (world_of world.old) stream.old.place id).drew;
-    } }
-    ensures fit { Fits (world_of world.new) (minds_of brains.entry) }
-    ensures score { score.new ≡ score_of (world_of world.new) }
-{
-    let may_feed = feeds(world, brains, id);
-    let deed = take_turn(world, brains, stream, id);
-    if may_feed || !deed.killed.is_empty() {
-        *score = world.score();
-    }
 }

@@ -8,7 +8,7 @@ loop-item-init c = record { rest = refl; counted = refl }
 
 pub returns-then-meets : goal.returns-then-meets
 returns-then-meets c =
-    sym (met-here c.args.items.now c.loop-item.item-index c.loop-item.number _ (world_of c.args.world.now) c.args.round c.args.id c.loop-item-test.true (sym c.meets.ensures ∙ c.if-meets.true))
+    sym (met-here c.args.items.now c.loop-item.item-index c.loop-item.number _ (world_of c.args.world.now) c.args.round c.args.id c.loop-item-test.true (sym (c.meets.ensures c.args.id c.ant_of-ant.ensures) ∙ c.if-meets.true))
     ∙ c.loop-item.invariant.rest
 
 pub overflow_add-number : goal.overflow_add-number
@@ -17,7 +17,7 @@ overflow_add-number c = omega (arith, c.loop-item.invariant.counted, c.loop-item
 pub loop-item-preserved : goal.loop-item-preserved
 loop-item-preserved c = record {
   rest =
-      sym (met-later c.args.items.now c.loop-item.item-index c.loop-item.number _ (world_of c.args.world.now) c.args.round c.args.id c.loop-item-test.true (sym c.meets.ensures ∙ c.if-meets.false))
+      sym (met-later c.args.items.now c.loop-item.item-index c.loop-item.number _ (world_of c.args.world.now) c.args.round c.args.id c.loop-item-test.true (sym (c.meets.ensures c.args.id c.ant_of-ant.ensures) ∙ c.if-meets.false))
       ∙ c.loop-item.invariant.rest;
   counted = (let so_far = c.loop-item.invariant.counted in omega (arith, so_far));
 }

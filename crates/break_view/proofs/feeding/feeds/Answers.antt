@@ -1,7 +1,0 @@
-use Rattle.std.proofs.Common.{sym, ◌∙◌}
-use Rattle.cell_world.specs.Grid.{world_of}
-use Rattle.cell_world.proofs.Places.{place_in-inside}
-use Rattle.break_view.proofs.feeding.feeds.Goals as goal
-
-pub cell-cell-requires : goal.cell-cell-requires
-cell-cell-requires c = place_in-inside (world_of c.args.world.now) c.args.id c.in-Some.place (sym c.ant_place.ensures.place ∙ c.in-Some.is)
