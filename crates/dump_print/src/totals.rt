@@ -1,7 +1,7 @@
 // What came of the turns of a game.
 
 /// What came of the turns of a game: how many there were, how many of them were taken from looks that were made ahead, and how many were
-/// executed anew (this project's own).
+/// executed anew.
 #[derive(Clone, Copy, Debug, PartialEq, Eq)]
 pub struct Totals {
     /// How many turns were played, those of dead and resting ants among them.

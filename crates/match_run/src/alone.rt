@@ -19,7 +19,7 @@ use cell_world::{Score, World};
 use dump_print::{push_score, push_seed};
 
 /// Plays a game and pushes the text of its run: the line of the seed, the dump after each round that the plan chooses, from round 0, the
-/// start, to the last in order, and the score (the task's game play; the layout is this project's own).
+/// start, to the last in order, and the score (the task's game play).
 ///
 /// Each ant's state is below the length of its colour's brain, as in every opening world, and the plan has at most 1,000,000 rounds.
 /// The turns are those of the ids in rising order, from 0, round after round, with the random numbers of the seed from place 0 on.

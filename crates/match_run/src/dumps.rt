@@ -13,7 +13,7 @@ use std::alloc::Global;
 use std::marker::Model;
 
 /// A list of rounds, each counted from 0 for the start of the game; contracts see their numbers, and how many more it takes before it is full.
-/// Order and repeats make no difference to a run (this project's own).
+/// Order and repeats make no difference to a run.
 #[derive(Drop)]
 pub struct Rounds {
     list: Vec<u32>,
@@ -29,7 +29,7 @@ impl Model for Rounds {
 }
 
 impl Rounds {
-    /// The empty list, which takes no memory (this project's own).
+    /// The empty list, which takes no memory.
     pub fn new(alloc: Global) -> Rounds
         ensures { result ≡ record { numbers = []; spare = 0 } }
     {
@@ -38,7 +38,7 @@ impl Rounds {
         }
     }
 
-    /// Adds a round last, whether or not it is there already (this project's own). It is refused only where the list is full and memory for
+    /// Adds a round last, whether or not it is there already. It is refused only where the list is full and memory for
     /// more could not be had; the list is as before then. An add takes at most one of the places that are spare.
     pub fn add(&mut self, round: u32) -> Result<(), OutOfMemory>
         ensures added { OnOk result (self.new.numbers ≡ self.old.numbers ++ round ∷ []) }
@@ -59,7 +59,7 @@ impl Rounds {
     }
 }
 
-/// After which rounds of a run the world is dumped (this project's own).
+/// After which rounds of a run the world is dumped.
 #[derive(Drop)]
 pub enum Dumps {
     /// No round.
@@ -72,7 +72,7 @@ pub enum Dumps {
 
 impl Dumps {
     /// Whether the world after this round, counted from 0 for the start, is dumped: the value is `All`, or `Chosen` with that number among
-    /// its rounds (this project's own). It takes no memory.
+    /// its rounds. It takes no memory.
     pub fn chooses(&self, round: u32) -> bool
         ensures { result ≡ chooses self.now round }
     {

@@ -4,7 +4,7 @@ ghost use Rattle.std.specs.Prelude.{◌≡◌};
 use ant_base::Failed;
 use hex_geometry::OutOfMemory;
 
-/// Why playing a run stopped before its whole text was pushed (this project's own).
+/// Why playing a run stopped before its whole text was pushed.
 #[derive(Clone, Copy, Debug, PartialEq, Eq)]
 pub enum PlayFault {
     /// The sink failed.

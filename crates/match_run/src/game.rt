@@ -113,7 +113,7 @@ impl<'b> Game<'b> {
         self.field.world()
     }
 
-    /// The field, which is whole (this project's own).
+    /// The field, which is whole.
     pub fn field(&self) -> &Field<'b>
         ensures field { result.now ≡ self.now.field }
         ensures whole { self.now.field.whole ≡ true }
@@ -129,7 +129,7 @@ impl<'b> Game<'b> {
         self.done
     }
 
-    /// How many turns a window has, at least one (this project's own).
+    /// How many turns a window has, at least one.
     pub fn window(&self) -> u32
         ensures window { result ≡ self.now.window }
         ensures sized { 1 ≤ self.now.window }
@@ -153,7 +153,7 @@ impl<'b> Game<'b> {
         self.field.place()
     }
 
-    /// Whether no turn of the round that isn't done was played (this project's own).
+    /// Whether no turn of the round that isn't done was played.
     pub fn at_round_end(&self) -> bool
         ensures { IsTrue result ↔ (self.now.next ≡ 0) }
     {

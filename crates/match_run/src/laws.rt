@@ -3,29 +3,29 @@ ghost use Rattle.match_run.specs.CountLaws.{BrokenRoundsGoOn, CountsComeLast, Lo
 ghost use Rattle.match_run.specs.RunLaws.{AllDumps, NoDumps, SameRounds, RepeatAddsNothing, LaterAddsNothing, GoesOn};
 
 /// The text of a run with `Dumps::All` is the line of the seed, the dump after each round from 0 to the number of rounds in order, and the
-/// score (the task's game play; the layout is this project's own). The call does nothing: its clause is the law.
+/// score (the task's game play). The call does nothing: its clause is the law.
 pub fn all_dumps()
     ensures { AllDumps }
 {}
 
-/// The text of a run with `Dumps::Nothing` is the line of the seed and the score (the task's game play; the layout is this project's own).
+/// The text of a run with `Dumps::Nothing` is the line of the seed and the score (the task's game play).
 /// The call does nothing: its clause is the law.
 pub fn no_dumps()
     ensures { NoDumps }
 {}
 
 /// Two lists of rounds that have the same rounds, up to the number of rounds, give the same text: order, repeats and later rounds make no
-/// difference (this project's own). The call does nothing: its clause is the law.
+/// difference. The call does nothing: its clause is the law.
 pub fn same_rounds()
     ensures { SameRounds }
 {}
 
-/// A round that the list has already adds nothing to the text (this project's own). The call does nothing: its clause is the law.
+/// A round that the list has already adds nothing to the text. The call does nothing: its clause is the law.
 pub fn repeat_adds_nothing()
     ensures { RepeatAddsNothing }
 {}
 
-/// A round above the number of rounds adds nothing to the text (this project's own). The call does nothing: its clause is the law.
+/// A round above the number of rounds adds nothing to the text. The call does nothing: its clause is the law.
 pub fn later_adds_nothing()
     ensures { LaterAddsNothing }
 {}
@@ -36,19 +36,19 @@ pub fn goes_on()
     ensures { GoesOn }
 {}
 
-/// Rounds go on: some rounds and those after them lead where all of them lead, and their turns are the turns of all (this project's own; rounds
-/// are the task's kinetics). The call does nothing: its clause is the law.
+/// Rounds go on: some rounds and those after them lead where all of them lead, and their turns are the turns of all (the task's
+/// kinetics). The call does nothing: its clause is the law.
 pub fn rounds_go_on()
     ensures { RoundsGoOn }
 {}
 
-/// A game's rounds have a turn for each id, and each turn is taken or executed anew, however many turns a window has (this project's own). The
+/// A game's rounds have a turn for each id, and each turn is taken or executed anew, however many turns a window has. The
 /// call does nothing: its clause is the law.
 pub fn totals_add_up()
     ensures { TotalsAddUp }
 {}
 
-/// Where a window has one turn, every turn of a game's rounds is taken (this project's own). The call does nothing: its clause is the law.
+/// Where a window has one turn, every turn of a game's rounds is taken. The call does nothing: its clause is the law.
 pub fn lone_windows_are_taken()
     ensures { LoneWindowsAreTaken }
 {}
@@ -65,7 +65,7 @@ pub fn whole_rounds()
     ensures { WholeRounds }
 {}
 
-/// A `round` that was refused and is then gone on with leads where it leads at once, with the same counts (this project's own). The call does
+/// A `round` that was refused and is then gone on with leads where it leads at once, with the same counts. The call does
 /// nothing: its clause is the law.
 pub fn broken_rounds_go_on()
     ensures { BrokenRoundsGoOn }

@@ -5,7 +5,8 @@
 //! another, and counts how many of them were taken from looks, which depends on the turns and on the size of a window alone. `play` pushes
 //! the text of a run with its counts, by any crew; `play_alone` the text without counts, turn after turn, in memory that doesn't grow with
 //! the rounds; `play_score` gives a game's score alone. The laws say what the text is made of, which rounds a list adds to it, what the counts
-//! add up to, and that a game may be broken off and gone on with. This crate stands on `round_book`, `ant_turn` and `dump_print`.
+//! add up to, and that a game may be broken off and gone on with. What names no section of the contest's task is this project's own. This crate
+//! stands on `round_book`, `ant_turn` and `dump_print`.
 #![tactic(auto)]
 
 mod alone;

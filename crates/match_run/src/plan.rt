@@ -1,7 +1,7 @@
 // What a run is asked to do.
 use crate::dumps::Dumps;
 
-/// What a run is asked to do (seed and rounds are the task's game play; the dumps, the window and the counts are this project's own).
+/// What a run is asked to do (seed and rounds are the task's game play).
 #[derive(Drop)]
 pub struct Plan {
     /// The seed of the random numbers, from 0 to 4,294,967,295.

@@ -27,8 +27,7 @@ use round_book::{Crew, Field};
 use std::alloc::Global;
 
 /// Plays a run by a crew, window by window, and pushes its text: the line of the seed, the dump after each round that the plan chooses, from
-/// round 0, the start, to the last in order, the score, and, where the plan asks for them, the counts (the task's game play; the layout and
-/// the counts are this project's own).
+/// round 0, the start, to the last in order, the score, and, where the plan asks for them, the counts (the task's game play).
 ///
 /// Each ant's state is below the length of its colour's brain, as in every opening world; the plan has at most 1,000,000 rounds, and at least
 /// one turn a window. The turns are those of the ids in rising order, from 0, round after round, with the random numbers of the seed from
