@@ -1,7 +1,7 @@
 // Brains with what is left of them and the map to it, written out.
-use crate::{StateMap, minimise, push_minimised};
+use crate::{Minimised, StateMap, minimise, push_minimised};
 use ant_base::{Calls, MemSink};
-use brain_read::read_brain;
+use brain_read::{Brain, read_brain};
 use std::alloc::Global;
 use std::process::Abort;
 use std::test::Fail;
@@ -35,6 +35,26 @@ fn spelled(alloc: Global, map: &StateMap) -> Result<String, Fail> {
     Ok(words)
 }
 
+// The brain of a text.
+fn brain_of<R: Abort>(rt: &R, alloc: Global, text: &str) -> Brain {
+    let bytes = text.as_bytes();
+    assert!(rt; bytes.len() <= MOST_BYTES);
+    read_brain(alloc, bytes).expect(rt, "it is a brain")
+}
+
+// What is told of a minimised brain.
+fn told<R: Abort>(
+    rt: &R,
+    alloc: Global,
+    brain: &Brain,
+    minimised: &Minimised,
+) -> Result<String, Fail> {
+    let mut sink = MemSink::with_room(alloc, ROOM, Calls::new(alloc))?;
+    assert!(rt; push_minimised(brain, minimised, &mut sink).is_ok());
+    let text = str::from_utf8(sink.held())?;
+    Ok(format!(in alloc; "{text}")?)
+}
+
 // Asserts what comes of a brain: its line of counts, the text of the kept states, and the map.
 fn check<R: Abort>(
     rt: &R,
@@ -44,14 +64,13 @@ fn check<R: Abort>(
     kept: &str,
     map: &str,
 ) -> Result<(), Fail> {
-    let bytes = brain.as_bytes();
-    assert!(rt; bytes.len() <= MOST_BYTES);
-    let brain = read_brain(alloc, bytes).expect(rt, "it is a brain");
+    let brain = brain_of(rt, alloc, brain);
     let minimised = minimise(alloc, &brain)?;
-    let mut sink = MemSink::with_room(alloc, ROOM, Calls::new(alloc))?;
-    assert!(rt; push_minimised(&brain, &minimised, &mut sink).is_ok());
     let text = format!(in alloc; "{counts}\n{kept}")?;
-    assert_eq!(rt; str::from_utf8(sink.held())?, text.as_str());
+    assert_eq!(rt;
+        told(rt, alloc, &brain, &minimised)?.as_str(),
+        text.as_str()
+    );
     assert_eq!(rt; spelled(alloc, &minimised.map)?.as_str(), map);
     Ok(())
 }
