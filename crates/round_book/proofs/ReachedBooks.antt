@@ -7,7 +7,7 @@ use Rattle.round_book.specs.declared.verdict.Cause.{Cause}
 use Rattle.round_book.specs.declared.verdict.Verdict.{Verdict}
 use Rattle.round_book.specs.declared.verdict.Verdict.TheVariants.{Taken, Redone}
 use Rattle.round_book.specs.Book.{BookValue, FieldValue, IsSameWindow, StandsOn, begun, moment_of, window_of}
-use Rattle.round_book.specs.BookLaws.{BooksAreReached, IsAt, IsSettled, MaySettle, StandingBooksSettle, next_look, verdict_of, window_for}
+use Rattle.round_book.specs.BookLaws.{BooksAreReached, IsAt, IsSettled, MaySettle, StandingBooksSettle, next_look, verdict_of, window_of_book}
 use Rattle.round_book.specs.Machine.{AreLawful, CanSettle, Event, IsLawful, IsPut, Put, State, first_state, happens, run, taken}
 use Rattle.round_book.specs.Machine.Event.{Draws, Puts, Settles}
 use Rattle.round_book.specs.Window.{AreVerdicts, HoldsIn, IsPlayable, IsVerdict, Window, look_for, moment_before}
@@ -125,9 +125,9 @@ module _ (window : Window) (playable : IsPlayable window) where
 
 -- a book that stands
 book_reached : (field : FieldValue) (book : BookValue) → StandsOn field book → book.next ≤ book.to →
-    (events : List Event) × AreLawful (window_for field book) (first_state (window_for field book)) events × IsAt (run (window_for field book) (first_state (window_for field book)) events) book
+    (events : List Event) × AreLawful (window_of_book field book) (first_state (window_of_book field book)) events × IsAt (run (window_of_book field book) (first_state (window_of_book field book)) events) book
 book_reached field book on within =
-    let its : Window = window_for field book in
+    let its : Window = window_of_book field book in
     let begun_so : book.from ≤ book.next = on.begun in
     let end : book.from + (book.next - book.from) ≡ book.next = omega arith in
     let way = find_way its on.playable (book.next - book.from) book.verdicts (omega arith) on.stands.verdicts in (
@@ -143,17 +143,17 @@ book_reached field book on within =
 -- a turn that was settled is one event
 settled_event : (field : FieldValue) (answer : Option Cause) (book new : BookValue) (state : State) →
     StandsOn field book → book.next < book.to → IsSettled field.minds (next_look field book) answer book new → IsAt state book → IsPut state (book.next - book.from) →
-    IsLawful (window_for field book) state (Settles (verdict_of answer)) × IsAt (happens (window_for field book) state (Settles (verdict_of answer))) new
+    IsLawful (window_of_book field book) state (Settles (verdict_of answer)) × IsAt (happens (window_of_book field book) state (Settles (verdict_of answer))) new
 settled_event field None book new state on below settled at is_put = (
   record {
     in_window = (let e : state.next ≡ book.next = at.next in omega arith);
     is_put = subst (λ t. IsPut state (t - book.from)) (sym at.next) is_put;
-    is_verdict = subst (λ (m : Moment). HoldsIn (window_for field book) m state.next) (sym at.now)
-        (subst (HoldsIn (window_for field book) (moment_of book)) (sym at.next) (look_for-holds (window_for field book) book on.playable on.stands book.next settled.holds));
+    is_verdict = subst (λ (m : Moment). HoldsIn (window_of_book field book) m state.next) (sym at.now)
+        (subst (HoldsIn (window_of_book field book) (moment_of book)) (sym at.next) (look_for-holds (window_of_book field book) book on.playable on.stands book.next settled.holds));
   },
   record {
     next = (let e : state.next ≡ book.next = at.next in let m : new.next ≡ book.next + 1 = settled.ended.next in omega arith);
-    now = ap₂ (λ m t. taken m (look_for (window_for field book) t)) at.now at.next ∙ sym settled.ended.now;
+    now = ap₂ (λ m t. taken m (look_for (window_of_book field book) t)) at.now at.next ∙ sym settled.ended.now;
     verdicts = ap (λ said. said ++ Taken ∷ []) at.verdicts ∙ sym settled.ended.verdicts;
   },
 )
@@ -161,8 +161,8 @@ settled_event field (Some found) book new state on below settled at is_put = (
   record {
     in_window = (let e : state.next ≡ book.next = at.next in omega arith);
     is_put = subst (λ t. IsPut state (t - book.from)) (sym at.next) is_put;
-    is_verdict = subst (λ (m : Moment). IsVerdict (window_for field book) m state.next (Redone found)) (sym at.now)
-        (subst (λ t. IsVerdict (window_for field book) (moment_of book) t (Redone found)) (sym at.next) (IsVerdict-cause (window_for field book) (moment_of book) book.next found settled.0));
+    is_verdict = subst (λ (m : Moment). IsVerdict (window_of_book field book) m state.next (Redone found)) (sym at.now)
+        (subst (λ t. IsVerdict (window_of_book field book) (moment_of book) t (Redone found)) (sym at.next) (IsVerdict-cause (window_of_book field book) (moment_of book) book.next found settled.0));
   },
   record {
     next = (let e : state.next ≡ book.next = at.next in let m : new.next ≡ book.next + 1 = settled.1.next in omega arith);

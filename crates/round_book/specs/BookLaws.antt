@@ -14,12 +14,12 @@ use Rattle.round_book.specs.Machine.Event.{Settles}
 use Rattle.round_book.specs.Window.{Window, look_for}
 
 -- the window of a field that a book is for
-abbrev pub window_for : FieldValue → BookValue → Window
-window_for field book = window_of field book.from book.to
+abbrev pub window_of_book : FieldValue → BookValue → Window
+window_of_book field book = window_of field book.from book.to
 
 -- the look at a book's next turn, on the field's world at the turn's guess
 abbrev pub next_look : FieldValue → BookValue → LookValue
-next_look field book = look_for (window_for field book) book.next
+next_look field book = look_for (window_of_book field book) book.next
 
 -- what settling a look asks for, and what executing its turn anew with these brains asks for
 pub record MaySettle (minds : Minds) (book : BookValue) (look : LookValue) : Type 0 where
@@ -57,7 +57,7 @@ verdict_of (Some found) = Redone found
 pub record BooksAreReached : Type 0 where
   pub first : (field : FieldValue) (from to : ℕ) → IsAt (first_state (window_of field from to)) (begun field from to)
   pub reached : (field : FieldValue) (book : BookValue) → StandsOn field book → book.next ≤ book.to →
-      (events : List Event) × AreLawful (window_for field book) (first_state (window_for field book)) events × IsAt (run (window_for field book) (first_state (window_for field book)) events) book
+      (events : List Event) × AreLawful (window_of_book field book) (first_state (window_of_book field book)) events × IsAt (run (window_of_book field book) (first_state (window_of_book field book)) events) book
   pub settled : (field : FieldValue) (answer : Option Cause) (book new : BookValue) (state : State) →
       StandsOn field book → book.next < book.to → IsSettled field.minds (next_look field book) answer book new → IsAt state book → IsPut state (book.next - book.from) →
-      IsLawful (window_for field book) state (Settles (verdict_of answer)) × IsAt (happens (window_for field book) state (Settles (verdict_of answer))) new
+      IsLawful (window_of_book field book) state (Settles (verdict_of answer)) × IsAt (happens (window_of_book field book) state (Settles (verdict_of answer))) new

@@ -2,6 +2,7 @@ pub mod Book
 pub mod BookLaws
 pub mod CountLaws
 pub mod Counts
+pub mod Crews
 pub mod Inner
 pub mod Led
 pub mod Machine

@@ -7,6 +7,7 @@ use crate::crew::Crew;
 use crate::field::Field;
 use hex_geometry::OutOfMemory;
 use std::alloc::Global;
+use std::marker::Model;
 
 /// A crew that plays each window by a function, which counts its own looks by `finish`. It makes a crew of workers, which are started by a
 /// function, one that plays as any other.
@@ -16,11 +17,18 @@ pub struct Led<F: Drop> {
     turns: u64,
 }
 
+impl<F: Drop> Model for Led<F> {
+    ghost use Rattle.round_book.specs.Crews.{LedValue};
+
+    ghost Value = { LedValue F };
+
+    ghost view = { λ crew. record { play = crew.play; turns = crew.turns } };
+}
+
 impl<F: FnMut(&mut Field<'_>, u32, u32) -> Result<Counts, OutOfMemory> + Drop> Led<F> {
     /// A crew that plays by this function, and has played no turn yet.
     pub fn by(play: F) -> Led<F>
-        ensures play { result.play ≡ play }
-        ensures turns { result.turns ≡ 0 }
+        ensures { result ≡ record { play = play; turns = 0 } }
     {
         Led { play, turns: 0 }
     }

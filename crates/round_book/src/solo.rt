@@ -12,6 +12,7 @@ use ant_random::Stream;
 use hex_geometry::OutOfMemory;
 use spec_record::look;
 use std::alloc::Global;
+use std::marker::Model;
 
 /// A crew that looks and settles on the caller's thread, one turn after another.
 #[derive(Drop)]
@@ -19,10 +20,18 @@ pub struct SoloCrew {
     turns: u64,
 }
 
+impl Model for SoloCrew {
+    ghost use Rattle.round_book.specs.Crews.{SoloValue};
+
+    ghost Value = { SoloValue };
+
+    ghost view = { λ crew. record { turns = crew.turns } };
+}
+
 impl SoloCrew {
     /// A crew that has played no turn yet.
     pub fn new() -> SoloCrew
-        ensures { result.turns ≡ 0 }
+        ensures { result ≡ record { turns = 0 } }
     {
         SoloCrew { turns: 0 }
     }
