@@ -4,7 +4,7 @@ ghost use Rattle.ant_base.specs.Shelf.{longest};
 ghost use Rattle.command_words.specs.Words.{texts};
 ghost use Rattle.ants.specs.Files.{Content, FileKind};
 ghost use Rattle.ants.specs.Inner.Cups.{files_named};
-ghost use Rattle.ants.specs.Inner.Reading.{ReadsFiles, ReadsText, brain_reason, break_reason, fetch_reason, outcome_of, world_reason};
+ghost use Rattle.ants.specs.Inner.Reading.{FetchesFile, ReadsFiles, ReadsText, brain_reason, break_reason, fetch_reason, outcome_of, world_reason};
 ghost use Rattle.ants.specs.Stopping.{reason_of};
 
 use crate::stop::{FileFault, Stop};
@@ -77,6 +77,20 @@ impl FileText for Breaks {
     }
 }
 
+/// Fetches a file: its bytes, which are at most 4,194,304.
+pub fn fetch_file<'w, S: Shelf>(
+    alloc: Global,
+    shelf: &mut S,
+    name: &'w str,
+) -> Result<Vec<u8>, Stop<'w>>
+    ensures { FetchesFile (S.state shelf.old) (S.state shelf.new) name.now result }
+{
+    match shelf.fetch(alloc, name) {
+        Ok(bytes) => Ok(bytes),
+        Err(fault) => Err(fetch_stop(name, fault)),
+    }
+}
+
 /// Fetches a file, and reads what came.
 pub fn read_file<'w, T: FileText, S: Shelf>(
     alloc: Global,
@@ -85,10 +99,8 @@ pub fn read_file<'w, T: FileText, S: Shelf>(
 ) -> Result<T, Stop<'w>>
     ensures { ReadsFiles (S.state shelf.old) (S.state shelf.new) (record { name = name.now; kind = T.kind } ∷ []) (outcome_of (λ value. T.content value ∷ []) result) }
 {
-    match shelf.fetch(alloc, name) {
-        Ok(bytes) => T::read(alloc, name, &bytes),
-        Err(fault) => Err(fetch_stop(name, fault)),
-    }
+    let bytes = fetch_file(alloc, shelf, name)?;
+    T::read(alloc, name, &bytes)
 }
 
 /// Fetches the files of these names, and reads what came of each before it fetches the next.

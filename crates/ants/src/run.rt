@@ -13,7 +13,7 @@ ghost use Rattle.ants.specs.Inner.Planning.{CanPlay, IsSheetOf, Plans, setting_c
 ghost use Rattle.ants.specs.Inner.Reading.{CarriesOut, ReadsFiles, ending_of, outcome_of};
 ghost use Rattle.ants.specs.Jobs.{chosen_rounds, game_files};
 
-use crate::fetching::read_file;
+use crate::fetching::{FileText, fetch_file, read_file};
 use crate::stop::Stop;
 use ant_base::{Shelf, Sink};
 use ant_turn::{Brains, Sheet};
@@ -62,7 +62,8 @@ pub fn dumps_of(alloc: Global, word: DumpWord<'_>) -> Result<Dumps, OutOfMemory>
     }
 }
 
-// The files of a game, in the order in which its words name them.
+// The files of a game, in the order in which its words name them: each is read before the next one is fetched, and both brains are fetched
+// where they have one name.
 pub fn setting_of<'w, S: Shelf>(
     alloc: Global,
     names: Names<'w>,
@@ -71,8 +72,10 @@ pub fn setting_of<'w, S: Shelf>(
     ensures { ReadsFiles (S.state shelf.old) (S.state shelf.new) (game_files names.entry.world.now names.entry.red.now names.entry.black.now) (outcome_of setting_contents result) }
 {
     let world = read_file(alloc, shelf, names.world)?;
-    let red = read_file(alloc, shelf, names.red)?;
-    let black = read_file(alloc, shelf, names.black)?;
+    let red_text = fetch_file(alloc, shelf, names.red)?;
+    let red = Brain::read(alloc, names.red, &red_text)?;
+    let black_text = fetch_file(alloc, shelf, names.black)?;
+    let black = Brain::read(alloc, names.black, &black_text)?;
     Ok(Setting { world, red, black })
 }
 

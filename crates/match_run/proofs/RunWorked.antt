@@ -1,14 +1,23 @@
 -- Which rounds of a run are dumped, and what stands around the dumps.
-use Rattle.std.proofs.Common.{◌≡◌, ℕ, List, [], ◌∷◌, codes, refl}
+use Rattle.std.proofs.Common.{◌≡◌, ℕ, List, [], ◌∷◌, Option, Some, codes, map, refl}
+use Rattle.std.specs.Prelude.{option_map}
 use Rattle.std.specs.Fmt.{digits}
 use Rattle.std.specs.List.{filter}
 use Rattle.ant_base.specs.Layout.{numbered, ◌+++◌}
+use Rattle.ant_random.specs.Stream.{drawn, random_at, state_at}
+use Rattle.brain_read.specs.declared.instr.Instr.TheVariants.{Drop, Flip}
+use Rattle.cell_world.specs.declared.ant.Ant.{Ant}
 use Rattle.cell_world.specs.Cell.{rock}
+use Rattle.cell_world.specs.Grid.{cell_in, world_of}
+use Rattle.cell_world.specs.Opening.{floor, opening}
+use Rattle.cell_world.proofs.OpeningWorked.{one_hill}
 use Rattle.cell_world.specs.Score.{score_of, hill_food_of}
-use Rattle.cell_world.specs.World.{World}
-use Rattle.ant_turn.specs.Minds.{Minds}
-use Rattle.ant_turn.specs.Rounds.{after_round}
+use Rattle.cell_world.specs.World.{World, place_in, put_cell}
+use Rattle.hex_geometry.specs.Position.{same_pos}
+use Rattle.ant_turn.specs.Minds.{Minds, contest_minds}
+use Rattle.ant_turn.specs.Rounds.{after_round, after_turn}
 use Rattle.ant_turn.specs.Sheet.{contest}
+use Rattle.ant_turn.specs.Turn.{turn}
 use Rattle.dump_print.specs.Content.{content_text}
 use Rattle.dump_print.specs.Texts.{cell_line, row_text, cells_text, dump_text, seed_text, score_text}
 use Rattle.match_run.specs.declared.dumps.Dumps.TheVariants.{Nothing, All, Chosen}
@@ -44,3 +53,15 @@ pub two_rounds : run_text nobody 12345 2 (has_round (2 ∷ 0 ∷ 2 ∷ [])) ston
     +++ codes "\nscore: red 0 black 0\n"
 unfolding run_text dumps_text world_after numbered seed_text dump_text cells_text row_text cell_line content_text rock score_text score_of hill_food_of after_round digits
 two_rounds = refl
+
+-- one red ant, whose brain flips twice: its first random number goes to state 1, and its second to state 2
+abbrev flipping : Minds
+flipping = contest_minds (Flip 4 0 1 ∷ Flip 4 2 1 ∷ Drop 2 ∷ []) (Drop 0 ∷ [])
+
+abbrev state_in : World → Option ℕ
+state_in w = option_map (λ (ant : Ant). ant.state) (w.cells (record { x = 1; y = 1 })).ant
+
+-- round 0 is the start, and each round goes on where the one before it stopped
+pub states_follow : map (λ round. state_in (world_after flipping 12345 (world_of (opening 3 3 one_hill)) round)) (0 ∷ 1 ∷ 2 ∷ []) ≡ Some 0 ∷ Some 1 ∷ Some 2 ∷ []
+unfolding world_after after_round after_turn turn place_in cell_in opening floor rock put_cell same_pos drawn random_at state_at
+states_follow = refl

@@ -1,8 +1,8 @@
 -- What the private functions that fetch, read and carry out ensure.
-use Rattle.std.specs.Prelude.{◌≡◌, ℕ, List, Option, Some, None, Result, Ok, Err}
+use Rattle.std.specs.Prelude.{◌≡◌, ℕ, List, [], ◌∷◌, Option, Some, None, Result, Ok, Err, Vec}
 use Rattle.ant_base.specs.Faults.{Rose}
 use Rattle.ant_base.specs.Fetched.{Fetched}
-use Rattle.ant_base.specs.Shelf.{FetchesEach, ShelfState}
+use Rattle.ant_base.specs.Shelf.{Fetches, FetchesEach, ShelfState}
 use Rattle.ant_base.specs.Sink.{SinkState}
 use Rattle.ant_base.specs.declared.shelf.FetchFault.{FetchFault}
 use Rattle.ant_base.specs.declared.shelf.FetchFault.TheVariants as answer
@@ -56,6 +56,11 @@ pub record ReadsFiles (shelf new_shelf : ShelfState) (files : List File) (outcom
   pub fetches : List Fetched
   pub fetched : FetchesEach shelf new_shelf fetches
   pub comes : ComesTo shelf new_shelf files fetches outcome
+
+-- a file of any kind was fetched, or its reading stops at that
+abbrev pub FetchesFile : {A : Type 0} → ShelfState → ShelfState → List ℕ → Result (Vec ℕ A) Stop → Type 0
+FetchesFile {A} shelf new_shelf name (Ok bytes) = Fetches {A = A} shelf new_shelf name (Ok bytes)
+FetchesFile shelf new_shelf name (Err stop) = (kind : FileKind) → ReadsFiles shelf new_shelf (record { name = name; kind = kind } ∷ []) (Stopped (reason_of stop))
 
 -- why a command stops at a fetch
 abbrev pub fetch_reason : List ℕ → FetchFault → Reason
