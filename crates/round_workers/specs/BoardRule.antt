@@ -7,12 +7,13 @@ use mathlib.Core.Option as maybe
 use lib.ListN.{get_elem?}
 use Rattle.atomic_table.specs.Table.{State}
 use Rattle.cell_world.specs.Cell.{one_if}
+use Rattle.spec_record.specs.Look.{LookValue}
 use Rattle.round_book.specs.Book.{BookValue, Stands}
 use Rattle.round_book.specs.Machine.{times}
 use Rattle.round_book.specs.Window.{IsPlayable, Window, look_for}
 use Rattle.round_workers.specs.declared.board.view.Basis.{Basis}
 use Rattle.round_workers.specs.declared.board.view.Place.{Place}
-use Rattle.round_workers.specs.declared.board.view.Place.TheVariants.{Nothing, TheBook, OneLook}
+use Rattle.round_workers.specs.declared.board.view.Place.TheVariants.{OneLook, Spare, TheBook}
 use Rattle.round_workers.specs.declared.board.view.Phase.{Phase}
 use Rattle.round_workers.specs.declared.board.view.Phase.TheVariants.{Resting, Opening, Putting, Taking}
 use Rattle.round_workers.specs.declared.board.view.View.{View}
@@ -106,7 +107,11 @@ HasHome home place = home ≡ maybe.some (maybe.some place)
 
 -- a slot is home, with a book in it that stands for the window
 abbrev pub HasBook : maybe.Option (maybe.Option Place) → Window → Type 0
-HasBook home window = (book : BookValue) × HasHome home (TheBook book) × StandsFor window book
+HasBook home window = (book : BookValue) × HasHome home (TheBook (Some book)) × StandsFor window book
+
+-- a slot is home, with a look's room in it in which no look is waiting; there may be an old one
+abbrev pub IsSpare : maybe.Option (maybe.Option Place) → Type 0
+IsSpare home = (old : Option LookValue) × HasHome home (Spare old)
 
 -- the book, by its word and what its slot has at home: so many seats hold it, are opening it, opened it, and have seen it opened
 pub record IsBookKept (window : Window) (word : ℕ) (home : maybe.Option (maybe.Option Place)) (held opens opened seen : ℕ) : Type 0 where
@@ -115,7 +120,7 @@ pub record IsBookKept (window : Window) (word : ℕ) (home : maybe.Option (maybe
   pub once : opens + opened ≤ 1
   pub unheld : opened ≡ 0 → held ≡ 0
   pub unseen : opened ≡ 0 → seen ≡ 0
-  pub bare : opens + opened ≡ 0 → HasHome home Nothing
+  pub bare : opens + opened ≡ 0 → HasHome home (TheBook None)
   pub stands : opened ≡ 1 → held ≡ 0 → HasBook home window
 
 -- the look of a ticket, by its word and what its slot has at home: so many seats put it, took it, are putting it and are taking it
@@ -123,8 +128,8 @@ pub record IsLookKept (window : Window) (ticket word : ℕ) (home : maybe.Option
   pub sum : word + takes ≡ puts + (put + put) + took
   pub once : puts + put ≤ 1
   pub back : takes + took ≤ put
-  pub bare : put ≡ took → puts ≡ 0 → HasHome home Nothing
-  pub full : put ≡ 1 → took + takes ≡ 0 → HasHome home (OneLook (look_for window (window.from + ticket)))
+  pub bare : put ≡ took → puts ≡ 0 → IsSpare home
+  pub full : put ≡ 1 → took + takes ≡ 0 → HasHome home (OneLook (Some (look_for window (window.from + ticket))))
 
 abbrev pub IsBookKeptBy : Window → ℕ → maybe.Option (maybe.Option Place) → List View → Type 0
 IsBookKeptBy window word home views =

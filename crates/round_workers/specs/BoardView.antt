@@ -8,7 +8,7 @@ use Rattle.round_book.specs.Window.{Window}
 use Rattle.atomic_table.specs.Table.{Me}
 use Rattle.round_workers.specs.declared.board.view.Basis.{Basis}
 use Rattle.round_workers.specs.declared.board.view.Place.{Place}
-use Rattle.round_workers.specs.declared.board.view.Place.TheVariants.{Nothing}
+use Rattle.round_workers.specs.declared.board.view.Place.TheVariants.{TheBook}
 use Rattle.round_workers.specs.declared.board.view.Phase.TheVariants.{Resting}
 use Rattle.round_workers.specs.declared.board.view.Try.TheVariants.{Never}
 use Rattle.round_workers.specs.declared.board.view.View.{View}
@@ -66,10 +66,10 @@ spent_seat = record {
   phase = Resting;
 }
 
--- the slots that are out with a seat between two calls: the book's, which is empty while the seat holds the book
+-- the slots that are out with a seat between two calls: the book's, whose room is empty while the seat holds the book
 abbrev pub out_with : Bool → List (ℕ × Place)
 out_with false = []
-out_with true = (0, Nothing) ∷ []
+out_with true = (0, TheBook None) ∷ []
 
 -- a seat is between two calls
 pub record IsAtRest (me : Me Place View) : Type 0 where

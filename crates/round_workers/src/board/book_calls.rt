@@ -6,7 +6,7 @@ ghost use Rattle.round_workers.specs.BoardRule.{StandsFor};
 ghost use Rattle.round_workers.specs.BoardSeats.{IsSeatOf, known, window_of};
 
 use crate::board::law::{GivesBook, Opened, Opens, TakesBook};
-use crate::board::places::book_in;
+use crate::board::places::book_room;
 use crate::board::seat::{Board, Seat};
 use crate::board::view::Place;
 use round_book::Book;
@@ -22,7 +22,7 @@ const OUT: u64 = 1;
 const SLOT: usize = 0;
 
 impl Board {
-    /// Puts the book into its slot, once (this project's own). The seat is the first one and hasn't opened the book yet, and the book stands for
+    /// Puts the book into its slot, once. The seat is the first one and hasn't opened the book yet, and the book stands for
     /// the board's window, with no turn settled.
     pub fn open_book(&self, seat: &mut Seat, book: Book)
         requires board { IsSeatOf self.now seat.old }
@@ -35,11 +35,14 @@ impl Board {
     {
         let table = &self.table.shared;
         table.compare_exchange::<Opens>(&mut seat.hand, WORD, HOME, OUT);
-        table.exchange(&mut seat.hand, SLOT, Place::TheBook(book));
+        let place = table.exchange(&mut seat.hand, SLOT, Place::Nothing);
+        let mut room = book_room(place);
+        room.put(book);
+        table.exchange(&mut seat.hand, SLOT, Place::TheBook(room));
         table.swap::<Opened>(&mut seat.hand, WORD, HOME);
     }
 
-    /// Tries to take the book, once, without waiting (this project's own). The seat has seen the book opened, and doesn't hold it. The book
+    /// Tries to take the book, once, without waiting. The seat has seen the book opened, and doesn't hold it. The book
     /// that it gets stands for the board's window. It gets none only where the try found that another seat held the book; the seat's tries
     /// rise by one either way, and what the try found is kept.
     pub fn take_book(&self, seat: &mut Seat) -> Option<Book>
@@ -57,10 +60,13 @@ impl Board {
             return None;
         }
         let place = table.exchange(&mut seat.hand, SLOT, Place::Nothing);
-        book_in(place)
+        let mut room = book_room(place);
+        let book = room.take();
+        table.exchange(&mut seat.hand, SLOT, Place::TheBook(room));
+        book
     }
 
-    /// Gives the book back (this project's own). The seat holds it, and the book stands for the board's window.
+    /// Gives the book back. The seat holds it, and the book stands for the board's window.
     pub fn give_book(&self, seat: &mut Seat, book: Book)
         requires board { IsSeatOf self.now seat.old }
         requires holds { (known seat.old).holds ≡ true }
@@ -69,7 +75,10 @@ impl Board {
         ensures given { known seat.new ≡ without_book (known seat.old) }
     {
         let table = &self.table.shared;
-        table.exchange(&mut seat.hand, SLOT, Place::TheBook(book));
+        let place = table.exchange(&mut seat.hand, SLOT, Place::Nothing);
+        let mut room = book_room(place);
+        room.put(book);
+        table.exchange(&mut seat.hand, SLOT, Place::TheBook(room));
         table.swap::<GivesBook>(&mut seat.hand, WORD, HOME);
     }
 }

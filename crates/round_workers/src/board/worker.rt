@@ -9,12 +9,13 @@ ghost use Rattle.round_workers.specs.BoardSeats.{IsSeatOf, basis_of, known, wind
 ghost use Rattle.round_workers.specs.BoardTotals.{late_among};
 ghost use Rattle.round_workers.specs.BoardWorker.{HasServed, IsLentFor, IsSameButTook, IsWorker, guesses_for, turns_in};
 
-use crate::board::looking::look_at;
+use crate::board::looking::reach;
 use crate::board::seat::{Board, Seat};
 use ant_base::Gate;
-use round_book::{Book, Field, advance};
+use ant_random::Stream;
+use round_book::{Book, Field};
 
-/// Who makes looks on a board: its number, its seat, and the turns whose looks it made, in order (this project's own).
+/// Who makes looks on a board: its number, its seat, and the turns whose looks it made, in order.
 #[derive(Drop)]
 pub struct Worker {
     /// The number under which it announces its looks.
@@ -28,7 +29,7 @@ pub struct Worker {
 
 impl Worker {
     /// Draws tickets until one is behind the window, makes the look of each turn and puts it, and after each tries once for the book; with it
-    /// it settles the next turns for as long as their looks are there (this project's own).
+    /// it settles the next turns for as long as their looks are there.
     pub fn work<G: Gate>(&mut self, board: &Board, field: &Field<'_>, guesses: &[u64], gate: &G)
         requires board { IsSeatOf board.now self.old.seat }
         requires opened { (known self.old.seat).opened ≡ true }
@@ -44,10 +45,12 @@ impl Worker {
         ensures tries { (known self.old.seat).tries + length (known self.new.seat).put ≤ (known self.new.seat).tries + length (known self.old.seat).put }
     {
         let number = self.number;
+        let mut stream = Stream::from_seed(field.seed());
         while serve(
             number,
             &mut self.seat,
             &mut self.made,
+            &mut stream,
             board,
             field,
             guesses,
@@ -57,10 +60,12 @@ impl Worker {
 }
 
 // Draws a ticket and, where it is a turn's, makes the look, puts it and tries for the book. Whether it was a turn's.
+#[inline]
 fn serve<G: Gate>(
     number: u32,
     seat: &mut Seat,
     made: &mut Vec<u32>,
+    stream: &mut Stream,
     board: &Board,
     field: &Field<'_>,
     guesses: &[u64],
@@ -70,12 +75,14 @@ fn serve<G: Gate>(
     requires worker { IsWorker (known seat.old) made.old.items }
     requires opened { (known seat.old).opened ≡ true }
     requires early { AllByRecursion (λ k. k < turns_in (window_of board.now)) (known seat.old).drawn }
+    requires seed { stream.old.seed ≡ (window_of board.now).seed }
     requires field { IsLentFor field.now (window_of board.now) }
     requires guesses { guesses.now ≡ guesses_for (window_of board.now) }
     requires room { turns_in (window_of board.now) ≤ vec_capacity made.old }
     ensures board { IsSeatOf board.now seat.new }
     ensures worker { IsWorker (known seat.new) made.new.items }
     ensures served { HasServed (turns_in (window_of board.now)) (known seat.old) (known seat.new) result }
+    ensures seed { stream.new.seed ≡ stream.old.seed }
     ensures room { vec_capacity made.new ≡ vec_capacity made.old }
 {
     let ticket = board.draw(seat);
@@ -84,14 +91,15 @@ fn serve<G: Gate>(
     }
     let turn = board.turn_of(ticket);
     gate.before_look(number, turn);
-    let look = look_at(field, guesses, board.first(), board.end(), ticket);
+    reach(stream, guesses[ticket as usize]);
+    board.look_and_put(seat, field, stream, ticket);
     made.push_reserved(turn);
-    board.put(seat, look);
     try_book(board, seat, field);
     true
 }
 
 // Tries once for the book, and with it settles for as long as the next turn's look is there.
+#[inline]
 fn try_book(board: &Board, seat: &mut Seat, field: &Field<'_>)
     requires board { IsSeatOf board.now seat.old }
     requires opened { (known seat.old).opened ≡ true }
@@ -109,6 +117,7 @@ fn try_book(board: &Board, seat: &mut Seat, field: &Field<'_>)
 }
 
 // Settles the next turns of the book for as long as their looks are there.
+#[inline]
 fn settle_looks(board: &Board, seat: &mut Seat, field: &Field<'_>, book: &mut Book)
     requires board { IsSeatOf board.now seat.old }
     requires holds { (known seat.old).holds ≡ true }
@@ -120,9 +129,8 @@ fn settle_looks(board: &Board, seat: &mut Seat, field: &Field<'_>, book: &mut Bo
     ensures stands { StandsFor (window_of board.now) book.new }
 {
     while book.next() < board.end() {
-        let Some(look) = board.take_look(seat, book.next()) else {
+        if !board.settle_look(seat, field, book) {
             return;
-        };
-        advance(book, field, &look);
+        }
     }
 }
