@@ -1,10 +1,10 @@
 -- The steps on the book's word keep a board's rule: it is opened, taken and given.
-use Rattle.std.proofs.Common.{◌≡◌, ℕ, ◌+◌, ◌≤◌, true, false, List, ◌∷◌, set, sym, refl, ap, ◌∙◌, subst, inr, ⊎_elim, arith, eqb, length-set, None, Some}
+use Rattle.std.proofs.Common.{◌≡◌, ℕ, ◌+◌, ◌≤◌, true, false, List, ◌∷◌, set, sym, refl, ap, ◌∙◌, subst, inr, ⊎_elim, arith, eqb, length-set, Option, None, Some}
 use mathlib.Core.Option as maybe
 use native.Mathlib.Decide.{ℕ_discrete}
 use lib.ListN.{get_elem?}
 use prog.Atomic.{either}
-use Rattle.std.specs.Prelude.{slice_index}
+use Rattle.std.specs.Prelude.{IsSomeAnd, slice_index}
 use Rattle.atomic_table.specs.Table.{Act, Allows, Me, State, Valid, carried_after, gives, keeps, step, stepped, takes}
 use Rattle.atomic_table.proofs.Lists.{exchanged, set_else, set_here}
 use Rattle.cell_world.specs.Cell.{one_if}
@@ -113,6 +113,12 @@ module _ (key : Basis) (slots id : ℕ) (v : View) (about : v.about ≡ Some key
               record { out = (omega arith); bit = (omega arith); once = (omega arith); unheld = (λ e. absurd (omega arith)); unseen = (λ e. absurd (omega arith)); bare = (λ e. absurd (omega arith)); stands = (λ _ _. (book, back-here s r, stands)) },
           refl,
         )
+
+  -- the same of a room that has the book
+  pub gives-room : (xs : List (ℕ × Place)) (content : Option BookValue) → IsSomeAnd content (StandsFor (window_for key)) → v.holds ≡ true
+      → Allows (IsKept key) slots id (v, (0, TheBook content) ∷ xs) 1 (λ _. 0) (tells_give_book (step slots 1 0 0 maybe.none) (v, (0, TheBook content) ∷ xs))
+  gives-room xs None stands = absurd stands
+  gives-room xs (Some book) stands = gives-book xs book stands
 
   module _ (c : List (ℕ × Place)) (seen : v.opened ≡ true) (free : v.holds ≡ false) where
     pub takes-book : Allows (IsKept key) slots id (v, c) 1 (λ n. either (eqb n 0) 1 n) (tells_take_book (step slots 1 0 1 maybe.none) (v, c))

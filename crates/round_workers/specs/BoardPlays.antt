@@ -13,7 +13,7 @@ use Rattle.round_workers.specs.declared.board.view.Try.{Try}
 use Rattle.round_workers.specs.declared.board.view.Try.TheVariants.{Never, OfBook, OfLook}
 use Rattle.round_workers.specs.declared.board.view.View.{View}
 use Rattle.round_workers.specs.BoardRule.{StandsFor}
-use Rattle.round_workers.specs.BoardView.{window_about}
+use Rattle.round_workers.specs.BoardView.{book_home, book_out, look_full, window_about}
 
 abbrev At : Type 0
 At = Me Place View
@@ -69,7 +69,7 @@ has_seen v = record v { phase = Resting; opened = true }
 
 -- a seat that took the book
 abbrev pub with_book : View → View
-with_book v = record (after_try v (OfBook 0)) { holds = true }
+with_book v = record (after_try v (OfBook book_home)) { holds = true }
 
 -- a seat that gave the book
 abbrev pub without_book : View → View
@@ -84,22 +84,22 @@ has_put v ticket = record v { phase = Resting; put = v.put ++ ticket ∷ [] }
 
 -- a seat in the midst of taking the look of a ticket, and after it
 abbrev pub takes_now : View → ℕ → View
-takes_now v ticket = record (after_try v (OfLook ticket 2)) { phase = Taking ticket }
+takes_now v ticket = record (after_try v (OfLook ticket look_full)) { phase = Taking ticket }
 
 abbrev pub has_taken : View → ℕ → View
 has_taken v ticket = record v { phase = Resting; took = v.took ++ ticket ∷ [] }
 
 -- the book's slot was home, and is the seat's
 abbrev pub tells_open : Step Place → At → ℕ → At → Type 0
-tells_open step me found new = (found ≡ 0) × (new ≡ (opens_now me.0, (0, TheBook None) ∷ me.1))
+tells_open step me found new = (found ≡ book_home) × (new ≡ (opens_now me.0, (0, TheBook None) ∷ me.1))
 
 abbrev pub tells_opened : Step Place → At → ℕ → At → Type 0
 tells_opened step me found new = new ≡ (has_seen me.0, rest me.1)
 
 -- where the book was home it is the seat's, and stands for the window that the seat knows; else another seat has it
 pub record TellsTake (me : At) (found : ℕ) (new : At) : Type 0 where
-  pub home : found ≡ 0 → (book : BookValue) × StandsFor (window_about me.0.about) book × (new ≡ (with_book me.0, (0, TheBook (Some book)) ∷ me.1))
-  pub out : found ≢ 0 → (found ≡ 1) × (new ≡ (after_try me.0 (OfBook 1), me.1))
+  pub home : found ≡ book_home → (book : BookValue) × StandsFor (window_about me.0.about) book × (new ≡ (with_book me.0, (0, TheBook (Some book)) ∷ me.1))
+  pub out : found ≢ book_home → (found ≡ book_out) × (new ≡ (after_try me.0 (OfBook book_out), me.1))
 
 abbrev pub tells_take_book : Step Place → At → ℕ → At → Type 0
 tells_take_book step = TellsTake
@@ -120,8 +120,8 @@ look_at_ticket v ticket = look_for (window_about v.about) ((window_about v.about
 
 -- where the look's word was full the look is the seat's, and it is that at its turn; else the seat keeps what it found
 pub record TellsTakeLook (ticket : ℕ) (me : At) (found : ℕ) (new : At) : Type 0 where
-  pub full : found ≡ 2 → new ≡ (takes_now me.0 ticket, (ticket + 1, OneLook (Some (look_at_ticket me.0 ticket))) ∷ me.1)
-  pub other : found ≢ 2 → new ≡ (after_try me.0 (OfLook ticket found), me.1)
+  pub full : found ≡ look_full → new ≡ (takes_now me.0 ticket, (ticket + 1, OneLook (Some (look_at_ticket me.0 ticket))) ∷ me.1)
+  pub other : found ≢ look_full → new ≡ (after_try me.0 (OfLook ticket found), me.1)
 
 abbrev pub tells_take_look : Step Place → At → ℕ → At → Type 0
 tells_take_look step me found new = (j : ℕ) → step.word ≡ j + 2 → TellsTakeLook j me found new

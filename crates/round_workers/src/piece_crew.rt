@@ -37,8 +37,8 @@ impl<'c, R: Threads + Sync, G: Gate> Model for PieceCrew<'c, R, G> {
 }
 
 impl<'c, R: Threads + Sync, G: Gate> PieceCrew<'c, R, G> {
-    /// A crew of 1 to 16 workers, which has played no turn yet. Each worker, from 0, calls the gate before each look
-    /// that it makes. It takes no memory.
+    /// A crew of 1 to 16 workers, which has played no turn yet. Each worker, from 0, calls the gate before each look that it makes. It
+    /// takes no memory.
     pub fn new(rt: &'c R, workers: u32, gate: &'c G) -> PieceCrew<'c, R, G>
         requires workers { (1 ≤ workers) × (workers ≤ 16) }
         ensures { result ≡ record { workers = workers; turns = 0 } }
@@ -65,9 +65,9 @@ impl<'c, R: Threads + Sync, G: Gate> PieceCrew<'c, R, G> {
     /// place are those to which the turns lead in order, and the answer counts the looks that were taken and the turns that were executed
     /// anew. It is refused for want of memory alone; the field and the count of turns are as before then.
     ///
-    /// Of n turns worker k of W makes the looks of those from `from` + k * n / W up to, and not including, `from` + (k + 1) * n / W, and calls
-    /// the gate with its number and the id before each. A worker that has no turn starts no thread. All looks are made before the field is
-    /// lent; but where no second worker has a turn, each look is settled as soon as it is made.
+    /// Of n turns worker k of W makes the looks of those from `from` + k * n / W up to, and not including, `from` + (k + 1) * n / W, and
+    /// calls the gate with its number and the id before each. A worker that has no turn starts no thread. All looks are made before the
+    /// field is lent; but where no second worker has a turn, each look is settled as soon as it is made.
     pub fn window(
         &mut self,
         alloc: Global,

@@ -58,4 +58,6 @@ pub record IsLaid (for_window : Window) (laid : Laid) : Type 0 where
 
 -- the looks of a window that wait in these places, by ticket, are those at its turns
 abbrev pub AreLooks : Window → List Place → Type 0
-AreLooks window places = (ticket : ℕ) → ticket < turns_in window → IfSome (look_in (slice_index_or places ticket Nothing)) (λ look. look ≡ look_for window (window.from + ticket))
+AreLooks window places =
+    (ticket : ℕ) → ticket < turns_in window
+    → IfSome (look_in (slice_index_or places ticket Nothing)) (λ look. look ≡ look_for window (window.from + ticket))

@@ -27,8 +27,8 @@ use std::marker::Model;
 use std::thread;
 use std::thread::Threads;
 
-/// A crew of workers that draw the turns of a window, put the looks at them on a board, and pass its book from one to another to settle them
-///.
+/// A crew of workers that draw the turns of a window, put the looks at them on a board, and pass its book from one to another to settle
+/// them.
 #[derive(Drop)]
 pub struct BoardCrew<'c, R: Threads + Sync, G: Gate> {
     rt: &'c R,
@@ -50,8 +50,8 @@ impl<'c, R: Threads + Sync, G: Gate> Model for BoardCrew<'c, R, G> {
 }
 
 impl<'c, R: Threads + Sync, G: Gate> BoardCrew<'c, R, G> {
-    /// A crew of 1 to 16 workers, which has played no turn yet. Each worker, from 0, calls the gate before each look
-    /// that it makes. It takes no memory.
+    /// A crew of 1 to 16 workers, which has played no turn yet. Each worker, from 0, calls the gate before each look that it makes. It
+    /// takes no memory.
     pub fn new(rt: &'c R, workers: u32, gate: &'c G) -> BoardCrew<'c, R, G>
         requires workers { (1 ≤ workers) × (workers ≤ 16) }
         ensures { result ≡ record { workers = workers; turns = 0 } }
@@ -78,9 +78,9 @@ impl<'c, R: Threads + Sync, G: Gate> BoardCrew<'c, R, G> {
     /// place are those to which the turns lead in order, and the answer counts the looks that were taken and the turns that were executed
     /// anew. It is refused for want of memory alone, before the field is lent; the field and the count of turns are as before then.
     ///
-    /// As many workers work as the lesser of the crew's and the turns. Whichever draws a turn calls the gate with its number and the id, makes
-    /// the look, puts it on the board and tries once for the book; with the book it settles the next turns for as long as their looks are
-    /// there. No worker waits for another. One worker alone needs no board: it settles each look as soon as it has made it.
+    /// As many workers work as the lesser of the crew's and the turns. Whichever draws a turn calls the gate with its number and the id,
+    /// makes the look, puts it on the board and tries once for the book; with the book it settles the next turns for as long as their looks
+    /// are there. No worker waits for another. One worker alone needs no board: it settles each look as soon as it has made it.
     pub fn window(
         &mut self,
         alloc: Global,

@@ -23,7 +23,7 @@ use ant_random::Stream;
 use round_book::{Book, Field, advance};
 use spec_record::Look;
 
-// The word of the look of ticket 0, and what it says: its slot is empty, in a seat's hand, full or emptied.
+// The word of the look of ticket 0, and what the word of a look says (`look_empty` to `look_emptied` of `BoardView`).
 const FIRST_WORD: usize = 2;
 
 const EMPTY: u64 = 0;
@@ -38,8 +38,8 @@ const EMPTIED: u64 = 3;
 const FIRST_SLOT: usize = 1;
 
 impl Board {
-    /// Puts the look at a turn. The turn is one of the window, the seat drew its ticket and hasn't put it, and the look is
-    /// that at the turn on the window's base at its guess.
+    /// Puts the look at a turn. The turn is one of the window, the seat drew its ticket and hasn't put it, and the look is that at the turn
+    /// on the window's base at its guess.
     pub fn put(&self, seat: &mut Seat, look: Look)
         requires board { IsSeatOf self.now seat.old }
         requires after_from { (basis_of self.now).from ≤ look.turn }
@@ -130,9 +130,9 @@ impl Board {
         table.swap::<HasPut>(hand, ticket + FIRST_WORD, FULL);
     }
 
-    /// Tries to take the look at a turn, once, without waiting. The seat holds the book, and the turn is one of the window.
-    /// The look that it gets is that at the turn on the window's base at its guess. It gets none exactly where the try found that the look
-    /// wasn't there; the seat's tries rise by one either way, and what the try found is kept.
+    /// Tries to take the look at a turn, once, without waiting. The seat holds the book, and the turn is one of the window. The look that
+    /// it gets is that at the turn on the window's base at its guess. It gets none exactly where the try found that the look wasn't there;
+    /// the seat's tries rise by one either way, and what the try found is kept.
     pub fn take_look(&self, seat: &mut Seat, turn: u32) -> Option<Look>
         requires board { IsSeatOf self.now seat.old }
         requires holds { (known seat.old).holds ≡ true }
@@ -166,24 +166,32 @@ impl Board {
 
     // Tries to settle the book's next turn by its look, once, without waiting. The look lies where it was put meanwhile.
     #[inline]
-    pub(crate) fn settle_look(&self, seat: &mut Seat, field: &Field<'_>, book: &mut Book) -> bool
-        requires board { IsSeatOf self.now seat.old }
-        requires holds { (known seat.old).holds ≡ true }
+    pub(crate) fn settle_look(
+        &self,
+        hand: &mut atomic_table::Seat<Place, View>,
+        field: &Field<'_>,
+        book: &mut Book,
+    ) -> bool
+        requires table { hand.old.table_id ≡ self.now.table.shared.table_id }
+        requires knows { hand.old.me.0.about ≡ Some (basis_of self.now) }
+        requires rests { hand.old.me.0.phase ≡ Resting }
+        requires holds { hand.old.me.0.holds ≡ true }
         requires field { IsLentFor field.now (window_of self.now) }
         requires stands { StandsFor (window_of self.now) book.old }
         requires left { book.old.next < (basis_of self.now).to }
-        ensures board { IsSeatOf self.now seat.new }
+        ensures table { hand.new.table_id ≡ hand.old.table_id }
+        ensures out { hand.new.me.1 ≡ hand.old.me.1 }
         ensures stands { StandsFor (window_of self.now) book.new }
-        ensures taken { result ≡ true → known seat.new ≡ took_look (known seat.old) (book.old.next - (basis_of self.now).from) }
+        ensures taken { result ≡ true → hand.new.me.0 ≡ took_look hand.old.me.0 (book.old.next - (basis_of self.now).from) }
         ensures next { result ≡ true → book.new.next ≡ book.old.next + 1 }
-        ensures not_full { result ≡ false → IsMiss (book.old.next - (basis_of self.now).from) (known seat.old) (known seat.new) }
+        ensures not_full { result ≡ false → IsMiss (book.old.next - (basis_of self.now).from) hand.old.me.0 hand.new.me.0 }
     {
         let ticket = (book.next() - self.from) as usize;
-        let Some(room) = self.begin_take(&mut seat.hand, ticket) else {
+        let Some(room) = self.begin_take(hand, ticket) else {
             return false;
         };
         settle_by(book, field, &room);
-        self.end_take(&mut seat.hand, ticket, room);
+        self.end_take(hand, ticket, room);
         true
     }
 

@@ -14,7 +14,7 @@ use std::marker::Model;
 /// A room for one value, with the value or without it. It is passed on without a move of the value.
 #[derive(Drop)]
 pub struct Room<T> {
-    content: Box<Option<T>>,
+    pub(crate) content: Box<Option<T>>,
 }
 
 impl<T> Model for Room<T> {

@@ -62,7 +62,7 @@ returns-clause-worker g c =
     let key = basis_of c.args.board.now in let v = known c.args.seat.now in let t : ℕ = c.draw-ticket.result in
     let n = ap (λ z. turns_in (window_about z)) (sym c.requires.board.knows) in
     let inside : t < key.to - key.from = (let l = c.if-ticket-turns.false in let b = c.turns.ensures in omega arith) in
-    more-is v _ _ _ _ t _ n c.requires.worker c.draw-ticket.ensures.drew c.draw-ticket.ensures.greater inside c.look_and_put.ensures.put c.try_book.ensures.same c.try_book.ensures.tried
+    more-is v _ _ _ _ t _ n c.requires.worker c.draw-ticket.ensures.drew c.draw-ticket.ensures.greater inside c.look_and_put.ensures.put c.settle_with_book.ensures.same c.settle_with_book.ensures.tried
     _ c.turn_of-turn.result key.from (ap (λ z. (window_about z).from) (sym c.requires.board.knows)) c.turn_of-turn.ensures c.push_reserved.ensures.items
 
 pub returns-clause-served : goal.returns-clause-served
@@ -70,7 +70,7 @@ returns-clause-served g c =
     let key = basis_of c.args.board.now in let v = known c.args.seat.now in let t : ℕ = c.draw-ticket.result in
     let n = ap (λ z. turns_in (window_about z)) (sym c.requires.board.knows) in
     let inside : t < key.to - key.from = (let l = c.if-ticket-turns.false in let b = c.turns.ensures in omega arith) in
-    more-served v _ _ _ _ t _ n c.requires.worker c.draw-ticket.ensures.drew c.draw-ticket.ensures.greater inside c.look_and_put.ensures.put c.try_book.ensures.same c.try_book.ensures.tried
+    more-served v _ _ _ _ t _ n c.requires.worker c.draw-ticket.ensures.drew c.draw-ticket.ensures.greater inside c.look_and_put.ensures.put c.settle_with_book.ensures.same c.settle_with_book.ensures.tried
 
 pub returns-clause-seed : goal.returns-clause-seed
 returns-clause-seed g c = c.look_and_put.ensures.seed ∙ c.reach.ensures.seed

@@ -1,13 +1,10 @@
-use Rattle.std.proofs.Common.{◌∷◌, None, arith, sym, ap, ◌∙◌, [], subst}
-use mathlib.Core.Option as maybe
-use Rattle.atomic_table.specs.Table.{Allows, step}
+use Rattle.std.proofs.Common.{None, Some, sym, ap, ◌∙◌, [], ◌∷◌, subst}
+use Rattle.std.specs.Prelude.{IsSomeAnd}
 use Rattle.round_workers.specs.declared.board.view.Place.TheVariants.{Nothing, TheBook}
 use Rattle.round_workers.specs.Inner.BoardPlaces.{book_room}
-use Rattle.round_workers.specs.BoardPlays.{tells_give_book}
-use Rattle.round_workers.specs.BoardRule.{IsKept}
-use Rattle.round_workers.specs.BoardSeats.{basis_of}
+use Rattle.round_workers.specs.BoardRule.{StandsFor}
+use Rattle.round_workers.specs.BoardSeats.{window_of}
 use Rattle.round_workers.specs.BoardView.{out_with}
-use Rattle.round_workers.proofs.BoardBook.{gives-book}
 use Rattle.round_workers.proofs.BoardMoves.{At, lay-in, slot-held, some-there, swapped}
 use Rattle.round_workers.proofs.board.seat.Board.give_book.Goals as goal
 
@@ -19,18 +16,20 @@ pub book_room-room-requires : goal.book_room-room-requires
 book_room-room-requires c = let me = c.args.seat.now.hand.me in let out = c.args.seat.now.at_rest.out ∙ ap out_with c.requires.holds in
     some-there _ None (ap book_room (sym (lay-in _ me.0 0 (TheBook None) _ [] _ (λ i. (me.0, out i)) c.exchange-place.ensures.2)))
 
-pub exchange-requires : goal.exchange-requires
-exchange-requires c = let me = c.args.seat.now.hand.me in let out = c.args.seat.now.at_rest.out ∙ ap out_with c.requires.holds in
-    let held = swapped _ _ me.0 0 (TheBook None) Nothing [] (λ i. (me.0, out i)) c.exchange-place.ensures.3 in
-    (c.exchange-place.ensures.0 ∙ c.requires.board.table, (Nothing, slot-held _ me.0 0 Nothing [] held))
+pub end_book-requires-clause-table : goal.end_book-requires-clause-table
+end_book-requires-clause-table c = c.exchange-place.ensures.0 ∙ c.requires.board.table
 
-pub swap-requires : goal.swap-requires
-swap-requires c =
-    let wide = c.args.self.now.words in let me = c.args.seat.now.hand.me in let key = basis_of c.args.self.now in let out = c.args.seat.now.at_rest.out ∙ ap out_with c.requires.holds in
-    let held = swapped _ _ me.0 0 (TheBook None) Nothing [] (λ i. (me.0, out i)) c.exchange-place.ensures.3 in
-    let now = swapped _ _ me.0 0 Nothing (TheBook c.put.new.self) [] held c.exchange.ensures.3 ∙ ap (λ content. (me.0, (0, TheBook content) ∷ [])) c.put.ensures in (
-      c.exchange.ensures.0 ∙ (c.exchange-place.ensures.0 ∙ c.requires.board.table),
-      omega arith,
-      subst (λ (m : At). Allows (IsKept key) c.args.self.now.table.shared.table_id.slots c.exchange.new.seat.id m 1 (λ _. 0) (tells_give_book (step c.args.self.now.table.shared.table_id.slots 1 0 0 maybe.none) m)) (sym now)
-          (gives-book key c.args.self.now.table.shared.table_id.slots c.exchange.new.seat.id me.0 c.requires.board.knows [] c.args.book c.requires.stands c.requires.holds),
-    )
+pub end_book-requires-clause-knows : goal.end_book-requires-clause-knows
+end_book-requires-clause-knows c = let me = c.args.seat.now.hand.me in let out = c.args.seat.now.at_rest.out ∙ ap out_with c.requires.holds in
+    ap (λ (m : At). m.0.about) (swapped _ _ me.0 0 (TheBook None) Nothing [] (λ i. (me.0, out i)) c.exchange-place.ensures.3) ∙ c.requires.board.knows
+
+pub end_book-requires-clause-holds : goal.end_book-requires-clause-holds
+end_book-requires-clause-holds c = let me = c.args.seat.now.hand.me in let out = c.args.seat.now.at_rest.out ∙ ap out_with c.requires.holds in
+    ap (λ (m : At). m.0.holds) (swapped _ _ me.0 0 (TheBook None) Nothing [] (λ i. (me.0, out i)) c.exchange-place.ensures.3) ∙ c.requires.holds
+
+pub end_book-requires-clause-out : goal.end_book-requires-clause-out
+end_book-requires-clause-out c = let me = c.args.seat.now.hand.me in let out = c.args.seat.now.at_rest.out ∙ ap out_with c.requires.holds in
+    slot-held _ me.0 0 Nothing [] (swapped _ _ me.0 0 (TheBook None) Nothing [] (λ i. (me.0, out i)) c.exchange-place.ensures.3)
+
+pub end_book-requires-clause-stands : goal.end_book-requires-clause-stands
+end_book-requires-clause-stands c = subst (λ content. IsSomeAnd content (StandsFor (window_of c.args.self.now))) (sym c.put.ensures) c.requires.stands
