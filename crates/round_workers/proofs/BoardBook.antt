@@ -1,10 +1,10 @@
 -- The steps on the book's word keep a board's rule: it is opened, taken and given.
-use Rattle.std.proofs.Common.{◌≡◌, ℕ, ◌+◌, ◌≤◌, true, false, List, ◌∷◌, set, sym, refl, ap, ◌∙◌, subst, inr, ⊎_elim, arith, eqb, length-set, Some}
+use Rattle.std.proofs.Common.{◌≡◌, ℕ, ◌+◌, ◌≤◌, true, false, List, ◌∷◌, set, sym, refl, ap, ◌∙◌, subst, inr, ⊎_elim, arith, eqb, length-set, Option, None, Some}
 use mathlib.Core.Option as maybe
 use native.Mathlib.Decide.{ℕ_discrete}
 use lib.ListN.{get_elem?}
 use prog.Atomic.{either}
-use Rattle.std.specs.Prelude.{slice_index}
+use Rattle.std.specs.Prelude.{IsSomeAnd, slice_index}
 use Rattle.atomic_table.specs.Table.{Act, Allows, Me, State, Valid, carried_after, gives, keeps, step, stepped, takes}
 use Rattle.atomic_table.proofs.Lists.{exchanged, set_else, set_here}
 use Rattle.cell_world.specs.Cell.{one_if}
@@ -13,7 +13,7 @@ use Rattle.round_book.specs.Machine.{times}
 use Rattle.round_book.specs.Window.{Window}
 use Rattle.round_workers.specs.declared.board.view.Basis.{Basis}
 use Rattle.round_workers.specs.declared.board.view.Place.{Place}
-use Rattle.round_workers.specs.declared.board.view.Place.TheVariants.{Nothing, TheBook}
+use Rattle.round_workers.specs.declared.board.view.Place.TheVariants.{TheBook}
 use Rattle.round_workers.specs.declared.board.view.Phase.TheVariants.{Resting, Opening}
 use Rattle.round_workers.specs.declared.board.view.Try.TheVariants.{OfBook}
 use Rattle.round_workers.specs.declared.board.view.View.{View}
@@ -65,7 +65,7 @@ module _ (key : Basis) (slots id : ℕ) (v : View) (about : v.about ≡ Some key
         exchanged word 0 1 (Goes key s 1 id (v, c) (tells_open (step slots 1 0 1 maybe.none) (v, c)))
         (λ hit. (
           w,
-          takes 0 Nothing,
+          takes 0 (TheBook None),
           k.bare bare,
           book-kept key s r id v w at record { about = refl; number = refl; made = refl; parts = refl; drawn = refl }
               (inr record { same = about; own = is.own; makes = is.makes; late = is.late; drew = (λ x. let d = is.drew x in omega arith); opens = (omega arith) })
@@ -76,10 +76,10 @@ module _ (key : Basis) (slots id : ℕ) (v : View) (about : v.about ≡ Some key
         (λ miss. absurd (miss is_home))
 
   module _ (xs : List (ℕ × Place)) (book : BookValue) (stands : StandsFor (window_for key) book) where
-    back-here : (s : State Place View) → IsKept key s → HasHome (get_elem? (set s.homes 0 (maybe.some (TheBook book))) 0) (TheBook book)
-    back-here s r = let wide = r.homes in set_here s.homes 0 (maybe.some (TheBook book)) (omega arith)
+    back-here : (s : State Place View) → IsKept key s → HasHome (get_elem? (set s.homes 0 (maybe.some (TheBook (Some book)))) 0) (TheBook (Some book))
+    back-here s r = let wide = r.homes in set_here s.homes 0 (maybe.some (TheBook (Some book))) (omega arith)
 
-    pub opened : v.number ≡ 0 → v.phase ≡ Opening → Allows (IsKept key) slots id (v, (0, TheBook book) ∷ xs) 1 (λ _. 0) (tells_opened (step slots 1 0 0 maybe.none) (v, (0, TheBook book) ∷ xs))
+    pub opened : v.number ≡ 0 → v.phase ≡ Opening → Allows (IsKept key) slots id (v, (0, TheBook (Some book)) ∷ xs) 1 (λ _. 0) (tells_opened (step slots 1 0 0 maybe.none) (v, (0, TheBook (Some book)) ∷ xs))
     opened zeroth midst s r _ at _ =
         let w : View = has_seen v in let k = r.book in let out = k.out in let bit = k.bit in let once = k.once in let is = seated key v about (r.seats id v at) in
         let here : opening v.phase ≡ 1 = ap opening midst in let more = total-at (λ (u : View). opening u.phase) s.views id v at in let more' = total-at has_opened s.views id v at in
@@ -90,13 +90,13 @@ module _ (key : Basis) (slots id : ℕ) (v : View) (about : v.about ≡ Some key
           tt,
           book-kept key s r id v w at record { about = refl; number = refl; made = refl; parts = refl; drawn = refl }
               (inr record { same = about; own = is.own; makes = is.makes; late = is.late; drew = (λ x. let d = is.drew x in omega arith); opens = (omega arith) })
-              0 (set s.homes 0 (maybe.some (TheBook book))) (length-set s.homes 0 (maybe.some (TheBook book))) (λ j ne. set_else s.homes 0 j (maybe.some (TheBook book)) ne)
+              0 (set s.homes 0 (maybe.some (TheBook (Some book)))) (length-set s.homes 0 (maybe.some (TheBook (Some book)))) (λ j ne. set_else s.homes 0 j (maybe.some (TheBook (Some book))) ne)
               (λ j. record { put = refl; took = refl; puts = sym (ap (putting j) midst); takes = sym (ap (taking j) midst) })
               record { out = (omega arith); bit = (omega arith); once = (omega arith); unheld = (λ e. omega arith); unseen = (λ e. absurd (omega arith)); bare = (λ e. absurd (omega arith)); stands = (λ _ _. (book, back-here s r, stands)) },
           refl,
         )
 
-    pub gives-book : v.holds ≡ true → Allows (IsKept key) slots id (v, (0, TheBook book) ∷ xs) 1 (λ _. 0) (tells_give_book (step slots 1 0 0 maybe.none) (v, (0, TheBook book) ∷ xs))
+    pub gives-book : v.holds ≡ true → Allows (IsKept key) slots id (v, (0, TheBook (Some book)) ∷ xs) 1 (λ _. 0) (tells_give_book (step slots 1 0 0 maybe.none) (v, (0, TheBook (Some book)) ∷ xs))
     gives-book holds s r _ at _ =
         let w : View = without_book v in let k = r.book in let out = k.out in let bit = k.bit in let once = k.once in let is = seated key v about (r.seats id v at) in
         let here : one_if v.holds ≡ 1 = ap one_if holds in let more = total-at (λ (u : View). one_if u.holds) s.views id v at in
@@ -108,11 +108,17 @@ module _ (key : Basis) (slots id : ℕ) (v : View) (about : v.about ≡ Some key
           tt,
           book-kept key s r id v w at record { about = refl; number = refl; made = refl; parts = refl; drawn = refl }
               (inr record { same = about; own = is.own; makes = is.makes; late = is.late; drew = is.drew; opens = is.opens })
-              0 (set s.homes 0 (maybe.some (TheBook book))) (length-set s.homes 0 (maybe.some (TheBook book))) (λ j ne. set_else s.homes 0 j (maybe.some (TheBook book)) ne)
+              0 (set s.homes 0 (maybe.some (TheBook (Some book)))) (length-set s.homes 0 (maybe.some (TheBook (Some book)))) (λ j ne. set_else s.homes 0 j (maybe.some (TheBook (Some book))) ne)
               (λ j. record { put = refl; took = refl; puts = refl; takes = refl })
               record { out = (omega arith); bit = (omega arith); once = (omega arith); unheld = (λ e. absurd (omega arith)); unseen = (λ e. absurd (omega arith)); bare = (λ e. absurd (omega arith)); stands = (λ _ _. (book, back-here s r, stands)) },
           refl,
         )
+
+  -- the same of a room that has the book
+  pub gives-room : (xs : List (ℕ × Place)) (content : Option BookValue) → IsSomeAnd content (StandsFor (window_for key)) → v.holds ≡ true
+      → Allows (IsKept key) slots id (v, (0, TheBook content) ∷ xs) 1 (λ _. 0) (tells_give_book (step slots 1 0 0 maybe.none) (v, (0, TheBook content) ∷ xs))
+  gives-room xs None stands = absurd stands
+  gives-room xs (Some book) stands = gives-book xs book stands
 
   module _ (c : List (ℕ × Place)) (seen : v.opened ≡ true) (free : v.holds ≡ false) where
     pub takes-book : Allows (IsKept key) slots id (v, c) 1 (λ n. either (eqb n 0) 1 n) (tells_take_book (step slots 1 0 1 maybe.none) (v, c))
@@ -124,7 +130,7 @@ module _ (key : Basis) (slots id : ℕ) (v : View) (about : v.about ≡ Some key
         let here : one_if v.holds ≡ 0 = ap one_if free in let held = total-set (λ (u : View). one_if u.holds) s.views id v w at in
         let opening_then = total-same (λ (u : View). opening u.phase) s.views id v w at refl in let opened_then = total-same has_opened s.views id v w at refl in (
           w,
-          takes 0 (TheBook book),
+          takes 0 (TheBook (Some book)),
           it.1,
           book-kept key s r id v w at record { about = refl; number = refl; made = refl; parts = refl; drawn = refl }
               (inr record { same = about; own = is.own; makes = is.makes; late = is.late; drew = is.drew; opens = is.opens })

@@ -1,11 +1,11 @@
 -- What is true of a board's last state, where its first seat has every part.
-use Rattle.std.proofs.Common.{◌≡◌, ◌≢◌, ℕ, zero, suc, ◌+◌, ◌^◌, ◌<◌, ◌≤◌, Bool, true, false, List, [], ◌∷◌, ◌++◌, length, get_or, set, sym, refl, ap, ◌∙◌, subst, ⊎_elim, arith, get_or-set_other, get_or-set_same, Option, Some, None}
+use Rattle.std.proofs.Common.{◌≡◌, ◌≢◌, ℕ, zero, suc, ◌+◌, ◌^◌, ◌<◌, ◌≤◌, Bool, true, false, List, [], ◌∷◌, ◌++◌, map, length, get_or, set, sym, refl, ap, ◌∙◌, subst, ⊎_elim, arith, get_or-set_other, get_or-set_same, Option, Some, None}
 use mathlib.Core.Option as maybe
 use native.Mathlib.Decide.{ℕ_discrete}
 use lib.ListN.{get_elem?}
 use Rattle.std.proofs.Math.ListN.{get_or-append}
 use Rattle.std.proofs.Math.Seq.{get_or-append_seam}
-use Rattle.std.specs.Prelude.{IfSome, slice_index}
+use Rattle.std.specs.Prelude.{IfSome, slice_index, slice_index_or}
 use Rattle.atomic_table.specs.Table.{Final, Seen, State}
 use Rattle.cell_world.specs.Cell.{one_if}
 use Rattle.spec_record.specs.Look.{LookValue}
@@ -14,7 +14,7 @@ use Rattle.round_book.specs.Machine.{times}
 use Rattle.round_book.specs.Window.{Window, look_for}
 use Rattle.round_workers.specs.declared.board.view.Basis.{Basis}
 use Rattle.round_workers.specs.declared.board.view.Place.{Place}
-use Rattle.round_workers.specs.declared.board.view.Place.TheVariants.{Nothing, TheBook, OneLook}
+use Rattle.round_workers.specs.declared.board.view.Place.TheVariants.{Nothing, OneLook, Spare, TheBook}
 use Rattle.round_workers.specs.declared.board.view.Phase.TheVariants.{Resting}
 use Rattle.round_workers.specs.declared.board.view.View.{View}
 use Rattle.round_workers.specs.BoardTotals.{once_below, total}
@@ -30,16 +30,16 @@ use Rattle.round_workers.proofs.BoardTickets.{few-turns, word-bound}
 -- a look that was put, or not, and taken, or not, and what its slot has
 look-left : (window : Window) (ticket word put took : ℕ) (home : maybe.Option (maybe.Option Place)) (kept : IsLookKept window ticket word home put took 0 0)
     → (place : Place) × HasHome home place × (look_in place ≡ left_if put took (look_for window (window.from + ticket)))
-look-left window ticket word zero took home kept = (Nothing, kept.bare (let back = kept.back in omega arith) refl, refl)
-look-left window ticket word (suc zero) zero home kept = (OneLook (look_for window (window.from + ticket)), kept.full refl refl, refl)
-look-left window ticket word (suc zero) (suc took) home kept = (Nothing, kept.bare (let back = kept.back in omega arith) refl, refl)
+look-left window ticket word zero took home kept = let spare = kept.bare (let back = kept.back in omega arith) refl in (Spare spare.0, spare.1, refl)
+look-left window ticket word (suc zero) zero home kept = (OneLook (Some (look_for window (window.from + ticket))), kept.full refl refl, refl)
+look-left window ticket word (suc zero) (suc took) home kept = let spare = kept.bare (let back = kept.back in omega arith) refl in (Spare spare.0, spare.1, refl)
 look-left window ticket word (suc (suc put)) took home kept = absurd (let once = kept.once in omega arith)
 
 -- what the last state has: how many tickets were drawn, the book, and the look of each ticket
 pub record IsLast (key : Basis) (v : View) (words : List ℕ) (slots : List Place) : Type 0 where
   pub small : slice_index words 0 < 2 ^ 32
   pub drawn : (k : ℕ) → times k v.drawn ≡ once_below k (slice_index words 0)
-  pub book : (book : BookValue) × (get_elem? slots 0 ≡ maybe.some (TheBook book)) × StandsFor (window_for key) book
+  pub book : (book : BookValue) × (get_elem? slots 0 ≡ maybe.some (TheBook (Some book))) × StandsFor (window_for key) book
   pub looks : (k : ℕ) → k < turns_of key → (place : Place) × (get_elem? slots (k + 1) ≡ maybe.some place) × (look_in place ≡ left_look (window_for key) v k)
 
 module _ (key : Basis) (id : ℕ) (v : View) (about : v.about ≡ Some key) (zeroth : v.number ≡ 0) (whole : (k : ℕ) → k ≤ v.made → 1 ≤ times k v.parts) (s : State Place View) (r : IsKept key s) (at : get_elem? s.views id ≡ maybe.some v) where
@@ -61,7 +61,7 @@ module _ (key : Basis) (id : ℕ) (v : View) (about : v.about ≡ Some key) (zer
         let was_opened = opened-seen _ _ _ _ _ _ _ r.book (omega arith) in let it = r.book.stands was_opened held in record {
           small = omega arith;
           drawn = λ k. sym (alone (λ u. times k u.drawn) refl) ∙ (r.tickets.each k ∙ ap (once_below k) word);
-          book = (it.0, home 0 (TheBook it.0) it.1, it.2);
+          book = (it.0, home 0 (TheBook (Some it.0)) it.1, it.2);
           looks = λ k inside. (let found = look-left (window_for key) k _ (times k v.put) (times k v.took) (get_elem? s.homes (k + 1))
               (subst (λ (z : ℕ × ℕ × ℕ × ℕ). IsLookKept (window_for key) k (slice_index s.words (k + 2)) (get_elem? s.homes (k + 1)) z.0 z.1 z.2 z.3)
               (λ i. (alone (λ u. times k u.put) refl i, alone (λ u. times k u.took) refl i, (alone (λ u. putting k u.phase) refl ∙ ap (putting k) rests) i, (alone (λ u. taking k u.phase) refl ∙ ap (taking k) rests) i)) (r.looks k inside)) in
@@ -92,16 +92,38 @@ look-at-slot key v words slots k place last inside at = let found = last.looks k
 
 -- the book, from what its slot has
 pub book-at-slot : (key : Basis) (v : View) (words : List ℕ) (slots : List Place) (place : Place) → IsLast key v words slots → get_elem? slots 0 ≡ maybe.some place → (book : BookValue) × (book_in place ≡ Some book) × StandsFor (window_for key) book
-book-at-slot key v words slots place last at = (last.book.0, ap book_in (maybe.some-injective place (TheBook last.book.0) (sym at ∙ last.book.1)), last.book.2)
+book-at-slot key v words slots place last at = (last.book.0, ap book_in (maybe.some-injective place (TheBook (Some last.book.0)) (sym at ∙ last.book.1)), last.book.2)
 
 -- it is the one that was found
 pub stands-so : (window : Window) (result : Option BookValue) (one other : BookValue) → result ≡ Some one → result ≡ Some other → StandsFor window one → StandsFor window other
 stands-so window result one other a b stands = subst (λ (o : Option BookValue). IfSome o (StandsFor window)) (sym a ∙ b) stands
 
--- one more look in order
-pub looks-more : (window : Window) (v : View) (looks new : List (Option LookValue)) (n : ℕ) (look : Option LookValue) → length looks ≡ n → new ≡ looks ++ look ∷ [] → look ≡ left_look window v n
-    → ((k : ℕ) → k < n → get_or looks k None ≡ left_look window v k) → (k : ℕ) → k < n + 1 → get_or new k None ≡ left_look window v k
-looks-more window v looks new n look long is here before k h = ap (λ (l : List (Option LookValue)). get_or l k None) is ∙ go (ℕ_discrete k n) where
-  go : Dec (k ≡ n) → get_or (looks ++ look ∷ []) k None ≡ left_look window v k
-  go (yes e) = subst (λ (m : ℕ). get_or (looks ++ look ∷ []) m None ≡ left_look window v m) (sym e) (subst (λ (m : ℕ). get_or (looks ++ look ∷ []) m None ≡ look) long (get_or-append_seam looks look [] None) ∙ here)
-  go (no ne) = get_or-append looks (look ∷ []) None k (omega arith) ∙ before k (omega arith)
+-- one more place in order
+pub places-more : (window : Window) (v : View) (places new : List Place) (n : ℕ) (place : Place) → length places ≡ n → new ≡ places ++ place ∷ [] → look_in place ≡ left_look window v n
+    → ((k : ℕ) → k < n → look_in (get_or places k Nothing) ≡ left_look window v k) → (k : ℕ) → k < n + 1 → look_in (get_or new k Nothing) ≡ left_look window v k
+places-more window v places new n place long is here before k h = ap (λ (l : List Place). look_in (get_or l k Nothing)) is ∙ go (ℕ_discrete k n) where
+  go : Dec (k ≡ n) → look_in (get_or (places ++ place ∷ []) k Nothing) ≡ left_look window v k
+  go (yes e) = subst (λ (m : ℕ). look_in (get_or (places ++ place ∷ []) m Nothing) ≡ left_look window v m) (sym e)
+      (ap look_in (subst (λ (m : ℕ). get_or (places ++ place ∷ []) m Nothing ≡ place) long (get_or-append_seam places place [] Nothing)) ∙ here)
+  go (no ne) = ap look_in (get_or-append places (place ∷ []) Nothing k (omega arith)) ∙ before k (omega arith)
+
+-- the looks of places are as many
+pub places-looked : (places : List Place) → length (map look_in places) ≡ length places
+places-looked [] = refl
+places-looked (p ∷ ps) = ap suc (places-looked ps)
+
+-- the look of each place
+pub looks-of : (places : List Place) (k : ℕ) → slice_index_or (map look_in places) k None ≡ look_in (slice_index_or places k Nothing)
+looks-of [] k = refl
+looks-of (p ∷ ps) zero = refl
+looks-of (p ∷ ps) (suc k) = looks-of ps k
+
+snoc-append : (xs : List (Option LookValue)) (x : Option LookValue) (ys : List (Option LookValue)) → (xs ++ x ∷ []) ++ ys ≡ xs ++ x ∷ ys
+snoc-append [] x ys = refl
+snoc-append (z ∷ zs) x ys = ap (λ (l : List (Option LookValue)). z ∷ l) (snoc-append zs x ys)
+
+-- one more place whose look is taken out
+pub looks-on : (looks new all : List (Option LookValue)) (look : Option LookValue) (place : Place) (rest left : List Place) → new ≡ looks ++ look ∷ [] → look ≡ look_in place → rest ≡ place ∷ left → looks ++ map look_in rest ≡ all → new ++ map look_in left ≡ all
+looks-on looks new all look place rest left is it next so_far =
+    ap (λ (l : List (Option LookValue)). l ++ map look_in left) (is ∙ ap (λ (o : Option LookValue). looks ++ o ∷ []) it)
+    ∙ (snoc-append looks (look_in place) (map look_in left) ∙ (ap (λ (l : List Place). looks ++ map look_in l) (sym next) ∙ so_far))

@@ -1,5 +1,5 @@
 -- Seats that are made for workers and joined again, and the looks that a board leaves.
-use Rattle.std.proofs.Common.{◌≡◌, ◌≢◌, ℕ, zero, suc, ◌+◌, ◌-◌, ◌<◌, ◌≤◌, false, nat_eq, List, [], ◌∷◌, ◌++◌, map, length, slice_index_or, All, length-append, take, drop, Option, Some, None, refl, sym, ap, ap₂, ◌∙◌, subst, arith}
+use Rattle.std.proofs.Common.{◌≡◌, ◌≢◌, ℕ, zero, suc, ◌+◌, ◌-◌, ◌<◌, ◌≤◌, false, nat_eq, List, [], ◌∷◌, ◌++◌, map, length, slice_index_or, All, length-append, take, drop, Option, Some, refl, sym, ap, ap₂, ◌∙◌, subst, arith}
 use Rattle.std.proofs.Math.ListN.{get_or-append}
 use Rattle.std.proofs.Math.Seq.{get_or-append_seam, take-append_seam}
 use Rattle.std.specs.Prelude.{IfSome}
@@ -15,9 +15,12 @@ use Rattle.round_book.specs.Window.{IsPlayable, Window, look_for}
 use Rattle.round_workers.specs.declared.board.seat.Board.{Board}
 use Rattle.round_workers.specs.declared.board.seat.Seat.{Seat}
 use Rattle.round_workers.specs.declared.board.view.Basis.{Basis}
+use Rattle.round_workers.specs.declared.board.view.Place.{Place}
+use Rattle.round_workers.specs.declared.board.view.Place.TheVariants.{Nothing}
 use Rattle.round_workers.specs.declared.board.view.View.{View}
 use Rattle.round_workers.specs.declared.board.worker.Worker.{Worker}
 use Rattle.round_workers.specs.Inner.BoardCrew.{AreLooks, HasWorked, IsHired, IsManned, seat_numbers}
+use Rattle.round_workers.specs.Inner.BoardPlaces.{look_in}
 use Rattle.round_workers.specs.BoardPlays.{has_seen, made_one}
 use Rattle.round_workers.specs.BoardRule.{StandsFor}
 use Rattle.round_workers.specs.BoardSeats.{IsSeatOf, known, left_if, left_look}
@@ -120,8 +123,8 @@ left-some zero took look = tt
 left-some (suc put) zero look = refl
 left-some (suc put) (suc took) look = tt
 
-pub looks-left : (window : Window) (v : View) (looks : List (Option LookValue)) → ((k : ℕ) → k < turns_in window → slice_index_or looks k None ≡ left_look window v k) → AreLooks window looks
-looks-left window v looks are k h = subst (λ (o : Option LookValue). IfSome o (λ look. look ≡ look_for window (window.from + k))) (sym (are k h)) (left-some (times k v.put) (times k v.took) (look_for window (window.from + k)))
+pub looks-left : (window : Window) (v : View) (places : List Place) → ((k : ℕ) → k < turns_in window → look_in (slice_index_or places k Nothing) ≡ left_look window v k) → AreLooks window places
+looks-left window v places are k h = subst (λ (o : Option LookValue). IfSome o (λ look. look ≡ look_for window (window.from + k))) (sym (are k h)) (left-some (times k v.put) (times k v.took) (look_for window (window.from + k)))
 
 -- a book of a field stands for the field's window
 module _ (field : FieldValue) (from to : ℕ) (window : Window) (is : window ≡ window_of field from to) where
@@ -146,8 +149,8 @@ module _ (field : FieldValue) (from to : ℕ) (book : BookValue) (begins : book.
   pub look-next : (look : LookValue) → look ≡ look_for (window_of field from to) (from + k) → look ≡ look_for (window_of field book.from book.to) book.next
   look-next look is = let turn : from + k ≡ book.next = omega arith in is ∙ ap₂ (λ (w : Window) (t : ℕ). look_for w t) (ap₂ (window_of field) (sym begins) (sym ends)) turn
 
-  pub look-there : (look : LookValue) (looks : List (Option LookValue)) → AreLooks (window_of field from to) looks → slice_index_or looks k None ≡ Some look → look ≡ look_for (window_of field book.from book.to) book.next
-  look-there look looks are is = look-next look (subst (λ (o : Option LookValue). IfSome o (λ l. l ≡ look_for (window_of field from to) (from + k))) is (are k (omega arith)))
+  pub look-there : (look : LookValue) (places : List Place) → AreLooks (window_of field from to) places → look_in (slice_index_or places k Nothing) ≡ Some look → look ≡ look_for (window_of field book.from book.to) book.next
+  look-there look places are is = look-next look (subst (λ (o : Option LookValue). IfSome o (λ l. l ≡ look_for (window_of field from to) (from + k))) is (are k (omega arith)))
 
 -- the guesses of a window, from what they are made of
 pub guesses-so : (window : Window) (minds : Minds) (base : World) (place : ℕ) → minds ≡ window.minds → base ≡ window.base → place ≡ window.place

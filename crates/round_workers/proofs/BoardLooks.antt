@@ -12,7 +12,7 @@ use Rattle.round_book.specs.Machine.{times}
 use Rattle.round_book.specs.Window.{look_for}
 use Rattle.round_workers.specs.declared.board.view.Basis.{Basis}
 use Rattle.round_workers.specs.declared.board.view.Place.{Place}
-use Rattle.round_workers.specs.declared.board.view.Place.TheVariants.{Nothing, OneLook}
+use Rattle.round_workers.specs.declared.board.view.Place.TheVariants.{OneLook, Spare}
 use Rattle.round_workers.specs.declared.board.view.Phase.TheVariants.{Resting, Putting, Taking}
 use Rattle.round_workers.specs.declared.board.view.Try.TheVariants.{OfLook}
 use Rattle.round_workers.specs.declared.board.view.View.{View}
@@ -55,17 +55,17 @@ module _ (key : Basis) (slots id : ℕ) (v : View) (about : v.about ≡ Some key
         let put = total-same (λ (u : View). times j u.put) s.views id v w at refl in let took = total-same (λ (u : View). times j u.took) s.views id v w at refl in
         let puts_then = total-set (λ (u : View). putting j u.phase) s.views id v w at in let takes_then = total-set (λ (u : View). taking j u.phase) s.views id v w at in
         exchanged word 0 1 (Goes key s (j + 2) id (v, c) (tells_put (step slots (j + 2) 0 1 maybe.none) (v, c)))
-        (λ hit. (
+        (λ hit. let spare = k.bare (omega arith) (omega arith) in (
           w,
-          takes (j + 1) Nothing,
-          k.bare (omega arith) (omega arith),
+          takes (j + 1) (Spare spare.0),
+          spare.1,
           look-kept key s r id v w at record { about = refl; number = refl; made = refl; parts = refl; drawn = refl }
               (inr record { same = about; own = is.own; makes = is.makes; late = is.late; drew = (λ x. by_cases x (is.drew x) (ℕ_discrete j x)); opens = (let o = is.opens in omega arith) })
               j 1 (set s.homes (j + 1) maybe.none) inside (length-set s.homes (j + 1) maybe.none) (λ i ne. set_else s.homes (j + 1) i maybe.none ne)
               record { holds = refl; opens = sym (ap opening rests); opened = refl }
               (λ i ne. record { put = refl; took = refl; puts = other-none j i (λ e. ne (sym e)) ∙ sym (ap (putting i) rests); takes = sym (ap (taking i) rests) })
               record { sum = (omega arith); once = (omega arith); back = (omega arith); bare = (λ e d. absurd (omega arith)); full = (λ e. absurd (omega arith)) },
-          λ i e. (let same : j ≡ i = omega arith in ap (λ (m : ℕ). (puts_now v m, (m + 1, Nothing) ∷ c)) same),
+          λ i e. (let same : j ≡ i = omega arith in (spare.0, ap (λ (m : ℕ). (puts_now v m, (m + 1, Spare spare.0) ∷ c)) same)),
         ))
         (λ miss. absurd (miss is_empty))
       where
@@ -82,7 +82,7 @@ module _ (key : Basis) (slots id : ℕ) (v : View) (about : v.about ≡ Some key
         let put = total-same (λ (u : View). times j u.put) s.views id v w at refl in let took = total-same (λ (u : View). times j u.took) s.views id v w at refl in
         let puts_then = total-set (λ (u : View). putting j u.phase) s.views id v w at in let takes_then = total-set (λ (u : View). taking j u.phase) s.views id v w at in (
           w,
-          takes (j + 1) (OneLook its-look),
+          takes (j + 1) (OneLook (Some its-look)),
           k.full (omega arith) (omega arith),
           look-kept key s r id v w at record { about = refl; number = refl; made = refl; parts = refl; drawn = refl }
               (inr record { same = about; own = is.own; makes = is.makes; late = is.late; drew = (λ x. let d = is.drew x in omega arith); opens = (let o = is.opens in omega arith) })
@@ -91,7 +91,7 @@ module _ (key : Basis) (slots id : ℕ) (v : View) (about : v.about ≡ Some key
               (λ i ne. record { put = refl; took = refl; puts = sym (ap (putting i) rests); takes = other-none j i (λ e. ne (sym e)) ∙ sym (ap (taking i) rests) })
               record { sum = (omega arith); once = (omega arith); back = (omega arith); bare = (λ e d. absurd (omega arith)); full = (λ e d. absurd (omega arith)) },
           λ i e. (let same : j ≡ i = omega arith in record {
-            full = λ _. ap₂ (λ (m : ℕ) (z : Option Basis). (takes_now v m, (m + 1, OneLook (look_for (window_about z) ((window_about z).from + m))) ∷ c)) same (sym about);
+            full = λ _. ap₂ (λ (m : ℕ) (z : Option Basis). (takes_now v m, (m + 1, OneLook (Some (look_for (window_about z) ((window_about z).from + m)))) ∷ c)) same (sym about);
             other = λ ne. absurd (ne hit);
           }),
         ))
@@ -107,7 +107,7 @@ module _ (key : Basis) (slots id : ℕ) (v : View) (about : v.about ≡ Some key
         ))
 
   module _ (xs : List (ℕ × Place)) where
-    pub has-put : (look : LookValue) → look ≡ its-look → v.phase ≡ Putting j → Allows (IsKept key) slots id (v, (j + 1, OneLook look) ∷ xs) (j + 2) (λ _. 2) (tells_has_put (step slots (j + 2) 2 0 maybe.none) (v, (j + 1, OneLook look) ∷ xs))
+    pub has-put : (look : Option LookValue) → look ≡ Some its-look → v.phase ≡ Putting j → Allows (IsKept key) slots id (v, (j + 1, OneLook look) ∷ xs) (j + 2) (λ _. 2) (tells_has_put (step slots (j + 2) 2 0 maybe.none) (v, (j + 1, OneLook look) ∷ xs))
     has-put look its midst s r _ at _ =
         let w : View = has_put v j in let k = r.looks j inside in let sum = k.sum in let back = k.back in let once = k.once in let is = seated key v about (r.seats id v at) in
         let here : putting j v.phase ≡ 1 = ap (putting j) midst ∙ same-one j j refl in let here' : taking j v.phase ≡ 0 = ap (taking j) midst in let more = total-at (λ (u : View). putting j u.phase) s.views id v at in
@@ -126,13 +126,13 @@ module _ (key : Basis) (slots id : ℕ) (v : View) (about : v.about ≡ Some key
                 once = (omega arith);
                 back = (omega arith);
                 bare = (λ e d. absurd (omega arith));
-                full = λ e d. set_here s.homes (j + 1) (maybe.some (OneLook look)) (let wide = r.homes in omega arith) ∙ ap (λ (l : LookValue). maybe.some (maybe.some (OneLook l))) its;
+                full = λ e d. set_here s.homes (j + 1) (maybe.some (OneLook look)) (let wide = r.homes in omega arith) ∙ ap (λ (l : Option LookValue). maybe.some (maybe.some (OneLook l))) its;
               },
           λ i e. (let same : j ≡ i = omega arith in ap (λ (m : ℕ). (has_put v m, xs)) same),
         )
 
-    pub has-taken : v.phase ≡ Taking j → Allows (IsKept key) slots id (v, (j + 1, Nothing) ∷ xs) (j + 2) (λ _. 3) (tells_has_taken (step slots (j + 2) 3 0 maybe.none) (v, (j + 1, Nothing) ∷ xs))
-    has-taken midst s r _ at _ =
+    pub has-taken : (old : Option LookValue) → v.phase ≡ Taking j → Allows (IsKept key) slots id (v, (j + 1, Spare old) ∷ xs) (j + 2) (λ _. 3) (tells_has_taken (step slots (j + 2) 3 0 maybe.none) (v, (j + 1, Spare old) ∷ xs))
+    has-taken old midst s r _ at _ =
         let w : View = has_taken v j in let k = r.looks j inside in let sum = k.sum in let back = k.back in let once = k.once in let is = seated key v about (r.seats id v at) in
         let here : putting j v.phase ≡ 0 = ap (putting j) midst in let here' : taking j v.phase ≡ 1 = ap (taking j) midst ∙ same-one j j refl in let more = total-at (λ (u : View). taking j u.phase) s.views id v at in
         let one = times-one j v.took in let took = total-set (λ (u : View). times j u.took) s.views id v w at in let put = total-same (λ (u : View). times j u.put) s.views id v w at refl in
@@ -142,14 +142,14 @@ module _ (key : Basis) (slots id : ℕ) (v : View) (about : v.about ≡ Some key
           tt,
           look-kept key s r id v w at record { about = refl; number = refl; made = refl; parts = refl; drawn = refl }
               (inr record { same = about; own = is.own; makes = is.makes; late = is.late; drew = (λ x. let d = is.drew x in omega arith); opens = (let o = is.opens in omega arith) })
-              j 3 (set s.homes (j + 1) (maybe.some Nothing)) inside (length-set s.homes (j + 1) (maybe.some Nothing)) (λ i ne. set_else s.homes (j + 1) i (maybe.some Nothing) ne)
+              j 3 (set s.homes (j + 1) (maybe.some (Spare old))) inside (length-set s.homes (j + 1) (maybe.some (Spare old))) (λ i ne. set_else s.homes (j + 1) i (maybe.some (Spare old)) ne)
               record { holds = refl; opens = sym (ap opening midst); opened = refl }
               (λ i ne. record { put = refl; took = times-other i j v.took (λ e. ne (sym e)); puts = sym (ap (putting i) midst); takes = sym (ap (taking i) midst ∙ other-none j i (λ e. ne (sym e))) })
               record {
                 sum = (omega arith);
                 once = (omega arith);
                 back = (omega arith);
-                bare = (λ e d. set_here s.homes (j + 1) (maybe.some Nothing) (let wide = r.homes in omega arith));
+                bare = (λ e d. (old, set_here s.homes (j + 1) (maybe.some (Spare old)) (let wide = r.homes in omega arith)));
                 full = (λ e d. absurd (omega arith));
               },
           λ i e. (let same : j ≡ i = omega arith in ap (λ (m : ℕ). (has_taken v m, xs)) same),

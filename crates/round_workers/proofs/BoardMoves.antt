@@ -39,3 +39,10 @@ on-some P r x is p = subst (λ (o : Option _). OnSome o P) (sym is) p
 
 pub if-none : {A : Type 0} (P : Type 0) (r : Option A) (x : A) → r ≡ Some x → IfNone r P
 if-none P r x is = subst (λ (o : Option _). IfNone o P) (sym is) tt
+
+-- something is not nothing
+pub some-there : {A : Type 0} (o : Option A) (x : A) → o ≡ Some x → o ≢ None
+some-there o x is e = let both : Some x ≡ None = sym is ∙ e in absurd (cc)
+
+pub some-same : {A : Type 0} (o : Option A) (x y : A) → o ≡ Some x → o ≡ Some y → x ≡ y
+some-same o x y a b = let both : Some x ≡ Some y = sym a ∙ b in cc

@@ -1,22 +1,26 @@
 -- A board's rule at the start, and the steps of seats keep it: a seat is cut in two, two seats are made one.
-use Rattle.std.proofs.Common.{◌≡◌, ◌≢◌, ℕ, zero, suc, ◌+◌, ◌<◌, ◌≤◌, false, List, [], ◌∷◌, ◌++◌, map, length, set, sym, refl, ap, ◌∙◌, subst, inl, inr, ⊎_elim, arith, length-append, replicate, Some}
+use Rattle.std.proofs.Common.{◌≡◌, ◌≢◌, ℕ, zero, suc, ◌+◌, ◌<◌, ◌≤◌, false, List, [], ◌∷◌, ◌++◌, map, length, set, sym, refl, ap, ◌∙◌, subst, inl, inr, ⊎_elim, arith, length-append, replicate, Option, None, Some}
 use mathlib.Core.Option as maybe
+use native.Mathlib.Decide.{ℕ_discrete}
 use lib.ListN.{get_elem?}
 use Rattle.std.specs.Prelude.{slice_index, nat_eq}
 use Rattle.atomic_table.specs.Table.{Allows, Me, State, opening as opening_table, Splits, Joins, keeps, step, stepped}
 use Rattle.atomic_table.proofs.Lists.{set_again, set_else}
 use Rattle.cell_world.specs.Cell.{one_if}
+use Rattle.spec_record.specs.Look.{LookValue}
+use Rattle.round_book.specs.Book.{BookValue}
 use Rattle.round_book.specs.Machine.{times}
 use Rattle.round_book.specs.Window.{IsPlayable}
 use Rattle.round_workers.specs.declared.board.view.Basis.{Basis}
 use Rattle.round_workers.specs.declared.board.view.Place.{Place}
-use Rattle.round_workers.specs.declared.board.view.Place.TheVariants.{Nothing}
+use Rattle.round_workers.specs.declared.board.view.Place.TheVariants.{Spare, TheBook}
 use Rattle.round_workers.specs.declared.board.view.Phase.TheVariants.{Resting}
 use Rattle.round_workers.specs.declared.board.view.View.{View}
 use Rattle.round_workers.specs.BoardTotals.{late_among, once_below, total}
 use Rattle.round_workers.specs.BoardView.{first_seat, spent_seat, window_for}
 use Rattle.round_workers.specs.BoardPlays.{joined, made_one, newcomer, tells_each_once}
 use Rattle.round_workers.specs.BoardRule.{AreParts, HasHome, IsKept, IsSeated, has_opened, is_first, made_by, opening, putting, taking, turns_of}
+use Rattle.round_workers.specs.Inner.BoardPlaces.{AreBare}
 use Rattle.round_workers.proofs.BoardTotalLemmas.{above-none, late-append, once-le, once-suc, same-one, times-append, total-alone, total-at, total-joined, total-set, total-snoc, total-two}
 use Rattle.round_workers.proofs.BoardKeeps.{book-by, book-seen, first-other, first-seat, look-by, only-none, seated, seats-set, seats-snoc}
 
@@ -26,18 +30,43 @@ all-zero zero i = refl
 all-zero (suc m) zero = refl
 all-zero (suc m) (suc i) = all-zero m i
 
-length-replicate : {A : Type 0} (m : ℕ) (x : A) → length (replicate m x) ≡ m
+length-replicate : (m x : ℕ) → length (replicate m x) ≡ m
 length-replicate zero x = refl
 length-replicate (suc m) x = ap suc (length-replicate m x)
 
-homes-length : (m : ℕ) (x : Place) → length (map maybe.some (replicate m x)) ≡ m
-homes-length zero x = refl
-homes-length (suc m) x = ap suc (homes-length m x)
+homes-length : (slots : List Place) → length (map maybe.some slots) ≡ length slots
+homes-length [] = refl
+homes-length (x ∷ xs) = ap suc (homes-length xs)
 
-all-bare : (m i : ℕ) → i < m → HasHome (get_elem? (map maybe.some (replicate m Nothing)) i) Nothing
-all-bare zero i h = absurd (omega arith)
-all-bare (suc m) zero h = refl
-all-bare (suc m) (suc i) h = all-bare m i (omega arith)
+-- a slot is home with what it begins with
+home-of : (slots : List Place) (i : ℕ) (x : Place) → get_elem? slots i ≡ maybe.some x → HasHome (get_elem? (map maybe.some slots) i) x
+home-of [] i x at = absurd (maybe.some-ne-none x (sym at))
+home-of (y ∷ ys) zero x at = ap maybe.some at
+home-of (y ∷ ys) (suc i) x at = home-of ys i x at
+
+-- an element of a list, and of one with one more
+at-front : (xs : List Place) (x : Place) (i : ℕ) (y : Place) → get_elem? xs i ≡ maybe.some y → get_elem? (xs ++ x ∷ []) i ≡ maybe.some y
+at-front [] x i y at = absurd (maybe.some-ne-none y (sym at))
+at-front (z ∷ zs) x zero y at = at
+at-front (z ∷ zs) x (suc i) y at = at-front zs x i y at
+
+at-last : (xs : List Place) (x : Place) → get_elem? (xs ++ x ∷ []) (length xs) ≡ maybe.some x
+at-last [] x = refl
+at-last (z ∷ zs) x = at-last zs x
+
+-- the book's room alone, and one room for a look more
+pub bare-first : (slots : List Place) (content : Option BookValue) → content ≡ None → slots ≡ [] ++ TheBook content ∷ [] → AreBare 0 slots
+bare-first slots content none is = subst (AreBare 0) (sym (is ∙ ap (λ (z : Option BookValue). TheBook z ∷ []) none)) (record { long = refl; book = refl; spares = λ j below. absurd (omega arith) })
+
+pub bare-more : (n : ℕ) (slots new : List Place) (old : Option LookValue) → AreBare n slots → new ≡ slots ++ Spare old ∷ [] → AreBare (n + 1) new
+bare-more n slots new old was is = subst (AreBare (n + 1)) (sym is) (record {
+  long = (let a = length-append slots (Spare old ∷ []) in let b = was.long in omega arith);
+  book = at-front slots (Spare old) 0 (TheBook None) was.book;
+  spares = λ j below. by_cases j below (ℕ_discrete j n);
+}) where
+  by_cases : (j : ℕ) → j < n + 1 → Dec (j ≡ n) → (o : Option LookValue) × (get_elem? (slots ++ Spare old ∷ []) (j + 1) ≡ maybe.some (Spare o))
+  by_cases j below (yes e) = (old, ap (get_elem? (slots ++ Spare old ∷ [])) (let long = was.long in let at : j + 1 ≡ length slots = omega arith in at) ∙ at-last slots (Spare old))
+  by_cases j below (no ne) = let it = was.spares j (omega arith) in (it.0, at-front slots (Spare old) (j + 1) (Spare it.0) it.1)
 
 first-parts : (key : Basis) → AreParts (first_seat key ∷ [])
 first-parts key = record {
@@ -47,24 +76,24 @@ first-parts key = record {
   first = refl;
 }
 
--- at the start nothing is drawn, and all slots are empty
-pub starts : (key : Basis) → IsPlayable (window_for key) → IsKept key (opening_table (replicate (turns_of key + 2) 0) (replicate (turns_of key + 1) Nothing) (first_seat key))
-starts key playable = let n : ℕ = turns_of key in record {
+-- at the start nothing is drawn, and no slot has the book or a look
+pub starts : (key : Basis) (slots : List Place) → IsPlayable (window_for key) → AreBare (turns_of key) slots → IsKept key (opening_table (replicate (turns_of key + 2) 0) slots (first_seat key))
+starts key slots playable bare = let n : ℕ = turns_of key in record {
   playable = playable;
   words = length-replicate (n + 2) 0;
-  homes = homes-length (n + 1) Nothing;
+  homes = homes-length slots ∙ bare.long;
   seats = λ i v at. inr (subst (IsSeated key) (only i v at) (record { same = refl; own = (omega arith); makes = (λ ne. refl); late = (omega arith); drew = (λ x. omega arith); opens = (omega arith) }));
   parts = first-parts key;
   tickets = (let no_word = all-zero (n + 2) 0 in record { each = (λ x. let none_of : once_below x (slice_index (replicate (n + 2) 0) 0) ≡ 0 = above-none x (slice_index (replicate (n + 2) 0) 0) (omega arith) in omega arith); within = (omega arith) });
-  book = (let no_word = all-zero (n + 2) 1 in record { out = (omega arith); bit = (omega arith); once = (omega arith); unheld = (λ e. refl); unseen = (λ e. refl); bare = (λ e. all-bare (n + 1) 0 (omega arith)); stands = (λ e. absurd (omega arith)) });
-  looks = λ j inside. (let no_word = all-zero (n + 2) (j + 2) in record { sum = (omega arith); once = (omega arith); back = (omega arith); bare = (λ e d. all-bare (n + 1) (j + 1) (omega arith)); full = (λ e. absurd (omega arith)) });
+  book = (let no_word = all-zero (n + 2) 1 in record { out = (omega arith); bit = (omega arith); once = (omega arith); unheld = (λ e. refl); unseen = (λ e. refl); bare = (λ e. home-of slots 0 (TheBook None) bare.book); stands = (λ e. absurd (omega arith)) });
+  looks = λ j inside. (let no_word = all-zero (n + 2) (j + 2) in let spare = bare.spares j inside in record { sum = (omega arith); once = (omega arith); back = (omega arith); bare = (λ e d. (spare.0, home-of slots (j + 1) (Spare spare.0) spare.1)); full = (λ e. absurd (omega arith)) });
 } where
   only : (i : ℕ) (v : View) → get_elem? (first_seat key ∷ []) i ≡ maybe.some v → first_seat key ≡ v
   only zero v at = maybe.some-injective (first_seat key) v at
   only (suc i) v at = absurd (maybe.some-ne-none v (sym at))
 
-pub starts-so : (key : Basis) (words : List ℕ) (slots : List Place) → IsPlayable (window_for key) → words ≡ replicate (turns_of key + 2) 0 → slots ≡ replicate (turns_of key + 1) Nothing → IsKept key (opening_table words slots (first_seat key))
-starts-so key words slots playable ew es = subst (λ (z : List ℕ × List Place). IsKept key (opening_table z.0 z.1 (first_seat key))) (λ k. (sym ew k, sym es k)) (starts key playable)
+pub starts-so : (key : Basis) (words : List ℕ) (slots : List Place) → IsPlayable (window_for key) → words ≡ replicate (turns_of key + 2) 0 → AreBare (turns_of key) slots → IsKept key (opening_table words slots (first_seat key))
+starts-so key words slots playable ew bare = subst (λ (z : List ℕ). IsKept key (opening_table z slots (first_seat key))) (sym ew) (starts key slots playable bare)
 
 -- the first seat made them all
 pub made-all : (key : Basis) (s : State Place View) (r : IsKept key s) (id : ℕ) (v : View) → get_elem? s.views id ≡ maybe.some v → v.about ≡ Some key → v.number ≡ 0 → made_by s.views ≡ v.made

@@ -11,3 +11,4 @@ pub mod BoardTotalLemmas
 pub mod BoardWorking
 pub mod PieceLemmas
 pub mod ShareLemmas
+pub mod WorkedBoard

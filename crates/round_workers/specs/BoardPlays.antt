@@ -1,19 +1,19 @@
 -- What each step on a board tells the seat that makes it (this project's own).
-use Rattle.std.specs.Prelude.{◌≡◌, ◌≢◌, ℕ, suc, ◌+◌, ◌<◌, ◌≤◌, ◌^◌, true, false, [], ◌∷◌, ◌++◌}
+use Rattle.std.specs.Prelude.{◌≡◌, ◌≢◌, ℕ, suc, ◌+◌, ◌<◌, ◌≤◌, ◌^◌, true, false, [], ◌∷◌, ◌++◌, Option, Some, None}
 use Rattle.std.specs.List.{AllByRecursion}
 use Rattle.atomic_table.specs.Table.{Me, Step, rest}
+use Rattle.spec_record.specs.Look.{LookValue}
 use Rattle.round_book.specs.Book.{BookValue}
 use Rattle.round_book.specs.Machine.{times}
 use Rattle.round_book.specs.Window.{look_for}
 use Rattle.round_workers.specs.declared.board.view.Place.{Place}
-use Rattle.round_workers.specs.declared.board.view.Place.TheVariants.{Nothing, TheBook, OneLook}
+use Rattle.round_workers.specs.declared.board.view.Place.TheVariants.{OneLook, Spare, TheBook}
 use Rattle.round_workers.specs.declared.board.view.Phase.TheVariants.{Resting, Opening, Putting, Taking}
 use Rattle.round_workers.specs.declared.board.view.Try.{Try}
 use Rattle.round_workers.specs.declared.board.view.Try.TheVariants.{Never, OfBook, OfLook}
 use Rattle.round_workers.specs.declared.board.view.View.{View}
 use Rattle.round_workers.specs.BoardRule.{StandsFor}
-use Rattle.round_workers.specs.BoardView.{window_about}
-use Rattle.round_workers.specs.BoardView.{window_about}
+use Rattle.round_workers.specs.BoardView.{book_home, book_out, look_full, window_about}
 
 abbrev At : Type 0
 At = Me Place View
@@ -69,7 +69,7 @@ has_seen v = record v { phase = Resting; opened = true }
 
 -- a seat that took the book
 abbrev pub with_book : View → View
-with_book v = record (after_try v (OfBook 0)) { holds = true }
+with_book v = record (after_try v (OfBook book_home)) { holds = true }
 
 -- a seat that gave the book
 abbrev pub without_book : View → View
@@ -84,22 +84,22 @@ has_put v ticket = record v { phase = Resting; put = v.put ++ ticket ∷ [] }
 
 -- a seat in the midst of taking the look of a ticket, and after it
 abbrev pub takes_now : View → ℕ → View
-takes_now v ticket = record (after_try v (OfLook ticket 2)) { phase = Taking ticket }
+takes_now v ticket = record (after_try v (OfLook ticket look_full)) { phase = Taking ticket }
 
 abbrev pub has_taken : View → ℕ → View
 has_taken v ticket = record v { phase = Resting; took = v.took ++ ticket ∷ [] }
 
 -- the book's slot was home, and is the seat's
 abbrev pub tells_open : Step Place → At → ℕ → At → Type 0
-tells_open step me found new = (found ≡ 0) × (new ≡ (opens_now me.0, (0, Nothing) ∷ me.1))
+tells_open step me found new = (found ≡ book_home) × (new ≡ (opens_now me.0, (0, TheBook None) ∷ me.1))
 
 abbrev pub tells_opened : Step Place → At → ℕ → At → Type 0
 tells_opened step me found new = new ≡ (has_seen me.0, rest me.1)
 
 -- where the book was home it is the seat's, and stands for the window that the seat knows; else another seat has it
 pub record TellsTake (me : At) (found : ℕ) (new : At) : Type 0 where
-  pub home : found ≡ 0 → (book : BookValue) × StandsFor (window_about me.0.about) book × (new ≡ (with_book me.0, (0, TheBook book) ∷ me.1))
-  pub out : found ≢ 0 → (found ≡ 1) × (new ≡ (after_try me.0 (OfBook 1), me.1))
+  pub home : found ≡ book_home → (book : BookValue) × StandsFor (window_about me.0.about) book × (new ≡ (with_book me.0, (0, TheBook (Some book)) ∷ me.1))
+  pub out : found ≢ book_home → (found ≡ book_out) × (new ≡ (after_try me.0 (OfBook book_out), me.1))
 
 abbrev pub tells_take_book : Step Place → At → ℕ → At → Type 0
 tells_take_book step = TellsTake
@@ -107,17 +107,21 @@ tells_take_book step = TellsTake
 abbrev pub tells_give_book : Step Place → At → ℕ → At → Type 0
 tells_give_book step me found new = new ≡ (without_book me.0, rest me.1)
 
--- the look's slot was home and empty, and is the seat's
+-- the look's slot was home, with no look waiting in it, and is the seat's
 abbrev pub tells_put : Step Place → At → ℕ → At → Type 0
-tells_put step me found new = (j : ℕ) → step.word ≡ j + 2 → new ≡ (puts_now me.0 j, (j + 1, Nothing) ∷ me.1)
+tells_put step me found new = (j : ℕ) → step.word ≡ j + 2 → (old : Option LookValue) × (new ≡ (puts_now me.0 j, (j + 1, Spare old) ∷ me.1))
 
 abbrev pub tells_has_put : Step Place → At → ℕ → At → Type 0
 tells_has_put step me found new = (j : ℕ) → step.word ≡ j + 2 → new ≡ (has_put me.0 j, rest me.1)
 
+-- the look at a ticket's turn, in the window that the seat knows
+abbrev pub look_at_ticket : View → ℕ → LookValue
+look_at_ticket v ticket = look_for (window_about v.about) ((window_about v.about).from + ticket)
+
 -- where the look's word was full the look is the seat's, and it is that at its turn; else the seat keeps what it found
 pub record TellsTakeLook (ticket : ℕ) (me : At) (found : ℕ) (new : At) : Type 0 where
-  pub full : found ≡ 2 → new ≡ (takes_now me.0 ticket, (ticket + 1, OneLook (look_for (window_about me.0.about) ((window_about me.0.about).from + ticket))) ∷ me.1)
-  pub other : found ≢ 2 → new ≡ (after_try me.0 (OfLook ticket found), me.1)
+  pub full : found ≡ look_full → new ≡ (takes_now me.0 ticket, (ticket + 1, OneLook (Some (look_at_ticket me.0 ticket))) ∷ me.1)
+  pub other : found ≢ look_full → new ≡ (after_try me.0 (OfLook ticket found), me.1)
 
 abbrev pub tells_take_look : Step Place → At → ℕ → At → Type 0
 tells_take_look step me found new = (j : ℕ) → step.word ≡ j + 2 → TellsTakeLook j me found new

@@ -1,18 +1,19 @@
 -- What is true of a board between any two steps of its seats (this project's own).
 --
--- Word 0 is the number of tickets drawn. Word 1 is the book's: 0 where the book's slot is home, 1 where a seat has it. Word j + 2 is that of
--- the look of ticket j: 0 empty, 1 in hand, 2 full, 3 emptied. Slot 0 is the book's, and slot j + 1 that of the look of ticket j.
+-- Word 0 is the number of tickets drawn. Word 1 is the book's: `book_home`, or `book_out`. Word j + 2 is that of the look of ticket j:
+-- `look_empty`, `look_in_hand`, `look_full` or `look_emptied`. Slot 0 is the book's, and slot j + 1 that of the look of ticket j.
 use Rattle.std.specs.Prelude.{◌≡◌, ◌≢◌, ◌⊎◌, ℕ, zero, suc, ◌+◌, ◌-◌, ◌<◌, ◌≤◌, Bool, true, false, nat_eq, List, length, slice_index, Option, Some, None}
 use mathlib.Core.Option as maybe
 use lib.ListN.{get_elem?}
 use Rattle.atomic_table.specs.Table.{State}
 use Rattle.cell_world.specs.Cell.{one_if}
+use Rattle.spec_record.specs.Look.{LookValue}
 use Rattle.round_book.specs.Book.{BookValue, Stands}
 use Rattle.round_book.specs.Machine.{times}
 use Rattle.round_book.specs.Window.{IsPlayable, Window, look_for}
 use Rattle.round_workers.specs.declared.board.view.Basis.{Basis}
 use Rattle.round_workers.specs.declared.board.view.Place.{Place}
-use Rattle.round_workers.specs.declared.board.view.Place.TheVariants.{Nothing, TheBook, OneLook}
+use Rattle.round_workers.specs.declared.board.view.Place.TheVariants.{OneLook, Spare, TheBook}
 use Rattle.round_workers.specs.declared.board.view.Phase.{Phase}
 use Rattle.round_workers.specs.declared.board.view.Phase.TheVariants.{Resting, Opening, Putting, Taking}
 use Rattle.round_workers.specs.declared.board.view.View.{View}
@@ -106,7 +107,11 @@ HasHome home place = home ≡ maybe.some (maybe.some place)
 
 -- a slot is home, with a book in it that stands for the window
 abbrev pub HasBook : maybe.Option (maybe.Option Place) → Window → Type 0
-HasBook home window = (book : BookValue) × HasHome home (TheBook book) × StandsFor window book
+HasBook home window = (book : BookValue) × HasHome home (TheBook (Some book)) × StandsFor window book
+
+-- a slot is home, with a look's room in it in which no look is waiting; there may be an old one
+abbrev pub IsSpare : maybe.Option (maybe.Option Place) → Type 0
+IsSpare home = (old : Option LookValue) × HasHome home (Spare old)
 
 -- the book, by its word and what its slot has at home: so many seats hold it, are opening it, opened it, and have seen it opened
 pub record IsBookKept (window : Window) (word : ℕ) (home : maybe.Option (maybe.Option Place)) (held opens opened seen : ℕ) : Type 0 where
@@ -115,16 +120,18 @@ pub record IsBookKept (window : Window) (word : ℕ) (home : maybe.Option (maybe
   pub once : opens + opened ≤ 1
   pub unheld : opened ≡ 0 → held ≡ 0
   pub unseen : opened ≡ 0 → seen ≡ 0
-  pub bare : opens + opened ≡ 0 → HasHome home Nothing
+  pub bare : opens + opened ≡ 0 → HasHome home (TheBook None)
   pub stands : opened ≡ 1 → held ≡ 0 → HasBook home window
 
--- the look of a ticket, by its word and what its slot has at home: so many seats put it, took it, are putting it and are taking it
+-- the look of a ticket, by its word and what its slot has at home: so many seats put it, took it, are putting it and are taking it. The word
+-- says how far the look is: in hand while a seat puts it, full once it is put, emptied once it is taken; while a seat takes it, it is in hand
+-- again. So it is 1 for a put that is under way, 2 for one that is done, 1 more for a take that is done, and 1 less for one that is under way
 pub record IsLookKept (window : Window) (ticket word : ℕ) (home : maybe.Option (maybe.Option Place)) (put took puts takes : ℕ) : Type 0 where
   pub sum : word + takes ≡ puts + (put + put) + took
   pub once : puts + put ≤ 1
   pub back : takes + took ≤ put
-  pub bare : put ≡ took → puts ≡ 0 → HasHome home Nothing
-  pub full : put ≡ 1 → took + takes ≡ 0 → HasHome home (OneLook (look_for window (window.from + ticket)))
+  pub bare : put ≡ took → puts ≡ 0 → IsSpare home
+  pub full : put ≡ 1 → took + takes ≡ 0 → HasHome home (OneLook (Some (look_for window (window.from + ticket))))
 
 abbrev pub IsBookKeptBy : Window → ℕ → maybe.Option (maybe.Option Place) → List View → Type 0
 IsBookKeptBy window word home views =
@@ -132,7 +139,8 @@ IsBookKeptBy window word home views =
 
 abbrev pub IsLookKeptBy : Window → ℕ → ℕ → maybe.Option (maybe.Option Place) → List View → Type 0
 IsLookKeptBy window j word home views =
-    IsLookKept window j word home (total (λ v. times j v.put) views) (total (λ v. times j v.took) views) (total (λ v. putting j v.phase) views) (total (λ v. taking j v.phase) views)
+    IsLookKept window j word home (total (λ v. times j v.put) views) (total (λ v. times j v.took) views)
+    (total (λ v. putting j v.phase) views) (total (λ v. taking j v.phase) views)
 
 -- the rule
 pub record IsKept (key : Basis) (s : State Place View) : Type 0 where

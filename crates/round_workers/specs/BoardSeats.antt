@@ -9,7 +9,7 @@ use Rattle.round_workers.specs.declared.board.view.Basis.{Basis}
 use Rattle.round_workers.specs.declared.board.view.Try.TheVariants.{OfLook}
 use Rattle.round_workers.specs.declared.board.view.View.{View}
 use Rattle.round_workers.specs.BoardPlays.{after_try}
-use Rattle.round_workers.specs.BoardView.{window_for}
+use Rattle.round_workers.specs.BoardView.{look_full, window_for}
 
 -- the window that a board is for, as its seats know it
 abbrev pub basis_of : Board → Basis
@@ -30,7 +30,7 @@ pub record IsSeatOf (board : Board) (seat : Seat) : Type 0 where
 -- a seat tried for the look of a ticket, and found that its word wasn't full
 pub record IsMiss (ticket : ℕ) (old new : View) : Type 0 where
   pub found : ℕ
-  pub other : found ≢ 2
+  pub other : found ≢ look_full
   pub tried : new ≡ after_try old (OfLook ticket found)
 
 -- a look that was put, once, and not taken

@@ -8,7 +8,7 @@ use Rattle.round_book.specs.Window.{Window}
 use Rattle.atomic_table.specs.Table.{Me}
 use Rattle.round_workers.specs.declared.board.view.Basis.{Basis}
 use Rattle.round_workers.specs.declared.board.view.Place.{Place}
-use Rattle.round_workers.specs.declared.board.view.Place.TheVariants.{Nothing}
+use Rattle.round_workers.specs.declared.board.view.Place.TheVariants.{TheBook}
 use Rattle.round_workers.specs.declared.board.view.Phase.TheVariants.{Resting}
 use Rattle.round_workers.specs.declared.board.view.Try.TheVariants.{Never}
 use Rattle.round_workers.specs.declared.board.view.View.{View}
@@ -66,10 +66,30 @@ spent_seat = record {
   phase = Resting;
 }
 
--- the slots that are out with a seat between two calls: the book's, which is empty while the seat holds the book
+-- what the word of the book says: the book is at home, or a seat has it
+abbrev pub book_home : ℕ
+book_home = 0
+
+abbrev pub book_out : ℕ
+book_out = 1
+
+-- what the word of a look says: nobody put it yet, a seat has its room in hand, it waits to be taken, it was taken
+abbrev pub look_empty : ℕ
+look_empty = 0
+
+abbrev pub look_in_hand : ℕ
+look_in_hand = 1
+
+abbrev pub look_full : ℕ
+look_full = 2
+
+abbrev pub look_emptied : ℕ
+look_emptied = 3
+
+-- the slots that are out with a seat between two calls: the book's, whose room is empty while the seat holds the book
 abbrev pub out_with : Bool → List (ℕ × Place)
 out_with false = []
-out_with true = (0, Nothing) ∷ []
+out_with true = (0, TheBook None) ∷ []
 
 -- a seat is between two calls
 pub record IsAtRest (me : Me Place View) : Type 0 where

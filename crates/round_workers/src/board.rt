@@ -1,11 +1,11 @@
 // A board: the tickets, the book and the looks of a window, passed between threads.
-ghost use Rattle.std.specs.Prelude.{◌≡◌, ◌≢◌, ℕ, false, ◌+◌, ◌-◌, ◌<◌, ◌≤◌, ◌^◌, [], length, replicate, IfOk};
+ghost use Rattle.std.specs.Prelude.{◌≡◌, ◌≢◌, ℕ, false, ◌+◌, ◌-◌, ◌<◌, ◌≤◌, ◌^◌, [], length, IfOk};
 ghost use Rattle.std.specs.List.{AllByRecursion};
 ghost use Rattle.std.specs.Vec.{vec_capacity};
 ghost use Rattle.round_book.specs.Book.{CanBegin, window_of};
 ghost use Rattle.round_book.specs.Machine.{times};
 ghost use Rattle.round_book.specs.Window.{IsPlayable};
-ghost use Rattle.round_workers.specs.declared.board.view.Place.TheVariants.{Nothing};
+ghost use Rattle.round_workers.specs.Inner.BoardPlaces.{AreBare};
 ghost use Rattle.round_workers.specs.BoardPlays.{drew, joined, made_one, newcomer};
 ghost use Rattle.round_workers.specs.BoardRule.{turns_of};
 ghost use Rattle.round_workers.specs.BoardSeats.{IsSeatOf, basis_of, known};
@@ -18,6 +18,7 @@ mod law;
 mod look_calls;
 mod looking;
 mod places;
+mod room;
 mod seat;
 mod view;
 mod worker;
@@ -27,18 +28,20 @@ pub use closing::Closed;
 pub use crew::BoardCrew;
 use hex_geometry::OutOfMemory;
 use law::{Draws, Joins, SeesEachOnce, Splits};
+pub use room::Room;
 use round_book::Field;
 pub use seat::{Board, Seat};
+use spec_record::Look;
 use std::alloc::Global;
 use std::snapshot::Snapshot;
 pub use view::{Basis, Phase, Place, Try, View};
 pub use worker::Worker;
 
 impl Board {
-    /// A board for the window of the turns of the ids from `from` up to, and not including, `to`, of a field, and its first seat (this
-    /// project's own). The seat knows the window. No ticket is drawn, no look is put, and the book isn't there yet. The field is whole, `from`
-    /// is at most `to`, `to` at most the number of ids, and the place with the number of turns is below 2^63. It is refused for want of memory
-    /// alone; it takes the room of all looks, and of the list of those that are left in the end.
+    /// A board for the window of the turns of the ids from `from` up to, and not including, `to`, of a field, and its first seat. The seat
+    /// knows the window. No ticket is drawn, no look is put, and the book isn't there yet. The field is whole, `from` is at most `to`, `to`
+    /// at most the number of ids, and the place with the number of turns is below 2^63. It is refused for want of memory alone; it takes
+    /// the room of all looks, and of the list of those that are left in the end.
     pub fn new(
         alloc: Global,
         field: &Field<'_>,
@@ -50,16 +53,35 @@ impl Board {
         ensures board { IfOk result (λ made. IsSeatOf made.0 made.1) }
         ensures first { IfOk result (λ made. known made.1 ≡ first_seat (basis_of made.0)) }
     {
+        let mut kept = Vec::new(alloc);
+        Board::over(alloc, field, from, to, &mut kept)
+    }
+
+    // The same, with the rooms for looks that were kept, and such as are wanted besides.
+    pub(crate) fn over(
+        alloc: Global,
+        field: &Field<'_>,
+        from: u32,
+        to: u32,
+        kept: &mut Vec<Room<Look>>,
+    ) -> Result<(Board, Seat), OutOfMemory>
+        requires { CanBegin field.now from to }
+        ensures window { IfOk result (λ made. window_for (basis_of made.0) ≡ window_of field.now from to) }
+        ensures board { IfOk result (λ made. IsSeatOf made.0 made.1) }
+        ensures first { IfOk result (λ made. known made.1 ≡ first_seat (basis_of made.0)) }
+    {
         let basis = basis(field, from, to);
         let turns = (to - from) as usize;
         let words = vec![in alloc; 0u64; turns + 2]?;
-        let slots = bare(alloc, turns + 1)?;
+        let slots = bare(alloc, turns, kept)?;
+        let places = Vec::with_capacity(alloc, turns)?;
         let room = Vec::with_capacity(alloc, turns)?;
         let Ok((table, hand)) = Table::new(alloc, &words, slots, &basis) else {
             return Err(OutOfMemory);
         };
         let board = Board {
             table,
+            places,
             room,
             from,
             to,
@@ -73,14 +95,6 @@ impl Board {
         ensures { result ≡ turns_of (basis_of self.now) }
     {
         self.to - self.from
-    }
-
-    // The first turn of the window.
-    #[inline]
-    pub(crate) fn first(&self) -> u32
-        ensures { result ≡ (basis_of self.now).from }
-    {
-        self.from
     }
 
     // The end of the window.
@@ -100,9 +114,9 @@ impl Board {
         self.from + ticket
     }
 
-    /// Draws the next ticket (this project's own): the tickets of a board are the numbers from 0, each drawn once, by one seat or another.
-    /// Ticket k stands for the turn that is number k in the window; a ticket that is no turn's says that all turns are drawn. The seat drew no
-    /// such ticket yet. The answer is above all that the seat drew.
+    /// Draws the next ticket: the tickets of a board are the numbers from 0, each drawn once, by one seat or another. Ticket k stands for
+    /// the turn that is number k in the window; a ticket that is no turn's says that all turns are drawn. The seat drew no such ticket yet.
+    /// The answer is above all that the seat drew.
     #[inline]
     pub fn draw(&self, seat: &mut Seat) -> u32
         requires board { IsSeatOf self.now seat.old }
@@ -115,8 +129,8 @@ impl Board {
         ticket as u32
     }
 
-    /// Makes another seat of this board (this project's own). It knows the same window, and has seen the book opened where the first seat has.
-    /// Its number, which is its one part, is the count of the seats that were made, from 1. The seat is the first one, and made fewer than 16.
+    /// Makes another seat of this board. It knows the same window, and has seen the book opened where the first seat has. Its number, which
+    /// is its one part, is the count of the seats that were made, from 1. The seat is the first one, and made fewer than 16.
     pub fn split(&self, seat: &mut Seat) -> Seat
         requires board { IsSeatOf self.now seat.old }
         requires first { (known seat.old).number ≡ 0 }
@@ -130,8 +144,8 @@ impl Board {
         Seat { hand }
     }
 
-    /// Joins another seat of this board into one (this project's own): its parts, and the tickets that it drew, put and took, come behind the
-    /// seat's own; no ticket is in both lists. The other one isn't the first seat, and doesn't hold the book.
+    /// Joins another seat of this board into one: its parts, and the tickets that it drew, put and took, come behind the seat's own; no
+    /// ticket is in both lists. The other one isn't the first seat, and doesn't hold the book.
     pub fn join(&self, seat: &mut Seat, other: Seat)
         requires board { IsSeatOf self.now seat.old }
         requires other_board { IsSeatOf self.now other }
@@ -172,13 +186,26 @@ fn basis(field: &Field<'_>, from: u32, to: u32) -> Basis
     }
 }
 
-// So many empty slots.
-fn bare(alloc: Global, count: usize) -> Result<Vec<Place>, OutOfMemory>
-    ensures { IfOk result (λ slots. slots.items ≡ replicate count Nothing) }
+// The slots with which a board of so many turns begins, with the rooms that were kept, and such as are wanted besides.
+fn bare(alloc: Global, turns: usize, kept: &mut Vec<Room<Look>>) -> Result<Vec<Place>, OutOfMemory>
+    requires { turns < 2 ^ 32 }
+    ensures { IfOk result (λ slots. AreBare turns slots.items) }
 {
-    let mut slots = Vec::with_capacity(alloc, count)?;
-    for _ in 0..count {
-        slots.push_reserved(Place::Nothing);
+    let mut slots = Vec::with_capacity(alloc, turns + 1)?;
+    let book = Room::new(alloc)?;
+    slots.push_reserved(Place::TheBook(book));
+    for _ in 0..turns {
+        let room = spare(alloc, kept)?;
+        slots.push_reserved(Place::Spare(room));
     }
     Ok(slots)
+}
+
+// A room for a look: one that was kept, or a new one.
+#[inline]
+fn spare(alloc: Global, kept: &mut Vec<Room<Look>>) -> Result<Room<Look>, OutOfMemory> {
+    match kept.pop() {
+        Some(room) => Ok(room),
+        None => Room::new(alloc),
+    }
 }

@@ -1,4 +1,4 @@
-// The one place where threads are started.
+// The threads of a crew of pieces.
 ghost use Rattle.std.specs.Prelude.{◌≡◌, ℕ, ◌<◌, All, length, slice_index_or};
 ghost use Rattle.round_workers.specs.declared.piece.Piece.{Piece};
 ghost use Rattle.round_workers.specs.Inner.Pieces.{IsDone, IsReady};

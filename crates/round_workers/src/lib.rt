@@ -10,6 +10,7 @@
 //! What is true of a board between any two steps of its seats stands in `specs/BoardRule.antt`.
 #![tactic(auto)]
 
+mod alone;
 mod board;
 mod fork;
 mod piece;
@@ -17,6 +18,6 @@ mod piece_crew;
 mod settling;
 mod share;
 
-pub use board::{Basis, Board, BoardCrew, Closed, Phase, Place, Seat, Try, View, Worker};
+pub use board::{Basis, Board, BoardCrew, Closed, Phase, Place, Room, Seat, Try, View, Worker};
 pub use hex_geometry::OutOfMemory;
 pub use piece_crew::PieceCrew;

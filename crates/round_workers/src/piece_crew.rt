@@ -3,6 +3,7 @@ ghost use Rattle.std.specs.Prelude.{◌≡◌, ◌+◌, ◌-◌, ◌≤◌, ◌^
 ghost use Rattle.round_book.specs.Book.{CanBegin, IsPlayed, window_of};
 ghost use Rattle.round_book.specs.Counts.{counts_of};
 
+use crate::alone::play_alone;
 use crate::fork::look_at_pieces;
 use crate::piece::{Piece, deal};
 use crate::settling::settle_pieces;
@@ -14,7 +15,7 @@ use std::marker::Model;
 use std::thread::Threads;
 
 /// A crew of workers that make the looks of a window at the same time, each those of a contiguous piece of its turns; they are settled in
-/// order on the caller's thread (this project's own). It keeps the rooms of its looks from one window to the next.
+/// order on the caller's thread. It keeps the rooms of its looks from one window to the next.
 #[derive(Drop)]
 pub struct PieceCrew<'c, R: Threads + Sync, G: Gate> {
     rt: &'c R,
@@ -36,8 +37,8 @@ impl<'c, R: Threads + Sync, G: Gate> Model for PieceCrew<'c, R, G> {
 }
 
 impl<'c, R: Threads + Sync, G: Gate> PieceCrew<'c, R, G> {
-    /// A crew of 1 to 16 workers, which has played no turn yet (this project's own). Each worker, from 0, calls the gate before each look
-    /// that it makes. It takes no memory.
+    /// A crew of 1 to 16 workers, which has played no turn yet. Each worker, from 0, calls the gate before each look that it makes. It
+    /// takes no memory.
     pub fn new(rt: &'c R, workers: u32, gate: &'c G) -> PieceCrew<'c, R, G>
         requires workers { (1 ≤ workers) × (workers ≤ 16) }
         ensures { result ≡ record { workers = workers; turns = 0 } }
@@ -51,7 +52,7 @@ impl<'c, R: Threads + Sync, G: Gate> PieceCrew<'c, R, G> {
         }
     }
 
-    /// How many turns the crew has played, from 0; at the last value, 2^64 - 1, it stays (this project's own).
+    /// How many turns the crew has played, from 0; at the last value, 2^64 - 1, it stays.
     #[inline]
     pub fn turns(&self) -> u64
         ensures { result ≡ self.now.turns }
@@ -59,14 +60,14 @@ impl<'c, R: Threads + Sync, G: Gate> PieceCrew<'c, R, G> {
         self.turns
     }
 
-    /// Plays the turns of the ids from `from` up to, and not including, `to` (this project's own). The field is whole, `from` is at most `to`,
+    /// Plays the turns of the ids from `from` up to, and not including, `to`. The field is whole, `from` is at most `to`,
     /// `to` at most the number of ids, and the place with the number of turns is below 2^63. The field is whole afterwards, its world and
     /// place are those to which the turns lead in order, and the answer counts the looks that were taken and the turns that were executed
     /// anew. It is refused for want of memory alone; the field and the count of turns are as before then.
     ///
-    /// Of n turns worker k of W makes the looks of those from `from` + k * n / W up to, and not including, `from` + (k + 1) * n / W, and calls
-    /// the gate with its number and the id before each. A worker that has no turn starts no thread. All looks are made before the field is
-    /// lent.
+    /// Of n turns worker k of W makes the looks of those from `from` + k * n / W up to, and not including, `from` + (k + 1) * n / W, and
+    /// calls the gate with its number and the id before each. A worker that has no turn starts no thread. All looks are made before the
+    /// field is lent; but where no second worker has a turn, each look is settled as soon as it is made.
     pub fn window(
         &mut self,
         alloc: Global,
@@ -116,6 +117,9 @@ fn play<R: Threads + Sync, G: Gate>(
     ensures counts { IfOk result (λ counts. counts ≡ counts_of (window_of field.old from to)) }
     ensures unchanged { OnErr result (field.new ≡ field.old) }
 {
+    if workers.min(to - from) <= 1 {
+        return play_alone(gate, alloc, field, from, to);
+    }
     let dealt = deal(pieces, alloc, workers, from, to)?;
     let pieces = &mut pieces[..dealt];
     look_at_pieces(rt, gate, field, from, pieces, workers as usize);

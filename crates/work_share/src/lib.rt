@@ -1,13 +1,14 @@
 //! How work is shared out: what is to do stands in a row, and each worker gets a piece of it.
 //!
-//! The pieces follow one another, are the whole row together, and differ in size by one at most. The crate stands on no other.
+//! The pieces follow one another, are the whole row together, and differ in size by one at most. The crate stands on no other. This is this
+//! project's own.
 #![tactic(auto)]
 
 ghost use Rattle.std.specs.Prelude.{◌≡◌, ◌≤◌, ◌<◌, ◌^◌};
 ghost use Rattle.work_share.specs.Borders.{border};
 ghost use Rattle.work_share.specs.Laws.{PiecesAreEven, PiecesAreTheRow};
 
-/// Where the piece of a worker begins in a row of `count` things to do (this project's own): worker k, from 0, has those from this border up
+/// Where the piece of a worker begins in a row of `count` things to do: worker k, from 0, has those from this border up
 /// to, and not including, that of worker k + 1. The border of the number of workers is the end of the row.
 ///
 /// There are 1 to 16 workers, `worker` is at most their number, and there are fewer than 2^32 things.
@@ -24,12 +25,12 @@ pub fn border(workers: usize, count: usize, worker: usize) -> usize
 }
 
 /// The pieces are the row: the first begins where it does, each begins where the one before ends, none ends before it begins, and the last ends
-/// where the row does (this project's own). The call does nothing: its clause is the law.
+/// where the row does. The call does nothing: its clause is the law.
 pub fn pieces_are_the_row()
     ensures { PiecesAreTheRow }
 {}
 
-/// The pieces are even: none is longer than another by more than one (this project's own). The call does nothing: its clause is the law.
+/// The pieces are even: none is longer than another by more than one. The call does nothing: its clause is the law.
 pub fn pieces_are_even()
     ensures { PiecesAreEven }
 {}

@@ -1,14 +1,16 @@
 -- The way of one window over a board (this project's own).
-use Rattle.std.specs.Prelude.{◌≡◌, ℕ, ◌+◌, ◌<◌, ◌≤◌, true, false, List, [], map, slice_index_or, All, IfSome, Option, None, Vec}
+use Rattle.std.specs.Prelude.{◌≡◌, ℕ, ◌+◌, ◌<◌, ◌≤◌, true, false, List, [], map, slice_index_or, All, IfSome, Vec}
 use Rattle.std.specs.List.{AllByRecursion}
 use Rattle.std.specs.Vec.{vec_capacity, vec_len}
-use Rattle.spec_record.specs.Look.{LookValue}
 use Rattle.round_book.specs.Machine.{times}
 use Rattle.round_book.specs.Window.{Window, look_for}
 use Rattle.round_workers.specs.declared.board.crew.Laid.{Laid}
 use Rattle.round_workers.specs.declared.board.seat.Board.{Board}
 use Rattle.round_workers.specs.declared.board.seat.Seat.{Seat}
 use Rattle.round_workers.specs.declared.board.worker.Worker.{Worker}
+use Rattle.round_workers.specs.declared.board.view.Place.{Place}
+use Rattle.round_workers.specs.declared.board.view.Place.TheVariants.{Nothing}
+use Rattle.round_workers.specs.Inner.BoardPlaces.{look_in}
 use Rattle.round_workers.specs.BoardSeats.{IsSeatOf, basis_of, known, window_of}
 use Rattle.round_workers.specs.BoardTotals.{once_below}
 use Rattle.round_workers.specs.BoardView.{first_seat}
@@ -44,16 +46,18 @@ pub record IsRoom {A : Type 0} (turns : ℕ) (room : Vec ℕ A) : Type 0 where
   pub bare : room.items ≡ []
   pub wide : turns ≤ vec_capacity room
 
--- all that a window takes memory for: a board with its first seat, and the rooms of the workers and of their lists
+-- all that a window takes memory for: a board with its first seat, the lists of the workers, and room for the workers
 pub record IsLaid (for_window : Window) (laid : Laid) : Type 0 where
   pub window : window_of laid.board ≡ for_window
   pub seat : IsSeatOf laid.board laid.first
   pub first : known laid.first ≡ first_seat (basis_of laid.board)
-  pub rooms : All (IsRoom (turns_in for_window)) laid.rooms.items
-  pub few : vec_len laid.rooms ≤ 16
+  pub lists : All (IsRoom (turns_in for_window)) laid.lists.items
+  pub few : vec_len laid.lists ≤ 16
   pub bare : laid.workers.items ≡ []
-  pub wide : vec_len laid.rooms ≤ vec_capacity laid.workers
+  pub wide : vec_len laid.lists ≤ vec_capacity laid.workers
 
--- the looks of a window that are there are those at its turns
-abbrev pub AreLooks : Window → List (Option LookValue) → Type 0
-AreLooks window looks = (ticket : ℕ) → ticket < turns_in window → IfSome (slice_index_or looks ticket None) (λ look. look ≡ look_for window (window.from + ticket))
+-- the looks of a window that wait in these places, by ticket, are those at its turns
+abbrev pub AreLooks : Window → List Place → Type 0
+AreLooks window places =
+    (ticket : ℕ) → ticket < turns_in window
+    → IfSome (look_in (slice_index_or places ticket Nothing)) (λ look. look ≡ look_for window (window.from + ticket))

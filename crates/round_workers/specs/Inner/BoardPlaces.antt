@@ -1,23 +1,47 @@
 -- What lies in a slot of a board (this project's own).
-use Rattle.std.specs.Prelude.{◌≡◌, ℕ, ◌<◌, ◌≤◌, Bool, true, false, List, slice_index_or, Option, Some, None}
+use Rattle.std.specs.Prelude.{◌≡◌, ℕ, ◌+◌, ◌<◌, ◌≤◌, Bool, true, false, List, length, slice_index_or, Option, Some, None}
+use mathlib.Core.Option as maybe
+use lib.ListN.{get_elem?}
 use Rattle.spec_record.specs.Look.{LookValue}
 use Rattle.round_book.specs.Book.{BookValue}
 use Rattle.round_workers.specs.declared.board.view.Place.{Place}
-use Rattle.round_workers.specs.declared.board.view.Place.TheVariants.{Nothing, TheBook, OneLook}
+use Rattle.round_workers.specs.declared.board.view.Place.TheVariants.{Nothing, OneLook, Spare, TheBook}
+
+-- what the room of the book has in it
+abbrev pub book_room : Place → Option (Option BookValue)
+book_room Nothing = None
+book_room (TheBook content) = Some content
+book_room (Spare old) = None
+book_room (OneLook content) = None
 
 -- the book in a place, if it is there
 abbrev pub book_in : Place → Option BookValue
 book_in Nothing = None
-book_in (TheBook book) = Some book
-book_in (OneLook look) = None
+book_in (TheBook content) = content
+book_in (Spare old) = None
+book_in (OneLook content) = None
 
 -- the look in a place, if one is there
 abbrev pub look_in : Place → Option LookValue
 look_in Nothing = None
-look_in (TheBook book) = None
-look_in (OneLook look) = Some look
+look_in (TheBook content) = None
+look_in (Spare old) = None
+look_in (OneLook content) = content
+
+-- what the room of a look has in it
+abbrev pub look_room : Place → Option (Option LookValue)
+look_room Nothing = None
+look_room (TheBook content) = None
+look_room (Spare old) = Some old
+look_room (OneLook content) = Some content
 
 -- of so many slots the values of the first n are taken out, and the others are there
 pub record AreTaken (n count : ℕ) (filled : List Bool) : Type 0 where
   pub taken : (k : ℕ) → k < n → slice_index_or filled k false ≡ false
   pub there : (k : ℕ) → n ≤ k → k < count → slice_index_or filled k false ≡ true
+
+-- the slots with which a board begins: the book's room without the book, and a look's for each turn
+pub record AreBare (turns : ℕ) (slots : List Place) : Type 0 where
+  pub long : length slots ≡ turns + 1
+  pub book : get_elem? slots 0 ≡ maybe.some (TheBook None)
+  pub spares : (j : ℕ) → j < turns → (old : Option LookValue) × (get_elem? slots (j + 1) ≡ maybe.some (Spare old))

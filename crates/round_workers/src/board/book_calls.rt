@@ -1,17 +1,22 @@
 // The book of a board: it is opened, taken and given.
-ghost use Rattle.std.specs.Prelude.{◌≡◌, true, false, IfSome, IfNone, OnSome};
+ghost use Rattle.std.specs.Prelude.{◌≡◌, ◌+◌, ◌≤◌, ◌∷◌, true, false, Some, IfSome, IfNone, IsSomeAnd, OnSome};
+ghost use Rattle.atomic_table.specs.Table.{rest};
+ghost use Rattle.round_workers.specs.declared.board.view.Place.TheVariants.{Nothing};
 ghost use Rattle.round_workers.specs.declared.board.view.Try.TheVariants.{OfBook};
 ghost use Rattle.round_workers.specs.BoardPlays.{after_try, has_seen, with_book, without_book};
 ghost use Rattle.round_workers.specs.BoardRule.{StandsFor};
-ghost use Rattle.round_workers.specs.BoardSeats.{IsSeatOf, known, window_of};
+ghost use Rattle.round_workers.specs.BoardSeats.{IsSeatOf, basis_of, known, window_of};
+ghost use Rattle.round_workers.specs.BoardView.{book_out};
+ghost use Rattle.round_workers.specs.BoardWorker.{IsLentFor, IsSameButTook};
 
 use crate::board::law::{GivesBook, Opened, Opens, TakesBook};
-use crate::board::places::book_in;
+use crate::board::places::book_room;
+use crate::board::room::Room;
 use crate::board::seat::{Board, Seat};
-use crate::board::view::Place;
-use round_book::Book;
+use crate::board::view::{Place, View};
+use round_book::{Book, Field};
 
-// The word of the book, and what it says: its slot is home, or a seat has it.
+// The word of the book, and what it says (`book_home` and `book_out` of `BoardView`).
 const WORD: usize = 1;
 
 const HOME: u64 = 0;
@@ -22,8 +27,8 @@ const OUT: u64 = 1;
 const SLOT: usize = 0;
 
 impl Board {
-    /// Puts the book into its slot, once (this project's own). The seat is the first one and hasn't opened the book yet, and the book stands for
-    /// the board's window, with no turn settled.
+    /// Puts the book into its slot, once. The seat is the first one and hasn't opened the book yet, and the book stands for the board's
+    /// window, with no turn settled.
     pub fn open_book(&self, seat: &mut Seat, book: Book)
         requires board { IsSeatOf self.now seat.old }
         requires first { (known seat.old).number ≡ 0 }
@@ -35,13 +40,16 @@ impl Board {
     {
         let table = &self.table.shared;
         table.compare_exchange::<Opens>(&mut seat.hand, WORD, HOME, OUT);
-        table.exchange(&mut seat.hand, SLOT, Place::TheBook(book));
+        let place = table.exchange(&mut seat.hand, SLOT, Place::Nothing);
+        let mut room = book_room(place);
+        room.put(book);
+        table.exchange(&mut seat.hand, SLOT, Place::TheBook(room));
         table.swap::<Opened>(&mut seat.hand, WORD, HOME);
     }
 
-    /// Tries to take the book, once, without waiting (this project's own). The seat has seen the book opened, and doesn't hold it. The book
-    /// that it gets stands for the board's window. It gets none only where the try found that another seat held the book; the seat's tries
-    /// rise by one either way, and what the try found is kept.
+    /// Tries to take the book, once, without waiting. The seat has seen the book opened, and doesn't hold it. The book that it gets stands
+    /// for the board's window. It gets none only where the try found that another seat held the book; the seat's tries rise by one either
+    /// way, and what the try found is kept.
     pub fn take_book(&self, seat: &mut Seat) -> Option<Book>
         requires board { IsSeatOf self.now seat.old }
         requires opened { (known seat.old).opened ≡ true }
@@ -49,18 +57,19 @@ impl Board {
         ensures board { IsSeatOf self.now seat.new }
         ensures stands { IfSome result (StandsFor (window_of self.now)) }
         ensures taken { OnSome result (known seat.new ≡ with_book (known seat.old)) }
-        ensures held_by_another { IfNone result (known seat.new ≡ after_try (known seat.old) (OfBook 1)) }
+        ensures held_by_another { IfNone result (known seat.new ≡ after_try (known seat.old) (OfBook book_out)) }
     {
-        let table = &self.table.shared;
-        let found = table.compare_exchange::<TakesBook>(&mut seat.hand, WORD, HOME, OUT);
-        if found != HOME {
+        let Some(mut room) = self.begin_book(&mut seat.hand) else {
             return None;
-        }
-        let place = table.exchange(&mut seat.hand, SLOT, Place::Nothing);
-        book_in(place)
+        };
+        let book = room.take();
+        self.table
+            .shared
+            .exchange(&mut seat.hand, SLOT, Place::TheBook(room));
+        book
     }
 
-    /// Gives the book back (this project's own). The seat holds it, and the book stands for the board's window.
+    /// Gives the book back. The seat holds it, and the book stands for the board's window.
     pub fn give_book(&self, seat: &mut Seat, book: Book)
         requires board { IsSeatOf self.now seat.old }
         requires holds { (known seat.old).holds ≡ true }
@@ -68,8 +77,67 @@ impl Board {
         ensures board { IsSeatOf self.now seat.new }
         ensures given { known seat.new ≡ without_book (known seat.old) }
     {
+        let place = self
+            .table
+            .shared
+            .exchange(&mut seat.hand, SLOT, Place::Nothing);
+        let mut room = book_room(place);
+        room.put(book);
+        self.end_book(&mut seat.hand, room);
+    }
+
+    // Tries once for the book, without waiting, and with it settles for as long as the next turn's look is there. The book lies in its room
+    // meanwhile.
+    #[inline]
+    pub(crate) fn settle_with_book(&self, seat: &mut Seat, field: &Field<'_>)
+        requires board { IsSeatOf self.now seat.old }
+        requires opened { (known seat.old).opened ≡ true }
+        requires free { (known seat.old).holds ≡ false }
+        requires field { IsLentFor field.now (window_of self.now) }
+        ensures board { IsSeatOf self.now seat.new }
+        ensures same { IsSameButTook (known seat.old) (known seat.new) }
+        ensures tried { (known seat.old).tries + 1 ≤ (known seat.new).tries }
+    {
+        let Some(mut room) = self.begin_book(&mut seat.hand) else {
+            return;
+        };
+        room.settle(self, &mut seat.hand, field);
+        self.end_book(&mut seat.hand, room);
+    }
+
+    // Tries to get the room of the book, with the book.
+    #[inline]
+    fn begin_book(&self, hand: &mut atomic_table::Seat<Place, View>) -> Option<Room<Book>>
+        requires table { hand.old.table_id ≡ self.now.table.shared.table_id }
+        requires knows { hand.old.me.0.about ≡ Some (basis_of self.now) }
+        requires opened { hand.old.me.0.opened ≡ true }
+        requires free { hand.old.me.0.holds ≡ false }
+        ensures table { hand.new.table_id ≡ hand.old.table_id }
+        ensures stands { IfSome result (λ room. IsSomeAnd room (StandsFor (window_of self.now))) }
+        ensures takes { OnSome result (hand.new.me ≡ (with_book hand.old.me.0, (0, Nothing) ∷ hand.old.me.1)) }
+        ensures held_by_another { IfNone result (hand.new.me ≡ (after_try hand.old.me.0 (OfBook book_out), hand.old.me.1)) }
+    {
         let table = &self.table.shared;
-        table.exchange(&mut seat.hand, SLOT, Place::TheBook(book));
-        table.swap::<GivesBook>(&mut seat.hand, WORD, HOME);
+        let found = table.compare_exchange::<TakesBook>(hand, WORD, HOME, OUT);
+        if found != HOME {
+            return None;
+        }
+        Some(book_room(table.exchange(hand, SLOT, Place::Nothing)))
+    }
+
+    // Gives the room back, with the book.
+    #[inline]
+    fn end_book(&self, hand: &mut atomic_table::Seat<Place, View>, room: Room<Book>)
+        requires table { hand.old.table_id ≡ self.now.table.shared.table_id }
+        requires knows { hand.old.me.0.about ≡ Some (basis_of self.now) }
+        requires holds { hand.old.me.0.holds ≡ true }
+        requires out { hand.old.me.1 ≡ (0, Nothing) ∷ rest hand.old.me.1 }
+        requires stands { IsSomeAnd room (StandsFor (window_of self.now)) }
+        ensures table { hand.new.table_id ≡ hand.old.table_id }
+        ensures gives { hand.new.me ≡ (without_book hand.old.me.0, rest hand.old.me.1) }
+    {
+        let table = &self.table.shared;
+        table.exchange(hand, SLOT, Place::TheBook(room));
+        table.swap::<GivesBook>(hand, WORD, HOME);
     }
 }

@@ -1,22 +1,24 @@
 // The end of a board.
-ghost use Rattle.std.specs.Prelude.{◌≡◌, ◌+◌, ◌-◌, ◌<◌, ◌≤◌, ℕ, true, false, length, slice_index_or, None};
+ghost use Rattle.std.specs.Prelude.{◌≡◌, ◌+◌, ◌-◌, ◌<◌, ◌≤◌, ℕ, true, false, [], length, map, slice_index_or, None};
 ghost use Rattle.std.specs.Mem.Slots.{slots_filled, slots_items, slots_len};
+ghost use Rattle.std.specs.Vec.{vec_capacity, vec_len};
+ghost use Rattle.round_workers.specs.declared.board.view.Place.TheVariants.{Nothing};
 ghost use mathlib.Core.Option.{some};
 ghost use lib.ListN.{get_elem?};
 ghost use Rattle.round_book.specs.Machine.{times};
-ghost use Rattle.round_workers.specs.Inner.BoardPlaces.{AreTaken};
+ghost use Rattle.round_workers.specs.Inner.BoardPlaces.{AreTaken, look_in};
 ghost use Rattle.round_workers.specs.BoardRule.{StandsFor};
 ghost use Rattle.round_workers.specs.BoardTotals.{once_below};
 ghost use Rattle.round_workers.specs.BoardSeats.{IsSeatOf, basis_of, known, left_look, window_of};
 
-use crate::board::places::{book_in, look_in};
+use crate::board::places::{book_in, look_out_of};
 use crate::board::seat::{Board, Seat};
 use crate::board::view::Place;
 use round_book::Book;
 use spec_record::Look;
 use std::alloc::Global;
 
-/// What a board leaves: its book, the looks that were put and not taken, by ticket, and how many tickets were drawn (this project's own).
+/// What a board leaves: its book, the looks that were put and not taken, by ticket, and how many tickets were drawn.
 #[derive(Drop)]
 pub struct Closed {
     /// The book.
@@ -28,9 +30,9 @@ pub struct Closed {
 }
 
 impl Board {
-    /// Ends a board (this project's own). The seat is the first one, every seat that it made was joined into it, and it has opened the book
-    /// and doesn't hold it. The book stands for the board's window. A look is left for each turn that the seat, with all that went into it,
-    /// put and didn't take. The tickets that they drew are the numbers below the count, each once. It takes no memory.
+    /// Ends a board. The seat is the first one, every seat that it made was joined into it, and it has opened the book and doesn't hold it.
+    /// The book stands for the board's window. A look is left for each turn that the seat, with all that went into it, put and didn't take.
+    /// The tickets that they drew are the numbers below the count, each once. It takes no memory.
     pub fn close(self, seat: Seat) -> Closed
         requires board { IsSeatOf self seat }
         requires first { (known seat).number ≡ 0 }
@@ -42,9 +44,37 @@ impl Board {
         ensures turns { length result.looks.items ≡ (basis_of self).to - (basis_of self).from }
         ensures looks { (k : ℕ) → k < (basis_of self).to - (basis_of self).from → slice_index_or result.looks.items k None ≡ left_look (window_of self) (known seat) k }
     {
+        let Ended {
+            book,
+            places,
+            room,
+            drawn,
+        } = self.take_apart(seat);
+        Closed {
+            book,
+            looks: looks_out_of(places, room),
+            drawn,
+        }
+    }
+
+    // The same, where the looks lie in their places still.
+    pub(crate) fn take_apart(self, seat: Seat) -> Ended
+        requires board { IsSeatOf self seat }
+        requires first { (known seat).number ≡ 0 }
+        requires whole { (k : ℕ) → k ≤ (known seat).made → 1 ≤ times k (known seat).parts }
+        requires opened { (known seat).opened ≡ true }
+        requires free { (known seat).holds ≡ false }
+        ensures book { StandsFor (window_of self) result.book }
+        ensures drawn { (k : ℕ) → times k (known seat).drawn ≡ once_below k result.drawn }
+        ensures turns { length result.places.items ≡ (basis_of self).to - (basis_of self).from }
+        ensures looks { (k : ℕ) → k < (basis_of self).to - (basis_of self).from → look_in (slice_index_or result.places.items k Nothing) ≡ left_look (window_of self) (known seat) k }
+        ensures bare { result.room.items ≡ [] }
+        ensures roomy { (basis_of self).to - (basis_of self).from ≤ vec_capacity result.room }
+    {
         let Board {
             table,
-            mut room,
+            mut places,
+            room,
             from,
             to,
         } = self;
@@ -55,16 +85,38 @@ impl Board {
             unreachable!()
         };
         for ticket in 0..(to - from) as usize {
-            let place = take_slot(&mut closed, ticket + 1);
-            room.push_reserved(look_in(place));
+            places.push_reserved(take_slot(&mut closed, ticket + 1));
         }
         closed.free();
-        Closed {
+        Ended {
             book,
-            looks: room,
+            places,
+            room,
             drawn,
         }
     }
+}
+
+// What a board leaves: its book, the places of its looks, by ticket, a room for as many looks, and how many tickets were drawn.
+#[derive(Drop)]
+pub(crate) struct Ended {
+    pub(crate) book: Book,
+    pub(crate) places: Vec<Place>,
+    pub(crate) room: Vec<Option<Look>>,
+    pub(crate) drawn: u32,
+}
+
+// The looks in these places, in order, in a room for them.
+fn looks_out_of(places: Vec<Place>, mut room: Vec<Option<Look>>) -> Vec<Option<Look>>
+    requires bare { room.items ≡ [] }
+    requires roomy { vec_len places ≤ vec_capacity room }
+    ensures { result.items ≡ map look_in places.items }
+{
+    let mut rest = places.into_iter();
+    while let Some(place) = rest.next() {
+        room.push_reserved(look_out_of(place));
+    }
+    room
 }
 
 // Takes what lies in a slot, where those before it are taken.

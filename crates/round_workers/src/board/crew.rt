@@ -10,11 +10,14 @@ ghost use Rattle.round_workers.specs.BoardRule.{StandsFor};
 ghost use Rattle.round_workers.specs.BoardSeats.{IsSeatOf, known, window_of};
 ghost use Rattle.round_workers.specs.BoardWorker.{IsLentFor, guesses_for, turns_in};
 
-use crate::board::closing::Closed;
+use crate::alone::play_alone;
+use crate::board::closing::Ended;
 use crate::board::looking::look_at;
+use crate::board::places::{look_in, room_of};
+use crate::board::room::Room;
 use crate::board::seat::{Board, Seat};
+use crate::board::view::Place;
 use crate::board::worker::Worker;
-use crate::piece_crew::PieceCrew;
 use ant_base::Gate;
 use hex_geometry::OutOfMemory;
 use round_book::{Book, Counts, Field, advance};
@@ -24,15 +27,15 @@ use std::marker::Model;
 use std::thread;
 use std::thread::Threads;
 
-/// A crew of workers that draw the turns of a window, put the looks at them on a board, and pass its book from one to another to settle them
-/// (this project's own).
+/// A crew of workers that draw the turns of a window, put the looks at them on a board, and pass its book from one to another to settle
+/// them.
 #[derive(Drop)]
 pub struct BoardCrew<'c, R: Threads + Sync, G: Gate> {
     rt: &'c R,
     gate: &'c G,
     workers: u32,
     turns: u64,
-    alone: PieceCrew<'c, R, G>,
+    rooms: Option<Vec<Room<Look>>>,
 }
 
 impl<'c, R: Threads + Sync, G: Gate> Model for BoardCrew<'c, R, G> {
@@ -47,8 +50,8 @@ impl<'c, R: Threads + Sync, G: Gate> Model for BoardCrew<'c, R, G> {
 }
 
 impl<'c, R: Threads + Sync, G: Gate> BoardCrew<'c, R, G> {
-    /// A crew of 1 to 16 workers, which has played no turn yet (this project's own). Each worker, from 0, calls the gate before each look
-    /// that it makes. It takes no memory.
+    /// A crew of 1 to 16 workers, which has played no turn yet. Each worker, from 0, calls the gate before each look that it makes. It
+    /// takes no memory.
     pub fn new(rt: &'c R, workers: u32, gate: &'c G) -> BoardCrew<'c, R, G>
         requires workers { (1 ≤ workers) × (workers ≤ 16) }
         ensures { result ≡ record { workers = workers; turns = 0 } }
@@ -58,11 +61,11 @@ impl<'c, R: Threads + Sync, G: Gate> BoardCrew<'c, R, G> {
             gate,
             workers,
             turns: 0,
-            alone: PieceCrew::new(rt, 1, gate),
+            rooms: None,
         }
     }
 
-    /// How many turns the crew has played, from 0; at the last value, 2^64 - 1, it stays (this project's own).
+    /// How many turns the crew has played, from 0; at the last value, 2^64 - 1, it stays.
     #[inline]
     pub fn turns(&self) -> u64
         ensures { result ≡ self.now.turns }
@@ -70,14 +73,14 @@ impl<'c, R: Threads + Sync, G: Gate> BoardCrew<'c, R, G> {
         self.turns
     }
 
-    /// Plays the turns of the ids from `from` up to, and not including, `to` (this project's own). The field is whole, `from` is at most `to`,
+    /// Plays the turns of the ids from `from` up to, and not including, `to`. The field is whole, `from` is at most `to`,
     /// `to` at most the number of ids, and the place with the number of turns is below 2^63. The field is whole afterwards, its world and
     /// place are those to which the turns lead in order, and the answer counts the looks that were taken and the turns that were executed
     /// anew. It is refused for want of memory alone, before the field is lent; the field and the count of turns are as before then.
     ///
-    /// As many workers work as the lesser of the crew's and the turns. Whichever draws a turn calls the gate with its number and the id, makes
-    /// the look, puts it on the board and tries once for the book; with the book it settles the next turns for as long as their looks are
-    /// there. No worker waits for another. One worker alone needs no board: it makes the looks of the window, and then settles them.
+    /// As many workers work as the lesser of the crew's and the turns. Whichever draws a turn calls the gate with its number and the id,
+    /// makes the look, puts it on the board and tries once for the book; with the book it settles the next turns for as long as their looks
+    /// are there. No worker waits for another. One worker alone needs no board: it settles each look as soon as it has made it.
     pub fn window(
         &mut self,
         alloc: Global,
@@ -92,27 +95,30 @@ impl<'c, R: Threads + Sync, G: Gate> BoardCrew<'c, R, G> {
         ensures unchanged { OnErr result (field.new ≡ field.old) }
         ensures as_before { OnErr result (self.new ≡ self.old) }
     {
-        let counts = play(
+        let mut rooms = self.rooms.take().unwrap_or_else(|| Vec::new(alloc));
+        let played = play(
             self.rt,
             self.gate,
             alloc,
-            &mut self.alone,
+            &mut rooms,
             self.workers,
             field,
             from,
             to,
-        )?;
+        );
+        self.rooms = Some(rooms);
+        let counts = played?;
         self.turns = self.turns.saturating_add(u64::from(to - from));
         Ok(counts)
     }
 }
 
-// Plays a window by so many workers, or by a crew of one where no second worker would have a turn: then there is nobody to pass a book to.
+// Plays a window by so many workers, or by one alone where no second worker would have a turn: then there is nobody to pass a book to.
 fn play<R: Threads + Sync, G: Gate>(
     rt: &R,
     gate: &G,
     alloc: Global,
-    alone: &mut PieceCrew<'_, R, G>,
+    rooms: &mut Vec<Room<Look>>,
     workers: u32,
     field: &mut Field<'_>,
     from: u32,
@@ -125,9 +131,9 @@ fn play<R: Threads + Sync, G: Gate>(
     ensures unchanged { OnErr result (field.new ≡ field.old) }
 {
     if workers.min(to - from) <= 1 {
-        alone.window(alloc, field, from, to)
+        play_alone(gate, alloc, field, from, to)
     } else {
-        play_on_board(rt, gate, alloc, workers, field, from, to)
+        play_on_board(rt, gate, alloc, rooms, workers, field, from, to)
     }
 }
 
@@ -136,6 +142,7 @@ fn play_on_board<R: Threads + Sync, G: Gate>(
     rt: &R,
     gate: &G,
     alloc: Global,
+    rooms: &mut Vec<Room<Look>>,
     workers: u32,
     field: &mut Field<'_>,
     from: u32,
@@ -148,11 +155,13 @@ fn play_on_board<R: Threads + Sync, G: Gate>(
     ensures unchanged { OnErr result (field.new ≡ field.old) }
 {
     let guesses = guesses_in(alloc, field, from, to)?;
-    let laid = lay(alloc, field, workers.min(to - from) as usize, from, to)?;
+    let hired = workers.min(to - from) as usize;
+    let laid = lay(alloc, rooms, field, hired, from, to)?;
     let book = field.begin(alloc, from, to)?;
     let book = settle(
         rt,
         gate,
+        rooms,
         laid,
         book,
         field,
@@ -184,13 +193,14 @@ fn guesses_in(alloc: Global, field: &Field<'_>, from: u32, to: u32) -> Result<Ve
 struct Laid {
     board: Board,
     first: Seat,
-    rooms: Vec<Vec<u32>>,
+    lists: Vec<Vec<u32>>,
     workers: Vec<Worker>,
 }
 
 // A board of the window, its first seat, and room for so many workers.
 fn lay(
     alloc: Global,
+    rooms: &mut Vec<Room<Look>>,
     field: &Field<'_>,
     hired: usize,
     from: u32,
@@ -200,33 +210,34 @@ fn lay(
     requires few { hired ≤ 16 }
     ensures { IfOk result (IsLaid (books.window_of field.now from to)) }
 {
-    let rooms = rooms(alloc, hired, (to - from) as usize)?;
+    let lists = lists(alloc, hired, (to - from) as usize)?;
     let workers = Vec::with_capacity(alloc, hired)?;
-    let (board, first) = Board::new(alloc, field, from, to)?;
+    let (board, first) = Board::over(alloc, field, from, to, rooms)?;
     Ok(Laid {
         board,
         first,
-        rooms,
+        lists,
         workers,
     })
 }
 
 // So many empty lists, each with room for so many turns.
-fn rooms(alloc: Global, count: usize, turns: usize) -> Result<Vec<Vec<u32>>, OutOfMemory>
-    ensures rooms { IfOk result (λ rooms. All (IsRoom turns) rooms.items) }
-    ensures count { IfOk result (λ rooms. vec_len rooms ≡ count) }
+fn lists(alloc: Global, count: usize, turns: usize) -> Result<Vec<Vec<u32>>, OutOfMemory>
+    ensures lists { IfOk result (λ lists. All (IsRoom turns) lists.items) }
+    ensures count { IfOk result (λ lists. vec_len lists ≡ count) }
 {
-    let mut rooms = Vec::with_capacity(alloc, count)?;
+    let mut lists = Vec::with_capacity(alloc, count)?;
     for _ in 0..count {
-        rooms.push_reserved(Vec::with_capacity(alloc, turns)?);
+        lists.push_reserved(Vec::with_capacity(alloc, turns)?);
     }
-    Ok(rooms)
+    Ok(lists)
 }
 
 // Settles a window by workers over a board, and what they leave on this thread.
 fn settle<R: Threads + Sync, G: Gate>(
     rt: &R,
     gate: &G,
+    rooms: &mut Vec<Room<Look>>,
     laid: Laid,
     book: Book,
     field: &Field<'_>,
@@ -250,29 +261,29 @@ fn settle<R: Threads + Sync, G: Gate>(
     let Laid {
         board,
         mut first,
-        rooms,
+        lists,
         mut workers,
     } = laid;
     board.open_book(&mut first, book);
-    hire(&board, &mut first, &mut workers, rooms);
+    hire(&board, &mut first, &mut workers, lists);
     work_all(rt, gate, &board, field, guesses, &mut workers, threads);
     gather(&board, &mut first, workers);
-    let closed = board.close(first);
-    settle_left(closed, field, guesses, from, to)
+    let ended = board.take_apart(first);
+    settle_left(ended, rooms, field, guesses, from, to)
 }
 
-// Gives each room to a worker of its own, with a seat of its own.
-fn hire(board: &Board, first: &mut Seat, workers: &mut Vec<Worker>, mut rooms: Vec<Vec<u32>>)
+// Gives each list to a worker of its own, with a seat of its own.
+fn hire(board: &Board, first: &mut Seat, workers: &mut Vec<Worker>, mut lists: Vec<Vec<u32>>)
     requires manned { IsManned board.now first.old workers.old.items }
     requires hired { All (IsHired board.now) workers.old.items }
-    requires rooms { All (IsRoom (turns_in (window_of board.now))) rooms.items }
-    requires few { (known first.old).made + vec_len rooms ≤ 16 }
+    requires lists { All (IsRoom (turns_in (window_of board.now))) lists.items }
+    requires few { (known first.old).made + vec_len lists ≤ 16 }
     requires counted { vec_len workers.old ≤ (known first.old).made }
-    requires wide { vec_len workers.old + vec_len rooms ≤ vec_capacity workers.old }
+    requires wide { vec_len workers.old + vec_len lists ≤ vec_capacity workers.old }
     ensures manned { IsManned board.now first.new workers.new.items }
     ensures hired { All (IsHired board.now) workers.new.items }
 {
-    while let Some(made) = rooms.pop() {
+    while let Some(made) = lists.pop() {
         let seat = board.split(first);
         workers.push_reserved(worker(workers.len() as u32, seat, made));
     }
@@ -354,27 +365,45 @@ fn join(board: &Board, first: &mut Seat, worker: Worker)
 }
 
 // Settles what the workers left, by the looks that they left and, where one isn't there, by a look that is made here.
-fn settle_left(closed: Closed, field: &Field<'_>, guesses: &[u64], from: u32, to: u32) -> Book
-    requires stands { books.StandsOn field.now closed.book }
-    requires from { closed.book.from ≡ from }
-    requires to { closed.book.to ≡ to }
-    requires looks { AreLooks (books.window_of field.now from to) closed.looks.items }
-    requires all { to - from ≤ vec_len closed.looks }
+fn settle_left(
+    ended: Ended,
+    rooms: &mut Vec<Room<Look>>,
+    field: &Field<'_>,
+    guesses: &[u64],
+    from: u32,
+    to: u32,
+) -> Book
+    requires stands { books.StandsOn field.now ended.book }
+    requires from { ended.book.from ≡ from }
+    requires to { ended.book.to ≡ to }
+    requires looks { AreLooks (books.window_of field.now from to) ended.places.items }
+    requires all { to - from ≤ vec_len ended.places }
     requires guesses { guesses.now ≡ guesses_for (books.window_of field.now from to) }
     ensures stands { books.StandsOn field.now result }
     ensures from { result.from ≡ from }
     ensures to { result.to ≡ to }
     ensures next { result.next ≡ to }
 {
-    let Closed {
+    let Ended {
         mut book,
-        looks,
+        places,
+        room: _,
         drawn: _,
-    } = closed;
+    } = ended;
     while book.next() < to {
-        settle_next(&mut book, field, guesses, &looks, from, to);
+        settle_next(&mut book, field, guesses, &places, from, to);
     }
+    keep(rooms, places);
     book
+}
+
+// Keeps the rooms of looks in these places for another window, as far as there is memory for their list.
+fn keep(rooms: &mut Vec<Room<Look>>, mut places: Vec<Place>) {
+    while let Some(place) = places.pop() {
+        if let Some(room) = room_of(place) {
+            let _ = rooms.push(room);
+        }
+    }
 }
 
 // Settles the next turn.
@@ -382,7 +411,7 @@ fn settle_next(
     book: &mut Book,
     field: &Field<'_>,
     guesses: &[u64],
-    looks: &[Option<Look>],
+    places: &[Place],
     from: u32,
     to: u32,
 )
@@ -390,8 +419,8 @@ fn settle_next(
     requires from { book.old.from ≡ from }
     requires to { book.old.to ≡ to }
     requires left { book.old.next < to }
-    requires looks { AreLooks (books.window_of field.now from to) looks.now }
-    requires all { to - from ≤ length looks.now }
+    requires looks { AreLooks (books.window_of field.now from to) places.now }
+    requires all { to - from ≤ length places.now }
     requires guesses { guesses.now ≡ guesses_for (books.window_of field.now from to) }
     ensures stands { books.StandsOn field.now book.new }
     ensures from { book.new.from ≡ from }
@@ -399,7 +428,7 @@ fn settle_next(
     ensures next { book.new.next ≡ book.old.next + 1 }
 {
     let ticket = book.next() - from;
-    match &looks[ticket as usize] {
+    match look_in(&places[ticket as usize]) {
         Some(look) => advance(book, field, look),
         None => advance(book, field, &look_at(field, guesses, from, to, ticket)),
     }

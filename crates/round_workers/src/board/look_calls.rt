@@ -1,17 +1,29 @@
 // The looks of a board: they are put and taken.
-ghost use Rattle.std.specs.Prelude.{◌≡◌, ◌≢◌, ◌+◌, ◌-◌, ◌<◌, ◌≤◌, ℕ, true, IfSome, IfNone, OnSome};
+//
+// Both are a step on the look's word, by which the seat gets the room of the look, and a second one, by which it gives the room back.
+ghost use Rattle.std.specs.Prelude.{◌≡◌, ◌≢◌, ◌+◌, ◌-◌, ◌<◌, ◌≤◌, ◌^◌, ◌∷◌, ℕ, true, false, Some, IfSome, IfNone, OnSome, MatchBool};
+ghost use Rattle.atomic_table.specs.Table.{rest};
+ghost use Rattle.round_book.specs.Book as books;
+ghost use Rattle.round_book.specs.Book.{IsSameWindow, StandsOn};
 ghost use Rattle.round_book.specs.Machine.{times};
-ghost use Rattle.round_book.specs.Window.{look_for};
-ghost use Rattle.round_workers.specs.BoardPlays.{has_put, took_look};
+ghost use Rattle.round_book.specs.Window.{guess_for, look_for};
+ghost use Rattle.round_workers.specs.declared.board.view.Phase.TheVariants.{Resting, Putting, Taking};
+ghost use Rattle.round_workers.specs.declared.board.view.Place.TheVariants.{Nothing};
+ghost use Rattle.round_workers.specs.BoardPlays.{has_put, has_taken, puts_now, takes_now, took_look};
+ghost use Rattle.round_workers.specs.BoardRule.{StandsFor, turns_of};
 ghost use Rattle.round_workers.specs.BoardSeats.{IsMiss, IsSeatOf, basis_of, known, window_of};
+ghost use Rattle.round_workers.specs.BoardWorker.{IsLentFor};
 
 use crate::board::law::{HasPut, HasTaken, Puts, TakesLook};
-use crate::board::places::look_in;
+use crate::board::places::look_room;
+use crate::board::room::Room;
 use crate::board::seat::{Board, Seat};
-use crate::board::view::Place;
+use crate::board::view::{Place, View};
+use ant_random::Stream;
+use round_book::{Book, Field, advance};
 use spec_record::Look;
 
-// The word of the look of ticket 0, and what it says: its slot is empty, in a seat's hand, full or emptied.
+// The word of the look of ticket 0, and what the word of a look says (`look_empty` to `look_emptied` of `BoardView`).
 const FIRST_WORD: usize = 2;
 
 const EMPTY: u64 = 0;
@@ -26,8 +38,8 @@ const EMPTIED: u64 = 3;
 const FIRST_SLOT: usize = 1;
 
 impl Board {
-    /// Puts the look at a turn (this project's own). The turn is one of the window, the seat drew its ticket and hasn't put it, and the look is
-    /// that at the turn on the window's base at its guess.
+    /// Puts the look at a turn. The turn is one of the window, the seat drew its ticket and hasn't put it, and the look is that at the turn
+    /// on the window's base at its guess.
     pub fn put(&self, seat: &mut Seat, look: Look)
         requires board { IsSeatOf self.now seat.old }
         requires after_from { (basis_of self.now).from ≤ look.turn }
@@ -43,24 +55,84 @@ impl Board {
     }
 
     // Puts the look of a ticket.
+    #[inline]
     fn put_at(&self, seat: &mut Seat, ticket: usize, look: Look)
         requires board { IsSeatOf self.now seat.old }
-        requires ticket { ticket < (basis_of self.now).to - (basis_of self.now).from }
+        requires ticket { ticket < turns_of (basis_of self.now) }
         requires drew { 1 ≤ times ticket (known seat.old).drawn }
         requires unput { times ticket (known seat.old).put ≡ 0 }
         requires look { look ≡ look_for (window_of self.now) ((basis_of self.now).from + ticket) }
         ensures board { IsSeatOf self.now seat.new }
         ensures put { known seat.new ≡ has_put (known seat.old) ticket }
     {
-        let table = &self.table.shared;
-        table.compare_exchange::<Puts>(&mut seat.hand, ticket + FIRST_WORD, EMPTY, IN_HAND);
-        table.exchange(&mut seat.hand, ticket + FIRST_SLOT, Place::OneLook(look));
-        table.swap::<HasPut>(&mut seat.hand, ticket + FIRST_WORD, FULL);
+        let mut room = self.begin_put(&mut seat.hand, ticket);
+        room.put(look);
+        self.end_put(&mut seat.hand, ticket, room);
     }
 
-    /// Tries to take the look at a turn, once, without waiting (this project's own). The seat holds the book, and the turn is one of the window.
-    /// The look that it gets is that at the turn on the window's base at its guess. It gets none exactly where the try found that the look
-    /// wasn't there; the seat's tries rise by one either way, and what the try found is kept.
+    // Makes the look of a ticket in the room that it is put in, by a stream that stands at its guess.
+    #[inline]
+    pub(crate) fn look_and_put(
+        &self,
+        seat: &mut Seat,
+        field: &Field<'_>,
+        stream: &mut Stream,
+        ticket: u32,
+    )
+        requires board { IsSeatOf self.now seat.old }
+        requires field { IsLentFor field.now (window_of self.now) }
+        requires ticket { ticket < turns_of (basis_of self.now) }
+        requires drew { 1 ≤ times ticket (known seat.old).drawn }
+        requires unput { times ticket (known seat.old).put ≡ 0 }
+        requires seed { stream.old.seed ≡ (window_of self.now).seed }
+        requires guess { stream.old.place ≡ guess_for (window_of self.now) ((basis_of self.now).from + ticket) }
+        ensures board { IsSeatOf self.now seat.new }
+        ensures put { known seat.new ≡ has_put (known seat.old) ticket }
+        ensures seed { stream.new.seed ≡ stream.old.seed }
+    {
+        let turn = self.turn_of(ticket);
+        let mut room = self.begin_put(&mut seat.hand, ticket as usize);
+        room.look_at(field, stream, turn);
+        self.end_put(&mut seat.hand, ticket as usize, room);
+    }
+
+    // Gets the room of the look of a ticket, which has no look.
+    #[inline]
+    fn begin_put(&self, hand: &mut atomic_table::Seat<Place, View>, ticket: usize) -> Room<Look>
+        requires table { hand.old.table_id ≡ self.now.table.shared.table_id }
+        requires knows { hand.old.me.0.about ≡ Some (basis_of self.now) }
+        requires ticket { ticket < turns_of (basis_of self.now) }
+        requires rests { hand.old.me.0.phase ≡ Resting }
+        requires drew { 1 ≤ times ticket hand.old.me.0.drawn }
+        requires unput { times ticket hand.old.me.0.put ≡ 0 }
+        ensures table { hand.new.table_id ≡ hand.old.table_id }
+        ensures puts { hand.new.me ≡ (puts_now hand.old.me.0 ticket, (ticket + 1, Nothing) ∷ hand.old.me.1) }
+    {
+        let table = &self.table.shared;
+        table.compare_exchange::<Puts>(hand, ticket + FIRST_WORD, EMPTY, IN_HAND);
+        look_room(table.exchange(hand, ticket + FIRST_SLOT, Place::Nothing))
+    }
+
+    // Gives the room back, with the look of the ticket.
+    #[inline]
+    fn end_put(&self, hand: &mut atomic_table::Seat<Place, View>, ticket: usize, room: Room<Look>)
+        requires table { hand.old.table_id ≡ self.now.table.shared.table_id }
+        requires knows { hand.old.me.0.about ≡ Some (basis_of self.now) }
+        requires ticket { ticket < turns_of (basis_of self.now) }
+        requires putting { hand.old.me.0.phase ≡ Putting ticket }
+        requires out { hand.old.me.1 ≡ (ticket + 1, Nothing) ∷ rest hand.old.me.1 }
+        requires look { room ≡ Some (look_for (window_of self.now) ((basis_of self.now).from + ticket)) }
+        ensures table { hand.new.table_id ≡ hand.old.table_id }
+        ensures has_put { hand.new.me ≡ (has_put hand.old.me.0 ticket, rest hand.old.me.1) }
+    {
+        let table = &self.table.shared;
+        table.exchange(hand, ticket + FIRST_SLOT, Place::OneLook(room));
+        table.swap::<HasPut>(hand, ticket + FIRST_WORD, FULL);
+    }
+
+    /// Tries to take the look at a turn, once, without waiting. The seat holds the book, and the turn is one of the window. The look that
+    /// it gets is that at the turn on the window's base at its guess. It gets none exactly where the try found that the look wasn't there;
+    /// the seat's tries rise by one either way, and what the try found is kept.
     pub fn take_look(&self, seat: &mut Seat, turn: u32) -> Option<Look>
         requires board { IsSeatOf self.now seat.old }
         requires holds { (known seat.old).holds ≡ true }
@@ -75,26 +147,108 @@ impl Board {
     }
 
     // Tries to take the look of a ticket.
+    #[inline]
     fn take_at(&self, seat: &mut Seat, ticket: usize) -> Option<Look>
         requires board { IsSeatOf self.now seat.old }
-        requires ticket { ticket < (basis_of self.now).to - (basis_of self.now).from }
+        requires ticket { ticket < turns_of (basis_of self.now) }
         ensures board { IsSeatOf self.now seat.new }
         ensures look { IfSome result (λ look. look ≡ look_for (window_of self.now) ((basis_of self.now).from + ticket)) }
         ensures taken { OnSome result (known seat.new ≡ took_look (known seat.old) ticket) }
         ensures not_full { IfNone result (IsMiss ticket (known seat.old) (known seat.new)) }
     {
+        let Some(mut room) = self.begin_take(&mut seat.hand, ticket) else {
+            return None;
+        };
+        let look = room.take();
+        self.end_take(&mut seat.hand, ticket, room);
+        look
+    }
+
+    // Tries to settle the book's next turn by its look, once, without waiting. The look lies where it was put meanwhile.
+    #[inline]
+    pub(crate) fn settle_look(
+        &self,
+        hand: &mut atomic_table::Seat<Place, View>,
+        field: &Field<'_>,
+        book: &mut Book,
+    ) -> bool
+        requires table { hand.old.table_id ≡ self.now.table.shared.table_id }
+        requires knows { hand.old.me.0.about ≡ Some (basis_of self.now) }
+        requires rests { hand.old.me.0.phase ≡ Resting }
+        requires holds { hand.old.me.0.holds ≡ true }
+        requires field { IsLentFor field.now (window_of self.now) }
+        requires stands { StandsFor (window_of self.now) book.old }
+        requires left { book.old.next < (basis_of self.now).to }
+        ensures table { hand.new.table_id ≡ hand.old.table_id }
+        ensures out { hand.new.me.1 ≡ hand.old.me.1 }
+        ensures stands { StandsFor (window_of self.now) book.new }
+        ensures taken { result ≡ true → hand.new.me.0 ≡ took_look hand.old.me.0 (book.old.next - (basis_of self.now).from) }
+        ensures next { result ≡ true → book.new.next ≡ book.old.next + 1 }
+        ensures not_full { result ≡ false → IsMiss (book.old.next - (basis_of self.now).from) hand.old.me.0 hand.new.me.0 }
+    {
+        let ticket = (book.next() - self.from) as usize;
+        let Some(room) = self.begin_take(hand, ticket) else {
+            return false;
+        };
+        settle_by(book, field, &room);
+        self.end_take(hand, ticket, room);
+        true
+    }
+
+    // Tries to get the room of the look of a ticket, with the look.
+    #[inline]
+    fn begin_take(
+        &self,
+        hand: &mut atomic_table::Seat<Place, View>,
+        ticket: usize,
+    ) -> Option<Room<Look>>
+        requires table { hand.old.table_id ≡ self.now.table.shared.table_id }
+        requires knows { hand.old.me.0.about ≡ Some (basis_of self.now) }
+        requires ticket { ticket < turns_of (basis_of self.now) }
+        requires rests { hand.old.me.0.phase ≡ Resting }
+        ensures table { hand.new.table_id ≡ hand.old.table_id }
+        ensures look { IfSome result (λ room. room ≡ Some (look_for (window_of self.now) ((basis_of self.now).from + ticket))) }
+        ensures takes { OnSome result (hand.new.me ≡ (takes_now hand.old.me.0 ticket, (ticket + 1, Nothing) ∷ hand.old.me.1)) }
+        ensures not_full { IfNone result (IsMiss ticket hand.old.me.0 hand.new.me.0) }
+        ensures nothing { IfNone result (hand.new.me.1 ≡ hand.old.me.1) }
+    {
         let table = &self.table.shared;
-        let found = table.compare_exchange::<TakesLook>(
-            &mut seat.hand,
-            ticket + FIRST_WORD,
-            FULL,
-            IN_HAND,
-        );
+        let found = table.compare_exchange::<TakesLook>(hand, ticket + FIRST_WORD, FULL, IN_HAND);
         if found != FULL {
             return None;
         }
-        let place = table.exchange(&mut seat.hand, ticket + FIRST_SLOT, Place::Nothing);
-        table.swap::<HasTaken>(&mut seat.hand, ticket + FIRST_WORD, EMPTIED);
-        look_in(place)
+        Some(look_room(table.exchange(hand, ticket + FIRST_SLOT, Place::Nothing)))
+    }
+
+    // Gives the room back, in which no look waits any more.
+    #[inline]
+    fn end_take(&self, hand: &mut atomic_table::Seat<Place, View>, ticket: usize, room: Room<Look>)
+        requires table { hand.old.table_id ≡ self.now.table.shared.table_id }
+        requires knows { hand.old.me.0.about ≡ Some (basis_of self.now) }
+        requires ticket { ticket < turns_of (basis_of self.now) }
+        requires taking { hand.old.me.0.phase ≡ Taking ticket }
+        requires out { hand.old.me.1 ≡ (ticket + 1, Nothing) ∷ rest hand.old.me.1 }
+        ensures table { hand.new.table_id ≡ hand.old.table_id }
+        ensures has_taken { hand.new.me ≡ (has_taken hand.old.me.0 ticket, rest hand.old.me.1) }
+    {
+        let table = &self.table.shared;
+        table.exchange(hand, ticket + FIRST_SLOT, Place::Spare(room));
+        table.swap::<HasTaken>(hand, ticket + FIRST_WORD, EMPTIED);
+    }
+}
+
+// Settles the next turn by the look in a room, which is the one at it.
+#[inline]
+fn settle_by(book: &mut Book, field: &Field<'_>, room: &Room<Look>)
+    requires stands { StandsOn field.now book.old }
+    requires left { book.old.next < book.old.to }
+    requires look { room.now ≡ Some (look_for (books.window_of field.now book.old.from book.old.to) book.old.next) }
+    ensures stands { StandsOn field.now book.new }
+    ensures next { book.new.next ≡ book.old.next + 1 }
+    ensures same { IsSameWindow book.old book.new }
+{
+    match room.content() {
+        Some(look) => advance(book, field, look),
+        None => unreachable!(),
     }
 }

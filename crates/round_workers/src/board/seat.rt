@@ -9,17 +9,18 @@ use atomic_table::Table;
 use spec_record::Look;
 use std::alloc::Global;
 
-/// What a thread steps with on a board, and what it knows (this project's own).
+/// What a thread steps with on a board, and what it knows.
 #[derive(Drop)]
 pub struct Seat {
     pub(crate) hand: atomic_table::Seat<Place, View>,
     ghost at_rest: { IsAtRest hand.me },
 }
 
-/// The tickets, the book and the looks of one window of a field, passed between threads (this project's own).
+/// The tickets, the book and the looks of one window of a field, passed between threads.
 #[derive(Drop)]
 pub struct Board {
     pub(crate) table: Table<Place, View, Basis, Law, Global>,
+    pub(crate) places: Vec<Place>,
     pub(crate) room: Vec<Option<Look>>,
     pub(crate) from: u32,
     pub(crate) to: u32,
@@ -30,6 +31,8 @@ pub struct Board {
     ghost ids: { to ≤ table.shared.key.world.value.ids },
     ghost lasting: { table.shared.key.place + (to - from) < 2 ^ 63 },
     ghost forwards: { from ≤ to },
+    ghost unplaced: { places.items ≡ [] },
+    ghost wide: { to - from ≤ vec_capacity places },
     ghost bare: { room.items ≡ [] },
     ghost roomy: { to - from ≤ vec_capacity room },
 }

@@ -1,4 +1,5 @@
 // What lies in a board's slots, and what a seat of a board knows.
+use crate::board::room::Room;
 use ant_turn::Sheet;
 use brain_read::Brain;
 use cell_world::World;
@@ -7,19 +8,21 @@ use spec_record::Look;
 use std::collections::LinkedList;
 use std::snapshot::Snapshot;
 
-/// What lies in a slot of a board: nothing, the book of the board's window, or the look at one turn (this project's own).
+/// What lies in a slot of a board: the room of the book of the board's window, or the room of the look at one turn.
 #[derive(Drop)]
 pub enum Place {
-    /// Nothing.
+    /// Nothing: a seat has the room in hand.
     Nothing,
-    /// The book.
-    TheBook(Book),
-    /// A look.
-    OneLook(Look),
+    /// The room of the book, with the book or without it.
+    TheBook(Room<Book>),
+    /// The room of a look in which no look waits: it is empty, or has an old look.
+    Spare(Room<Look>),
+    /// The room of a look, with the look.
+    OneLook(Room<Look>),
 }
 
 /// The window that a board is for: its brains and the numbers of its rules, its seed, the world and the place with which it begins, and its
-/// turns (this project's own). Clauses alone see the brains and the world.
+/// turns. Clauses alone see the brains and the world.
 #[derive(Drop)]
 pub struct Basis {
     /// The brain of the red ants.
@@ -40,7 +43,7 @@ pub struct Basis {
     pub to: u32,
 }
 
-/// The last try of a seat for the book or for a look, and what it found in the word (this project's own). No value of it is made.
+/// The last try of a seat for the book or for a look, and what it found in the word. No value of it is made.
 pub enum Try {
     /// It tried for nothing yet.
     Never,
@@ -50,7 +53,7 @@ pub enum Try {
     OfLook(u64, u64),
 }
 
-/// Where a seat is: between two calls, or between the two steps of one (this project's own). No value of it is made.
+/// Where a seat is: between two calls, or between the two steps of one. No value of it is made.
 pub enum Phase {
     /// Between two calls.
     Resting,
@@ -62,7 +65,7 @@ pub enum Phase {
     Taking(u64),
 }
 
-/// What a seat of a board knows (this project's own). No value of it is made: clauses alone speak of it.
+/// What a seat of a board knows. No value of it is made: clauses alone speak of it.
 pub struct View {
     /// The window of its board. A seat that went into another knows nothing more.
     pub about: Option<Basis>,

@@ -1,20 +1,26 @@
 // Workers: who makes the looks of a window.
-ghost use Rattle.std.specs.Prelude.{◌≡◌, ◌+◌, ◌-◌, ◌<◌, ◌≤◌, ◌^◌, ℕ, true, false, length};
+ghost use Rattle.std.specs.Prelude.{◌≡◌, ◌+◌, ◌-◌, ◌<◌, ◌≤◌, ◌^◌, ℕ, true, false, length, Some, IsSomeAnd};
 ghost use Rattle.std.specs.List.{AllByRecursion};
 ghost use Rattle.std.specs.Vec.{vec_capacity};
 ghost use Rattle.round_book.specs.Machine.{times};
 ghost use Rattle.round_book.specs.Window.{look_for};
+ghost use Rattle.round_workers.specs.declared.board.view.Phase.TheVariants.{Resting};
 ghost use Rattle.round_workers.specs.BoardRule.{StandsFor};
 ghost use Rattle.round_workers.specs.BoardSeats.{IsSeatOf, basis_of, known, window_of};
 ghost use Rattle.round_workers.specs.BoardTotals.{late_among};
 ghost use Rattle.round_workers.specs.BoardWorker.{HasServed, IsLentFor, IsSameButTook, IsWorker, guesses_for, turns_in};
 
-use crate::board::looking::look_at;
+use crate::board::looking::reach;
+use crate::board::room::Room;
 use crate::board::seat::{Board, Seat};
+use crate::board::view::{Place, View};
 use ant_base::Gate;
-use round_book::{Book, Field, advance};
+use ant_random::Stream;
+use round_book::{Book, Field};
 
-/// Who makes looks on a board: its number, its seat, and the turns whose looks it made, in order (this project's own).
+/// Who makes looks on a board: its number, its seat, and the turns whose looks it made, in order. Its seat isn't the first one, doesn't
+/// hold the book, and has its own number as its one part; it put the look of each turn of the window that it drew, and `made` lists these
+/// turns.
 #[derive(Drop)]
 pub struct Worker {
     /// The number under which it announces its looks.
@@ -23,12 +29,12 @@ pub struct Worker {
     pub seat: Seat,
     /// The turns whose looks it made, in order.
     pub made: Vec<u32>,
-    ghost works: { IsWorker seat.hand.me.0 made.items },
+    pub ghost works: { IsWorker seat.hand.me.0 made.items },
 }
 
 impl Worker {
-    /// Draws tickets until one is behind the window, makes the look of each turn and puts it, and after each tries once for the book; with it
-    /// it settles the next turns for as long as their looks are there (this project's own).
+    /// Draws tickets until one is behind the window, makes the look of each turn and puts it, and after each tries once for the book; with
+    /// it it settles the next turns for as long as their looks are there.
     pub fn work<G: Gate>(&mut self, board: &Board, field: &Field<'_>, guesses: &[u64], gate: &G)
         requires board { IsSeatOf board.now self.old.seat }
         requires opened { (known self.old.seat).opened ≡ true }
@@ -44,10 +50,12 @@ impl Worker {
         ensures tries { (known self.old.seat).tries + length (known self.new.seat).put ≤ (known self.new.seat).tries + length (known self.old.seat).put }
     {
         let number = self.number;
+        let mut stream = Stream::from_seed(field.seed());
         while serve(
             number,
             &mut self.seat,
             &mut self.made,
+            &mut stream,
             board,
             field,
             guesses,
@@ -57,10 +65,12 @@ impl Worker {
 }
 
 // Draws a ticket and, where it is a turn's, makes the look, puts it and tries for the book. Whether it was a turn's.
+#[inline]
 fn serve<G: Gate>(
     number: u32,
     seat: &mut Seat,
     made: &mut Vec<u32>,
+    stream: &mut Stream,
     board: &Board,
     field: &Field<'_>,
     guesses: &[u64],
@@ -70,12 +80,14 @@ fn serve<G: Gate>(
     requires worker { IsWorker (known seat.old) made.old.items }
     requires opened { (known seat.old).opened ≡ true }
     requires early { AllByRecursion (λ k. k < turns_in (window_of board.now)) (known seat.old).drawn }
+    requires seed { stream.old.seed ≡ (window_of board.now).seed }
     requires field { IsLentFor field.now (window_of board.now) }
     requires guesses { guesses.now ≡ guesses_for (window_of board.now) }
     requires room { turns_in (window_of board.now) ≤ vec_capacity made.old }
     ensures board { IsSeatOf board.now seat.new }
     ensures worker { IsWorker (known seat.new) made.new.items }
     ensures served { HasServed (turns_in (window_of board.now)) (known seat.old) (known seat.new) result }
+    ensures seed { stream.new.seed ≡ stream.old.seed }
     ensures room { vec_capacity made.new ≡ vec_capacity made.old }
 {
     let ticket = board.draw(seat);
@@ -84,45 +96,90 @@ fn serve<G: Gate>(
     }
     let turn = board.turn_of(ticket);
     gate.before_look(number, turn);
-    let look = look_at(field, guesses, board.first(), board.end(), ticket);
+    reach(stream, guesses[ticket as usize]);
+    board.look_and_put(seat, field, stream, ticket);
     made.push_reserved(turn);
-    board.put(seat, look);
-    try_book(board, seat, field);
+    board.settle_with_book(seat, field);
     true
 }
 
-// Tries once for the book, and with it settles for as long as the next turn's look is there.
-fn try_book(board: &Board, seat: &mut Seat, field: &Field<'_>)
-    requires board { IsSeatOf board.now seat.old }
-    requires opened { (known seat.old).opened ≡ true }
-    requires free { (known seat.old).holds ≡ false }
+impl Room<Book> {
+    // Settles the next turns of the book in the room for as long as their looks are there. The seat has the room in hand.
+    #[inline]
+    pub(crate) fn settle(
+        &mut self,
+        board: &Board,
+        hand: &mut atomic_table::Seat<Place, View>,
+        field: &Field<'_>,
+    )
+        requires table { hand.old.table_id ≡ board.now.table.shared.table_id }
+        requires knows { hand.old.me.0.about ≡ Some (basis_of board.now) }
+        requires rests { hand.old.me.0.phase ≡ Resting }
+        requires holds { hand.old.me.0.holds ≡ true }
+        requires field { IsLentFor field.now (window_of board.now) }
+        requires stands { IsSomeAnd self.old (StandsFor (window_of board.now)) }
+        ensures table { hand.new.table_id ≡ hand.old.table_id }
+        ensures rests { hand.new.me.0.phase ≡ Resting }
+        ensures out { hand.new.me.1 ≡ hand.old.me.1 }
+        ensures same { IsSameButTook hand.old.me.0 hand.new.me.0 }
+        ensures tries { hand.old.me.0.tries ≤ hand.new.me.0.tries }
+        ensures stands { IsSomeAnd self.new (StandsFor (window_of board.now)) }
+    {
+        settle_in(&mut self.content, board, hand, field);
+    }
+}
+
+// The same of the book, which is there.
+#[inline]
+fn settle_in(
+    content: &mut Option<Book>,
+    board: &Board,
+    hand: &mut atomic_table::Seat<Place, View>,
+    field: &Field<'_>,
+)
+    requires table { hand.old.table_id ≡ board.now.table.shared.table_id }
+    requires knows { hand.old.me.0.about ≡ Some (basis_of board.now) }
+    requires rests { hand.old.me.0.phase ≡ Resting }
+    requires holds { hand.old.me.0.holds ≡ true }
     requires field { IsLentFor field.now (window_of board.now) }
-    ensures board { IsSeatOf board.now seat.new }
-    ensures same { IsSameButTook (known seat.old) (known seat.new) }
-    ensures tried { (known seat.old).tries + 1 ≤ (known seat.new).tries }
+    requires stands { IsSomeAnd content.old (StandsFor (window_of board.now)) }
+    ensures table { hand.new.table_id ≡ hand.old.table_id }
+    ensures rests { hand.new.me.0.phase ≡ Resting }
+    ensures out { hand.new.me.1 ≡ hand.old.me.1 }
+    ensures same { IsSameButTook hand.old.me.0 hand.new.me.0 }
+    ensures tries { hand.old.me.0.tries ≤ hand.new.me.0.tries }
+    ensures stands { IsSomeAnd content.new (StandsFor (window_of board.now)) }
 {
-    let Some(mut book) = board.take_book(seat) else {
-        return;
-    };
-    settle_looks(board, seat, field, &mut book);
-    board.give_book(seat, book);
+    match content {
+        Some(book) => settle_looks(board, hand, field, book),
+        None => unreachable!(),
+    }
 }
 
 // Settles the next turns of the book for as long as their looks are there.
-fn settle_looks(board: &Board, seat: &mut Seat, field: &Field<'_>, book: &mut Book)
-    requires board { IsSeatOf board.now seat.old }
-    requires holds { (known seat.old).holds ≡ true }
+#[inline]
+fn settle_looks(
+    board: &Board,
+    hand: &mut atomic_table::Seat<Place, View>,
+    field: &Field<'_>,
+    book: &mut Book,
+)
+    requires table { hand.old.table_id ≡ board.now.table.shared.table_id }
+    requires knows { hand.old.me.0.about ≡ Some (basis_of board.now) }
+    requires rests { hand.old.me.0.phase ≡ Resting }
+    requires holds { hand.old.me.0.holds ≡ true }
     requires field { IsLentFor field.now (window_of board.now) }
     requires stands { StandsFor (window_of board.now) book.old }
-    ensures board { IsSeatOf board.now seat.new }
-    ensures same { IsSameButTook (known seat.old) (known seat.new) }
-    ensures tries { (known seat.old).tries ≤ (known seat.new).tries }
+    ensures table { hand.new.table_id ≡ hand.old.table_id }
+    ensures rests { hand.new.me.0.phase ≡ Resting }
+    ensures out { hand.new.me.1 ≡ hand.old.me.1 }
+    ensures same { IsSameButTook hand.old.me.0 hand.new.me.0 }
+    ensures tries { hand.old.me.0.tries ≤ hand.new.me.0.tries }
     ensures stands { StandsFor (window_of board.now) book.new }
 {
     while book.next() < board.end() {
-        let Some(look) = board.take_look(seat, book.next()) else {
+        if !board.settle_look(hand, field, book) {
             return;
-        };
-        advance(book, field, &look);
+        }
     }
 }

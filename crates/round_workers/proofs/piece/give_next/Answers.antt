@@ -1,4 +1,4 @@
-use Rattle.std.proofs.Common.{◌∙◌, arith}
+use Rattle.std.proofs.Common.{arith}
 use Rattle.round_workers.proofs.PieceLemmas.{rooms-push, rooms-set}
 use Rattle.round_workers.proofs.piece.give_next.Goals as goal
 

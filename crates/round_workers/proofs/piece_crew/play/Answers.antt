@@ -1,4 +1,4 @@
-use Rattle.std.proofs.Common.{◌-◌, take, map, All, sym, ap, subst, arith}
+use Rattle.std.proofs.Common.{take, map, All, sym, ap, subst, arith}
 use Rattle.std.proofs.lemmas.List.Elements.{All-same}
 use Rattle.round_book.specs.Book.{BookValue, FieldValue, window_of}
 use Rattle.round_workers.specs.Inner.Pieces.{AreLooked, Follow, HasRoom}

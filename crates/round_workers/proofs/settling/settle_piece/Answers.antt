@@ -1,4 +1,4 @@
-use Rattle.std.proofs.Common.{◌≡◌, ◌+◌, ◌-◌, length, take, sym, ◌∙◌, ap, ap₂, arith}
+use Rattle.std.proofs.Common.{◌-◌, length, take, sym, ◌∙◌, ap, ap₂, arith}
 use Rattle.round_book.specs.Book.{window_of}
 use Rattle.round_book.specs.Window.{look_for}
 use Rattle.round_workers.proofs.PieceLemmas.{looked-item, looked-length}

@@ -9,11 +9,11 @@ abbrev pub invariant-loop-made : goal.invariant-loop-made
 invariant-loop-made l = record {
   manned : IsManned l.board l.first l.workers.items;
   hired : All (IsHired l.board) l.workers.items;
-  rooms : All (IsRoom (turns_in (window_of l.board))) l.rooms.items;
+  lists : All (IsRoom (turns_in (window_of l.board))) l.lists.items;
   count : vec_len l.workers ≤ (known l.first).made;
-  few : (known l.first).made + vec_len l.rooms ≤ 16;
-  wide : vec_len l.workers + vec_len l.rooms ≤ vec_capacity l.workers;
+  few : (known l.first).made + vec_len l.lists ≤ 16;
+  wide : vec_len l.workers + vec_len l.lists ≤ vec_capacity l.workers;
 }
 
 abbrev pub decreases-loop-made : goal.decreases-loop-made
-decreases-loop-made l = length l.rooms.items
+decreases-loop-made l = length l.lists.items

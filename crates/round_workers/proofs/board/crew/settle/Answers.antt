@@ -32,8 +32,8 @@ hire-requires-clause-manned g c =
 pub hire-requires-clause-hired : goal.hire-requires-clause-hired
 hire-requires-clause-hired g c = All-same (IsHired c.args.laid.board) c.args.laid.workers.items [] c.requires.laid.bare (All-nil (IsHired c.args.laid.board))
 
-pub hire-requires-clause-rooms : goal.hire-requires-clause-rooms
-hire-requires-clause-rooms g c = subst (λ (w : Window). All (IsRoom (turns_in w)) c.args.laid.rooms.items) (sym c.requires.laid.window) c.requires.laid.rooms
+pub hire-requires-clause-lists : goal.hire-requires-clause-lists
+hire-requires-clause-lists g c = subst (λ (w : Window). All (IsRoom (turns_in w)) c.args.laid.lists.items) (sym c.requires.laid.window) c.requires.laid.lists
 
 pub work_all-requires-clause-field : goal.work_all-requires-clause-field
 work_all-requires-clause-field g c κs within =
@@ -48,19 +48,19 @@ pub settle_left-requires-clause-stands : goal.settle_left-requires-clause-stands
 settle_left-requires-clause-stands g c =
     let board = c.args.laid.board in let field = c.args.field.now in let laid = c.requires.laid in
     let lent = lent-for field c.args.from c.args.to (window_of board) laid.window c.requires.stands.lent in
-    on-for field (window_of board) lent c.close-closed.result.book c.close-closed.ensures.book
+    on-for field (window_of board) lent c.take_apart-ended.result.book c.take_apart-ended.ensures.book
 
 pub settle_left-requires-clause-from : goal.settle_left-requires-clause-from
-settle_left-requires-clause-from g c = c.close-closed.ensures.book.stands.from ∙ ap (λ (w : Window). w.from) c.requires.laid.window
+settle_left-requires-clause-from g c = c.take_apart-ended.ensures.book.stands.from ∙ ap (λ (w : Window). w.from) c.requires.laid.window
 
 pub settle_left-requires-clause-to : goal.settle_left-requires-clause-to
-settle_left-requires-clause-to g c = c.close-closed.ensures.book.stands.to ∙ ap (λ (w : Window). w.to) c.requires.laid.window
+settle_left-requires-clause-to g c = c.take_apart-ended.ensures.book.stands.to ∙ ap (λ (w : Window). w.to) c.requires.laid.window
 
 pub settle_left-requires-clause-looks : goal.settle_left-requires-clause-looks
 settle_left-requires-clause-looks g c =
     let board = c.args.laid.board in let field = c.args.field.now in let laid = c.requires.laid in
     let lent = lent-for field c.args.from c.args.to (window_of board) laid.window c.requires.stands.lent in
-    subst (λ (w : Window). AreLooks w c.close-closed.result.looks.items) laid.window (looks-left (window_of board) (known c.gather.new.first) c.close-closed.result.looks.items c.close-closed.ensures.looks)
+    subst (λ (w : Window). AreLooks w c.take_apart-ended.result.places.items) laid.window (looks-left (window_of board) (known c.gather.new.first) c.take_apart-ended.result.places.items c.take_apart-ended.ensures.looks)
 
 pub gather-requires-clause-manned : goal.gather-requires-clause-manned
 gather-requires-clause-manned g c =

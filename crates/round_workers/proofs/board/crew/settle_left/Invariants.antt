@@ -9,8 +9,8 @@ invariant-loop-book l = record {
   stands : StandsOn l.field l.book;
   begins : l.book.from ≡ l.from;
   ends : l.book.to ≡ l.to;
-  looks : AreLooks (window_of l.field l.from l.to) l.looks.items;
-  all : l.to - l.from ≤ vec_len l.looks;
+  looks : AreLooks (window_of l.field l.from l.to) l.places.items;
+  all : l.to - l.from ≤ vec_len l.places;
 }
 
 abbrev pub decreases-loop-book : goal.decreases-loop-book

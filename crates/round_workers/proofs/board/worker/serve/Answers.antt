@@ -1,12 +1,12 @@
-use Rattle.std.proofs.Common.{◌≡◌, ℕ, ◌+◌, ◌-◌, ◌<◌, ◌≤◌, arith, sym, ap, ap₂, ◌∙◌, subst}
+use Rattle.std.proofs.Common.{◌≡◌, ℕ, ◌+◌, ◌-◌, ◌<◌, ◌≤◌, List, length, slice_index_or, arith, sym, ap, ◌∙◌, subst}
 use Rattle.round_book.specs.Machine.{times}
-use Rattle.round_book.specs.Window.{look_for}
-use Rattle.round_workers.specs.BoardPlays.{has_put}
+use Rattle.round_book.specs.Window.{guess_for}
+use Rattle.round_book.proofs.SoloLemmas.{guess_for-le}
 use Rattle.round_workers.specs.BoardSeats.{basis_of, known, window_of}
 use Rattle.round_workers.specs.BoardView.{window_about}
 use Rattle.round_workers.specs.BoardWorker.{turns_in}
 use Rattle.round_workers.specs.declared.board.view.View.{View}
-use Rattle.round_workers.proofs.BoardWorking.{late-is, late-served, look-again, look-turn, made-few, more-is, more-served, new-drawn, unput, window_at}
+use Rattle.round_workers.proofs.BoardWorking.{guess-at, guess-length, late-is, late-served, made-few, more-is, more-served, new-drawn, unput}
 use Rattle.round_workers.proofs.board.worker.serve.Goals as goal
 
 pub returns-then-ticket-turns-clause-worker : goal.returns-then-ticket-turns-clause-worker
@@ -27,84 +27,50 @@ push_reserved-requires g c =
     let n = ap (λ z. turns_in (window_about z)) (sym c.requires.board.knows) in
     let few = made-few v _ c.requires.worker t c.draw-ticket.ensures.greater in let l = c.if-ticket-turns.false in let b = c.turns.ensures in let room = c.requires.room in omega arith
 
-pub put-requires-clause-after_from : goal.put-requires-clause-after_from
-put-requires-clause-after_from g c =
-    let key = basis_of c.args.board.now in let v = known c.args.seat.now in let t : ℕ = c.draw-ticket.result in
-    let n = ap (λ z. turns_in (window_about z)) (sym c.requires.board.knows) in
-    let from = key.from in let look = c.look_at-look.result in
-    let at = window_at c.args.field.now (window_of c.args.board.now) c.requires.field _ _ c.first.ensures c.end.ensures in
-    let is = c.look_at-look.ensures ∙ ap₂ (λ w k. look_for w (k + t)) at c.first.ensures in
-    let turn : look.turn ≡ from + t = look-turn (window_of c.args.board.now) look (from + t) is in
-    let inside : t < key.to - key.from = (let l = c.if-ticket-turns.false in let b = c.turns.ensures in omega arith) in
-    omega arith
+pub bounds-guesses-ticket : goal.bounds-guesses-ticket
+bounds-guesses-ticket g c =
+    let long : length c.args.guesses.now ≡ turns_in (window_of c.args.board.now) = ap length c.requires.guesses ∙ guess-length (window_of c.args.board.now) in
+    let l = c.if-ticket-turns.false in let b = c.turns.ensures in omega arith
 
-pub put-requires-clause-before_to : goal.put-requires-clause-before_to
-put-requires-clause-before_to g c =
-    let key = basis_of c.args.board.now in let v = known c.args.seat.now in let t : ℕ = c.draw-ticket.result in
-    let n = ap (λ z. turns_in (window_about z)) (sym c.requires.board.knows) in
-    let from = key.from in let look = c.look_at-look.result in
-    let at = window_at c.args.field.now (window_of c.args.board.now) c.requires.field _ _ c.first.ensures c.end.ensures in
-    let is = c.look_at-look.ensures ∙ ap₂ (λ w k. look_for w (k + t)) at c.first.ensures in
-    let turn : look.turn ≡ from + t = look-turn (window_of c.args.board.now) look (from + t) is in
-    let inside : t < key.to - key.from = (let l = c.if-ticket-turns.false in let b = c.turns.ensures in omega arith) in
-    omega arith
+pub reach-requires : goal.reach-requires
+reach-requires g c =
+    let board = c.args.board.now in let w = window_of board in let t : ℕ = c.draw-ticket.result in let inside : t < turns_in w = (let l = c.if-ticket-turns.false in let b = c.turns.ensures in omega arith) in
+    let is : slice_index_or c.args.guesses.now t 0 ≡ guess_for w (w.from + t) = ap (λ (l : List ℕ). slice_index_or l t 0) c.requires.guesses ∙ guess-at w t 0 inside in
+    let few = guess_for-le w (w.from + t) in let lasting = board.lasting in let a = board.first in let b = board.last in omega arith
 
-pub put-requires-clause-drew : goal.put-requires-clause-drew
-put-requires-clause-drew g c =
-    let key = basis_of c.args.board.now in let v = known c.args.seat.now in let t : ℕ = c.draw-ticket.result in
-    let n = ap (λ z. turns_in (window_about z)) (sym c.requires.board.knows) in
-    let from = key.from in let look = c.look_at-look.result in
-    let at = window_at c.args.field.now (window_of c.args.board.now) c.requires.field _ _ c.first.ensures c.end.ensures in
-    let is = c.look_at-look.ensures ∙ ap₂ (λ w k. look_for w (k + t)) at c.first.ensures in
-    let turn : look.turn ≡ from + t = look-turn (window_of c.args.board.now) look (from + t) is in
-    let inside : t < key.to - key.from = (let l = c.if-ticket-turns.false in let b = c.turns.ensures in omega arith) in
-    let back : t ≡ look.turn - from = omega arith in
-    subst (λ (m : ℕ). 1 ≤ times m (known c.draw-ticket.new.seat).drawn) back (subst (λ (u : View). 1 ≤ times t u.drawn) (sym c.draw-ticket.ensures.drew) (new-drawn v _ c.requires.worker t c.draw-ticket.ensures.greater))
+pub look_and_put-requires-clause-ticket : goal.look_and_put-requires-clause-ticket
+look_and_put-requires-clause-ticket g c = let l = c.if-ticket-turns.false in let b = c.turns.ensures in omega arith
 
-pub put-requires-clause-unput : goal.put-requires-clause-unput
-put-requires-clause-unput g c =
-    let key = basis_of c.args.board.now in let v = known c.args.seat.now in let t : ℕ = c.draw-ticket.result in
-    let n = ap (λ z. turns_in (window_about z)) (sym c.requires.board.knows) in
-    let from = key.from in let look = c.look_at-look.result in
-    let at = window_at c.args.field.now (window_of c.args.board.now) c.requires.field _ _ c.first.ensures c.end.ensures in
-    let is = c.look_at-look.ensures ∙ ap₂ (λ w k. look_for w (k + t)) at c.first.ensures in
-    let turn : look.turn ≡ from + t = look-turn (window_of c.args.board.now) look (from + t) is in
-    let inside : t < key.to - key.from = (let l = c.if-ticket-turns.false in let b = c.turns.ensures in omega arith) in
-    let back : t ≡ look.turn - from = omega arith in
-    subst (λ (m : ℕ). times m (known c.draw-ticket.new.seat).put ≡ 0) back (subst (λ (u : View). times t u.put ≡ 0) (sym c.draw-ticket.ensures.drew) (unput v _ c.requires.worker t c.draw-ticket.ensures.greater))
+pub look_and_put-requires-clause-drew : goal.look_and_put-requires-clause-drew
+look_and_put-requires-clause-drew g c =
+    let t : ℕ = c.draw-ticket.result in subst (λ (u : View). 1 ≤ times t u.drawn) (sym c.draw-ticket.ensures.drew) (new-drawn (known c.args.seat.now) _ c.requires.worker t c.draw-ticket.ensures.greater)
 
-pub put-requires-clause-look : goal.put-requires-clause-look
-put-requires-clause-look g c =
-    let key = basis_of c.args.board.now in let v = known c.args.seat.now in let t : ℕ = c.draw-ticket.result in
-    let n = ap (λ z. turns_in (window_about z)) (sym c.requires.board.knows) in
-    let from = key.from in let look = c.look_at-look.result in
-    let at = window_at c.args.field.now (window_of c.args.board.now) c.requires.field _ _ c.first.ensures c.end.ensures in
-    let is = c.look_at-look.ensures ∙ ap₂ (λ w k. look_for w (k + t)) at c.first.ensures in
-    let turn : look.turn ≡ from + t = look-turn (window_of c.args.board.now) look (from + t) is in
-    let inside : t < key.to - key.from = (let l = c.if-ticket-turns.false in let b = c.turns.ensures in omega arith) in
-    look-again (window_of c.args.board.now) look (from + t) is
+pub look_and_put-requires-clause-unput : goal.look_and_put-requires-clause-unput
+look_and_put-requires-clause-unput g c =
+    let t : ℕ = c.draw-ticket.result in subst (λ (u : View). times t u.put ≡ 0) (sym c.draw-ticket.ensures.drew) (unput (known c.args.seat.now) _ c.requires.worker t c.draw-ticket.ensures.greater)
+
+pub look_and_put-requires-clause-seed : goal.look_and_put-requires-clause-seed
+look_and_put-requires-clause-seed g c = c.reach.ensures.seed ∙ c.requires.seed
+
+pub look_and_put-requires-clause-guess : goal.look_and_put-requires-clause-guess
+look_and_put-requires-clause-guess g c =
+    let w = window_of c.args.board.now in let t : ℕ = c.draw-ticket.result in let inside : t < turns_in w = (let l = c.if-ticket-turns.false in let b = c.turns.ensures in omega arith) in
+    c.reach.ensures.place ∙ (ap (λ (l : List ℕ). slice_index_or l t 0) c.requires.guesses ∙ guess-at w t 0 inside)
 
 pub returns-clause-worker : goal.returns-clause-worker
 returns-clause-worker g c =
     let key = basis_of c.args.board.now in let v = known c.args.seat.now in let t : ℕ = c.draw-ticket.result in
     let n = ap (λ z. turns_in (window_about z)) (sym c.requires.board.knows) in
-    let from = key.from in let look = c.look_at-look.result in
-    let at = window_at c.args.field.now (window_of c.args.board.now) c.requires.field _ _ c.first.ensures c.end.ensures in
-    let is = c.look_at-look.ensures ∙ ap₂ (λ w k. look_for w (k + t)) at c.first.ensures in
-    let turn : look.turn ≡ from + t = look-turn (window_of c.args.board.now) look (from + t) is in
     let inside : t < key.to - key.from = (let l = c.if-ticket-turns.false in let b = c.turns.ensures in omega arith) in
-    let back : look.turn - from ≡ t = omega arith in
-    more-is v _ _ _ _ t _ n c.requires.worker c.draw-ticket.ensures.drew c.draw-ticket.ensures.greater inside (c.put.ensures.put ∙ ap (has_put (known c.draw-ticket.new.seat)) back) c.try_book.ensures.same c.try_book.ensures.tried
-    _ c.turn_of-turn.result from (ap (λ z. (window_about z).from) (sym c.requires.board.knows)) c.turn_of-turn.ensures c.push_reserved.ensures.items
+    more-is v _ _ _ _ t _ n c.requires.worker c.draw-ticket.ensures.drew c.draw-ticket.ensures.greater inside c.look_and_put.ensures.put c.settle_with_book.ensures.same c.settle_with_book.ensures.tried
+    _ c.turn_of-turn.result key.from (ap (λ z. (window_about z).from) (sym c.requires.board.knows)) c.turn_of-turn.ensures c.push_reserved.ensures.items
 
 pub returns-clause-served : goal.returns-clause-served
 returns-clause-served g c =
     let key = basis_of c.args.board.now in let v = known c.args.seat.now in let t : ℕ = c.draw-ticket.result in
     let n = ap (λ z. turns_in (window_about z)) (sym c.requires.board.knows) in
-    let from = key.from in let look = c.look_at-look.result in
-    let at = window_at c.args.field.now (window_of c.args.board.now) c.requires.field _ _ c.first.ensures c.end.ensures in
-    let is = c.look_at-look.ensures ∙ ap₂ (λ w k. look_for w (k + t)) at c.first.ensures in
-    let turn : look.turn ≡ from + t = look-turn (window_of c.args.board.now) look (from + t) is in
     let inside : t < key.to - key.from = (let l = c.if-ticket-turns.false in let b = c.turns.ensures in omega arith) in
-    let back : look.turn - from ≡ t = omega arith in
-    more-served v _ _ _ _ t _ n c.requires.worker c.draw-ticket.ensures.drew c.draw-ticket.ensures.greater inside (c.put.ensures.put ∙ ap (has_put (known c.draw-ticket.new.seat)) back) c.try_book.ensures.same c.try_book.ensures.tried
+    more-served v _ _ _ _ t _ n c.requires.worker c.draw-ticket.ensures.drew c.draw-ticket.ensures.greater inside c.look_and_put.ensures.put c.settle_with_book.ensures.same c.settle_with_book.ensures.tried
+
+pub returns-clause-seed : goal.returns-clause-seed
+returns-clause-seed g c = c.look_and_put.ensures.seed ∙ c.reach.ensures.seed

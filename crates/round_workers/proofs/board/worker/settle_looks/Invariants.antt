@@ -1,16 +1,19 @@
-use Rattle.std.proofs.Common.{◌-◌, ◌≤◌}
+use Rattle.std.proofs.Common.{◌≡◌, ◌-◌, ◌≤◌}
+use Rattle.round_workers.specs.declared.board.view.Phase.TheVariants.{Resting}
 use Rattle.round_workers.specs.BoardRule.{StandsFor}
-use Rattle.round_workers.specs.BoardSeats.{IsSeatOf, known, window_of}
+use Rattle.round_workers.specs.BoardSeats.{window_of}
 use Rattle.round_workers.specs.BoardWorker.{IsSameButTook}
 use Rattle.round_workers.proofs.board.worker.settle_looks.Given as goal
 
-abbrev pub invariant-loop-seat : goal.invariant-loop-seat
-invariant-loop-seat l = record {
-  seat : IsSeatOf l.board l.seat;
-  same : IsSameButTook (known l.fn.seat) (known l.seat);
-  tries : (known l.fn.seat).tries ≤ (known l.seat).tries;
+abbrev pub invariant-loop-hand : goal.invariant-loop-hand
+invariant-loop-hand l = record {
+  table : l.hand.table_id ≡ l.fn.hand.table_id;
+  rests : l.hand.me.0.phase ≡ Resting;
+  out : l.hand.me.1 ≡ l.fn.hand.me.1;
+  same : IsSameButTook l.fn.hand.me.0 l.hand.me.0;
+  tries : l.fn.hand.me.0.tries ≤ l.hand.me.0.tries;
   stands : StandsFor (window_of l.board) l.book;
 }
 
-abbrev pub decreases-loop-seat : goal.decreases-loop-seat
-decreases-loop-seat l = l.book.to - l.book.next
+abbrev pub decreases-loop-hand : goal.decreases-loop-hand
+decreases-loop-hand l = l.book.to - l.book.next

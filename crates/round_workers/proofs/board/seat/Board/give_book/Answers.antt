@@ -1,25 +1,35 @@
-use Rattle.std.proofs.Common.{arith, sym, ap, ◌∙◌, [], subst}
-use mathlib.Core.Option as maybe
-use Rattle.atomic_table.specs.Table.{Allows, step}
+use Rattle.std.proofs.Common.{None, Some, sym, ap, ◌∙◌, [], ◌∷◌, subst}
+use Rattle.std.specs.Prelude.{IsSomeAnd}
 use Rattle.round_workers.specs.declared.board.view.Place.TheVariants.{Nothing, TheBook}
-use Rattle.round_workers.specs.BoardPlays.{tells_give_book}
-use Rattle.round_workers.specs.BoardRule.{IsKept}
-use Rattle.round_workers.specs.BoardSeats.{basis_of}
+use Rattle.round_workers.specs.Inner.BoardPlaces.{book_room}
+use Rattle.round_workers.specs.BoardRule.{StandsFor}
+use Rattle.round_workers.specs.BoardSeats.{window_of}
 use Rattle.round_workers.specs.BoardView.{out_with}
-use Rattle.round_workers.proofs.BoardBook.{gives-book}
-use Rattle.round_workers.proofs.BoardMoves.{At, slot-held, swapped}
+use Rattle.round_workers.proofs.BoardMoves.{At, lay-in, slot-held, some-there, swapped}
 use Rattle.round_workers.proofs.board.seat.Board.give_book.Goals as goal
 
-pub exchange-requires : goal.exchange-requires
-exchange-requires c = let me = c.args.seat.now.hand.me in let out = c.args.seat.now.at_rest.out ∙ ap out_with c.requires.holds in
-    (c.requires.board.table, (Nothing, slot-held _ me.0 0 Nothing [] (λ i. (me.0, out i))))
+pub exchange-place-requires : goal.exchange-place-requires
+exchange-place-requires c = let me = c.args.seat.now.hand.me in let out = c.args.seat.now.at_rest.out ∙ ap out_with c.requires.holds in
+    (c.requires.board.table, (TheBook None, slot-held _ me.0 0 (TheBook None) [] (λ i. (me.0, out i))))
 
-pub swap-requires : goal.swap-requires
-swap-requires c =
-    let wide = c.args.self.now.words in let me = c.args.seat.now.hand.me in let key = basis_of c.args.self.now in let out = c.args.seat.now.at_rest.out ∙ ap out_with c.requires.holds in
-    let now = swapped _ _ me.0 0 Nothing (TheBook c.args.book) [] (λ i. (me.0, out i)) c.exchange.ensures.3 in (
-      c.exchange.ensures.0 ∙ c.requires.board.table,
-      omega arith,
-      subst (λ (m : At). Allows (IsKept key) c.args.self.now.table.shared.table_id.slots c.exchange.new.seat.id m 1 (λ _. 0) (tells_give_book (step c.args.self.now.table.shared.table_id.slots 1 0 0 maybe.none) m)) (sym now)
-          (gives-book key c.args.self.now.table.shared.table_id.slots c.exchange.new.seat.id me.0 c.requires.board.knows [] c.args.book c.requires.stands c.requires.holds),
-    )
+pub book_room-room-requires : goal.book_room-room-requires
+book_room-room-requires c = let me = c.args.seat.now.hand.me in let out = c.args.seat.now.at_rest.out ∙ ap out_with c.requires.holds in
+    some-there _ None (ap book_room (sym (lay-in _ me.0 0 (TheBook None) _ [] _ (λ i. (me.0, out i)) c.exchange-place.ensures.2)))
+
+pub end_book-requires-clause-table : goal.end_book-requires-clause-table
+end_book-requires-clause-table c = c.exchange-place.ensures.0 ∙ c.requires.board.table
+
+pub end_book-requires-clause-knows : goal.end_book-requires-clause-knows
+end_book-requires-clause-knows c = let me = c.args.seat.now.hand.me in let out = c.args.seat.now.at_rest.out ∙ ap out_with c.requires.holds in
+    ap (λ (m : At). m.0.about) (swapped _ _ me.0 0 (TheBook None) Nothing [] (λ i. (me.0, out i)) c.exchange-place.ensures.3) ∙ c.requires.board.knows
+
+pub end_book-requires-clause-holds : goal.end_book-requires-clause-holds
+end_book-requires-clause-holds c = let me = c.args.seat.now.hand.me in let out = c.args.seat.now.at_rest.out ∙ ap out_with c.requires.holds in
+    ap (λ (m : At). m.0.holds) (swapped _ _ me.0 0 (TheBook None) Nothing [] (λ i. (me.0, out i)) c.exchange-place.ensures.3) ∙ c.requires.holds
+
+pub end_book-requires-clause-out : goal.end_book-requires-clause-out
+end_book-requires-clause-out c = let me = c.args.seat.now.hand.me in let out = c.args.seat.now.at_rest.out ∙ ap out_with c.requires.holds in
+    slot-held _ me.0 0 Nothing [] (swapped _ _ me.0 0 (TheBook None) Nothing [] (λ i. (me.0, out i)) c.exchange-place.ensures.3)
+
+pub end_book-requires-clause-stands : goal.end_book-requires-clause-stands
+end_book-requires-clause-stands c = subst (λ content. IsSomeAnd content (StandsFor (window_of c.args.self.now))) (sym c.put.ensures) c.requires.stands

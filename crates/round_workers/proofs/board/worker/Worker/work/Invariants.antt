@@ -5,16 +5,17 @@ use Rattle.round_workers.specs.BoardSeats.{IsSeatOf, known, window_of}
 use Rattle.round_workers.specs.BoardWorker.{turns_in}
 use Rattle.round_workers.proofs.board.worker.Worker.work.Given as goal
 
-abbrev pub invariant-loop : goal.invariant-loop
-invariant-loop g l = record {
+abbrev pub invariant-loop-stream : goal.invariant-loop-stream
+invariant-loop-stream g l = record {
   seat : IsSeatOf l.board l.self.seat;
   number : l.self.number ≡ l.fn.self.number;
   seat_number : (known l.self.seat).number ≡ (known l.fn.self.seat).number;
   opened : (known l.self.seat).opened ≡ true;
   early : AllByRecursion (λ k. k < turns_in (window_of l.board)) (known l.self.seat).drawn;
+  seed : l.stream.seed ≡ (window_of l.board).seed;
   room : turns_in (window_of l.board) ≤ vec_capacity l.self.made;
   tries : (known l.fn.self.seat).tries + length (known l.self.seat).put ≤ (known l.self.seat).tries + length (known l.fn.self.seat).put;
 }
 
-abbrev pub decreases-loop : goal.decreases-loop
-decreases-loop g l = turns_in (window_of l.board) + 1 - length (known l.self.seat).drawn
+abbrev pub decreases-loop-stream : goal.decreases-loop-stream
+decreases-loop-stream g l = turns_in (window_of l.board) + 1 - length (known l.self.seat).drawn

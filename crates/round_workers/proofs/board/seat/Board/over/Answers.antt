@@ -1,11 +1,11 @@
-use Rattle.std.proofs.Common.{ap, ap₂, sym, ◌∙◌, ℕ, ◌+◌, ◌-◌, replicate}
-use Rattle.round_workers.specs.declared.board.view.Place.TheVariants.{Nothing}
+use Rattle.std.proofs.Common.{ap, ap₂, sym, ◌∙◌, ℕ, ◌+◌, ◌-◌, replicate, subst}
+use Rattle.round_workers.specs.Inner.BoardPlaces.{AreBare}
 use Rattle.round_workers.proofs.BoardSeating.{starts-so}
-use Rattle.round_workers.proofs.board.seat.Board.new.Goals as goal
+use Rattle.round_workers.proofs.board.seat.Board.over.Goals as goal
 
 pub new-requires : goal.new-requires
 new-requires c =
     let turns = ap₂ (λ (a b : ℕ). a - b) (sym c.basis-basis.ensures.to) (sym c.basis-basis.ensures.from) in
     starts-so c.basis-basis.result c.deref.result.now c.in_ok-slots.slots.items c.basis-basis.ensures.playable
     (c.deref.ensures.value ∙ (c.in_ok-words.ensures.items_if_clones_equal (λ y e. e) ∙ ap (λ (n : ℕ). replicate (n + 2) 0) turns))
-    (c.in_ok-slots.ensures ∙ ap (λ (n : ℕ). replicate (n + 1) Nothing) turns)
+    (subst (λ (n : ℕ). AreBare n c.in_ok-slots.slots.items) turns c.in_ok-slots.ensures)
