@@ -147,7 +147,16 @@ fn check_by<R: Threads + Sync + Abort, G: Gate>(
     out: &str,
     err: &str,
 ) -> Result<(), Fail> {
-    check_over(rt, alloc, job, files_of(alloc, job)?, gate, status, out, err)
+    check_over(
+        rt,
+        alloc,
+        job,
+        files_of(alloc, job)?,
+        gate,
+        status,
+        out,
+        err,
+    )
 }
 
 // Asserts what comes of a command over these files.

@@ -203,10 +203,7 @@ const UNMINIMISED: [(&str, &str); 8] = [
     ("Flip 0 0 0", "ants: b: line 1: bad number\n"),
     ("Drop \u{e4}", "ants: b: line 1: bad byte\n"),
     ("Drop 1\n", "ants: b: line 1: no such state 1\n"),
-    (
-        "Drop 0\nMove 0 2\n",
-        "ants: b: line 2: no such state 2\n",
-    ),
+    ("Drop 0\nMove 0 2\n", "ants: b: line 2: no such state 2\n"),
 ];
 
 #[test]

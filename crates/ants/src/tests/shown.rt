@@ -90,7 +90,14 @@ fn a_world_holds_up_to_16384_ants(rt: HostRuntime) -> Result<(), Fail> {
     let job = SHOW.with(Given::World, &most);
     let last =
         "cell (128, 128): red hill; red ant of id 16383, dir 0, food 0, state 0, resting 0\n";
-    check_text(&rt, rt.alloc(), &job, "random seed: 12345\n", last, "rock\n")?;
+    check_text(
+        &rt,
+        rt.alloc(),
+        &job,
+        "random seed: 12345\n",
+        last,
+        "rock\n",
+    )?;
     let more = hill(rt.alloc(), 129)?;
     let refused = [(more.as_str(), "ants: w: too many ants, 16512\n")];
     check_rows(&rt, rt.alloc(), SHOW, Given::World, Status::Input, &refused)

@@ -95,7 +95,11 @@ const EARLIER: [(Given, &str, &str); 6] = [
     (Given::Red, "Flip 2 0", "ants: r: line 1: missing token\n"),
     (Given::Red, "", "ants: r: no instruction\n"),
     (Given::Black, "Mov", "ants: b: line 1: unknown word\n"),
-    (Given::Black, "Move 0 1", "ants: b: line 1: no such state 1\n"),
+    (
+        Given::Black,
+        "Move 0 1",
+        "ants: b: line 1: no such state 1\n",
+    ),
 ];
 
 #[test]
