@@ -1,5 +1,6 @@
 -- Lines, statuses and numbers of endings, among them those that no test brings about.
 use Rattle.std.proofs.Common.{◌≡◌, ℕ, List, [], ◌∷◌, codes, map, refl}
+use Rattle.std.specs.Fmt.{digits}
 use Rattle.brain_read.specs.declared.fault.BrainFault.TheVariants as brain
 use Rattle.world_read.specs.declared.fault.WorldFault.TheVariants as world
 use Rattle.ants.specs.declared.status.Status.TheVariants.{Done, Words, Read, Write, Input, Memory}
@@ -23,15 +24,15 @@ memory_line = refl
 
 -- the column of a position stands before its row
 pub open_rim_line : fault_line (AtInput (codes "w") (file.World (world.OpenRim 2 0))) ≡ codes "ants: w: rim open at (2, 0)\n"
-unfolding fault_line
+unfolding digits fault_line
 open_rim_line = refl
 
 -- the row of a bad cell stands before its column
 pub bad_cell_line : fault_line (AtInput (codes "w") (file.World (world.BadCell 1 2))) ≡ codes "ants: w: row 1: bad cell at column 2\n"
-unfolding fault_line
+unfolding digits fault_line
 bad_cell_line = refl
 
 -- a line of a brain stands before its state
 pub no_state_line : fault_line (AtInput (codes "b") (file.Brain (brain.NoSuchState 2 5))) ≡ codes "ants: b: line 2: no such state 5\n"
-unfolding fault_line
+unfolding digits fault_line
 no_state_line = refl

@@ -106,20 +106,10 @@ fn files_of(alloc: Global, job: &Job<'_>) -> Result<Files, Fail> {
 
 // Carries out a command.
 fn answer<R: Threads + Sync>(rt: &R, alloc: Global, job: &Job<'_>) -> Result<Outcome, Fail> {
-    answer_by(rt, alloc, job, &NoGate)
+    answer_over(rt, alloc, job, files_of(alloc, job)?, &NoGate)
 }
 
-// Carries out a command, whose workers call this gate.
-fn answer_by<R: Threads + Sync, G: Gate>(
-    rt: &R,
-    alloc: Global,
-    job: &Job<'_>,
-    gate: &G,
-) -> Result<Outcome, Fail> {
-    answer_over(rt, alloc, job, files_of(alloc, job)?, gate)
-}
-
-// Carries out a command over these files.
+// Carries out a command over these files, whose workers call this gate.
 fn answer_over<R: Threads + Sync, G: Gate>(
     rt: &R,
     alloc: Global,
@@ -144,12 +134,77 @@ fn check<R: Threads + Sync + Abort>(
     out: &str,
     err: &str,
 ) -> Result<(), Fail> {
-    let outcome = answer(rt, alloc, job)?;
+    check_by(rt, alloc, job, &NoGate, status, out, err)
+}
+
+// Asserts what comes of a command, whose workers call this gate.
+fn check_by<R: Threads + Sync + Abort, G: Gate>(
+    rt: &R,
+    alloc: Global,
+    job: &Job<'_>,
+    gate: &G,
+    status: Status,
+    out: &str,
+    err: &str,
+) -> Result<(), Fail> {
+    check_over(
+        rt,
+        alloc,
+        job,
+        files_of(alloc, job)?,
+        gate,
+        status,
+        out,
+        err,
+    )
+}
+
+// Asserts what comes of a command over these files.
+fn check_over<R: Threads + Sync + Abort, G: Gate>(
+    rt: &R,
+    alloc: Global,
+    job: &Job<'_>,
+    files: Files,
+    gate: &G,
+    status: Status,
+    out: &str,
+    err: &str,
+) -> Result<(), Fail> {
+    let outcome = answer_over(rt, alloc, job, files, gate)?;
     let shown = str::from_utf8(outcome.out.held())?;
     let told = str::from_utf8(outcome.err.held())?;
     assert_eq!(rt; shown, out, "at {job:?}");
     assert_eq!(rt; told, err, "at {job:?}");
     assert_eq!(rt; outcome.status, status, "at {job:?}");
+    Ok(())
+}
+
+// Whether the lines of `wanted` are lines of `text`, in this order, others between them.
+fn has_lines(text: &str, wanted: &str) -> bool {
+    let mut lines = text.split('\n');
+    for line in wanted.split_terminator('\n') {
+        if !lines.any(|other| other == line) {
+            return false;
+        }
+    }
+    true
+}
+
+// Asserts that a command is done, and of its text how it begins, some of its lines in their order, and how it ends.
+fn check_text<R: Threads + Sync + Abort>(
+    rt: &R,
+    alloc: Global,
+    job: &Job<'_>,
+    start: &str,
+    lines: &str,
+    end: &str,
+) -> Result<(), Fail> {
+    let outcome = answer(rt, alloc, job)?;
+    let out = str::from_utf8(outcome.out.held())?;
+    assert_eq!(rt; outcome.status, Status::Done, "at {job:?}");
+    assert!(rt; out.starts_with(start), "{start:?} in {out:?}");
+    assert!(rt; has_lines(out, lines), "{lines:?} in {out:?}");
+    assert!(rt; out.ends_with(end), "{end:?} in {out:?}");
     Ok(())
 }
 

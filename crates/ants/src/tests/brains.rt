@@ -1,6 +1,6 @@
 // The command `brain`.
 use crate::status::Status;
-use crate::tests::{Given, Job, NO_JOB, answer_over, check_rows};
+use crate::tests::{Given, Job, NO_JOB, check_over, check_rows};
 use ant_base::{Files, NoGate};
 use std::test::Fail;
 
@@ -168,10 +168,16 @@ fn a_file_may_have_any_bytes(rt: HostRuntime) -> Result<(), Fail> {
     for (bytes, line) in NO_TEXT {
         let mut files = Files::new(rt.alloc());
         files.add("b", bytes)?;
-        let outcome = answer_over(&rt, rt.alloc(), &PRINT, files, &NoGate)?;
-        assert_eq!(rt; outcome.status, Status::Input, "at {bytes:?}");
-        assert_eq!(rt; outcome.out.held(), b"".as_slice(), "at {bytes:?}");
-        assert_eq!(rt; outcome.err.held(), line.as_bytes(), "at {bytes:?}");
+        check_over(
+            &rt,
+            rt.alloc(),
+            &PRINT,
+            files,
+            &NoGate,
+            Status::Input,
+            "",
+            line,
+        )?;
     }
     Ok(())
 }

@@ -1,7 +1,7 @@
 // The counts of `run`.
 use crate::status::Status;
 use crate::tests::runs::{EMPTY, KILLED, KILLING, NEIGHBOURS};
-use crate::tests::{CLOSING, Job, NO_JOB, answer};
+use crate::tests::{CLOSING, Job, NO_JOB, check};
 use std::test::Fail;
 
 // A red ant, and a black one below it.
@@ -149,10 +149,8 @@ const COUNTED: [Counted; 13] = [
 #[test]
 fn a_run_ends_with_its_counts(rt: HostRuntime) -> Result<(), Fail> {
     for Counted { job, text, counts } in COUNTED {
-        let outcome = answer(&rt, rt.alloc(), &job)?;
-        let out = str::from_utf8(outcome.out.held())?;
-        assert_eq!(rt; outcome.status, Status::Done, "at {job:?}");
-        assert_eq!(rt; out.strip_prefix(text), Some(counts), "at {job:?}");
+        let whole = format!(in rt.alloc(); "{text}{counts}")?;
+        check(&rt, rt.alloc(), &job, Status::Done, &whole, "")?;
     }
     Ok(())
 }

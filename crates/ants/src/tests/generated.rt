@@ -1,7 +1,6 @@
 // The command `gen`.
 use crate::status::Status;
-use crate::tests::runs::has_lines;
-use crate::tests::{Given, Job, NO_JOB, answer, check, check_rows};
+use crate::tests::{Given, Job, NO_JOB, check, check_rows, check_text};
 use std::test::Fail;
 
 // Words of `gen`.
@@ -19,11 +18,7 @@ fn a_world_is_generated_from_its_seed(rt: HostRuntime) -> Result<(), Fail> {
         line: GEN,
         ..NO_JOB
     };
-    let outcome = answer(&rt, rt.alloc(), &job)?;
-    let out = str::from_utf8(outcome.out.held())?;
-    assert_eq!(rt; outcome.status, Status::Done);
-    assert!(rt; has_lines(out, HILL), "in {out:?}");
-    Ok(())
+    check_text(&rt, rt.alloc(), &job, "64\n64\n", HILL, "#\n")
 }
 
 #[test]

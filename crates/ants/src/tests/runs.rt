@@ -1,6 +1,6 @@
 // The command `run`.
 use crate::status::Status;
-use crate::tests::{CLOSED, CLOSING, Given, Job, NO_JOB, answer, check_rows};
+use crate::tests::{CLOSED, CLOSING, Given, Job, NO_JOB, check_rows, check_text};
 use std::alloc::Global;
 use std::test::Fail;
 
@@ -324,17 +324,6 @@ const GAMES: [Game; 13] = [
     },
 ];
 
-// Whether the lines of `wanted` are lines of `text`, in this order, others between them.
-pub fn has_lines(text: &str, wanted: &str) -> bool {
-    let mut lines = text.split('\n');
-    for line in wanted.split_terminator('\n') {
-        if !lines.any(|other| other == line) {
-            return false;
-        }
-    }
-    true
-}
-
 #[test]
 fn a_run_follows_the_rules_of_the_world(rt: HostRuntime) -> Result<(), Fail> {
     for game in GAMES {
@@ -353,11 +342,7 @@ fn a_run_follows_the_rules_of_the_world(rt: HostRuntime) -> Result<(), Fail> {
             black,
             ..NO_JOB
         };
-        let outcome = answer(&rt, rt.alloc(), &job)?;
-        let out = str::from_utf8(outcome.out.held())?;
-        assert_eq!(rt; outcome.status, Status::Done);
-        assert!(rt; has_lines(out, lines), "{lines:?} in {out:?}");
-        assert!(rt; out.ends_with(score), "{score:?} in {out:?}");
+        check_text(&rt, rt.alloc(), &job, "", lines, score)?;
     }
     Ok(())
 }

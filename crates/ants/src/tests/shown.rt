@@ -1,6 +1,6 @@
 // The command `show`.
 use crate::status::Status;
-use crate::tests::{CLOSED, Given, Job, NO_JOB, answer, check_rows};
+use crate::tests::{CLOSED, Given, Job, NO_JOB, check_rows, check_text};
 use std::alloc::Global;
 use std::test::Fail;
 
@@ -87,12 +87,17 @@ fn hill(alloc: Global, cells: u8) -> Result<String, Fail> {
 #[test]
 fn a_world_holds_up_to_16384_ants(rt: HostRuntime) -> Result<(), Fail> {
     let most = hill(rt.alloc(), 128)?;
-    let shown = answer(&rt, rt.alloc(), &SHOW.with(Given::World, &most))?;
+    let job = SHOW.with(Given::World, &most);
     let last =
-        "\ncell (128, 128): red hill; red ant of id 16383, dir 0, food 0, state 0, resting 0\n";
-    assert_eq!(rt; shown.status, Status::Done);
-    assert!(rt; str::from_utf8(shown.out.held())?.contains(last));
-
+        "cell (128, 128): red hill; red ant of id 16383, dir 0, food 0, state 0, resting 0\n";
+    check_text(
+        &rt,
+        rt.alloc(),
+        &job,
+        "random seed: 12345\n",
+        last,
+        "rock\n",
+    )?;
     let more = hill(rt.alloc(), 129)?;
     let refused = [(more.as_str(), "ants: w: too many ants, 16512\n")];
     check_rows(&rt, rt.alloc(), SHOW, Given::World, Status::Input, &refused)

@@ -1,7 +1,7 @@
 // The command `view`.
 use crate::status::Status;
 use crate::tests::runs::{KILLED, KILLING};
-use crate::tests::{Given, Job, answer, check, check_rows};
+use crate::tests::{Given, Job, check, check_rows, check_text};
 use std::alloc::Global;
 use std::process::Abort;
 use std::test::Fail;
@@ -133,14 +133,8 @@ fn check_stops<R: Threads + Sync + Abort>(
     rows: &[(&str, &str)],
 ) -> Result<(), Fail> {
     for (breaks, wanted) in rows {
-        let outcome = answer(rt, alloc, &VIEW.with(Given::Breaks, breaks))?;
-        let out = str::from_utf8(outcome.out.held())?;
-        assert_eq!(rt; outcome.status, Status::Done);
-        assert_eq!(rt;
-            out.split('\n').nth(1).unwrap_or(""),
-            *wanted,
-            "at {breaks:?}"
-        );
+        let start = format!(in alloc; "random seed: 12345\n{wanted}\n")?;
+        check_text(rt, alloc, &VIEW.with(Given::Breaks, breaks), &start, "", "")?;
     }
     Ok(())
 }

@@ -2,7 +2,7 @@
 use crate::status::Status;
 use crate::tests::games::{brain_of, killing_field};
 use crate::tests::runs::{KILLED, KILLING};
-use crate::tests::{Job, answer, answer_by};
+use crate::tests::{Job, check, check_by};
 use ant_base::Gate;
 use round_book::Counts;
 use round_workers::{BoardCrew, PieceCrew};
@@ -107,10 +107,8 @@ fn any_number_of_workers_writes_the_same_bytes(rt: HostRuntime) -> Result<(), Fa
         ),
     ] {
         let job = Job { line, ..KILLING };
-        let outcome = answer(&rt, rt.alloc(), &job)?;
-        let out = str::from_utf8(outcome.out.held())?;
-        assert_eq!(rt; outcome.status, Status::Done, "at {line}");
-        assert_eq!(rt; out.strip_prefix(KILLED), Some(counts), "at {line}");
+        let whole = format!(in rt.alloc(); "{KILLED}{counts}")?;
+        check(&rt, rt.alloc(), &job, Status::Done, &whole, "")?;
     }
     Ok(())
 }
@@ -156,13 +154,8 @@ fn a_run_by_two_workers_looks_at_the_same_time(rt: HostRuntime) -> Result<(), Fa
         ..KILLING
     };
     let meeting = Meeting::new();
-    let outcome = answer_by(&rt, rt.alloc(), &job, &meeting)?;
-    let out = str::from_utf8(outcome.out.held())?;
-    assert_eq!(rt; outcome.status, Status::Done);
-    assert_eq!(rt;
-        out.strip_prefix(KILLED),
-        Some("turns 7 taken 5 redone 2\n")
-    );
+    let whole = format!(in rt.alloc(); "{KILLED}turns 7 taken 5 redone 2\n")?;
+    check_by(&rt, rt.alloc(), &job, &meeting, Status::Done, &whole, "")?;
     meeting.check(&rt);
     Ok(())
 }

@@ -1,6 +1,6 @@
 // The command `workload`.
 use crate::status::Status;
-use crate::tests::{Given, Job, NO_JOB, answer, check_rows};
+use crate::tests::{Given, Job, NO_JOB, check_rows, check_text};
 use std::test::Fail;
 
 // The world of the seed 12345 before a round: two hills of 127 cells, and eleven blobs of 25 cells with 5 particles each.
@@ -37,17 +37,9 @@ fn a_thousand_rounds_are_the_same_with_any_number_of_workers(rt: HostRuntime) ->
         "workload 12345 1000 4",
         "workload 12345 1000 16",
     ] {
-        let outcome = answer(&rt, rt.alloc(), &Job { line, ..NO_JOB })?;
-        let out = str::from_utf8(outcome.out.held())?;
-        assert_eq!(rt; outcome.status, Status::Done, "at {line}");
-        assert!(rt;
-            out.starts_with("workload seed 12345 rounds 1000\nants 254\nfood 1375\n"),
-            "at {line}: {out:?}"
-        );
-        assert!(rt;
-            out.ends_with("\nturns 254000 taken 253622 redone 378\n"),
-            "at {line}: {out:?}"
-        );
+        let start = "workload seed 12345 rounds 1000\nants 254\nfood 1375\n";
+        let end = "\nturns 254000 taken 253622 redone 378\n";
+        check_text(&rt, rt.alloc(), &Job { line, ..NO_JOB }, start, "", end)?;
     }
     Ok(())
 }
