@@ -1,5 +1,5 @@
 -- A text has exactly one list of breaks or exactly one fault, and the reading answers it.
-use Rattle.std.proofs.Common.{◌≡◌, ◌+◌, ◌≤◌, ℕ, List, [], ◌∷◌, length, Option, Ok, Err, Result, ◌⊎◌, inl, inr, refl, sym, ap, ◌∙◌, subst, arith}
+use Rattle.std.proofs.Common.{◌≡◌, ◌+◌, ◌≤◌, ℕ, List, [], ◌∷◌, length, Option, Ok, Err, ◌⊎◌, inl, inr, refl, sym, ap, ◌∙◌, subst, arith}
 use Rattle.brain_read.specs.Grammar.{TokenLine, lines_with_tokens}
 use Rattle.brain_read.specs.Inner.LineByLine.{read_lines, first_line_fault}
 use Rattle.brain_read.proofs.LineFaults.{IsFaithful, first_line_fault-found, first_line_fault-first}

@@ -1,13 +1,11 @@
 -- What is read of a line is spelled so, and what is spelled so is read.
-use Rattle.std.proofs.Common.{◌≡◌, ◌≤◌, ℕ, List, [], ◌∷◌, codes, Option, Some, None, Ok, Err, slice_get, refl, sym, ap, ◌∙◌, subst, arith}
+use Rattle.std.proofs.Common.{◌≡◌, ◌≤◌, ℕ, List, [], ◌∷◌, codes, Some, Ok, slice_get, refl, subst, arith}
 use Rattle.cell_world.specs.declared.ant.Colour.{Colour}
 use Rattle.cell_world.specs.declared.ant.Colour.TheVariants.{Red, Black}
-use Rattle.ant_base.specs.Number.{number_of, number_within}
-use Rattle.word_table.specs.Words.{IsSameWord, word_place}
-use Rattle.brain_read.specs.declared.fault.LineFault.{LineFault}
-use Rattle.brain_read.specs.declared.fault.LineFault.TheVariants.{UnknownWord, BadNumber, ExtraToken}
-use Rattle.brain_read.specs.Steps.{Read, Step, ◌>>=◌, missing, refused, or_refused, take_word, take_number, take_end}
-use Rattle.brain_read.specs.Forms.{Field, Spells, SpellsAll}
+use Rattle.ant_base.specs.Number.{number_of}
+use Rattle.word_table.specs.Words.{IsSameWord}
+use Rattle.brain_read.specs.Steps.{take_word}
+use Rattle.brain_read.specs.Forms.{SpellsAll}
 use Rattle.brain_read.specs.Forms.Field.{Word, Number}
 use Rattle.brain_read.proofs.PlacesLemmas.{Names}
 use Rattle.brain_read.proofs.FormsLemmas.{Takes, then_taken, then_again, bind_step, word_step, then_word, then_end, number_takes, named_takes, IsWithin, given, given_end}

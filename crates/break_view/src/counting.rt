@@ -1,5 +1,5 @@
 // The score of a world, counted on from turn to turn.
-ghost use Rattle.std.specs.Prelude.{◌≡◌, ℕ, ◌+◌, ◌-◌, ◌<◌, ◌^◌, Some};
+ghost use Rattle.std.specs.Prelude.{◌≡◌, ◌+◌, ◌-◌, ◌<◌, ◌^◌, Some};
 ghost use Rattle.ant_turn.specs.Minds.{Fits, minds_of};
 ghost use Rattle.ant_turn.specs.Turn.{turn};
 ghost use Rattle.cell_world.specs.Cell.{one_if};

@@ -1,4 +1,4 @@
-use Rattle.std.proofs.Common.{◌≡◌, List, [], sym, ◌∙◌, subst}
+use Rattle.std.proofs.Common.{◌≡◌, [], sym, ◌∙◌, subst}
 use Rattle.hex_geometry.specs.Position.{IsInside}
 use Rattle.cell_world.specs.Grid.{world_of}
 use Rattle.cell_world.specs.Score.{score_of}
