@@ -6,10 +6,12 @@ use crate::tests::{Job, check, check_by};
 use ant_base::Gate;
 use round_book::Counts;
 use round_workers::{BoardCrew, PieceCrew};
+use std::alloc::Global;
 use std::hint::spin_loop;
 use std::process::Abort;
 use std::sync::atomic::{AtomicBool, AtomicU32, Ordering};
 use std::test::Fail;
+use std::thread::Threads;
 
 // Turns after which a worker that waits for another one gives up.
 const PATIENCE: u32 = 100_000_000;
@@ -41,6 +43,13 @@ impl Meeting {
                 AtomicU32::new(0),
             ],
         }
+    }
+
+    // The second one is there already, so that the first waits for nobody.
+    fn of_one() -> Meeting {
+        let meeting = Meeting::new();
+        meeting.second.store(true, Ordering::SeqCst);
+        meeting
     }
 
     // Asserts that the two met, and that each turn was announced once.
@@ -147,15 +156,28 @@ fn a_crew_of_two_with_a_board_looks_at_the_same_time(rt: HostRuntime) -> Result<
     Ok(())
 }
 
+// Asserts what is written of the same round by `run` with these words, and that its workers met.
+fn check_run<R: Threads + Sync + Abort>(
+    rt: &R,
+    alloc: Global,
+    line: &str,
+    meeting: &Meeting,
+) -> Result<(), Fail> {
+    let job = Job { line, ..KILLING };
+    let whole = format!(in alloc; "{KILLED}turns 7 taken 5 redone 2\n")?;
+    check_by(rt, alloc, &job, meeting, Status::Done, &whole, "")?;
+    meeting.check(rt);
+    Ok(())
+}
+
 #[test]
 fn a_run_by_two_workers_looks_at_the_same_time(rt: HostRuntime) -> Result<(), Fail> {
-    let job = Job {
-        line: "run w r b --seed 12345 --rounds 1 --dump 1 --stats --workers 2",
-        ..KILLING
-    };
-    let meeting = Meeting::new();
-    let whole = format!(in rt.alloc(); "{KILLED}turns 7 taken 5 redone 2\n")?;
-    check_by(&rt, rt.alloc(), &job, &meeting, Status::Done, &whole, "")?;
-    meeting.check(&rt);
-    Ok(())
+    let line = "run w r b --seed 12345 --rounds 1 --dump 1 --stats --workers 2";
+    check_run(&rt, rt.alloc(), line, &Meeting::new())
+}
+
+#[test]
+fn a_run_by_one_worker_announces_each_turn_once(rt: HostRuntime) -> Result<(), Fail> {
+    let line = "run w r b --seed 12345 --rounds 1 --dump 1 --stats --workers 1";
+    check_run(&rt, rt.alloc(), line, &Meeting::of_one())
 }
