@@ -10,9 +10,7 @@ ghost use Rattle.ant_turn.specs.Sheet.{Sheet};
 ghost use Rattle.ant_turn.specs.Turn as turn;
 
 use crate::conditions::meets;
-use crate::own_cell::{
-    branched, dropped, faced, in_state, marked, picked_up, unmarked, with_ant,
-};
+use crate::own_cell::{branched, dropped, faced, in_state, marked, picked_up, unmarked, with_ant};
 use ant_random::Stream;
 use brain_read::Instr;
 use cell_world::{Ant, Cell};
