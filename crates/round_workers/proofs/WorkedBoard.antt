@@ -1,5 +1,5 @@
 -- A seat's way over a board, and what the words of looks say, written out.
-use Rattle.std.proofs.Common.{◌≡◌, ℕ, ◌+◌, true, false, [], ◌∷◌, Option, Some, None, refl, arith}
+use Rattle.std.proofs.Common.{◌≡◌, ℕ, ◌+◌, true, false, [], ◌∷◌, Some, None, refl, arith}
 use mathlib.Core.Option as maybe
 use Rattle.spec_record.specs.Look.{LookValue}
 use Rattle.round_book.specs.Window.{Window}

@@ -1,4 +1,4 @@
-use Rattle.std.proofs.Common.{◌∷◌, Some, arith, sym, ap, ◌∙◌, subst}
+use Rattle.std.proofs.Common.{Some, arith, sym, ap, ◌∙◌, subst}
 use Rattle.std.specs.Prelude.{IsSomeAnd}
 use Rattle.round_workers.specs.declared.board.view.Place.TheVariants.{Nothing, TheBook}
 use Rattle.round_workers.specs.Inner.BoardPlaces.{book_room}

@@ -1,4 +1,4 @@
-use Rattle.std.proofs.Common.{None, sym, ap, refl, ◌∙◌, ◌∷◌, subst}
+use Rattle.std.proofs.Common.{None, sym, ap, ◌∙◌, ◌∷◌, subst}
 use Rattle.round_workers.specs.declared.board.view.Place.TheVariants.{Nothing, TheBook}
 use Rattle.round_workers.specs.BoardPlays.{with_book}
 use Rattle.round_workers.specs.BoardView.{IsAtRest, out_with}
