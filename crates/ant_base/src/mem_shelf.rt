@@ -30,13 +30,13 @@ impl Model for MemShelf {
 
     ghost Value = { MemShelfState };
 
-    ghost view = { λ s. record { files = s.files; failing = s.failing.numbers; calls = s.calls; faults = s.faults; log = s.trail.fetches } };
+    ghost view = { λ s. record { files = s.files.files; failing = s.failing.numbers; calls = s.calls; faults = s.faults; log = s.trail.fetches } };
 }
 
 impl MemShelf {
     /// A shelf that has these files, whose fetches of the given numbers fail; the first fetch has the number 1.
     pub fn new(files: Files, failing: Calls) -> Self
-        ensures { result ≡ record { files = files; failing = failing.numbers; calls = 0; faults = 0; log = [] } }
+        ensures { result ≡ record { files = files.files; failing = failing.numbers; calls = 0; faults = 0; log = [] } }
     {
         MemShelf {
             files,
