@@ -1,5 +1,5 @@
 // Sinks over the writers of std.
-ghost use Rattle.std.specs.Prelude.{◌≡◌, ◌++◌, [], Some, is_ok, if◌then◌else◌, OnOk, true};
+ghost use Rattle.std.specs.Prelude.{◌≡◌, ◌++◌, [], Some, is_ok, if◌then◌else◌, IsOk, OnOk, true};
 ghost use Rattle.std.specs.Io.KnownBytes.{Keeps};
 ghost use Rattle.ant_base.specs.Faults.{one_more};
 ghost use Rattle.ant_base.specs.Lines.{ends_in_lf};
@@ -15,7 +15,7 @@ use std::marker::Model;
 /// A sink over a stream. It tells the bytes that the stream took.
 ///
 /// It writes by a loop, in which a write that was interrupted is made again, and sends on what waits after each piece that ends in LF. A
-/// write that takes nothing of what is left is a fault, as is a failure to send on. The count of faults rises by one at each push that is
+/// write that takes nothing of what is left is a fault, as is a failure to send on; over a stream that never fails no push does. The count of faults rises by one at each push that is
 /// `Failed` and at no other, and stays at the last value of a u64.
 #[derive(Drop)]
 pub struct StreamSink<W: Stream> {
@@ -35,13 +35,13 @@ impl<W: Stream> Model for StreamSink<W> {
 
     ghost Value = { StreamState };
 
-    ghost view = { λ s. record { taken = s.trail.bytes; waiting = W.waiting s.stream; written = W.contents s.stream; faults = s.faults } };
+    ghost view = { λ s. record { taken = s.trail.bytes; waiting = W.waiting s.stream; written = W.contents s.stream; faults = s.faults; sure = W.sure s.stream } };
 }
 
 impl<W: Stream> StreamSink<W> {
     /// A sink over this stream, which took nothing yet, without a fault.
     pub fn new(stream: W) -> Self
-        ensures { result ≡ record { taken = []; waiting = W.waiting stream; written = W.contents stream; faults = 0 } }
+        ensures { result ≡ record { taken = []; waiting = W.waiting stream; written = W.contents stream; faults = 0; sure = W.sure stream } }
     {
         StreamSink {
             stream,
@@ -68,6 +68,8 @@ impl<W: Stream> Sink for StreamSink<W> {
         ensures taken { Takes self.old.taken self.new.taken self.old.written self.new.written piece.now result }
         // Nothing waits behind the end of a line.
         ensures sent { OnOk result (ends_in_lf piece.now ≡ true → self.new.waiting ≡ []) }
+        // It fails only where the stream does.
+        ensures sure { self.old.sure ≡ true → IsOk result × (self.new.sure ≡ true) }
     {
         let written = write_whole(&mut self.stream, &mut self.trail, piece);
         if written.is_err() {
@@ -81,6 +83,7 @@ impl<W: Stream> Sink for StreamSink<W> {
 fn write_whole<W: Stream>(stream: &mut W, trail: &mut Trail, piece: &[u8]) -> Result<(), Failed>
     ensures taken { Takes trail.old.bytes trail.new.bytes (W.contents stream.old) (W.contents stream.new) piece.now result }
     ensures sent { OnOk result (ends_in_lf piece.now ≡ true → W.waiting stream.new ≡ []) }
+    ensures sure { W.sure stream.old ≡ true → IsOk result × (W.sure stream.new ≡ true) }
 {
     let mut rest = piece;
     // As many turns as std's own loops have: nothing says how often a write is interrupted.
@@ -88,7 +91,7 @@ fn write_whole<W: Stream>(stream: &mut W, trail: &mut Trail, piece: &[u8]) -> Re
         if rest.is_empty() {
             return send_line(stream, piece);
         }
-        let taken = taken_by(stream.write(rest))?;
+        let taken = taken_by(stream.take(rest))?;
         trail.note_bytes(&rest[..taken]);
         rest = &rest[taken..];
     }
@@ -113,6 +116,7 @@ fn taken_by(answer: io::Result<usize>) -> Result<usize, Failed>
 fn send_line<W: Stream>(stream: &mut W, piece: &[u8]) -> Result<(), Failed>
     ensures kept { Keeps (W.contents stream.old) (W.contents stream.new) }
     ensures sent { OnOk result (ends_in_lf piece.now ≡ true → W.waiting stream.new ≡ []) }
+    ensures sure { W.sure stream.old ≡ true → IsOk result × (W.sure stream.new ≡ true) }
 {
     if piece.is_empty() || piece[piece.len() - 1] != b'\n' {
         return Ok(());
