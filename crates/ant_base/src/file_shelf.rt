@@ -3,7 +3,7 @@ ghost use Rattle.std.specs.Prelude.{◌≡◌, ◌≢◌, ◌<◌, ◌≤◌, �
 ghost use Rattle.std.specs.Io.KnownBytes.{Consumes, IsAtEnd};
 ghost use Rattle.std.specs.IoError.{error_kind};
 ghost use Rattle.ant_base.specs.Faults.{one_more};
-ghost use Rattle.ant_base.specs.Inner.Answered.{IsReadOf, TakesAtMost, fault_at, given_of};
+ghost use Rattle.ant_base.specs.Inner.Answered.{IsReadOf, TakesAtMost, fetch_fault_at, given_of};
 ghost use Rattle.ant_base.specs.Shelf.{Fetches, is_failed, longest};
 ghost use Rattle.ant_base.specs.Streams.{shelf_of_files};
 
@@ -80,7 +80,7 @@ impl<R: Files + Input> Shelf for FileShelf<'_, R> {
 // The content of a file that was opened, or why it has none.
 fn read_opened<R: Read + Drop>(alloc: Global, opened: io::Result<R>) -> Result<Vec<u8>, FetchFault>
     ensures short { IfOk result (λ content. length content.items ≤ longest) }
-    ensures refused { IfErr opened (λ error. result ≡ Err (fault_at (error_kind error))) }
+    ensures refused { IfErr opened (λ error. result ≡ Err (fetch_fault_at (error_kind error))) }
     ensures read { IfOk opened (λ file. IsReadOf (R.remaining file) result) }
 {
     match opened {
@@ -148,7 +148,7 @@ fn given_by(answer: io::Result<usize>) -> Result<Option<usize>, FetchFault>
 
 // Want of memory is told from a failed open or read.
 fn fault_of(error: io::Error) -> FetchFault
-    ensures { result ≡ fault_at (error_kind error) }
+    ensures { result ≡ fetch_fault_at (error_kind error) }
 {
     match error.kind() {
         ErrorKind::OutOfMemory => FetchFault::OutOfMemory,

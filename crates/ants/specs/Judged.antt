@@ -4,11 +4,11 @@ use Rattle.std.specs.List.{AllByRecursion}
 use Rattle.ant_base.specs.Fetched.{Fetched}
 use Rattle.ant_base.specs.Shelf.{IsTold}
 use Rattle.ants.specs.declared.stop.FileFault.{FileFault}
-use Rattle.ants.specs.Files.{File, Content, AreAccepted, IsRefused, StopsAt}
+use Rattle.ants.specs.Files.{File, FileContent, AreAccepted, IsRefused, StopsAt}
 
 -- all files are accepted as these contents, or the first that is refused has this name and this fault
 pub data Verdict : Type 0 where
-  AllAccepted : List Content → Verdict
+  AllAccepted : List FileContent → Verdict
   FirstRefused : List ℕ → FileFault → Verdict
 
 -- the file has this name, and is refused with this fault

@@ -7,7 +7,7 @@ ghost use Rattle.command_words.specs.Slots.{AllDiffer};
 ghost use Rattle.command_words.specs.Words.{texts};
 ghost use Rattle.match_run.specs.Run.{most_rounds};
 ghost use Rattle.tournament.specs.Standing.{IsStandingOf};
-ghost use Rattle.ants.specs.Inner.Cups.{AreReady, IsPlayable};
+ghost use Rattle.ants.specs.Inner.Cups.{AreReady, CanBePlayed};
 ghost use Rattle.ants.specs.Inner.Reading.{CarriesOut, ReadsFiles, ending_of, outcome_of};
 ghost use Rattle.ants.specs.Jobs.{cup_contents, cup_files, score_between};
 
@@ -54,12 +54,12 @@ struct Games<'c> {
 }
 
 impl Referee for Games<'_> {
-    ghost use Rattle.ants.specs.Inner.Cups.{IsPlayable};
+    ghost use Rattle.ants.specs.Inner.Cups.{CanBePlayed};
     ghost use Rattle.ants.specs.Jobs.{score_between};
 
     ghost score = { λ games. score_between games.worlds.now games.players.now games.seed games.rounds };
 
-    ghost knows = { λ games. IsPlayable games.worlds.now games.players.now games.rounds };
+    ghost knows = { λ games. CanBePlayed games.worlds.now games.players.now games.rounds };
 
     fn game(&self, alloc: Global, world: u32, red: u32, black: u32) -> Result<Score, OutOfMemory> {
         let field = self.worlds[world as usize].copy(alloc)?;

@@ -2,7 +2,7 @@
 ghost use Rattle.std.specs.Prelude.{◌≡◌, ◌≤◌, [], ◌∷◌, length, map};
 ghost use Rattle.ant_base.specs.Shelf.{longest};
 ghost use Rattle.command_words.specs.Words.{texts};
-ghost use Rattle.ants.specs.Files.{Content, FileKind};
+ghost use Rattle.ants.specs.Files.{FileContent, FileKind};
 ghost use Rattle.ants.specs.Inner.Cups.{files_named};
 ghost use Rattle.ants.specs.Inner.Reading.{FetchesFile, ReadsFiles, ReadsText, brain_reason, break_reason, fetch_reason, outcome_of, world_reason};
 ghost use Rattle.ants.specs.Stopping.{reason_of};
@@ -21,7 +21,7 @@ pub trait FileText: Sized {
     ghost kind: { FileKind };
 
     /// What was read of it.
-    ghost content: { Self → Content };
+    ghost content: { Self → FileContent };
 
     /// Reads the bytes of the file of this name.
     fn read<'w>(alloc: Global, name: &'w str, bytes: &[u8]) -> Result<Self, Stop<'w>>

@@ -10,7 +10,7 @@ ghost use Rattle.round_book.specs.Led.{IsWindow};
 ghost use Rattle.ants.specs.Inner.Planning.{IsPlanned};
 ghost use Rattle.ants.specs.Inner.Reading.{CarriesOut, CarriesOutWords, ending_of};
 ghost use Rattle.ants.specs.Running.{IsComplete, IsCrowding, IsNoCommand, IsOrderly, NeverUnread, IsRefusing, IsRun, IsRunTo, Reports};
-ghost use Rattle.ants.specs.Status.{number_of};
+ghost use Rattle.ants.specs.Status.{status_number};
 ghost use Rattle.ants.specs.Stopping.{reason_of, status_of};
 ghost use Rattle.ants.specs.Stopping.Reason.{AtMemory};
 ghost use Rattle.std.specs.Process.{exit_status};
@@ -250,13 +250,13 @@ pub fn run_to_exit<R: Threads + Sync, S: Shelf, K: Sink, E: Sink, G: Gate>(
 /// Says that memory can't be had, and gives that status as an exit code: what `main` does before it has a command.
 pub fn exit_without_memory<E: Sink>(err: &mut E) -> ExitCode
     ensures reports { Reports (E.state err.old) (E.state err.new) (Some AtMemory) }
-    ensures status { exit_status result ≡ number_of Status.Memory }
+    ensures status { exit_status result ≡ status_number Status.Memory }
 {
     exit_of(report(&Stop::Memory, err))
 }
 
 fn exit_of(status: Status) -> ExitCode
-    ensures { exit_status result ≡ number_of status }
+    ensures { exit_status result ≡ status_number status }
 {
     ExitCode::from(status.number())
 }

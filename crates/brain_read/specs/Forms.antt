@@ -4,7 +4,7 @@ use Rattle.hex_geometry.specs.declared.direction.Side.{Side}
 use Rattle.hex_geometry.specs.declared.direction.Side.TheVariants.{Left, Right}
 use Rattle.hex_geometry.specs.declared.neighbourhood.Sight.{Sight}
 use Rattle.hex_geometry.specs.declared.neighbourhood.Sight.TheVariants.{Here, Ahead, LeftAhead, RightAhead}
-use Rattle.ant_base.specs.Number.{number_of}
+use Rattle.ant_base.specs.Number.{decimal_value}
 use Rattle.std.specs.Str.{str_eq_ignore_ascii_case}
 use Rattle.word_table.specs.Words.{IsSameWord}
 use Rattle.brain_read.specs.declared.instr.Cond.{Cond}
@@ -120,7 +120,7 @@ fields_of (Flip bound met unmet) = Word (word_of_form Form.Flip) ∷ Number boun
 -- a token spells a field
 abbrev pub Spells : Field → List ℕ → Type 0
 Spells (Word word) token = IsSameWord word token
-Spells (Number n) token = number_of token ≡ Some n
+Spells (Number n) token = decimal_value token ≡ Some n
 
 -- the tokens spell the fields, one by one
 abbrev pub SpellsAll : List Field → List (List ℕ) → Type 0

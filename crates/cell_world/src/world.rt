@@ -40,11 +40,11 @@ impl Model for World {
 
     ghost Value = { Grid };
 
-    ghost use Rattle.cell_world.specs.Inner.Inside.{grid_of, IsKept};
+    ghost use Rattle.cell_world.specs.Inner.Inside.{grid_of, IsWellStored};
 
     ghost view = { grid_of };
 
-    ghost invariant = { IsKept };
+    ghost invariant = { IsWellStored };
 }
 
 impl World {

@@ -38,6 +38,6 @@ LaterAddsNothing = (minds : Minds) (seed rounds : ℕ) (w : World) (list : List 
     → run_text minds seed rounds (has_round (list ++ round ∷ [])) w ≡ run_text minds seed rounds (has_round list) w
 
 -- the score after r and then q rounds is that after q rounds from the moment after r: its world, and the place of its random numbers
-abbrev pub GoesOn : Type 0
-GoesOn = (minds : Minds) (seed : ℕ) (w : World) (r q : ℕ)
+abbrev pub GamesGoOn : Type 0
+GamesGoOn = (minds : Minds) (seed : ℕ) (w : World) (r q : ℕ)
     → score_of (world_after minds seed w (r + q)) ≡ score_of (after_rounds minds seed (after_rounds minds seed (start_of w) r) q).world

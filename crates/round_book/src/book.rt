@@ -9,7 +9,7 @@ ghost use Rattle.cell_world.specs.World.{with_cells};
 ghost use Rattle.ant_turn.specs.Minds.{AreSound, Fits, minds_of};
 ghost use Rattle.spec_record.specs.Patching.{patched_cells};
 ghost use Rattle.round_book.specs.Book.{AgreesUnwritten, BookValue, CanTake, HoldsInBook, IsCause, IsEnded, IsRedone, IsSameWindow, Settles, Wrote, moment_of};
-ghost use Rattle.round_book.specs.Inner.Kept.{IsReady};
+ghost use Rattle.round_book.specs.Inner.Kept.{IsWorkspaceReady};
 ghost use Rattle.round_book.specs.Inner.Workspace.{AreMarked};
 
 use crate::verdict::{Cause, Verdict};
@@ -34,7 +34,7 @@ pub struct Book {
 
 impl Model for Book {
     ghost use Rattle.round_book.specs.Book.{BookValue};
-    ghost use Rattle.round_book.specs.Inner.Kept.{IsBookKept};
+    ghost use Rattle.round_book.specs.Inner.Kept.{IsWorkspaceKept};
 
     ghost Value = { BookValue };
 
@@ -49,13 +49,13 @@ impl Model for Book {
       verdicts = book.work.verdicts.items;
     } };
 
-    ghost invariant = { λ book. IsBookKept book.from book.to book.next book.place book.work };
+    ghost invariant = { λ book. IsWorkspaceKept book.from book.to book.next book.place book.work };
 }
 
 impl Book {
     // A book of these turns, in a workspace that is ready and has room for them.
     pub(crate) fn over(work: Workspace, seed: u32, place: u64, from: u32, to: u32) -> Book
-        requires ready { IsReady work.world work }
+        requires ready { IsWorkspaceReady work.world work }
         requires forwards { from ≤ to }
         requires ids { to ≤ work.world.ids }
         requires lasting { place + (to - from) < 2 ^ 63 }

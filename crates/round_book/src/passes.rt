@@ -8,7 +8,7 @@ ghost use Rattle.cell_world.specs.World.{with_cells};
 ghost use Rattle.spec_record.specs.Patching.{patched_cells};
 ghost use Rattle.round_book.specs.Book.{CanPatchIn, CanTake};
 ghost use Rattle.round_book.specs.Inner.Passes.{CanSetInPass, CanSetPass, after_pass, is_in_pass, with_pass};
-ghost use Rattle.spec_record.specs.Claims.{EachOnce, places_of};
+ghost use Rattle.spec_record.specs.Claims.{EachOnce, seen_positions};
 ghost use Rattle.std.specs.List.{AllByRecursion};
 
 use cell_world::{Ant, Cell, Ground, Parts, World};
@@ -18,7 +18,7 @@ use hex_geometry::Pos;
 // light enough at every step.
 #[inline]
 pub(crate) fn set_writes(world: &mut World, writes: &[(Pos, Parts, Cell)])
-    requires once { EachOnce (places_of writes.now) }
+    requires once { EachOnce (seen_positions writes.now) }
     requires may { CanTake (world_of world.old) writes.now }
     ensures { world_of world.new ≡ with_cells (world_of world.old) (patched_cells (world_of world.old).cells writes.now) }
 {
@@ -42,7 +42,7 @@ fn set_one(world: &mut World, write: &(Pos, Parts, Cell))
 
 // Sets those writes that raise the weight of their cell, or those that don't.
 fn set_pass(world: &mut World, writes: &[(Pos, Parts, Cell)], heavier: bool)
-    requires once { EachOnce (places_of writes.now) }
+    requires once { EachOnce (seen_positions writes.now) }
     requires each { AllByRecursion (CanPatchIn (world_of world.old)) writes.now }
     requires set { CanSetPass heavier (world_of world.old) writes.now }
     ensures { world_of world.new ≡ after_pass heavier (world_of world.old) writes.now }

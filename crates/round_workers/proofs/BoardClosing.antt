@@ -17,7 +17,7 @@ use Rattle.round_workers.specs.declared.board.view.Place.{Place}
 use Rattle.round_workers.specs.declared.board.view.Place.TheVariants.{Nothing, OneLook, Spare, TheBook}
 use Rattle.round_workers.specs.declared.board.view.Phase.TheVariants.{Resting}
 use Rattle.round_workers.specs.declared.board.view.View.{View}
-use Rattle.round_workers.specs.BoardTotals.{once_below, total}
+use Rattle.round_workers.specs.BoardTotals.{once_below, summed}
 use Rattle.round_workers.specs.BoardView.{spent_seat, window_for}
 use Rattle.round_workers.specs.BoardRule.{HasHome, IsKept, IsLookKept, StandsFor, made_by, putting, taking, turns_of}
 use Rattle.round_workers.specs.Inner.BoardPlaces.{AreTaken, book_in, look_in}
@@ -50,7 +50,7 @@ module _ (key : Basis) (id : ℕ) (v : View) (about : v.about ≡ Some key) (zer
       let made = made-all key s r id v at about zeroth in let below = below-where w.number (made_by s.views + 1) (omega arith) in let mine = whole w.number (omega arith) in absurd (omega arith))
       (r.seats j w there)
 
-  alone : (f : View → ℕ) → f spent_seat ≡ 0 → total f s.views ≡ f v
+  alone : (f : View → ℕ) → f spent_seat ≡ 0 → summed f s.views ≡ f v
   alone f none_left = total-alone f s.views id v at (λ j w other there. subst (λ (u : View). f u ≡ 0) (sym (all-spent j w other there)) none_left)
 
   module _ (rests : v.phase ≡ Resting) (seen : v.opened ≡ true) (free : v.holds ≡ false) (words : List ℕ) (slots : List Place) (are : s.words ≡ words) (home : (k : ℕ) (y : Place) → HasHome (get_elem? s.homes k) y → get_elem? slots k ≡ maybe.some y) where

@@ -26,7 +26,7 @@ use Rattle.round_workers.specs.BoardRule.{StandsFor}
 use Rattle.round_workers.specs.BoardSeats.{IsSeatOf, known, left_if, left_look}
 use Rattle.round_workers.specs.BoardTotals.{once_below}
 use Rattle.round_workers.specs.BoardView.{first_seat, window_about}
-use Rattle.round_workers.specs.BoardWorker.{IsLentFor, IsWorker, ascends, below, guesses_for, turns_in}
+use Rattle.round_workers.specs.BoardWorker.{IsLentFor, IsWorker, ascends, those_below, guesses_for, turns_in}
 use Rattle.round_workers.proofs.BoardTotalLemmas.{above-none, below-one, once-suc, times-append}
 
 numbers-snoc : (workers : List Worker) (w : Worker) → seat_numbers (workers ++ w ∷ []) ≡ seat_numbers workers ++ (known w.seat).number ∷ []
@@ -113,7 +113,7 @@ worker-new v made other alone free drew put bare = record {
   free = free;
   alone = alone;
   in_order = ap (ascends 0) drew;
-  puts = put ∙ sym (ap (below (turns_in (window_about v.about))) drew);
+  puts = put ∙ sym (ap (those_below (turns_in (window_about v.about))) drew);
   made_them = bare ∙ sym (ap (map (λ k. (window_about v.about).from + k)) put);
 }
 

@@ -9,8 +9,8 @@ use Rattle.round_book.specs.Window.{Window}
 use Rattle.round_workers.specs.declared.board.view.Basis.{Basis}
 use Rattle.round_workers.specs.declared.board.view.Place.{Place}
 use Rattle.round_workers.specs.declared.board.view.View.{View}
-use Rattle.round_workers.specs.BoardTotals.{late_among, once_below, total}
-use Rattle.round_workers.specs.BoardRule.{AreDealt, AreParts, IsBookKept, IsBookKeptBy, IsLookKept, IsLookKeptBy, IsSeated, Sits, first_one, has_opened, is_first, only_if, opening, putting, taking}
+use Rattle.round_workers.specs.BoardTotals.{late_among, once_below, summed}
+use Rattle.round_workers.specs.BoardRule.{AreDealt, AreParts, IsBookKept, IsBookKeptBy, IsLookKept, IsLookKeptBy, IsSeated, Sits, first_one, has_opened, is_first, only_if, phase_opening, putting, taking}
 use Rattle.round_workers.proofs.BoardTotalLemmas.{total-same}
 
 none-some : (basis : Basis) → ¬ (None ≡ Some basis)
@@ -65,7 +65,7 @@ module _ (views : List View) (id : ℕ) (v w : View) (at : get_elem? views id �
   abbrev new : List View
   new = set views id w
 
-  same : (f : View → ℕ) → f w ≡ f v → total f (set views id w) ≡ total f views
+  same : (f : View → ℕ) → f w ≡ f v → summed f (set views id w) ≡ summed f views
   same f e = total-same f views id v w at e
 
   pub parts-stay : w.parts ≡ v.parts → w.made ≡ v.made → is_first w ≡ is_first v → AreParts views → AreParts (set views id w)
@@ -82,10 +82,10 @@ module _ (views : List View) (id : ℕ) (v w : View) (at : get_elem? views id �
   tickets-stay n word ed r = let late = same (λ u. late_among n u.drawn) (ap (late_among n) ed) in let inside = r.within in
       record { each = λ x. same (λ u. times x u.drawn) (ap (times x) ed) ∙ r.each x; within = omega arith }
 
-  pub book-stays : (window : Window) (word : ℕ) (home : maybe.Option (maybe.Option Place)) → w.holds ≡ v.holds → opening w.phase ≡ opening v.phase → has_opened w ≡ has_opened v → w.opened ≡ v.opened
+  pub book-stays : (window : Window) (word : ℕ) (home : maybe.Option (maybe.Option Place)) → w.holds ≡ v.holds → phase_opening w.phase ≡ phase_opening v.phase → has_opened w ≡ has_opened v → w.opened ≡ v.opened
       → IsBookKeptBy window word home views → IsBookKeptBy window word home (set views id w)
   book-stays window word home eh ep eo es r = book-by window word home _ _ _ _ _ _ _ _
-      (same (λ u. one_if u.holds) (ap one_if eh)) (same (λ u. opening u.phase) ep) (same has_opened eo) (same (λ u. one_if u.opened) (ap one_if es)) r
+      (same (λ u. one_if u.holds) (ap one_if eh)) (same (λ u. phase_opening u.phase) ep) (same has_opened eo) (same (λ u. one_if u.opened) (ap one_if es)) r
 
   pub look-stays : (window : Window) (j word : ℕ) (home : maybe.Option (maybe.Option Place)) → times j w.put ≡ times j v.put → times j w.took ≡ times j v.took → putting j w.phase ≡ putting j v.phase → taking j w.phase ≡ taking j v.phase
       → IsLookKeptBy window j word home views → IsLookKeptBy window j word home (set views id w)

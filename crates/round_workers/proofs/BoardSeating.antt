@@ -16,10 +16,10 @@ use Rattle.round_workers.specs.declared.board.view.Place.{Place}
 use Rattle.round_workers.specs.declared.board.view.Place.TheVariants.{Spare, TheBook}
 use Rattle.round_workers.specs.declared.board.view.Phase.TheVariants.{Resting}
 use Rattle.round_workers.specs.declared.board.view.View.{View}
-use Rattle.round_workers.specs.BoardTotals.{late_among, once_below, total}
+use Rattle.round_workers.specs.BoardTotals.{late_among, once_below, summed}
 use Rattle.round_workers.specs.BoardView.{first_seat, spent_seat, window_for}
-use Rattle.round_workers.specs.BoardPlays.{joined, made_one, newcomer, tells_each_once}
-use Rattle.round_workers.specs.BoardRule.{AreParts, HasHome, IsKept, IsSeated, has_opened, is_first, made_by, opening, putting, taking, turns_of}
+use Rattle.round_workers.specs.BoardPlays.{views_joined, made_one, newcomer, tells_each_once}
+use Rattle.round_workers.specs.BoardRule.{AreParts, HasHome, IsKept, IsSeated, has_opened, is_first, made_by, phase_opening, putting, taking, turns_of}
 use Rattle.round_workers.specs.Inner.BoardPlaces.{AreBare}
 use Rattle.round_workers.proofs.BoardTotalLemmas.{above-none, late-append, once-le, once-suc, same-one, times-append, total-alone, total-at, total-joined, total-set, total-snoc, total-two}
 use Rattle.round_workers.proofs.BoardKeeps.{book-by, book-seen, first-other, first-seat, look-by, only-none, seated, seats-set, seats-snoc}
@@ -108,7 +108,7 @@ module _ (key : Basis) (id : ℕ) (v : View) (about : v.about ≡ Some key) (zer
       let no_first : is_first u ≡ 0 = first-other u.about u.number (λ e. omega arith) in let no_opener : has_opened u ≡ 0 = only-none v.opened (is_first u) no_first in
       let made = made-all key s r id v at about zeroth in let mades = total-set (λ x. x.made) s.views id v w at in let mades' = total-snoc (λ x. x.made) one u in
       let more : made_by (one ++ u ∷ []) ≡ made_by s.views + 1 = omega arith in
-      let grow : (f : View → ℕ) → f w ≡ f v → total f (one ++ u ∷ []) ≡ total f s.views + f u = λ f e. (let a = total-snoc f one u in let b = total-set f s.views id v w at in omega arith) in
+      let grow : (f : View → ℕ) → f w ≡ f v → summed f (one ++ u ∷ []) ≡ summed f s.views + f u = λ f e. (let a = total-snoc f one u in let b = total-set f s.views id v w at in omega arith) in
       record {
         playable = r.playable;
         words = r.words;
@@ -128,20 +128,20 @@ module _ (key : Basis) (id : ℕ) (v : View) (about : v.about ≡ Some key) (zer
           within = (let sum = grow (λ y. late_among n y.drawn) refl in let old = r.tickets.within in omega arith);
         };
         book = (let seen = grow (λ y. one_if y.opened) refl in let here = total-at (λ y. one_if y.opened) s.views id v at in
-            book-seen (window_for key) _ _ _ _ _ (total (λ y. one_if y.opened) s.views) _ (λ e. omega arith)
-            (book-by (window_for key) _ _ _ _ _ _ _ _ _ _ (grow (λ y. one_if y.holds) refl ∙ (omega arith)) (grow (λ y. opening y.phase) refl ∙ (omega arith)) (grow has_opened refl ∙ (omega arith)) refl r.book));
+            book-seen (window_for key) _ _ _ _ _ (summed (λ y. one_if y.opened) s.views) _ (λ e. omega arith)
+            (book-by (window_for key) _ _ _ _ _ _ _ _ _ _ (grow (λ y. one_if y.holds) refl ∙ (omega arith)) (grow (λ y. phase_opening y.phase) refl ∙ (omega arith)) (grow has_opened refl ∙ (omega arith)) refl r.book));
         looks = λ j inside. look-by (window_for key) j _ _ _ _ _ _ _ _ _ _ (grow (λ y. times j y.put) refl ∙ (omega arith)) (grow (λ y. times j y.took) refl ∙ (omega arith))
             (grow (λ y. putting j y.phase) refl ∙ (omega arith)) (grow (λ y. taking j y.phase) refl ∙ (omega arith)) (r.looks j inside);
       }
 
 module _ (key : Basis) (id : ℕ) (v : View) (other : ℕ) (w : View) (about : v.about ≡ Some key) (about' : w.about ≡ Some key) (numbered : w.number ≢ 0) (free : w.holds ≡ false) (rests : w.phase ≡ Resting) where
-  pub joins : Joins (IsKept key) id v other w (joined v w) spent_seat
+  pub joins : Joins (IsKept key) id v other w (views_joined v w) spent_seat
   joins s r at ne there =
-      let both : View = joined v w in let n : ℕ = turns_of key in let one : List View = set s.views id both in let two : List View = set one other spent_seat in
+      let both : View = views_joined v w in let n : ℕ = turns_of key in let one : List View = set s.views id both in let two : List View = set one other spent_seat in
       let was : get_elem? s.views other ≡ maybe.some w = sym (set_else s.views id other both ne) ∙ there in
       let is = seated key v about (r.seats id v at) in let is' = seated key w about' (r.seats other w was) in
-      let sum : (f : View → ℕ) → f spent_seat ≡ 0 → f both ≡ f v + f w → total f two ≡ total f s.views = λ f none_left e. (let a = total-joined f s.views id other v w both spent_seat at there none_left in omega arith) in
-      let own : (f : View → ℕ) → f spent_seat ≡ 0 → f both ≡ f v → f w ≡ 0 → total f two ≡ total f s.views = λ f none_left e d. sum f none_left (omega arith) in
+      let sum : (f : View → ℕ) → f spent_seat ≡ 0 → f both ≡ f v + f w → summed f two ≡ summed f s.views = λ f none_left e. (let a = total-joined f s.views id other v w both spent_seat at there none_left in omega arith) in
+      let own : (f : View → ℕ) → f spent_seat ≡ 0 → f both ≡ f v → f w ≡ 0 → summed f two ≡ summed f s.views = λ f none_left e d. sum f none_left (omega arith) in
       let no_first : is_first w ≡ 0 = first-other w.about w.number numbered in let no_opener : has_opened w ≡ 0 = only-none w.opened (is_first w) no_first in
       let made = own (λ y. y.made) refl refl (is'.makes numbered) in let parts = sum (λ y. length y.parts) refl (length-append v.parts w.parts) in let firsts = own is_first refl refl no_first in
       let late = late-append n v.drawn w.drawn in let long = length-append v.parts w.parts in let lates = sum (λ y. late_among n y.drawn) refl late in
@@ -168,8 +168,8 @@ module _ (key : Basis) (id : ℕ) (v : View) (other : ℕ) (w : View) (about : v
           within = (let old = r.tickets.within in omega arith);
         };
         book = (let seen = total-joined (λ y. one_if y.opened) s.views id other v w both spent_seat at there refl in
-            book-seen (window_for key) _ _ _ _ _ (total (λ y. one_if y.opened) s.views) _ (λ e. omega arith)
-            (book-by (window_for key) _ _ _ _ _ _ _ _ _ _ (own (λ y. one_if y.holds) refl refl (ap one_if free)) (own (λ y. opening y.phase) refl refl (ap opening rests)) (own has_opened refl refl no_opener) refl r.book));
+            book-seen (window_for key) _ _ _ _ _ (summed (λ y. one_if y.opened) s.views) _ (λ e. omega arith)
+            (book-by (window_for key) _ _ _ _ _ _ _ _ _ _ (own (λ y. one_if y.holds) refl refl (ap one_if free)) (own (λ y. phase_opening y.phase) refl refl (ap phase_opening rests)) (own has_opened refl refl no_opener) refl r.book));
         looks = λ j inside. look-by (window_for key) j _ _ _ _ _ _ _ _ _ _ (sum (λ y. times j y.put) refl (times-append j v.put w.put)) (sum (λ y. times j y.took) refl (times-append j v.took w.took))
             (own (λ y. putting j y.phase) refl refl (ap (putting j) rests)) (own (λ y. taking j y.phase) refl refl (ap (taking j) rests)) (r.looks j inside);
       }
@@ -199,5 +199,5 @@ module _ (key : Basis) (slots id : ℕ) (me : Me Place View) where
   )
 
 -- what two seats drew that are one now
-pub drew-apart : (v w : View) (me : Me Place View) (c : List (ℕ × Place)) → me ≡ (joined v w, c) → ((k : ℕ) → times k me.0.drawn ≤ 1) → (k : ℕ) → times k v.drawn + times k w.drawn ≤ 1
+pub drew-apart : (v w : View) (me : Me Place View) (c : List (ℕ × Place)) → me ≡ (views_joined v w, c) → ((k : ℕ) → times k me.0.drawn ≤ 1) → (k : ℕ) → times k v.drawn + times k w.drawn ≤ 1
 drew-apart v w me c is once k = let a = once k in let b : times k me.0.drawn ≡ times k (v.drawn ++ w.drawn) = ap (λ (m : Me Place View). times k m.0.drawn) is in let d = times-append k v.drawn w.drawn in omega arith

@@ -10,7 +10,7 @@ use Rattle.round_workers.specs.declared.board.view.Basis.{Basis}
 use Rattle.round_workers.specs.declared.board.view.Place.{Place}
 use Rattle.round_workers.specs.declared.board.view.View.{View}
 use Rattle.round_workers.specs.BoardView.{window_for}
-use Rattle.round_workers.specs.BoardRule.{AreDealt, IsBookKeptBy, IsKept, IsLookKeptBy, Sits, has_opened, is_first, opening, putting, taking, turns_of}
+use Rattle.round_workers.specs.BoardRule.{AreDealt, IsBookKeptBy, IsKept, IsLookKeptBy, Sits, has_opened, is_first, phase_opening, putting, taking, turns_of}
 use Rattle.round_workers.proofs.BoardKeeps.{book-stays, look-stays, parts-stay, seats-set, tickets-stay}
 
 -- a seat knows, has made, has drawn and is made of what it was
@@ -31,7 +31,7 @@ pub record IsSameAt (j : ℕ) (v w : View) : Type 0 where
 -- and with the book
 pub record IsSameByBook (v w : View) : Type 0 where
   pub holds : w.holds ≡ v.holds
-  pub opens : opening w.phase ≡ opening v.phase
+  pub opens : phase_opening w.phase ≡ phase_opening v.phase
   pub opened : w.opened ≡ v.opened
 
 abbrev at-homes : List (maybe.Option Place) → ℕ → maybe.Option (maybe.Option Place)

@@ -10,7 +10,7 @@ use Rattle.round_book.specs.Machine.{times}
 use Rattle.round_workers.specs.declared.board.view.Basis.{Basis}
 use Rattle.round_workers.specs.declared.board.view.Place.{Place}
 use Rattle.round_workers.specs.declared.board.view.View.{View}
-use Rattle.round_workers.specs.BoardTotals.{late_among, total}
+use Rattle.round_workers.specs.BoardTotals.{late_among, summed}
 use Rattle.round_workers.specs.BoardView.{window_for}
 use Rattle.round_workers.specs.BoardPlays.{drew, tells_draw}
 use Rattle.round_workers.specs.BoardRule.{AreDealt, IsBookKeptBy, IsKept, IsLookKeptBy, turns_of}
@@ -36,7 +36,7 @@ module _ (key : Basis) (slots id : ℕ) (me : Me Place View) (about : me.0.about
       let v : View = me.0 in let word : ℕ = slice_index s.words 0 in let w : View = drew me.0 word in let n : ℕ = turns_of key in
       let is = seated key v about (r.seats id v at) in let wide = r.words in let own = is.own in
       let late = late-append n v.drawn (word ∷ []) in let sum = total-set (λ u. late_among n u.drawn) s.views id v w at in let before = r.tickets.within in
-      let within : word + 1 ≤ n + total (λ u. late_among n u.drawn) (set s.views id w) = by_cases (dec_le n word) late sum before in
+      let within : word + 1 ≤ n + summed (λ u. late_among n u.drawn) (set s.views id w) = by_cases (dec_le n word) late sum before in
       let counts = times-length v.number v.parts in
       record {
         playable = r.playable;
@@ -55,9 +55,9 @@ module _ (key : Basis) (slots id : ℕ) (me : Me Place View) (about : me.0.about
       }
     where
       by_cases : Dec (turns_of key ≤ slice_index s.words 0) → late_among (turns_of key) (me.0.drawn ++ slice_index s.words 0 ∷ []) ≡ late_among (turns_of key) me.0.drawn + late_among (turns_of key) (slice_index s.words 0 ∷ [])
-          → total (λ u. late_among (turns_of key) u.drawn) (set s.views id (drew me.0 (slice_index s.words 0))) + late_among (turns_of key) me.0.drawn ≡ total (λ u. late_among (turns_of key) u.drawn) s.views + late_among (turns_of key) (me.0.drawn ++ slice_index s.words 0 ∷ [])
-          → slice_index s.words 0 ≤ turns_of key + total (λ u. late_among (turns_of key) u.drawn) s.views
-          → slice_index s.words 0 + 1 ≤ turns_of key + total (λ u. late_among (turns_of key) u.drawn) (set s.views id (drew me.0 (slice_index s.words 0)))
+          → summed (λ u. late_among (turns_of key) u.drawn) (set s.views id (drew me.0 (slice_index s.words 0))) + late_among (turns_of key) me.0.drawn ≡ summed (λ u. late_among (turns_of key) u.drawn) s.views + late_among (turns_of key) (me.0.drawn ++ slice_index s.words 0 ∷ [])
+          → slice_index s.words 0 ≤ turns_of key + summed (λ u. late_among (turns_of key) u.drawn) s.views
+          → slice_index s.words 0 + 1 ≤ turns_of key + summed (λ u. late_among (turns_of key) u.drawn) (set s.views id (drew me.0 (slice_index s.words 0)))
       by_cases (yes le) late sum before = let one = late-one (turns_of key) (slice_index s.words 0) le in omega arith
       by_cases (no gt) late sum before = let g : slice_index s.words 0 < turns_of key = lt_of_not-le gt in omega arith
 

@@ -48,8 +48,8 @@ newcomer v = record {
 }
 
 -- a seat after another went into it
-abbrev pub joined : View → View → View
-joined v w = record v { parts = v.parts ++ w.parts; drawn = v.drawn ++ w.drawn; put = v.put ++ w.put; took = v.took ++ w.took }
+abbrev pub views_joined : View → View → View
+views_joined v w = record v { parts = v.parts ++ w.parts; drawn = v.drawn ++ w.drawn; put = v.put ++ w.put; took = v.took ++ w.took }
 
 -- the seat is as it was, and drew no ticket twice
 abbrev pub tells_each_once : Step Place → At → ℕ → At → Type 0

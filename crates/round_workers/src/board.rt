@@ -6,7 +6,7 @@ ghost use Rattle.round_book.specs.Book.{CanBegin, window_of};
 ghost use Rattle.round_book.specs.Machine.{times};
 ghost use Rattle.round_book.specs.Window.{IsPlayable};
 ghost use Rattle.round_workers.specs.Inner.BoardPlaces.{AreBare};
-ghost use Rattle.round_workers.specs.BoardPlays.{drew, joined, made_one, newcomer};
+ghost use Rattle.round_workers.specs.BoardPlays.{drew, views_joined, made_one, newcomer};
 ghost use Rattle.round_workers.specs.BoardRule.{turns_of};
 ghost use Rattle.round_workers.specs.BoardSeats.{IsSeatOf, basis_of, known};
 ghost use Rattle.round_workers.specs.BoardView.{first_seat, window_for};
@@ -152,7 +152,7 @@ impl Board {
         requires other_first { (known other).number ≢ 0 }
         requires free { (known other).holds ≡ false }
         ensures board { IsSeatOf self.now seat.new }
-        ensures joined { known seat.new ≡ joined (known seat.old) (known other) }
+        ensures joined { known seat.new ≡ views_joined (known seat.old) (known other) }
         ensures apart { (k : ℕ) → times k (known seat.old).drawn + times k (known other).drawn ≤ 1 }
     {
         let Seat { hand } = other;

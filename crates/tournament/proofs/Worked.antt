@@ -9,7 +9,7 @@ use Rattle.tournament.specs.declared.standing.Line.{Line}
 use Rattle.tournament.specs.Names.{has_name, with_name}
 use Rattle.tournament.specs.Games.{below, above, games_with, games_on, games_of, all_played}
 use Rattle.tournament.specs.Standing.{line_of, StandsAbove, IsStandingOf}
-use Rattle.tournament.specs.Text.{line_text, standing_text, IsCupText}
+use Rattle.tournament.specs.Text.{table_line_text, standing_text, IsCupText}
 
 abbrev score : ℕ → ℕ → ℕ → Score
 score world red black = cond (red == 1) (record { red = 3; black = 0 }) (record { red = 0; black = 0 })
@@ -51,7 +51,7 @@ b_then_a = record {
 }
 
 text_is : codes "3 points: b (1 won, 1 drawn, 0 lost)\n1 points: a (0 won, 1 drawn, 1 lost)\n" ≡ standing_text (codes "a" ∷ codes "b" ∷ []) (line_b ∷ line_a ∷ [])
-unfolding digits line_text
+unfolding digits table_line_text
 text_is = refl
 
 -- the text of that cup

@@ -1,7 +1,7 @@
 // The list of games in contiguous pieces, one for each worker.
 ghost use Rattle.std.specs.Prelude.{◌≡◌, ℕ, ◌+◌, ◌*◌, ◌/◌, ◌<◌, ◌≤◌, ◌++◌, ◌^◌, false, [], All, length, map, IfOk, OnOk};
 ghost use Rattle.tournament.specs.Games.{played_by};
-ghost use Rattle.tournament.specs.Inner.Pieces.{AreKnown, IsReady, IsDone, dealt_games, played_games};
+ghost use Rattle.tournament.specs.Inner.Pieces.{AreKnown, IsPieceReady, IsPieceDone, dealt_games, played_games};
 
 use crate::games::{Game, Played};
 use crate::referee::Referee;
@@ -32,8 +32,8 @@ impl Piece {
 
     // Plays the games in their order, up to the first that is refused.
     pub fn play<F: Referee>(&mut self, alloc: Global, referee: &F)
-        requires { IsReady (F.knows referee.now) self.old }
-        ensures { IsDone (F.score referee.now) self.old self.new }
+        requires { IsPieceReady (F.knows referee.now) self.old }
+        ensures { IsPieceDone (F.score referee.now) self.old self.new }
     {
         self.refused = play_games(alloc, referee, &self.games, &mut self.played).is_err();
     }

@@ -3,7 +3,7 @@ ghost use Rattle.std.specs.Prelude.{◌<◌, All, length, slice_index_or};
 ghost use Rattle.ant_base.specs.Sink.{Pushed};
 ghost use Rattle.ant_base.specs.Layout.{◌+++◌};
 ghost use Rattle.tournament.specs.Inner.Blank.{blank};
-ghost use Rattle.tournament.specs.Text.{line_text, standing_text};
+ghost use Rattle.tournament.specs.Text.{table_line_text, standing_text};
 
 use crate::names::Names;
 use crate::standing::{Line, Standing};
@@ -20,7 +20,7 @@ struct Lines<'s> {
 impl Parts for Lines<'_> {
     ghost count = { λ lines. length lines.standing.now };
 
-    ghost part = { λ lines at. line_text lines.names.now (slice_index_or lines.standing.now at blank) };
+    ghost part = { λ lines at. table_line_text lines.names.now (slice_index_or lines.standing.now at blank) };
 
     fn count(&self) -> usize {
         self.standing.len()
@@ -36,7 +36,7 @@ impl Parts for Lines<'_> {
 #[tactic(auto, unfolding(crate::specs::Text::line_text))]
 fn push_line<K: Sink>(names: &Names, line: Line, sink: &mut K) -> Result<(), Failed>
     requires { line.player < length names.now }
-    ensures { Pushed (K.state sink.old) (K.state sink.new) (line_text names.now line) result }
+    ensures { Pushed (K.state sink.old) (K.state sink.new) (table_line_text names.now line) result }
 {
     let name = names.of_player(line.player);
     layout!(

@@ -25,9 +25,9 @@ element_of shape (suc zero) = element.Hill Black
 element_of shape (suc (suc n)) = cond (nat_lt n shape.rocks) element.Rock element.Blob
 
 -- so many steps in one direction
-unfoldable pub stepped : ℕ → Dir → Point → Point
-stepped zero d p = p
-stepped (suc n) d p = adjacent_point (stepped n d p) d
+unfoldable pub point_after : ℕ → Dir → Point → Point
+point_after zero d p = p
+point_after (suc n) d p = adjacent_point (point_after n d p) d
 
 -- up to four steps from the corner in one direction, and then up to four in the next
 pub record IsInBlob (corner : Point) (first : Dir) (q : Point) : Type 0 where
@@ -35,7 +35,7 @@ pub record IsInBlob (corner : Point) (first : Dir) (q : Point) : Type 0 where
   pub beside : ℕ
   pub is_long : along ≤ 4
   pub is_wide : beside ≤ 4
-  pub is : stepped beside (turned_by first Right) (stepped along first corner) ≡ q
+  pub is : point_after beside (turned_by first Right) (point_after along first corner) ≡ q
 
 -- a cell of an element of this form at this place: a hill is a ball of radius 6
 abbrev pub IsCellOf : Form → Point → Point → Type 0

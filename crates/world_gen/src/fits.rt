@@ -2,7 +2,7 @@
 ghost use Rattle.hex_geometry.specs.Position.{point_of};
 ghost use Rattle.std.specs.Bool.{Decides};
 ghost use Rattle.std.specs.Prelude.{◌+◌, ◌*◌, ◌≤◌};
-ghost use Rattle.world_gen.specs.Inner.Open.{AllOpen, BallIsOpen, BlobIsOpen, IsFenced, IsShut, IsWithin, LineIsOpen, RowIsOpen};
+ghost use Rattle.world_gen.specs.Inner.Open.{AllOpen, BallIsOpen, BlobIsOpen, IsFenced, IsShut, IsBallWithin, LineIsOpen, RowIsOpen};
 
 use crate::spot::{Form, HILL_RADIUS, Spot};
 use crate::yard::Yard;
@@ -42,7 +42,7 @@ impl Yard {
     // Whether the ball ends before the rim on all sides.
     fn is_within(&self, centre: Pos, radius: u16) -> bool
         requires small { radius ≤ 255 }
-        ensures { Decides result (IsWithin self.now.width self.now.height centre radius) }
+        ensures { Decides result (IsBallWithin self.now.width self.now.height centre radius) }
     {
         let (x, y, reach) = (centre.x as u32, centre.y as u32, radius as u32);
         reach < x
@@ -54,7 +54,7 @@ impl Yard {
     // Whether those positions of a row that are in the ball are open. The ball ends before the rim.
     fn row_is_open(&self, centre: Pos, radius: u16, y: u16) -> bool
         requires fence { IsFenced self.now.width self.now.height self.now.blocked.items }
-        requires within { IsWithin self.now.width self.now.height centre radius }
+        requires within { IsBallWithin self.now.width self.now.height centre radius }
         ensures { Decides result (RowIsOpen self.now.width self.now.height self.now.blocked.items centre radius y (2 * radius + 1)) }
     {
         for column in 0..2 * radius as u32 + 1 {

@@ -3,7 +3,7 @@ ghost use Rattle.std.specs.Prelude.{◌≡◌, ◌+◌, ◌<◌, ◌≤◌};
 ghost use Rattle.hex_geometry.specs.Position.{IsInside};
 ghost use Rattle.world_gen.specs.Inner.Answers.{IsChosen, IsInRow, IsSearched, IsTried};
 ghost use Rattle.world_gen.specs.Inner.Open.{AllOpen, IsFenced};
-ghost use Rattle.world_gen.specs.Placing.{after_begun, begun, draws_of, tried_at, tried_form};
+ghost use Rattle.world_gen.specs.Placing.{after_begun, form_begun, draws_of, tried_at, tried_form};
 
 use crate::element::Element;
 use crate::spot::{Form, Spot};
@@ -101,7 +101,7 @@ fn begin(stream: &mut Stream, element: Element) -> Form
     requires early { stream.old.place < 1000000 }
     ensures seed { stream.new.seed ≡ stream.old.seed }
     ensures place { stream.new.place ≡ after_begun stream.old.place element }
-    ensures form { result ≡ begun stream.old.seed stream.old.place element }
+    ensures form { result ≡ form_begun stream.old.seed stream.old.place element }
 {
     match element {
         Element::Hill(colour) => Form::Hill(colour),

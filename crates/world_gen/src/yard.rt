@@ -4,8 +4,8 @@ ghost use Rattle.cell_world.specs.Limits.{most_size};
 ghost use Rattle.cell_world.specs.World.{pos_at};
 ghost use Rattle.hex_geometry.specs.Position.{IsInner};
 ghost use Rattle.std.specs.Prelude.{◌≡◌, ◌+◌, ◌*◌, ◌++◌, ◌∷◌, [], ◌<◌, ◌≤◌, true, Contains, IfOk, OnOk, length, slice_set};
-ghost use Rattle.world_gen.specs.Inner.Open.{is_open};
-ghost use Rattle.world_gen.specs.Inner.Sets.{IsRound, Sets};
+ghost use Rattle.world_gen.specs.Inner.Open.{is_unblocked};
+ghost use Rattle.world_gen.specs.Inner.Sets.{IsRound, SetsWhere};
 ghost use Rattle.world_gen.specs.Inner.Yards.{IsStamped, bare_blocked, bare_kind, bare_kinds, is_rim};
 
 use cell_world::Kind;
@@ -64,7 +64,7 @@ impl Yard {
     #[inline]
     pub fn is_open(&self, p: Pos) -> bool
         requires { length self.now.blocked.items ≡ self.now.width * self.now.height }
-        ensures { result ≡ is_open self.now.width self.now.height self.now.blocked.items p }
+        ensures { result ≡ is_unblocked self.now.width self.now.height self.now.blocked.items p }
     {
         p.x < self.width && p.y < self.height && !self.blocked[index_of(self.width, p)]
     }
@@ -133,7 +133,7 @@ fn block_round(blocked: &mut [bool], width: u16, height: u16, p: Pos)
     requires narrow { width ≤ most_size }
     requires low { height ≤ most_size }
     requires inner { IsInner width height p }
-    ensures { Sets width height true (IsRound p) blocked.old blocked.new }
+    ensures { SetsWhere width height true (IsRound p) blocked.old blocked.new }
 {
     block(blocked, width, p);
     for number in 0..6u8 {

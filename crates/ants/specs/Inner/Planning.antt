@@ -15,7 +15,7 @@ use Rattle.world_gen.specs.Placing.{HasNoRoom}
 use Rattle.ants.specs.declared.run.Setting.{Setting}
 use Rattle.ants.specs.declared.stop.Stop.{Stop}
 use Rattle.ants.specs.declared.stop.Stop.TheVariants as stop
-use Rattle.ants.specs.Files.{Content}
+use Rattle.ants.specs.Files.{FileContent}
 use Rattle.ants.specs.Files.Content.{WorldContent, BrainContent}
 use Rattle.ants.specs.Jobs.{chosen_rounds, sheet_named}
 
@@ -54,5 +54,5 @@ IsGenerating seed shape (Err stop.Memory) = Unit {0}
 IsGenerating seed shape (Err other) = ⊥
 
 -- what the files of a game were read as
-abbrev pub setting_contents : Setting → List Content
+abbrev pub setting_contents : Setting → List FileContent
 setting_contents setting = WorldContent setting.world ∷ BrainContent setting.red ∷ BrainContent setting.black ∷ []

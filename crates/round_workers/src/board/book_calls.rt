@@ -5,7 +5,7 @@ ghost use Rattle.round_workers.specs.declared.board.view.Place.TheVariants.{Noth
 ghost use Rattle.round_workers.specs.declared.board.view.Try.TheVariants.{OfBook};
 ghost use Rattle.round_workers.specs.BoardPlays.{after_try, has_seen, with_book, without_book};
 ghost use Rattle.round_workers.specs.BoardRule.{StandsFor};
-ghost use Rattle.round_workers.specs.BoardSeats.{IsSeatOf, basis_of, known, window_of};
+ghost use Rattle.round_workers.specs.BoardSeats.{IsSeatOf, basis_of, known, board_window};
 ghost use Rattle.round_workers.specs.BoardView.{book_out};
 ghost use Rattle.round_workers.specs.BoardWorker.{IsLentFor, IsSameButTook};
 
@@ -33,7 +33,7 @@ impl Board {
         requires board { IsSeatOf self.now seat.old }
         requires first { (known seat.old).number ≡ 0 }
         requires unopened { (known seat.old).opened ≡ false }
-        requires stands { StandsFor (window_of self.now) book }
+        requires stands { StandsFor (board_window self.now) book }
         requires begins { book.next ≡ book.from }
         ensures board { IsSeatOf self.now seat.new }
         ensures opened { known seat.new ≡ has_seen (known seat.old) }
@@ -55,7 +55,7 @@ impl Board {
         requires opened { (known seat.old).opened ≡ true }
         requires free { (known seat.old).holds ≡ false }
         ensures board { IsSeatOf self.now seat.new }
-        ensures stands { IfSome result (StandsFor (window_of self.now)) }
+        ensures stands { IfSome result (StandsFor (board_window self.now)) }
         ensures taken { OnSome result (known seat.new ≡ with_book (known seat.old)) }
         ensures held_by_another { IfNone result (known seat.new ≡ after_try (known seat.old) (OfBook book_out)) }
     {
@@ -73,7 +73,7 @@ impl Board {
     pub fn give_book(&self, seat: &mut Seat, book: Book)
         requires board { IsSeatOf self.now seat.old }
         requires holds { (known seat.old).holds ≡ true }
-        requires stands { StandsFor (window_of self.now) book }
+        requires stands { StandsFor (board_window self.now) book }
         ensures board { IsSeatOf self.now seat.new }
         ensures given { known seat.new ≡ without_book (known seat.old) }
     {
@@ -93,7 +93,7 @@ impl Board {
         requires board { IsSeatOf self.now seat.old }
         requires opened { (known seat.old).opened ≡ true }
         requires free { (known seat.old).holds ≡ false }
-        requires field { IsLentFor field.now (window_of self.now) }
+        requires field { IsLentFor field.now (board_window self.now) }
         ensures board { IsSeatOf self.now seat.new }
         ensures same { IsSameButTook (known seat.old) (known seat.new) }
         ensures tried { (known seat.old).tries + 1 ≤ (known seat.new).tries }
@@ -113,7 +113,7 @@ impl Board {
         requires opened { hand.old.me.0.opened ≡ true }
         requires free { hand.old.me.0.holds ≡ false }
         ensures table { hand.new.table_id ≡ hand.old.table_id }
-        ensures stands { IfSome result (λ room. IsSomeAnd room (StandsFor (window_of self.now))) }
+        ensures stands { IfSome result (λ room. IsSomeAnd room (StandsFor (board_window self.now))) }
         ensures takes { OnSome result (hand.new.me ≡ (with_book hand.old.me.0, (0, Nothing) ∷ hand.old.me.1)) }
         ensures held_by_another { IfNone result (hand.new.me ≡ (after_try hand.old.me.0 (OfBook book_out), hand.old.me.1)) }
     {
@@ -132,7 +132,7 @@ impl Board {
         requires knows { hand.old.me.0.about ≡ Some (basis_of self.now) }
         requires holds { hand.old.me.0.holds ≡ true }
         requires out { hand.old.me.1 ≡ (0, Nothing) ∷ rest hand.old.me.1 }
-        requires stands { IsSomeAnd room (StandsFor (window_of self.now)) }
+        requires stands { IsSomeAnd room (StandsFor (board_window self.now)) }
         ensures table { hand.new.table_id ≡ hand.old.table_id }
         ensures gives { hand.new.me ≡ (without_book hand.old.me.0, rest hand.old.me.1) }
     {

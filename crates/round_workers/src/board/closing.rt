@@ -9,7 +9,7 @@ ghost use Rattle.round_book.specs.Machine.{times};
 ghost use Rattle.round_workers.specs.Inner.BoardPlaces.{AreTaken, look_in};
 ghost use Rattle.round_workers.specs.BoardRule.{StandsFor};
 ghost use Rattle.round_workers.specs.BoardTotals.{once_below};
-ghost use Rattle.round_workers.specs.BoardSeats.{IsSeatOf, basis_of, known, left_look, window_of};
+ghost use Rattle.round_workers.specs.BoardSeats.{IsSeatOf, basis_of, known, left_look, board_window};
 
 use crate::board::places::{book_in, look_out_of};
 use crate::board::seat::{Board, Seat};
@@ -39,10 +39,10 @@ impl Board {
         requires whole { (k : ℕ) → k ≤ (known seat).made → 1 ≤ times k (known seat).parts }
         requires opened { (known seat).opened ≡ true }
         requires free { (known seat).holds ≡ false }
-        ensures book { StandsFor (window_of self) result.book }
+        ensures book { StandsFor (board_window self) result.book }
         ensures drawn { (k : ℕ) → times k (known seat).drawn ≡ once_below k result.drawn }
         ensures turns { length result.looks.items ≡ (basis_of self).to - (basis_of self).from }
-        ensures looks { (k : ℕ) → k < (basis_of self).to - (basis_of self).from → slice_index_or result.looks.items k None ≡ left_look (window_of self) (known seat) k }
+        ensures looks { (k : ℕ) → k < (basis_of self).to - (basis_of self).from → slice_index_or result.looks.items k None ≡ left_look (board_window self) (known seat) k }
     {
         let Ended {
             book,
@@ -64,10 +64,10 @@ impl Board {
         requires whole { (k : ℕ) → k ≤ (known seat).made → 1 ≤ times k (known seat).parts }
         requires opened { (known seat).opened ≡ true }
         requires free { (known seat).holds ≡ false }
-        ensures book { StandsFor (window_of self) result.book }
+        ensures book { StandsFor (board_window self) result.book }
         ensures drawn { (k : ℕ) → times k (known seat).drawn ≡ once_below k result.drawn }
         ensures turns { length result.places.items ≡ (basis_of self).to - (basis_of self).from }
-        ensures looks { (k : ℕ) → k < (basis_of self).to - (basis_of self).from → look_in (slice_index_or result.places.items k Nothing) ≡ left_look (window_of self) (known seat) k }
+        ensures looks { (k : ℕ) → k < (basis_of self).to - (basis_of self).from → look_in (slice_index_or result.places.items k Nothing) ≡ left_look (board_window self) (known seat) k }
         ensures bare { result.room.items ≡ [] }
         ensures roomy { (basis_of self).to - (basis_of self).from ≤ vec_capacity result.room }
     {

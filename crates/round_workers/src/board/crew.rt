@@ -7,7 +7,7 @@ ghost use Rattle.round_workers.specs.declared.board.worker.Worker.{Worker};
 ghost use Rattle.round_workers.specs.Inner.BoardCrew.{AreLooks, HasWorked, IsHired, IsLaid, IsManned, IsRoom};
 ghost use Rattle.round_workers.specs.BoardPlays.{newcomer};
 ghost use Rattle.round_workers.specs.BoardRule.{StandsFor};
-ghost use Rattle.round_workers.specs.BoardSeats.{IsSeatOf, known, window_of};
+ghost use Rattle.round_workers.specs.BoardSeats.{IsSeatOf, known, board_window};
 ghost use Rattle.round_workers.specs.BoardWorker.{IsLentFor, guesses_for, turns_in};
 
 use crate::alone::play_alone;
@@ -276,7 +276,7 @@ fn settle<R: Threads + Sync, G: Gate>(
 fn hire(board: &Board, first: &mut Seat, workers: &mut Vec<Worker>, mut lists: Vec<Vec<u32>>)
     requires manned { IsManned board.now first.old workers.old.items }
     requires hired { All (IsHired board.now) workers.old.items }
-    requires lists { All (IsRoom (turns_in (window_of board.now))) lists.items }
+    requires lists { All (IsRoom (turns_in (board_window board.now))) lists.items }
     requires few { (known first.old).made + vec_len lists ≤ 16 }
     requires counted { vec_len workers.old ≤ (known first.old).made }
     requires wide { vec_len workers.old + vec_len lists ≤ vec_capacity workers.old }
@@ -316,8 +316,8 @@ fn work_all<R: Threads + Sync, G: Gate>(
 )
     requires threads { 0 < threads }
     requires hired { All (IsHired board.now) workers.old }
-    requires field { IsLentFor field.now (window_of board.now) }
-    requires guesses { guesses.now ≡ guesses_for (window_of board.now) }
+    requires field { IsLentFor field.now (board_window board.now) }
+    requires guesses { guesses.now ≡ guesses_for (board_window board.now) }
     ensures worked { (i : ℕ) (d : Worker) → i < length workers.old → HasWorked board.now (slice_index_or workers.old i d) (slice_index_or workers.new i d) }
     ensures len { length workers.new ≡ length workers.old }
 {
@@ -327,8 +327,8 @@ fn work_all<R: Threads + Sync, G: Gate>(
         threads,
         &|_: usize, worker: &mut Worker|
             requires hired { IsHired board.now worker.now }
-            requires field { IsLentFor field.now (window_of board.now) }
-            requires guesses { guesses.now ≡ guesses_for (window_of board.now) }
+            requires field { IsLentFor field.now (board_window board.now) }
+            requires guesses { guesses.now ≡ guesses_for (board_window board.now) }
             ensures { HasWorked board.entry.now worker.entry.now worker.exit.now }
         { worker.work(board, field, guesses, gate) },
     );

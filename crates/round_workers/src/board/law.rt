@@ -34,10 +34,10 @@ impl Split<View> for Splits {
 pub(crate) struct Joins;
 
 impl Join<View> for Joins {
-    ghost use Rattle.round_workers.specs.BoardPlays.{joined};
+    ghost use Rattle.round_workers.specs.BoardPlays.{views_joined};
     ghost use Rattle.round_workers.specs.BoardView.{spent_seat};
 
-    ghost both = { joined };
+    ghost both = { views_joined };
 
     ghost spent = { spent_seat };
 }

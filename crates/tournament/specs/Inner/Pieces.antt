@@ -21,10 +21,10 @@ abbrev pub AreKnown : (ℕ → ℕ → ℕ → Type 0) → List Game → Type 0
 AreKnown knows games = All (λ game. knows game.world game.red game.black) games
 
 -- nothing of the piece was played, and the referee knows its games
-pub record IsReady (knows : ℕ → ℕ → ℕ → Type 0) (piece : Piece) : Type 0 where
+pub record IsPieceReady (knows : ℕ → ℕ → ℕ → Type 0) (piece : Piece) : Type 0 where
   pub fresh : piece.played.items ≡ []
   pub known : AreKnown knows piece.games.items
 
 -- all games of the old piece were played, unless one was refused
-abbrev pub IsDone : (ℕ → ℕ → ℕ → Score) → Piece → Piece → Type 0
-IsDone score old new = OnFalse new.refused (new.played.items ≡ map (played_by score) old.games.items)
+abbrev pub IsPieceDone : (ℕ → ℕ → ℕ → Score) → Piece → Piece → Type 0
+IsPieceDone score old new = OnFalse new.refused (new.played.items ≡ map (played_by score) old.games.items)

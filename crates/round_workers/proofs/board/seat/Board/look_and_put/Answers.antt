@@ -5,7 +5,7 @@ use Rattle.round_workers.specs.BoardPlays.{has_put}
 use Rattle.cell_world.specs.Grid.{world_of}
 use Rattle.round_book.specs.Window.{Window, guess_for, look_for}
 use Rattle.round_book.proofs.SoloLemmas.{guess_for-le}
-use Rattle.round_workers.specs.BoardSeats.{basis_of, window_of}
+use Rattle.round_workers.specs.BoardSeats.{basis_of, board_window}
 use Rattle.round_workers.proofs.BoardWorking.{look-so}
 use Rattle.round_workers.proofs.BoardMoves.{At, at-rest-so, slot-held}
 use Rattle.round_workers.proofs.board.seat.Board.look_and_put.Goals as goal
@@ -17,7 +17,7 @@ look_at-requires-clause-id c =
 
 pub look_at-requires-clause-place : goal.look_at-requires-clause-place
 look_at-requires-clause-place c =
-    let board = c.args.self.now in let few = guess_for-le (window_of board) ((basis_of board).from + c.args.ticket) in let at = c.requires.guess in
+    let board = c.args.self.now in let few = guess_for-le (board_window board) ((basis_of board).from + c.args.ticket) in let at = c.requires.guess in
     let lasting = board.lasting in let inside = c.requires.ticket in let a = board.first in let b = board.last in omega arith
 
 pub end_put-requires-clause-knows : goal.end_put-requires-clause-knows
@@ -31,7 +31,7 @@ end_put-requires-clause-out c = slot-held _ _ (c.args.ticket + 1) Nothing _ c.be
 
 pub end_put-requires-clause-look : goal.end_put-requires-clause-look
 end_put-requires-clause-look c =
-    let board = c.args.self.now in let field = c.args.field.now in let window = window_of board in let lent = c.requires.field in
+    let board = c.args.self.now in let field = c.args.field.now in let window = board_window board in let lent = c.requires.field in
     let turn : c.turn_of-turn.result ≡ (basis_of board).from + c.args.ticket = c.turn_of-turn.ensures in
     c.look_at.ensures.look ∙ ap Some (look-so window c.turn_of-turn.result c.args.stream.now.place c.args.stream.now.seed field.minds (world_of field.world)
     (ap (λ (w : Window). w.minds) lent.same) c.requires.seed (ap (λ (w : Window). w.base) lent.same) (c.requires.guess ∙ ap (guess_for window) (sym turn)) ∙ ap (look_for window) turn)
