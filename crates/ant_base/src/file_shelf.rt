@@ -8,7 +8,7 @@ ghost use Rattle.ant_base.specs.Shelf.{Fetches, is_failed, longest};
 ghost use Rattle.ant_base.specs.Streams.{shelf_of_files};
 
 use crate::shelf::LONGEST;
-use crate::trail::Trail;
+use crate::system_log::SystemLog;
 use crate::{FetchFault, Shelf};
 use std::alloc::Global;
 use std::fs::{self, Files};
@@ -26,7 +26,7 @@ const CHUNK: usize = 8192;
 pub struct FileShelf<'r, R> {
     rt: &'r R,
     faults: u64,
-    trail: Trail,
+    system_log: SystemLog,
 }
 
 impl<'r, R> Model for FileShelf<'r, R> {
@@ -34,7 +34,7 @@ impl<'r, R> Model for FileShelf<'r, R> {
 
     ghost Value = { FileShelfState };
 
-    ghost view = { λ s. record { faults = s.faults; log = s.trail.fetches } };
+    ghost view = { λ s. record { faults = s.faults; log = s.system_log.fetches } };
 }
 
 impl<'r, R: Files + Input> FileShelf<'r, R> {
@@ -45,7 +45,7 @@ impl<'r, R: Files + Input> FileShelf<'r, R> {
         FileShelf {
             rt,
             faults: 0,
-            trail: Trail::new(),
+            system_log: SystemLog::new(),
         }
     }
 
@@ -72,7 +72,7 @@ impl<R: Files + Input> Shelf for FileShelf<'_, R> {
         if matches!(content, Err(FetchFault::Failed)) {
             self.faults = self.faults.saturating_add(1);
         }
-        self.trail.note_fetch(name, &content);
+        self.system_log.note_fetch(name, &content);
         content
     }
 }

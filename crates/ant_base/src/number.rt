@@ -9,7 +9,7 @@ use crate::{Failed, Layout, Sink};
 const MAX_DIGITS: usize = 10;
 
 /// The value of 1 to 10 decimal digits, leading zeros included; `None` exactly where the text isn't 1 to 10 digits (the contest's files).
-#[tactic(auto, unfolding(crate::specs::Number::number_of))]
+#[tactic(auto, unfolding(crate::specs::Number::decimal_value))]
 pub fn read_number(text: &[u8]) -> Option<u64>
     ensures value { result ≡ decimal_value text.now }
     ensures small { IfSome result (λ n. n < 10000000000) }

@@ -7,8 +7,8 @@ ghost use Rattle.ant_base.specs.Inner.Answered.{taken_of};
 ghost use Rattle.ant_base.specs.Sink.{Pushed};
 ghost use Rattle.ant_base.specs.Streams.{Takes, sink_of_stream};
 
-use crate::trail::Trail;
-use crate::{Failed, Sink, Stream};
+use crate::system_log::SystemLog;
+use crate::{Failed, Sink, Writer};
 use std::io::{self, BufWriter, ErrorKind, Stderr, Stdout};
 use std::marker::Model;
 
@@ -18,10 +18,10 @@ use std::marker::Model;
 /// write that takes nothing of what is left is a fault, as is a failure to send on; over a stream that never fails no push does. The count of faults rises by one at each push that is
 /// `Failed` and at no other, and stays at the last value of a u64.
 #[derive(Drop)]
-pub struct StreamSink<W: Stream> {
+pub struct StreamSink<W: Writer> {
     stream: W,
     faults: u64,
-    trail: Trail,
+    system_log: SystemLog,
 }
 
 /// A sink on standard output, which gets what was pushed at each piece that ends in LF.
@@ -30,15 +30,15 @@ pub type OutSink = StreamSink<BufWriter<Stdout>>;
 /// A sink on standard error.
 pub type ErrSink = StreamSink<Stderr>;
 
-impl<W: Stream> Model for StreamSink<W> {
+impl<W: Writer> Model for StreamSink<W> {
     ghost use Rattle.ant_base.specs.Streams.{StreamState};
 
     ghost Value = { StreamState };
 
-    ghost view = { λ s. record { taken = s.trail.bytes; waiting = W.waiting s.stream; written = W.contents s.stream; faults = s.faults; sure = W.sure s.stream } };
+    ghost view = { λ s. record { taken = s.system_log.bytes; waiting = W.waiting s.stream; written = W.contents s.stream; faults = s.faults; sure = W.sure s.stream } };
 }
 
-impl<W: Stream> StreamSink<W> {
+impl<W: Writer> StreamSink<W> {
     /// A sink over this stream, which took nothing yet, without a fault.
     pub fn new(stream: W) -> Self
         ensures { result ≡ record { taken = []; waiting = W.waiting stream; written = W.contents stream; faults = 0; sure = W.sure stream } }
@@ -46,7 +46,7 @@ impl<W: Stream> StreamSink<W> {
         StreamSink {
             stream,
             faults: 0,
-            trail: Trail::new(),
+            system_log: SystemLog::new(),
         }
     }
 
@@ -58,7 +58,7 @@ impl<W: Stream> StreamSink<W> {
     }
 }
 
-impl<W: Stream> Sink for StreamSink<W> {
+impl<W: Writer> Sink for StreamSink<W> {
     ghost state = { sink_of_stream };
 
     fn push(&mut self, piece: &[u8]) -> Result<(), Failed>
@@ -71,7 +71,7 @@ impl<W: Stream> Sink for StreamSink<W> {
         // It fails only where the stream does.
         ensures sure { self.old.sure ≡ true → IsOk result × (self.new.sure ≡ true) }
     {
-        let written = write_whole(&mut self.stream, &mut self.trail, piece);
+        let written = write_whole(&mut self.stream, &mut self.system_log, piece);
         if written.is_err() {
             self.faults = self.faults.saturating_add(1);
         }
@@ -80,8 +80,8 @@ impl<W: Stream> Sink for StreamSink<W> {
 }
 
 // Writes the whole piece, and sends it on where it ends in LF.
-fn write_whole<W: Stream>(stream: &mut W, trail: &mut Trail, piece: &[u8]) -> Result<(), Failed>
-    ensures taken { Takes trail.old.bytes trail.new.bytes (W.contents stream.old) (W.contents stream.new) piece.now result }
+fn write_whole<W: Writer>(stream: &mut W, system_log: &mut SystemLog, piece: &[u8]) -> Result<(), Failed>
+    ensures taken { Takes system_log.old.bytes system_log.new.bytes (W.contents stream.old) (W.contents stream.new) piece.now result }
     ensures sent { OnOk result (ends_in_lf piece.now ≡ true → W.waiting stream.new ≡ []) }
     ensures sure { W.sure stream.old ≡ true → IsOk result × (W.sure stream.new ≡ true) }
 {
@@ -92,7 +92,7 @@ fn write_whole<W: Stream>(stream: &mut W, trail: &mut Trail, piece: &[u8]) -> Re
             return send_line(stream, piece);
         }
         let taken = taken_by(stream.take(rest))?;
-        trail.note_bytes(&rest[..taken]);
+        system_log.note_bytes(&rest[..taken]);
         rest = &rest[taken..];
     }
     Err(Failed)
@@ -113,7 +113,7 @@ fn taken_by(answer: io::Result<usize>) -> Result<usize, Failed>
 }
 
 // Sends on what waits where the piece ends in LF.
-fn send_line<W: Stream>(stream: &mut W, piece: &[u8]) -> Result<(), Failed>
+fn send_line<W: Writer>(stream: &mut W, piece: &[u8]) -> Result<(), Failed>
     ensures kept { Keeps (W.contents stream.old) (W.contents stream.new) }
     ensures sent { OnOk result (ends_in_lf piece.now ≡ true → W.waiting stream.new ≡ []) }
     ensures sure { W.sure stream.old ≡ true → IsOk result × (W.sure stream.new ≡ true) }

@@ -5,12 +5,12 @@ use Rattle.std.specs.Prelude.{IsErrAnd, String, string_bytes}
 use Rattle.std.specs.declared.alloc.Global.{Global}
 use Rattle.ant_base.specs.Shelf.{ShelfState}
 use Rattle.command_words.specs.Words.{texts}
-use Rattle.ants.specs.declared.stop.Stop.{Stop}
-use Rattle.ants.specs.declared.stop.Stop.TheVariants as stop
+use Rattle.ants.specs.declared.stop.CommandStop.{CommandStop}
+use Rattle.ants.specs.declared.stop.CommandStop.TheVariants as stop
 use Rattle.ants.specs.Files.{FileContent, File, FileKind}
 use Rattle.ants.specs.Inner.Cups.{files_named}
 use Rattle.ants.specs.Inner.Reading.{ReadsFiles, outcome_of}
-use Rattle.ants.specs.Inner.Reading.Outcome.{Contents, Stopped}
+use Rattle.ants.specs.Inner.Reading.ReadOutcome.{Contents, Stopped}
 use Rattle.ants.specs.Stopping.{reason_of}
 use Rattle.ants.specs.Stopping.Reason.{AtMemory}
 use Rattle.ants.proofs.Readings.{outcome_stopped, reads_stopped, reads_then, reads_wanting}
@@ -48,7 +48,7 @@ reads_more content_of first second third kind words i word name values value bel
     (subst (λ (n : List ℕ). ReadsFiles second third (record { name = n; kind = kind } ∷ []) (Contents (content_of value ∷ []))) named two)))
 
 -- the reading stopped at the next file, and so that of all did
-pub stopped_at : {W : Type 0} (contents_of : W → List FileContent) (first second third : ShelfState) (kind : FileKind) (words : List (String Global)) (i : ℕ) (word : String Global) (name : List ℕ) (contents : List FileContent) (result : Result W Stop) (why : Stop)
+pub stopped_at : {W : Type 0} (contents_of : W → List FileContent) (first second third : ShelfState) (kind : FileKind) (words : List (String Global)) (i : ℕ) (word : String Global) (name : List ℕ) (contents : List FileContent) (result : Result W CommandStop) (why : CommandStop)
     → i < length words → word ≡ get_or words i word → name ≡ string_bytes word → IsErrAnd result (λ other. other ≡ why)
     → ReadsFiles first second (files_named kind (texts (take i words))) (Contents contents) → ReadsFiles second third (record { name = name; kind = kind } ∷ []) (Stopped (reason_of why))
     → ReadsFiles first third (files_named kind (texts words)) (outcome_of contents_of result)
@@ -61,7 +61,7 @@ stopped_at contents_of first second third kind words i word name contents result
     (subst (λ (n : List ℕ). ReadsFiles second third (record { name = n; kind = kind } ∷ []) (Stopped (reason_of why))) named two)))))
 
 -- memory was wanting for what was read of the next file, and so the reading of all stopped
-pub wanting_at : {W : Type 0} (contents_of : W → List FileContent) (first third : ShelfState) (kind : FileKind) (words : List (String Global)) (i : ℕ) (contents : List FileContent) (result : Result W Stop)
+pub wanting_at : {W : Type 0} (contents_of : W → List FileContent) (first third : ShelfState) (kind : FileKind) (words : List (String Global)) (i : ℕ) (contents : List FileContent) (result : Result W CommandStop)
     → IsErrAnd result (λ other. other ≡ stop.Memory) → ReadsFiles first third (files_named kind (texts (take i words))) (Contents contents) → ReadsFiles first third (files_named kind (texts words)) (outcome_of contents_of result)
 wanting_at contents_of first third kind words i contents result same one =
     subst (ReadsFiles first third (files_named kind (texts words))) (outcome_stopped contents_of result stop.Memory same)

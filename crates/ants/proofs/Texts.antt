@@ -19,7 +19,7 @@ use Rattle.world_read.specs.declared.fault.WorldFault.TheVariants as world
 use Rattle.ants.specs.declared.stop.FileFault.{FileFault}
 use Rattle.ants.specs.declared.stop.FileFault.TheVariants.{TooLong, World, Brain, Breaks}
 use Rattle.ants.specs.Files.{FileContent, FileKind, Reads, Refuses}
-use Rattle.ants.specs.Files.Content.{WorldContent, BrainContent, BreakContent}
+use Rattle.ants.specs.Files.FileContent.{WorldContent, BrainContent, BreakContent}
 use Rattle.ants.specs.Files.FileKind.{WorldFile, BrainFile, BreakFile}
 use Rattle.ants.specs.Inner.Reading.{TextStops, brain_reason, break_reason, world_reason}
 use Rattle.ants.specs.Stopping.Reason.{AtInput}

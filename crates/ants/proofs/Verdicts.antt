@@ -18,8 +18,8 @@ use Rattle.ants.specs.declared.stop.FileFault.{FileFault}
 use Rattle.ants.specs.declared.stop.FileFault.TheVariants.{TooLong, World, Brain, Breaks}
 use Rattle.ants.specs.Files.{AreAccepted, AreBegun, AreInOrder, FileContent, File, IsAccepted, IsFetched, IsNoText, IsRefused, Reads, Refuses, StopsAt}
 use Rattle.ants.specs.Jobs.{HasRoom, IsJobText, LacksRoom, contest_shape, files_of, shape_named}
-use Rattle.ants.specs.Judged.{IsRefusedAs, Judged, Verdict}
-use Rattle.ants.specs.Judged.Verdict.{AllAccepted, FirstRefused}
+use Rattle.ants.specs.Judged.{IsRefusedAs, Judged, FilesVerdict}
+use Rattle.ants.specs.Judged.FilesVerdict.{AllAccepted, FirstRefused}
 use Rattle.ants.specs.Performing.{EndsBy, IsUnsure}
 use Rattle.ants.specs.Running.{Ends, IsComplete, IsNoCommand, IsOrderly, NeverUnread, IsRefusing, IsRun, ending_status, IsCrowding}
 use Rattle.ants.specs.Stopping.{Reason}
@@ -134,7 +134,7 @@ sure_refused at shelf name other fault (file ∷ files) (x ∷ first) (y ∷ sec
       ]
     ]
 
-sure_judged : (at : At) (shelf : ShelfState) (name : List ℕ) (files : List File) (first second : List Fetched) (verdict : Verdict) → AllByRecursion (IsTold (Some at)) first → AllByRecursion (IsTold (Some at)) second
+sure_judged : (at : At) (shelf : ShelfState) (name : List ℕ) (files : List File) (first second : List Fetched) (verdict : FilesVerdict) → AllByRecursion (IsTold (Some at)) first → AllByRecursion (IsTold (Some at)) second
     → AreSure shelf second → StopsAt (IsUnsure shelf name) files first → Judged files second verdict → ⊥
 sure_judged at shelf name files first second (AllAccepted contents) one two sure stops judged = sure_accepted shelf name files first second contents sure stops judged
 sure_judged at shelf name files first second (FirstRefused other fault) one two sure stops judged = sure_refused at shelf name other fault files first second one two sure stops judged
@@ -302,7 +302,7 @@ refusing_run words shelf new_shelf out new_out err new_err ended run = λ name f
     (as_command words is.command shelf new_shelf run.fetches out new_out run.ending is.is_command run.ends) shelf_held)
 
 -- no run ends at a file that was not read where the shelf is sure of the files up to the verdict
-read_by : (at : At) (command : PlainCommand) (shelf new_shelf : ShelfState) (fetches told : List Fetched) (out new_out : SinkState) (verdict : Verdict) (ending : Option Reason) → AllByRecursion (IsTold (Some at)) fetches
+read_by : (at : At) (command : PlainCommand) (shelf new_shelf : ShelfState) (fetches told : List Fetched) (out new_out : SinkState) (verdict : FilesVerdict) (ending : Option Reason) → AllByRecursion (IsTold (Some at)) fetches
     → AllByRecursion (IsTold (Some at)) told → Judged (files_of command) told verdict → AreSure shelf told → EndsBy command shelf new_shelf fetches out new_out ending → ending_status ending ≢ status.Read
 read_by at command shelf new_shelf fetches told out new_out verdict None one two judged sure ends = λ same. cc
 read_by at command shelf new_shelf fetches told out new_out verdict (Some (AtWord word)) one two judged sure ends = λ same. cc

@@ -34,7 +34,7 @@ use Rattle.world_read.specs.Opened.{kinds_of}
 use Rattle.ants.specs.declared.workload.Summary.{Summary}
 use Rattle.ants.specs.Files.{File, FileContent}
 use Rattle.ants.specs.Files.FileKind.{WorldFile, BrainFile, BreakFile}
-use Rattle.ants.specs.Files.Content.{WorldContent, BrainContent, BreakContent}
+use Rattle.ants.specs.Files.FileContent.{WorldContent, BrainContent, BreakContent}
 use Rattle.ants.specs.Sample.{sample_brain}
 
 -- a file with a world, one with a brain, and one with breaks

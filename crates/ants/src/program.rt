@@ -19,10 +19,10 @@ use crate::brain::brain;
 use crate::cup::{Entry, cup};
 use crate::generating::gen_world;
 use crate::minimise::minimise;
-use crate::run::{Names, dumps_of, run};
+use crate::run::{FileNames, dumps_of, run};
 use crate::show::show;
 use crate::status::Status;
-use crate::stop::Stop;
+use crate::stop::CommandStop;
 use crate::view::view;
 use crate::workload::workload;
 use ant_base::{Gate, Layout, Shelf, Sink};
@@ -36,7 +36,7 @@ use std::process::ExitCode;
 use std::thread::Threads;
 
 // What a game is asked to do.
-fn plan_of<'w>(alloc: Global, options: RunOptions<'_>) -> Result<Plan, Stop<'w>>
+fn plan_of<'w>(alloc: Global, options: RunOptions<'_>) -> Result<Plan, CommandStop<'w>>
     ensures { IsPlanned (plain_setup options.entry) result }
 {
     let dumps = dumps_of(alloc, options.dumps)?;
@@ -53,12 +53,12 @@ fn plan_of<'w>(alloc: Global, options: RunOptions<'_>) -> Result<Plan, Stop<'w>>
 fn carry_out_run<'w, R: Threads + Sync, S: Shelf, K: Sink, G: Gate>(
     rt: &R,
     alloc: Global,
-    names: Names<'w>,
+    names: FileNames<'w>,
     options: RunOptions<'w>,
     shelf: &mut S,
     out: &mut K,
     gate: &G,
-) -> Result<(), Stop<'w>>
+) -> Result<(), CommandStop<'w>>
     requires within { SetupWithin (plain_setup options) }
     ensures { CarriesOut (RunCommand names.entry.world.now names.entry.red.now names.entry.black.now (plain_setup options.entry))
         (S.state shelf.old) (S.state shelf.new) (K.state out.old) (K.state out.new) (ending_of result) }
@@ -85,7 +85,7 @@ fn carry_out_workload<'w, R: Threads + Sync, S: Shelf, K: Sink, G: Gate>(
     shelf: &mut S,
     out: &mut K,
     gate: &G,
-) -> Result<(), Stop<'w>>
+) -> Result<(), CommandStop<'w>>
     requires few_rounds { rounds ≤ most_rounds }
     requires workers { IsWithin WorkerCount workers }
     ensures { CarriesOut (WorkloadCommand seed rounds workers) (S.state shelf.old) (S.state shelf.new) (K.state out.old) (K.state out.new) (ending_of result) }
@@ -107,11 +107,11 @@ fn carry_out<'w, R: Threads + Sync, S: Shelf, K: Sink, G: Gate>(
     shelf: &mut S,
     out: &mut K,
     gate: &G,
-) -> Result<(), Stop<'w>>
+) -> Result<(), CommandStop<'w>>
     ensures { CarriesOutWords (texts words.now) (S.state shelf.old) (S.state shelf.new) (K.state out.old) (K.state out.new) (ending_of result) }
 {
     match read_words(words) {
-        Err(refused) => Err(Stop::Words(refused.word)),
+        Err(refused) => Err(CommandStop::Words(refused.word)),
         Ok(Command::Show { world, seed }) => show(alloc, world, seed, shelf, out),
         Ok(Command::Brain { file }) => brain(alloc, file, shelf, out),
         Ok(Command::Minimise { file }) => minimise(alloc, file, shelf, out),
@@ -125,7 +125,7 @@ fn carry_out<'w, R: Threads + Sync, S: Shelf, K: Sink, G: Gate>(
         ) => carry_out_run(
             rt,
             alloc,
-            Names { world, red, black },
+            FileNames { world, red, black },
             options,
             shelf,
             out,
@@ -164,7 +164,7 @@ fn carry_out<'w, R: Threads + Sync, S: Shelf, K: Sink, G: Gate>(
             },
         ) => view(
             alloc,
-            Names { world, red, black },
+            FileNames { world, red, black },
             breaks,
             seed,
             rounds,
@@ -223,7 +223,7 @@ pub fn run_ants<R: Threads + Sync, S: Shelf, K: Sink, E: Sink, G: Gate>(
 }
 
 // Says why a command stopped.
-fn report<E: Sink>(stop: &Stop<'_>, err: &mut E) -> Status
+fn report<E: Sink>(stop: &CommandStop<'_>, err: &mut E) -> Status
     ensures reports { Reports (E.state err.old) (E.state err.new) (Some (reason_of stop.now)) }
     ensures status { result ≡ status_of (reason_of stop.now) }
 {
@@ -252,7 +252,7 @@ pub fn exit_without_memory<E: Sink>(err: &mut E) -> ExitCode
     ensures reports { Reports (E.state err.old) (E.state err.new) (Some AtMemory) }
     ensures status { exit_status result ≡ status_number Status.Memory }
 {
-    exit_of(report(&Stop::Memory, err))
+    exit_of(report(&CommandStop::Memory, err))
 }
 
 fn exit_of(status: Status) -> ExitCode

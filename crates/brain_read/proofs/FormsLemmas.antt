@@ -17,8 +17,8 @@ use Rattle.brain_read.specs.declared.fault.LineFault.{LineFault}
 use Rattle.brain_read.specs.declared.fault.LineFault.TheVariants.{UnknownWord, BadNumber, ExtraToken}
 use Rattle.brain_read.specs.Soundness.{IsSoundCondition}
 use Rattle.brain_read.specs.Steps.{Read, Step, ◌>>=◌, missing, refused, or_refused, take_word, take_number, take_end, take_sight, take_side, take_state, take_marker, take_bound, condition_from, take_condition}
-use Rattle.brain_read.specs.Forms.{most_bound, form_words, sight_words, side_words, condition_words, word_of_form, word_of_sight, word_of_side, word_of_condition, Field, fields_of_condition, fields_of, Spells, SpellsAll, IsInRange, InstrLine}
-use Rattle.brain_read.specs.Forms.Field.{Word, Number}
+use Rattle.brain_read.specs.Forms.{most_bound, form_words, sight_words, side_words, condition_words, word_of_form, word_of_sight, word_of_side, word_of_condition, LineField, fields_of_condition, fields_of, Spells, SpellsAll, IsInRange, InstrLine}
+use Rattle.brain_read.specs.Forms.LineField.{Word, Number}
 use Rattle.brain_read.specs.Inner.Places.{form_at, place_of_form, place_of_sight, place_of_side, place_of_condition}
 use Rattle.brain_read.specs.Places.{sight_at, side_at, condition_word_at}
 use Rattle.brain_read.specs.Inner.Reading.{read_sense, read_marked, read_branches, read_drop, read_turn, read_flip, read_form, read_line}
@@ -306,7 +306,7 @@ unfolding read_line
 line_spelled tokens i e = then_word form_names tokens (λ w. read_form (form_at w.0) w.1) i (λ ts. InstrLine ts i) e (λ p first rest h q. form_spelled (form_at p) first rest i h q)
 
 -- the first of several fields, and the last
-pub given : (field : Field) (fields : List Field) (tokens : List (List ℕ)) (P : List (List ℕ) → Type 0) → SpellsAll (field ∷ fields) tokens → ((token : List ℕ) (rest : List (List ℕ)) → Spells field token → SpellsAll fields rest → P (token ∷ rest)) → P tokens
+pub given : (field : LineField) (fields : List LineField) (tokens : List (List ℕ)) (P : List (List ℕ) → Type 0) → SpellsAll (field ∷ fields) tokens → ((token : List ℕ) (rest : List (List ℕ)) → Spells field token → SpellsAll fields rest → P (token ∷ rest)) → P tokens
 given field fields [] P h k = absurd h
 given field fields (token ∷ rest) P h k = k token rest h.0 h.1
 

@@ -12,8 +12,8 @@ use Rattle.round_book.specs.Book.{BookValue}
 use Rattle.round_book.specs.Machine.{times}
 use Rattle.round_book.specs.Window.{Window}
 use Rattle.round_workers.specs.declared.board.view.Basis.{Basis}
-use Rattle.round_workers.specs.declared.board.view.Place.{Place}
-use Rattle.round_workers.specs.declared.board.view.Place.TheVariants.{TheBook}
+use Rattle.round_workers.specs.declared.board.view.BoardSlot.{BoardSlot}
+use Rattle.round_workers.specs.declared.board.view.BoardSlot.TheVariants.{TheBook}
 use Rattle.round_workers.specs.declared.board.view.Phase.TheVariants.{Resting, Opening}
 use Rattle.round_workers.specs.declared.board.view.Try.TheVariants.{OfBook}
 use Rattle.round_workers.specs.declared.board.view.View.{View}
@@ -26,17 +26,17 @@ use Rattle.round_workers.proofs.BoardKeeps.{book-stays, first-seat, seated}
 use Rattle.round_workers.proofs.BoardSteps.{IsSameAt, book-kept}
 
 -- a step goes on to a state that keeps the rule, and tells what it tells
-abbrev pub Goes : Basis → State Place View → ℕ → ℕ → Me Place View → (ℕ → Me Place View → Type 0) → ℕ → Type 0
-Goes key s i id me told x = (w : View) × (a : Act Place) × Valid s.homes me.1 a × IsKept key (stepped s i x id me.1 w a) × told (slice_index s.words i) (w, carried_after me.1 a)
+abbrev pub Goes : Basis → State BoardSlot View → ℕ → ℕ → Me BoardSlot View → (ℕ → Me BoardSlot View → Type 0) → ℕ → Type 0
+Goes key s i id me told x = (w : View) × (a : Act BoardSlot) × Valid s.homes me.1 a × IsKept key (stepped s i x id me.1 w a) × told (slice_index s.words i) (w, carried_after me.1 a)
 
 -- once a seat has seen the book opened, or holds it, it was opened once
-pub opened-seen : (window : Window) (word : ℕ) (home : maybe.Option (maybe.Option Place)) (a b c d : ℕ) → IsBookKept window word home a b c d → 1 ≤ d → c ≡ 1
+pub opened-seen : (window : Window) (word : ℕ) (home : maybe.Option (maybe.Option BoardSlot)) (a b c d : ℕ) → IsBookKept window word home a b c d → 1 ≤ d → c ≡ 1
 opened-seen window word home a b c d is some_seen = go (ℕ_discrete c 0) where
   go : Dec (c ≡ 0) → c ≡ 1
   go (yes e) = let none_of = is.unseen e in absurd (omega arith)
   go (no ne) = let once = is.once in omega arith
 
-opened-held : (window : Window) (word : ℕ) (home : maybe.Option (maybe.Option Place)) (a b c d : ℕ) → IsBookKept window word home a b c d → 1 ≤ a → c ≡ 1
+opened-held : (window : Window) (word : ℕ) (home : maybe.Option (maybe.Option BoardSlot)) (a b c d : ℕ) → IsBookKept window word home a b c d → 1 ≤ a → c ≡ 1
 opened-held window word home a b c d is some_held = go (ℕ_discrete c 0) where
   go : Dec (c ≡ 0) → c ≡ 1
   go (yes e) = let none_of = is.unheld e in absurd (omega arith)
@@ -47,9 +47,9 @@ rest-stays : (v w : View) → v.phase ≡ Resting → ((j : ℕ) → putting j w
 rest-stays v w rests no_put no_take ep et j = record { put = ap (times j) ep; took = ap (times j) et; puts = no_put j ∙ sym (ap (putting j) rests); takes = no_take j ∙ sym (ap (taking j) rests) }
 
 module _ (key : Basis) (slots id : ℕ) (v : View) (about : v.about ≡ Some key) where
-  module _ (c : List (ℕ × Place)) (zeroth : v.number ≡ 0) (unopened : v.opened ≡ false) (rests : v.phase ≡ Resting) where
+  module _ (c : List (ℕ × BoardSlot)) (zeroth : v.number ≡ 0) (unopened : v.opened ≡ false) (rests : v.phase ≡ Resting) where
     -- while the first seat hasn't opened the book, nobody has, nor is about to
-    none-opened : (s : State Place View) → IsKept key s → get_elem? s.views id ≡ maybe.some v → summed (λ u. phase_opening u.phase) s.views + summed has_opened s.views ≡ 0
+    none-opened : (s : State BoardSlot View) → IsKept key s → get_elem? s.views id ≡ maybe.some v → summed (λ u. phase_opening u.phase) s.views + summed has_opened s.views ≡ 0
     none-opened s r at =
         let sum = total-add (λ (u : View). phase_opening u.phase) has_opened s.views in
         let gap = total-gap (λ (u : View). phase_opening u.phase + has_opened u) is_first s.views id v at (λ j u there. ⊎_elim (λ spent. subst (λ (z : View). phase_opening z.phase + has_opened z ≤ is_first z) (sym spent) (omega arith)) (λ is. is.opens) (r.seats j u there)) in
@@ -75,8 +75,8 @@ module _ (key : Basis) (slots id : ℕ) (v : View) (about : v.about ≡ Some key
         ))
         (λ miss. absurd (miss is_home))
 
-  module _ (xs : List (ℕ × Place)) (book : BookValue) (stands : StandsFor (window_for key) book) where
-    back-here : (s : State Place View) → IsKept key s → HasHome (get_elem? (set s.homes 0 (maybe.some (TheBook (Some book)))) 0) (TheBook (Some book))
+  module _ (xs : List (ℕ × BoardSlot)) (book : BookValue) (stands : StandsFor (window_for key) book) where
+    back-here : (s : State BoardSlot View) → IsKept key s → HasHome (get_elem? (set s.homes 0 (maybe.some (TheBook (Some book)))) 0) (TheBook (Some book))
     back-here s r = let wide = r.homes in set_here s.homes 0 (maybe.some (TheBook (Some book))) (omega arith)
 
     pub opened : v.number ≡ 0 → v.phase ≡ Opening → Allows (IsKept key) slots id (v, (0, TheBook (Some book)) ∷ xs) 1 (λ _. 0) (tells_opened (step slots 1 0 0 maybe.none) (v, (0, TheBook (Some book)) ∷ xs))
@@ -115,12 +115,12 @@ module _ (key : Basis) (slots id : ℕ) (v : View) (about : v.about ≡ Some key
         )
 
   -- the same of a room that has the book
-  pub gives-room : (xs : List (ℕ × Place)) (content : Option BookValue) → IsSomeAnd content (StandsFor (window_for key)) → v.holds ≡ true
+  pub gives-room : (xs : List (ℕ × BoardSlot)) (content : Option BookValue) → IsSomeAnd content (StandsFor (window_for key)) → v.holds ≡ true
       → Allows (IsKept key) slots id (v, (0, TheBook content) ∷ xs) 1 (λ _. 0) (tells_give_book (step slots 1 0 0 maybe.none) (v, (0, TheBook content) ∷ xs))
   gives-room xs None stands = absurd stands
   gives-room xs (Some book) stands = gives-book xs book stands
 
-  module _ (c : List (ℕ × Place)) (seen : v.opened ≡ true) (free : v.holds ≡ false) where
+  module _ (c : List (ℕ × BoardSlot)) (seen : v.opened ≡ true) (free : v.holds ≡ false) where
     pub takes-book : Allows (IsKept key) slots id (v, c) 1 (λ n. either (eqb n 0) 1 n) (tells_take_book (step slots 1 0 1 maybe.none) (v, c))
     takes-book s r _ at _ =
         let word : ℕ = slice_index s.words 1 in let k = r.book in let out = k.out in let bit = k.bit in let once = k.once in let is = seated key v about (r.seats id v at) in

@@ -11,8 +11,8 @@ use Rattle.spec_record.specs.Look.{LookValue}
 use Rattle.round_book.specs.Machine.{times}
 use Rattle.round_book.specs.Window.{look_for}
 use Rattle.round_workers.specs.declared.board.view.Basis.{Basis}
-use Rattle.round_workers.specs.declared.board.view.Place.{Place}
-use Rattle.round_workers.specs.declared.board.view.Place.TheVariants.{OneLook, Spare}
+use Rattle.round_workers.specs.declared.board.view.BoardSlot.{BoardSlot}
+use Rattle.round_workers.specs.declared.board.view.BoardSlot.TheVariants.{OneLook, Spare}
 use Rattle.round_workers.specs.declared.board.view.Phase.TheVariants.{Resting, Putting, Taking}
 use Rattle.round_workers.specs.declared.board.view.Try.TheVariants.{OfLook}
 use Rattle.round_workers.specs.declared.board.view.View.{View}
@@ -37,9 +37,9 @@ module _ (key : Basis) (slots id : ℕ) (v : View) (about : v.about ≡ Some key
   abbrev its-look : LookValue
   its-look = look_for (window_for key) ((window_for key).from + j)
 
-  module _ (c : List (ℕ × Place)) (rests : v.phase ≡ Resting) where
+  module _ (c : List (ℕ × BoardSlot)) (rests : v.phase ≡ Resting) where
     -- what a seat drew and hasn't put, nobody put
-    none-put : (s : State Place View) → IsKept key s → get_elem? s.views id ≡ maybe.some v → 1 ≤ times j v.drawn → times j v.put ≡ 0
+    none-put : (s : State BoardSlot View) → IsKept key s → get_elem? s.views id ≡ maybe.some v → 1 ≤ times j v.drawn → times j v.put ≡ 0
         → summed (λ u. times j u.put) s.views + summed (λ u. putting j u.phase) s.views ≡ 0
     none-put s r at drawn unput =
         let sum = total-add (λ (u : View). times j u.put) (λ u. putting j u.phase) s.views in
@@ -106,7 +106,7 @@ module _ (key : Basis) (slots id : ℕ) (v : View) (about : v.about ≡ Some key
           λ i e. (let same : j ≡ i = omega arith in record { full = λ is_two. absurd (miss is_two); other = λ _. ap (λ (m : ℕ). (after_try v (OfLook m word), c)) same }),
         ))
 
-  module _ (xs : List (ℕ × Place)) where
+  module _ (xs : List (ℕ × BoardSlot)) where
     pub has-put : (look : Option LookValue) → look ≡ Some its-look → v.phase ≡ Putting j → Allows (IsKept key) slots id (v, (j + 1, OneLook look) ∷ xs) (j + 2) (λ _. 2) (tells_has_put (step slots (j + 2) 2 0 maybe.none) (v, (j + 1, OneLook look) ∷ xs))
     has-put look its midst s r _ at _ =
         let w : View = has_put v j in let k = r.looks j inside in let sum = k.sum in let back = k.back in let once = k.once in let is = seated key v about (r.seats id v at) in

@@ -2,24 +2,24 @@
 use Rattle.std.proofs.Common.{◌≡◌, ◌≢◌, ℕ, ◌+◌, ◌-◌, ◌≤◌, List, [], ◌∷◌, sym, ap, ◌∙◌, subst, arith, Option, Some, None}
 use Rattle.std.specs.Prelude.{IfNone, IfSome, OnSome}
 use Rattle.atomic_table.specs.Table.{Me, rest}
-use Rattle.round_workers.specs.declared.board.view.Place.{Place}
+use Rattle.round_workers.specs.declared.board.view.BoardSlot.{BoardSlot}
 use Rattle.round_workers.specs.declared.board.view.View.{View}
 use Rattle.round_workers.specs.BoardView.{IsAtRest, out_with}
 use Rattle.round_workers.specs.declared.board.view.Phase.TheVariants.{Resting}
 
 abbrev pub At : Type 0
-At = Me Place View
+At = Me BoardSlot View
 
-pub slot-held : (me : At) (a : View) (k : ℕ) (p : Place) (c : List (ℕ × Place)) → me ≡ (a, (k, p) ∷ c) → me.1 ≡ (k, p) ∷ rest me.1
-slot-held me a k p c e = ap (λ (m : At). m.1) e ∙ ap (λ (l : List (ℕ × Place)). (k, p) ∷ l) (sym (ap (λ (m : At). rest m.1) e))
+pub slot-held : (me : At) (a : View) (k : ℕ) (p : BoardSlot) (c : List (ℕ × BoardSlot)) → me ≡ (a, (k, p) ∷ c) → me.1 ≡ (k, p) ∷ rest me.1
+slot-held me a k p c e = ap (λ (m : At). m.1) e ∙ ap (λ (l : List (ℕ × BoardSlot)). (k, p) ∷ l) (sym (ap (λ (m : At). rest m.1) e))
 
-pub swapped : (me new : At) (a : View) (k : ℕ) (p q : Place) (c : List (ℕ × Place)) → me ≡ (a, (k, p) ∷ c) → new ≡ (me.0, (k, q) ∷ rest me.1) → new ≡ (a, (k, q) ∷ c)
+pub swapped : (me new : At) (a : View) (k : ℕ) (p q : BoardSlot) (c : List (ℕ × BoardSlot)) → me ≡ (a, (k, p) ∷ c) → new ≡ (me.0, (k, q) ∷ rest me.1) → new ≡ (a, (k, q) ∷ c)
 swapped me new a k p q c e then = then ∙ ap (λ (m : At). (m.0, (k, q) ∷ rest m.1)) e
 
 -- what lay in the slot
-pub lay-in : (me : At) (a : View) (k : ℕ) (p q : Place) (c d : List (ℕ × Place)) → me ≡ (a, (k, p) ∷ c) → me.1 ≡ (k, q) ∷ d → p ≡ q
-lay-in me a k p q c d e is = let same : (k, p) ∷ c ≡ (k, q) ∷ d = sym (ap (λ (m : At). m.1) e) ∙ is in ap (λ (l : List (ℕ × Place)). head-place l p) same where
-  head-place : List (ℕ × Place) → Place → Place
+pub lay-in : (me : At) (a : View) (k : ℕ) (p q : BoardSlot) (c d : List (ℕ × BoardSlot)) → me ≡ (a, (k, p) ∷ c) → me.1 ≡ (k, q) ∷ d → p ≡ q
+lay-in me a k p q c d e is = let same : (k, p) ∷ c ≡ (k, q) ∷ d = sym (ap (λ (m : At). m.1) e) ∙ is in ap (λ (l : List (ℕ × BoardSlot)). head-place l p) same where
+  head-place : List (ℕ × BoardSlot) → BoardSlot → BoardSlot
   head-place [] none_there = none_there
   head-place (x ∷ xs) none_there = x.1
 

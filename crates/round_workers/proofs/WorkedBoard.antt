@@ -4,7 +4,7 @@ use mathlib.Core.Option as maybe
 use Rattle.spec_record.specs.Look.{LookValue}
 use Rattle.round_book.specs.Window.{Window}
 use Rattle.round_workers.specs.declared.board.view.Basis.{Basis}
-use Rattle.round_workers.specs.declared.board.view.Place.{Place}
+use Rattle.round_workers.specs.declared.board.view.BoardSlot.{BoardSlot}
 use Rattle.round_workers.specs.declared.board.view.Phase.TheVariants.{Resting}
 use Rattle.round_workers.specs.declared.board.view.Try.TheVariants.{Never, OfBook, OfLook}
 use Rattle.round_workers.specs.declared.board.view.View.{View}
@@ -55,7 +55,7 @@ module _ (basis : Basis) where
   the_whole = refl
 
 -- what the word of a look is: before it is put, while a seat puts it, once it is put, while a seat takes it, and once it is taken
-module _ (window : Window) (ticket word : ℕ) (home : maybe.Option (maybe.Option Place)) where
+module _ (window : Window) (ticket word : ℕ) (home : maybe.Option (maybe.Option BoardSlot)) where
   pub not_put : IsLookKept window ticket word home 0 0 0 0 → word ≡ 0
   not_put is = let sum = is.sum in omega arith
 

@@ -12,8 +12,8 @@ use Rattle.round_book.specs.Book.{BookValue, Stands}
 use Rattle.round_book.specs.Machine.{times}
 use Rattle.round_book.specs.Window.{IsPlayable, Window, look_for}
 use Rattle.round_workers.specs.declared.board.view.Basis.{Basis}
-use Rattle.round_workers.specs.declared.board.view.Place.{Place}
-use Rattle.round_workers.specs.declared.board.view.Place.TheVariants.{OneLook, Spare, TheBook}
+use Rattle.round_workers.specs.declared.board.view.BoardSlot.{BoardSlot}
+use Rattle.round_workers.specs.declared.board.view.BoardSlot.TheVariants.{OneLook, Spare, TheBook}
 use Rattle.round_workers.specs.declared.board.view.Phase.{Phase}
 use Rattle.round_workers.specs.declared.board.view.Phase.TheVariants.{Resting, Opening, Putting, Taking}
 use Rattle.round_workers.specs.declared.board.view.View.{View}
@@ -102,19 +102,19 @@ pub record AreDealt (turns word : ℕ) (views : List View) : Type 0 where
   pub within : word ≤ turns + summed (λ v. late_among turns v.drawn) views
 
 -- a slot is home, with this in it
-abbrev pub HasHome : maybe.Option (maybe.Option Place) → Place → Type 0
+abbrev pub HasHome : maybe.Option (maybe.Option BoardSlot) → BoardSlot → Type 0
 HasHome home place = home ≡ maybe.some (maybe.some place)
 
 -- a slot is home, with a book in it that stands for the window
-abbrev pub HasBook : maybe.Option (maybe.Option Place) → Window → Type 0
+abbrev pub HasBook : maybe.Option (maybe.Option BoardSlot) → Window → Type 0
 HasBook home window = (book : BookValue) × HasHome home (TheBook (Some book)) × StandsFor window book
 
 -- a slot is home, with a look's room in it in which no look is waiting; there may be an old one
-abbrev pub IsSpare : maybe.Option (maybe.Option Place) → Type 0
+abbrev pub IsSpare : maybe.Option (maybe.Option BoardSlot) → Type 0
 IsSpare home = (old : Option LookValue) × HasHome home (Spare old)
 
 -- the book, by its word and what its slot has at home: so many seats hold it, are phase_opening it, opened it, and have seen it opened
-pub record IsBookKept (window : Window) (word : ℕ) (home : maybe.Option (maybe.Option Place)) (held opens opened seen : ℕ) : Type 0 where
+pub record IsBookKept (window : Window) (word : ℕ) (home : maybe.Option (maybe.Option BoardSlot)) (held opens opened seen : ℕ) : Type 0 where
   pub out : word ≡ held + opens
   pub bit : word ≤ 1
   pub once : opens + opened ≤ 1
@@ -126,24 +126,24 @@ pub record IsBookKept (window : Window) (word : ℕ) (home : maybe.Option (maybe
 -- the look of a ticket, by its word and what its slot has at home: so many seats put it, took it, are putting it and are taking it. The word
 -- says how far the look is: in hand while a seat puts it, full once it is put, emptied once it is taken; while a seat takes it, it is in hand
 -- again. So it is 1 for a put that is under way, 2 for one that is done, 1 more for a take that is done, and 1 less for one that is under way
-pub record IsLookKept (window : Window) (ticket word : ℕ) (home : maybe.Option (maybe.Option Place)) (put took puts takes : ℕ) : Type 0 where
+pub record IsLookKept (window : Window) (ticket word : ℕ) (home : maybe.Option (maybe.Option BoardSlot)) (put took puts takes : ℕ) : Type 0 where
   pub sum : word + takes ≡ puts + (put + put) + took
   pub once : puts + put ≤ 1
   pub back : takes + took ≤ put
   pub bare : put ≡ took → puts ≡ 0 → IsSpare home
   pub full : put ≡ 1 → took + takes ≡ 0 → HasHome home (OneLook (Some (look_for window (window.from + ticket))))
 
-abbrev pub IsBookKeptBy : Window → ℕ → maybe.Option (maybe.Option Place) → List View → Type 0
+abbrev pub IsBookKeptBy : Window → ℕ → maybe.Option (maybe.Option BoardSlot) → List View → Type 0
 IsBookKeptBy window word home views =
     IsBookKept window word home (summed (λ v. one_if v.holds) views) (summed (λ v. phase_opening v.phase) views) (summed has_opened views) (summed (λ v. one_if v.opened) views)
 
-abbrev pub IsLookKeptBy : Window → ℕ → ℕ → maybe.Option (maybe.Option Place) → List View → Type 0
+abbrev pub IsLookKeptBy : Window → ℕ → ℕ → maybe.Option (maybe.Option BoardSlot) → List View → Type 0
 IsLookKeptBy window j word home views =
     IsLookKept window j word home (summed (λ v. times j v.put) views) (summed (λ v. times j v.took) views)
     (summed (λ v. putting j v.phase) views) (summed (λ v. taking j v.phase) views)
 
 -- the rule
-pub record IsKept (key : Basis) (s : State Place View) : Type 0 where
+pub record IsKept (key : Basis) (s : State BoardSlot View) : Type 0 where
   pub playable : IsPlayable (window_for key)
   pub words : length s.words ≡ turns_of key + 2
   pub homes : length s.homes ≡ turns_of key + 1

@@ -34,7 +34,7 @@ pub use seat::{Board, Seat};
 use spec_record::Look;
 use std::alloc::Global;
 use std::snapshot::Snapshot;
-pub use view::{Basis, Phase, Place, Try, View};
+pub use view::{Basis, Phase, BoardSlot, Try, View};
 pub use worker::Worker;
 
 impl Board {
@@ -187,16 +187,16 @@ fn basis(field: &Field<'_>, from: u32, to: u32) -> Basis
 }
 
 // The slots with which a board of so many turns begins, with the rooms that were kept, and such as are wanted besides.
-fn bare(alloc: Global, turns: usize, kept: &mut Vec<Room<Look>>) -> Result<Vec<Place>, OutOfMemory>
+fn bare(alloc: Global, turns: usize, kept: &mut Vec<Room<Look>>) -> Result<Vec<BoardSlot>, OutOfMemory>
     requires { turns < 2 ^ 32 }
     ensures { IfOk result (λ slots. AreBare turns slots.items) }
 {
     let mut slots = Vec::with_capacity(alloc, turns + 1)?;
     let book = Room::new(alloc)?;
-    slots.push_reserved(Place::TheBook(book));
+    slots.push_reserved(BoardSlot::TheBook(book));
     for _ in 0..turns {
         let room = spare(alloc, kept)?;
-        slots.push_reserved(Place::Spare(room));
+        slots.push_reserved(BoardSlot::Spare(room));
     }
     Ok(slots)
 }

@@ -7,7 +7,7 @@ use Rattle.std.proofs.Math.Seq.{take-add}
 use Rattle.std.proofs.lemmas.List.{map-append, take_more, take_at, drop_at, flat_map_more}
 use Rattle.std.proofs.lemmas.List.Elements.{All-take, All-drop, All-same, All-nil, All-cons, All-weaker}
 use Rattle.cell_world.specs.declared.score.Score.{Score}
-use Rattle.tournament.specs.declared.games.Game.{Game}
+use Rattle.tournament.specs.declared.games.Pairing.{Pairing}
 use Rattle.tournament.specs.declared.games.Played.{Played}
 use Rattle.tournament.specs.declared.pieces.Piece.{Piece}
 use Rattle.tournament.specs.Games.{played_by}
@@ -15,7 +15,7 @@ use Rattle.tournament.specs.Inner.Pieces.{AreKnown, IsPieceReady, IsPieceDone, d
 use Rattle.tournament.proofs.GamesLemmas.{IsGame}
 
 -- one piece more
-pub dealt_more : (games old new : List Game) (from to : ℕ) → from ≤ to → old ≡ take from games → new ≡ old ++ take (to - from) (drop from games) → new ≡ take to games
+pub dealt_more : (games old new : List Pairing) (from to : ℕ) → from ≤ to → old ≡ take from games → new ≡ old ++ take (to - from) (drop from games) → new ≡ take to games
 dealt_more games old new from to le before more =
     let at : to ≡ from + (to - from) = omega arith in
     more ∙ ap (λ t. t ++ take (to - from) (drop from games)) before ∙ sym (take-add from (to - from) games) ∙ ap (λ n. take n games) (sym at)
@@ -29,10 +29,10 @@ pub played_more : (pieces : List Piece) (i : ℕ) (piece : Piece) → i < length
 played_more pieces i piece lt is =
     ap played_games (take_more pieces i piece lt) ∙ sym (flat_map_more (λ p. p.played.items) [] (take i pieces) (get_or pieces i piece)) ∙ ap (λ p. played_games (take i pieces) ++ p.played.items) (sym is)
 
-All-left : (P : Game → Type 0) (xs ys : List Game) → All P (xs ++ ys) → All P xs
+All-left : (P : Pairing → Type 0) (xs ys : List Pairing) → All P (xs ++ ys) → All P xs
 All-left P xs ys all = All-same P xs (take (length xs) (xs ++ ys)) (sym (take_at xs ys (length xs) refl)) (All-take P (length xs) (xs ++ ys) all)
 
-All-right : (P : Game → Type 0) (xs ys : List Game) → All P (xs ++ ys) → All P ys
+All-right : (P : Pairing → Type 0) (xs ys : List Pairing) → All P (xs ++ ys) → All P ys
 All-right P xs ys all = All-same P ys (drop (length xs) (xs ++ ys)) (sym (drop_at xs ys (length xs) refl)) (All-drop P (length xs) (xs ++ ys) all)
 
 ready_by : (knows : ℕ → ℕ → ℕ → Type 0) (pieces : List Piece) → AreKnown knows (dealt_games pieces) → All (λ piece. piece.played.items ≡ []) pieces → All (IsPieceReady knows) pieces
@@ -43,7 +43,7 @@ ready_by knows (piece ∷ pieces) known fresh =
     All-cons (IsPieceReady knows) piece pieces (record { fresh = fresh 0 piece (omega arith); known = here }) (ready_by knows pieces rest (λ k d lt. fresh (suc k) d (omega arith)))
 
 -- a referee that knows the games of a cup knows those of its pieces
-pub ready : (knows : ℕ → ℕ → ℕ → Type 0) (players worlds : ℕ) (games : List Game) (pieces : List Piece)
+pub ready : (knows : ℕ → ℕ → ℕ → Type 0) (players worlds : ℕ) (games : List Pairing) (pieces : List Piece)
     → ((world red black : ℕ) → world < worlds → red < players → black < players → red ≢ black → knows world red black)
     → All (IsGame players worlds) games → dealt_games pieces ≡ games → All (λ piece. piece.played.items ≡ []) pieces → All (IsPieceReady knows) pieces
 ready knows players worlds games pieces known all dealt fresh =

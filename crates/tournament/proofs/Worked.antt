@@ -4,7 +4,7 @@ use Rattle.std.specs.Fmt.{digits}
 use Rattle.std.specs.List.{AllAdjacentBelow}
 use Rattle.std.proofs.lemmas.List.Sorted.{IsPermutation-append_comm}
 use Rattle.cell_world.specs.declared.score.Score.{Score}
-use Rattle.tournament.specs.declared.games.Game.{Game}
+use Rattle.tournament.specs.declared.games.Pairing.{Pairing}
 use Rattle.tournament.specs.declared.standing.Line.{Line}
 use Rattle.tournament.specs.Names.{has_name, with_name}
 use Rattle.tournament.specs.Games.{below, above, games_with, games_on, games_of, all_played}
@@ -20,7 +20,7 @@ line_a = record { player = 0; points = 1; won = 0; drawn = 1; lost = 1 }
 abbrev line_b : Line
 line_b = record { player = 1; points = 3; won = 1; drawn = 1; lost = 0 }
 
-abbrev game : ℕ → ℕ → ℕ → Game
+abbrev game : ℕ → ℕ → ℕ → Pairing
 game world red black = record { world = world; red = red; black = black }
 
 -- the games of two players on one world

@@ -5,19 +5,19 @@ ghost use Rattle.ant_base.specs.Layout.{◌+++◌};
 ghost use Rattle.tournament.specs.Inner.Blank.{blank};
 ghost use Rattle.tournament.specs.Text.{table_line_text, standing_text};
 
-use crate::names::Names;
-use crate::standing::{Line, Standing};
+use crate::names::FileNames;
+use crate::standing::{Line, StandingAnt};
 use ant_base::{Each, Failed, Layout, Parts, Sink, layout};
 
 // The lines of a standing, whose players all have names.
 #[derive(Clone, Copy)]
-struct Lines<'s> {
-    standing: &'s Standing,
-    names: &'s Names,
+struct TableLines<'s> {
+    standing: &'s StandingAnt,
+    names: &'s FileNames,
     ghost named: { All (λ line. line.player < length names.now) standing.now },
 }
 
-impl Parts for Lines<'_> {
+impl Parts for TableLines<'_> {
     ghost count = { λ lines. length lines.standing.now };
 
     ghost part = { λ lines at. table_line_text lines.names.now (slice_index_or lines.standing.now at blank) };
@@ -33,8 +33,8 @@ impl Parts for Lines<'_> {
 }
 
 // Pushes one line.
-#[tactic(auto, unfolding(crate::specs::Text::line_text))]
-fn push_line<K: Sink>(names: &Names, line: Line, sink: &mut K) -> Result<(), Failed>
+#[tactic(auto, unfolding(crate::specs::Text::table_line_text))]
+fn push_line<K: Sink>(names: &FileNames, line: Line, sink: &mut K) -> Result<(), Failed>
     requires { line.player < length names.now }
     ensures { Pushed (K.state sink.old) (K.state sink.new) (table_line_text names.now line) result }
 {
@@ -57,12 +57,12 @@ fn push_line<K: Sink>(names: &Names, line: Line, sink: &mut K) -> Result<(), Fai
 /// Pushes a line for each player, the best first, as `3 points: b (1 won, 1 drawn, 0 lost)`. Each player of the standing has a name. Where
 /// the sink failed, a front of the lines was pushed. It takes no memory.
 pub fn push_standing<K: Sink>(
-    standing: &Standing,
-    names: &Names,
+    standing: &StandingAnt,
+    names: &FileNames,
     sink: &mut K,
 ) -> Result<(), Failed>
     requires { All (λ line. line.player < length names.now) standing.now }
     ensures { Pushed (K.state sink.old) (K.state sink.new) (standing_text names.now standing.now) result }
 {
-    Each(Lines { standing, names }).push_to(sink)
+    Each(TableLines { standing, names }).push_to(sink)
 }

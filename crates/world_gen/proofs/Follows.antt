@@ -14,16 +14,16 @@ use Rattle.world_gen.specs.Placing.{Follow, Goes, HasNone, IsFound, IsChosenSpot
 use Rattle.world_gen.specs.declared.element.Element.{Element}
 use Rattle.world_gen.specs.declared.element.Element.TheVariants as element
 use Rattle.world_gen.specs.declared.shape.Shape.{Shape}
-use Rattle.world_gen.specs.declared.spot.Form.{Form}
-use Rattle.world_gen.specs.declared.spot.Form.TheVariants.{Hill, Rock, Blob}
+use Rattle.world_gen.specs.declared.spot.Figure.{Figure}
+use Rattle.world_gen.specs.declared.spot.Figure.TheVariants.{Hill, Rock, Blob}
 use Rattle.world_gen.specs.declared.spot.Spot.{Spot}
 
 -- where one test holds exactly as another does, an element goes to the same spot
-taken_as : (P Q : Spot → Type 0) (into : (s : Spot) → P s → Q s) (back : (s : Spot) → Q s → P s) (seed width height : ℕ) (form : Form) (g : ℕ) (spot : Spot) (after : ℕ)
+taken_as : (P Q : Spot → Type 0) (into : (s : Spot) → P s → Q s) (back : (s : Spot) → Q s → P s) (seed width height : ℕ) (form : Figure) (g : ℕ) (spot : Spot) (after : ℕ)
     → IsChosenSpot P seed width height form g spot after → IsChosenSpot Q seed width height form g spot after
 taken_as P Q into back seed width height form g spot after t = record { try = t.try; below = t.below; is = t.is; fitting = into spot t.fitting; first = λ k h q. t.first k h (back _ q); drew = t.drew }
 
-found_as : (P Q : Spot → Type 0) (into : (s : Spot) → P s → Q s) (back : (s : Spot) → Q s → P s) (seed width height : ℕ) (form : Form) (g : ℕ) (spot : Spot) (after : ℕ)
+found_as : (P Q : Spot → Type 0) (into : (s : Spot) → P s → Q s) (back : (s : Spot) → Q s → P s) (seed width height : ℕ) (form : Figure) (g : ℕ) (spot : Spot) (after : ℕ)
     → IsFound P seed width height form g spot after → IsFound Q seed width height form g spot after
 found_as P Q into back seed width height form g spot after f = record {
   no_try = λ k h q. f.no_try k h (back _ q);
@@ -68,7 +68,7 @@ hill_fed : (colour : Colour) → IsFed (paint_of (Hill colour))
 hill_fed Red = tt
 hill_fed Black = tt
 
-pub paint_fed : (form : Form) → IsFed (paint_of form)
+pub paint_fed : (form : Figure) → IsFed (paint_of form)
 paint_fed (Hill colour) = hill_fed colour
 paint_fed (Rock radius) = tt
 paint_fed (Blob first) = (omega arith, omega arith)

@@ -23,7 +23,7 @@ use Rattle.world_gen.specs.Placing.{Follow, Goes, HasNone, HasNoRoom, IsBarred, 
 use Rattle.world_gen.specs.PlacingLaws.{PlacingIsOne}
 use Rattle.world_gen.specs.declared.element.Element.{Element}
 use Rattle.world_gen.specs.declared.shape.Shape.{Shape}
-use Rattle.world_gen.specs.declared.spot.Form.{Form}
+use Rattle.world_gen.specs.declared.spot.Figure.{Figure}
 use Rattle.world_gen.specs.declared.spot.Spot.{Spot}
 
 -- of two positions one is before the other, or they are one
@@ -45,7 +45,7 @@ order p q =
       ]
     ]
 
-module _ (fits : Spot → Type 0) (seed width height : ℕ) (form : Form) (g : ℕ) where
+module _ (fits : Spot → Type 0) (seed width height : ℕ) (form : Figure) (g : ℕ) where
   -- the first try that fits is one
   one_try : (s t : Spot) (a b : ℕ) (x : IsChosenSpot fits seed width height form g s a) (y : IsChosenSpot fits seed width height form g t b) → x.try ≡ y.try
   one_try s t a b x y =

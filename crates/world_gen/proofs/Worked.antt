@@ -10,7 +10,7 @@ use Rattle.std.specs.Prelude.{pos}
 use Rattle.world_gen.specs.Elements.{element_of, point_after}
 use Rattle.world_gen.specs.Placing.{after_begun, form_begun, try_of}
 use Rattle.world_gen.specs.declared.element.Element.TheVariants as element
-use Rattle.world_gen.specs.declared.spot.Form.TheVariants.{Hill, Rock, Blob}
+use Rattle.world_gen.specs.declared.spot.Figure.TheVariants.{Hill, Rock, Blob}
 
 abbrev pub place : ℕ → ℕ → Pos
 place x y = record { x = x; y = y }

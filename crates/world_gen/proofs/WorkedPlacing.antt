@@ -23,7 +23,7 @@ use Rattle.world_gen.specs.Food.{food_on}
 use Rattle.world_gen.specs.Placing.{HasNoRoom, IsPlacing, try_of}
 use Rattle.world_gen.specs.PlacingLaws.{AreApart}
 use Rattle.world_gen.specs.declared.shape.Shape.{Shape}
-use Rattle.world_gen.specs.declared.spot.Form.TheVariants.{Hill, Blob}
+use Rattle.world_gen.specs.declared.spot.Figure.TheVariants.{Hill, Blob}
 use Rattle.world_gen.specs.declared.spot.Spot.{Spot}
 use lib.Signed.{◌≤ℤ◌}
 

@@ -10,8 +10,8 @@ use Rattle.hex_geometry.specs.declared.direction.Side.TheVariants.{Right}
 use Rattle.world_gen.specs.declared.element.Element.{Element}
 use Rattle.world_gen.specs.declared.element.Element.TheVariants as element
 use Rattle.world_gen.specs.declared.shape.Shape.{Shape}
-use Rattle.world_gen.specs.declared.spot.Form.{Form}
-use Rattle.world_gen.specs.declared.spot.Form.TheVariants.{Hill, Rock, Blob}
+use Rattle.world_gen.specs.declared.spot.Figure.{Figure}
+use Rattle.world_gen.specs.declared.spot.Figure.TheVariants.{Hill, Rock, Blob}
 use Rattle.world_gen.specs.declared.spot.Spot.{Spot}
 
 -- how many elements there are: two hills, the rocks and the blobs
@@ -38,7 +38,7 @@ pub record IsInBlob (corner : Point) (first : Dir) (q : Point) : Type 0 where
   pub is : point_after beside (turned_by first Right) (point_after along first corner) ≡ q
 
 -- a cell of an element of this form at this place: a hill is a ball of radius 6
-abbrev pub IsCellOf : Form → Point → Point → Type 0
+abbrev pub IsCellOf : Figure → Point → Point → Type 0
 IsCellOf (Hill colour) place q = IsInBall place 6 q
 IsCellOf (Rock radius) place q = IsInBall place radius q
 IsCellOf (Blob first) place q = IsInBlob place first q

@@ -4,7 +4,7 @@ ghost use Rattle.std.specs.Bool.{Decides};
 ghost use Rattle.std.specs.Prelude.{◌+◌, ◌*◌, ◌≤◌};
 ghost use Rattle.world_gen.specs.Inner.Open.{AllOpen, BallIsOpen, BlobIsOpen, IsFenced, IsShut, IsBallWithin, LineIsOpen, RowIsOpen};
 
-use crate::spot::{Form, HILL_RADIUS, Spot};
+use crate::spot::{Figure, HILL_RADIUS, Spot};
 use crate::yard::Yard;
 use hex_geometry::{Dir, Pos, Side, adjacent, distance, turned};
 
@@ -15,9 +15,9 @@ impl Yard {
         ensures { Decides result (AllOpen self.now.width self.now.height self.now.blocked.items spot) }
     {
         match spot.form {
-            Form::Hill(_) => self.ball_is_open(spot.place, HILL_RADIUS),
-            Form::Rock(radius) => self.ball_is_open(spot.place, radius as u16),
-            Form::Blob(first) => self.blob_is_open(spot.place, first),
+            Figure::Hill(_) => self.ball_is_open(spot.place, HILL_RADIUS),
+            Figure::Rock(radius) => self.ball_is_open(spot.place, radius as u16),
+            Figure::Blob(first) => self.blob_is_open(spot.place, first),
         }
     }
 

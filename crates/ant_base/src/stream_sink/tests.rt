@@ -60,7 +60,7 @@ impl Write for Slow {
 }
 
 // What a writer of tests holds back isn't told, nor is it sure.
-impl Stream for Slow {
+impl Writer for Slow {
     ghost use Rattle.std.specs.Prelude.{[], false};
 
     ghost waiting = { λ _. [] };
@@ -77,7 +77,7 @@ impl Stream for Slow {
 }
 
 // A writer that drops all that it gets never fails.
-impl Stream for io::Sink {
+impl Writer for io::Sink {
     ghost use Rattle.std.specs.Prelude.{[], true};
 
     ghost waiting = { λ _. [] };

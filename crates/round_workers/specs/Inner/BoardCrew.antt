@@ -8,8 +8,8 @@ use Rattle.round_workers.specs.declared.board.crew.Laid.{Laid}
 use Rattle.round_workers.specs.declared.board.seat.Board.{Board}
 use Rattle.round_workers.specs.declared.board.seat.Seat.{Seat}
 use Rattle.round_workers.specs.declared.board.worker.Worker.{Worker}
-use Rattle.round_workers.specs.declared.board.view.Place.{Place}
-use Rattle.round_workers.specs.declared.board.view.Place.TheVariants.{Nothing}
+use Rattle.round_workers.specs.declared.board.view.BoardSlot.{BoardSlot}
+use Rattle.round_workers.specs.declared.board.view.BoardSlot.TheVariants.{Nothing}
 use Rattle.round_workers.specs.Inner.BoardPlaces.{look_in}
 use Rattle.round_workers.specs.BoardSeats.{IsSeatOf, basis_of, known, board_window}
 use Rattle.round_workers.specs.BoardTotals.{once_below}
@@ -57,7 +57,7 @@ pub record IsLaid (for_window : Window) (laid : Laid) : Type 0 where
   pub wide : vec_len laid.lists ≤ vec_capacity laid.workers
 
 -- the looks of a window that wait in these places, by ticket, are those at its turns
-abbrev pub AreLooks : Window → List Place → Type 0
+abbrev pub AreLooks : Window → List BoardSlot → Type 0
 AreLooks window places =
     (ticket : ℕ) → ticket < turns_in window
     → IfSome (look_in (slice_index_or places ticket Nothing)) (λ look. look ≡ look_for window (window.from + ticket))

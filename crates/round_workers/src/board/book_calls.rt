@@ -1,7 +1,7 @@
 // The book of a board: it is opened, taken and given.
 ghost use Rattle.std.specs.Prelude.{◌≡◌, ◌+◌, ◌≤◌, ◌∷◌, true, false, Some, IfSome, IfNone, IsSomeAnd, OnSome};
 ghost use Rattle.atomic_table.specs.Table.{rest};
-ghost use Rattle.round_workers.specs.declared.board.view.Place.TheVariants.{Nothing};
+ghost use Rattle.round_workers.specs.declared.board.view.BoardSlot.TheVariants.{Nothing};
 ghost use Rattle.round_workers.specs.declared.board.view.Try.TheVariants.{OfBook};
 ghost use Rattle.round_workers.specs.BoardPlays.{after_try, has_seen, with_book, without_book};
 ghost use Rattle.round_workers.specs.BoardRule.{StandsFor};
@@ -13,7 +13,7 @@ use crate::board::law::{GivesBook, Opened, Opens, TakesBook};
 use crate::board::places::book_room;
 use crate::board::room::Room;
 use crate::board::seat::{Board, Seat};
-use crate::board::view::{Place, View};
+use crate::board::view::{BoardSlot, View};
 use round_book::{Book, Field};
 
 // The word of the book, and what it says (`book_home` and `book_out` of `BoardView`).
@@ -40,10 +40,10 @@ impl Board {
     {
         let table = &self.table.shared;
         table.compare_exchange::<Opens>(&mut seat.hand, WORD, HOME, OUT);
-        let place = table.exchange(&mut seat.hand, SLOT, Place::Nothing);
+        let place = table.exchange(&mut seat.hand, SLOT, BoardSlot::Nothing);
         let mut room = book_room(place);
         room.put(book);
-        table.exchange(&mut seat.hand, SLOT, Place::TheBook(room));
+        table.exchange(&mut seat.hand, SLOT, BoardSlot::TheBook(room));
         table.swap::<Opened>(&mut seat.hand, WORD, HOME);
     }
 
@@ -65,7 +65,7 @@ impl Board {
         let book = room.take();
         self.table
             .shared
-            .exchange(&mut seat.hand, SLOT, Place::TheBook(room));
+            .exchange(&mut seat.hand, SLOT, BoardSlot::TheBook(room));
         book
     }
 
@@ -80,7 +80,7 @@ impl Board {
         let place = self
             .table
             .shared
-            .exchange(&mut seat.hand, SLOT, Place::Nothing);
+            .exchange(&mut seat.hand, SLOT, BoardSlot::Nothing);
         let mut room = book_room(place);
         room.put(book);
         self.end_book(&mut seat.hand, room);
@@ -107,7 +107,7 @@ impl Board {
 
     // Tries to get the room of the book, with the book.
     #[inline]
-    fn begin_book(&self, hand: &mut atomic_table::Seat<Place, View>) -> Option<Room<Book>>
+    fn begin_book(&self, hand: &mut atomic_table::Seat<BoardSlot, View>) -> Option<Room<Book>>
         requires table { hand.old.table_id ≡ self.now.table.shared.table_id }
         requires knows { hand.old.me.0.about ≡ Some (basis_of self.now) }
         requires opened { hand.old.me.0.opened ≡ true }
@@ -122,12 +122,12 @@ impl Board {
         if found != HOME {
             return None;
         }
-        Some(book_room(table.exchange(hand, SLOT, Place::Nothing)))
+        Some(book_room(table.exchange(hand, SLOT, BoardSlot::Nothing)))
     }
 
     // Gives the room back, with the book.
     #[inline]
-    fn end_book(&self, hand: &mut atomic_table::Seat<Place, View>, room: Room<Book>)
+    fn end_book(&self, hand: &mut atomic_table::Seat<BoardSlot, View>, room: Room<Book>)
         requires table { hand.old.table_id ≡ self.now.table.shared.table_id }
         requires knows { hand.old.me.0.about ≡ Some (basis_of self.now) }
         requires holds { hand.old.me.0.holds ≡ true }
@@ -137,7 +137,7 @@ impl Board {
         ensures gives { hand.new.me ≡ (without_book hand.old.me.0, rest hand.old.me.1) }
     {
         let table = &self.table.shared;
-        table.exchange(hand, SLOT, Place::TheBook(room));
+        table.exchange(hand, SLOT, BoardSlot::TheBook(room));
         table.swap::<GivesBook>(hand, WORD, HOME);
     }
 }

@@ -16,7 +16,7 @@ use crate::board::looking::look_at;
 use crate::board::places::{look_in, room_of};
 use crate::board::room::Room;
 use crate::board::seat::{Board, Seat};
-use crate::board::view::Place;
+use crate::board::view::BoardSlot;
 use crate::board::worker::Worker;
 use ant_base::Gate;
 use hex_geometry::OutOfMemory;
@@ -398,7 +398,7 @@ fn settle_left(
 }
 
 // Keeps the rooms of looks in these places for another window, as far as there is memory for their list.
-fn keep(rooms: &mut Vec<Room<Look>>, mut places: Vec<Place>) {
+fn keep(rooms: &mut Vec<Room<Look>>, mut places: Vec<BoardSlot>) {
     while let Some(place) = places.pop() {
         if let Some(room) = room_of(place) {
             let _ = rooms.push(room);
@@ -411,7 +411,7 @@ fn settle_next(
     book: &mut Book,
     field: &Field<'_>,
     guesses: &[u64],
-    places: &[Place],
+    places: &[BoardSlot],
     from: u32,
     to: u32,
 )

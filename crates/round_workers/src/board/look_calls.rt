@@ -8,7 +8,7 @@ ghost use Rattle.round_book.specs.Book.{IsSameWindow, StandsOn};
 ghost use Rattle.round_book.specs.Machine.{times};
 ghost use Rattle.round_book.specs.Window.{guess_for, look_for};
 ghost use Rattle.round_workers.specs.declared.board.view.Phase.TheVariants.{Resting, Putting, Taking};
-ghost use Rattle.round_workers.specs.declared.board.view.Place.TheVariants.{Nothing};
+ghost use Rattle.round_workers.specs.declared.board.view.BoardSlot.TheVariants.{Nothing};
 ghost use Rattle.round_workers.specs.BoardPlays.{has_put, has_taken, puts_now, takes_now, took_look};
 ghost use Rattle.round_workers.specs.BoardRule.{StandsFor, turns_of};
 ghost use Rattle.round_workers.specs.BoardSeats.{IsMiss, IsSeatOf, basis_of, known, board_window};
@@ -18,7 +18,7 @@ use crate::board::law::{HasPut, HasTaken, Puts, TakesLook};
 use crate::board::places::look_room;
 use crate::board::room::Room;
 use crate::board::seat::{Board, Seat};
-use crate::board::view::{Place, View};
+use crate::board::view::{BoardSlot, View};
 use ant_random::Stream;
 use round_book::{Book, Field, advance};
 use spec_record::Look;
@@ -98,7 +98,7 @@ impl Board {
 
     // Gets the room of the look of a ticket, which has no look.
     #[inline]
-    fn begin_put(&self, hand: &mut atomic_table::Seat<Place, View>, ticket: usize) -> Room<Look>
+    fn begin_put(&self, hand: &mut atomic_table::Seat<BoardSlot, View>, ticket: usize) -> Room<Look>
         requires table { hand.old.table_id ≡ self.now.table.shared.table_id }
         requires knows { hand.old.me.0.about ≡ Some (basis_of self.now) }
         requires ticket { ticket < turns_of (basis_of self.now) }
@@ -110,12 +110,12 @@ impl Board {
     {
         let table = &self.table.shared;
         table.compare_exchange::<Puts>(hand, ticket + FIRST_WORD, EMPTY, IN_HAND);
-        look_room(table.exchange(hand, ticket + FIRST_SLOT, Place::Nothing))
+        look_room(table.exchange(hand, ticket + FIRST_SLOT, BoardSlot::Nothing))
     }
 
     // Gives the room back, with the look of the ticket.
     #[inline]
-    fn end_put(&self, hand: &mut atomic_table::Seat<Place, View>, ticket: usize, room: Room<Look>)
+    fn end_put(&self, hand: &mut atomic_table::Seat<BoardSlot, View>, ticket: usize, room: Room<Look>)
         requires table { hand.old.table_id ≡ self.now.table.shared.table_id }
         requires knows { hand.old.me.0.about ≡ Some (basis_of self.now) }
         requires ticket { ticket < turns_of (basis_of self.now) }
@@ -126,7 +126,7 @@ impl Board {
         ensures has_put { hand.new.me ≡ (has_put hand.old.me.0 ticket, rest hand.old.me.1) }
     {
         let table = &self.table.shared;
-        table.exchange(hand, ticket + FIRST_SLOT, Place::OneLook(room));
+        table.exchange(hand, ticket + FIRST_SLOT, BoardSlot::OneLook(room));
         table.swap::<HasPut>(hand, ticket + FIRST_WORD, FULL);
     }
 
@@ -168,7 +168,7 @@ impl Board {
     #[inline]
     pub(crate) fn settle_look(
         &self,
-        hand: &mut atomic_table::Seat<Place, View>,
+        hand: &mut atomic_table::Seat<BoardSlot, View>,
         field: &Field<'_>,
         book: &mut Book,
     ) -> bool
@@ -199,7 +199,7 @@ impl Board {
     #[inline]
     fn begin_take(
         &self,
-        hand: &mut atomic_table::Seat<Place, View>,
+        hand: &mut atomic_table::Seat<BoardSlot, View>,
         ticket: usize,
     ) -> Option<Room<Look>>
         requires table { hand.old.table_id ≡ self.now.table.shared.table_id }
@@ -217,12 +217,12 @@ impl Board {
         if found != FULL {
             return None;
         }
-        Some(look_room(table.exchange(hand, ticket + FIRST_SLOT, Place::Nothing)))
+        Some(look_room(table.exchange(hand, ticket + FIRST_SLOT, BoardSlot::Nothing)))
     }
 
     // Gives the room back, in which no look waits any more.
     #[inline]
-    fn end_take(&self, hand: &mut atomic_table::Seat<Place, View>, ticket: usize, room: Room<Look>)
+    fn end_take(&self, hand: &mut atomic_table::Seat<BoardSlot, View>, ticket: usize, room: Room<Look>)
         requires table { hand.old.table_id ≡ self.now.table.shared.table_id }
         requires knows { hand.old.me.0.about ≡ Some (basis_of self.now) }
         requires ticket { ticket < turns_of (basis_of self.now) }
@@ -232,7 +232,7 @@ impl Board {
         ensures has_taken { hand.new.me ≡ (has_taken hand.old.me.0 ticket, rest hand.old.me.1) }
     {
         let table = &self.table.shared;
-        table.exchange(hand, ticket + FIRST_SLOT, Place::Spare(room));
+        table.exchange(hand, ticket + FIRST_SLOT, BoardSlot::Spare(room));
         table.swap::<HasTaken>(hand, ticket + FIRST_WORD, EMPTIED);
     }
 }

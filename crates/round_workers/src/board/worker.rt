@@ -13,7 +13,7 @@ ghost use Rattle.round_workers.specs.BoardWorker.{HasServed, IsLentFor, IsSameBu
 use crate::board::looking::reach;
 use crate::board::room::Room;
 use crate::board::seat::{Board, Seat};
-use crate::board::view::{Place, View};
+use crate::board::view::{BoardSlot, View};
 use ant_base::Gate;
 use ant_random::Stream;
 use round_book::{Book, Field};
@@ -109,7 +109,7 @@ impl Room<Book> {
     pub(crate) fn settle(
         &mut self,
         board: &Board,
-        hand: &mut atomic_table::Seat<Place, View>,
+        hand: &mut atomic_table::Seat<BoardSlot, View>,
         field: &Field<'_>,
     )
         requires table { hand.old.table_id ≡ board.now.table.shared.table_id }
@@ -134,7 +134,7 @@ impl Room<Book> {
 fn settle_in(
     content: &mut Option<Book>,
     board: &Board,
-    hand: &mut atomic_table::Seat<Place, View>,
+    hand: &mut atomic_table::Seat<BoardSlot, View>,
     field: &Field<'_>,
 )
     requires table { hand.old.table_id ≡ board.now.table.shared.table_id }
@@ -160,7 +160,7 @@ fn settle_in(
 #[inline]
 fn settle_looks(
     board: &Board,
-    hand: &mut atomic_table::Seat<Place, View>,
+    hand: &mut atomic_table::Seat<BoardSlot, View>,
     field: &Field<'_>,
     book: &mut Book,
 )

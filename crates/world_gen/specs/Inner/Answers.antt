@@ -14,16 +14,16 @@ use Rattle.world_gen.specs.declared.generator.GenFault.{GenFault}
 use Rattle.world_gen.specs.declared.generator.GenFault.TheVariants.{NoRoom, OutOfMemory}
 use Rattle.world_gen.specs.declared.element.Element.{Element}
 use Rattle.world_gen.specs.declared.shape.Shape.{Shape}
-use Rattle.world_gen.specs.declared.spot.Form.{Form}
+use Rattle.world_gen.specs.declared.spot.Figure.{Figure}
 use Rattle.world_gen.specs.declared.spot.Spot.{Spot}
 
 -- of 50 tries: the first that fits, or none
-abbrev pub IsTried : (Spot → Type 0) → ℕ → ℕ → ℕ → Form → ℕ → Option Spot → ℕ → Type 0
+abbrev pub IsTried : (Spot → Type 0) → ℕ → ℕ → ℕ → Figure → ℕ → Option Spot → ℕ → Type 0
 IsTried fits seed width height form g (Some spot) after = IsChosenSpot fits seed width height form g spot after
 IsTried fits seed width height form g None after = NoTryFits fits seed width height form g 50 × (after ≡ g + 50 * draws_of form)
 
 -- the first of the places at which it fits, among those before which and from which on tell
-pub record IsFirstSpot (fits : Spot → Type 0) (form : Form) (IsAmong : Pos → Type 0) (spot : Spot) : Type 0 where
+pub record IsFirstSpot (fits : Spot → Type 0) (form : Figure) (IsAmong : Pos → Type 0) (spot : Spot) : Type 0 where
   pub place : Pos
   pub among : IsAmong place
   pub is : spot ≡ spot_at form place
@@ -31,7 +31,7 @@ pub record IsFirstSpot (fits : Spot → Type 0) (form : Form) (IsAmong : Pos →
   pub first : (p : Pos) → IsAmong p → IsBefore p place → fits (spot_at form p) → ⊥
 
 -- the first of some places in row order, or none
-abbrev pub IsSearched : (Spot → Type 0) → Form → (Pos → Type 0) → Option Spot → Type 0
+abbrev pub IsSearched : (Spot → Type 0) → Figure → (Pos → Type 0) → Option Spot → Type 0
 IsSearched fits form IsAmong (Some spot) = IsFirstSpot fits form IsAmong spot
 IsSearched fits form IsAmong None = (p : Pos) → IsAmong p → fits (spot_at form p) → ⊥
 

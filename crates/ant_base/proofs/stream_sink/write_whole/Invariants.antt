@@ -4,5 +4,5 @@ use Rattle.ant_base.specs.Streams.{TookUpTo}
 use Rattle.ant_base.proofs.stream_sink.write_whole.Given as goal
 
 abbrev pub invariant-loop-turn : goal.invariant-loop-turn
-invariant-loop-turn g l = TookUpTo l.initial.trail.bytes l.trail.bytes (g.W.Write.contents l.initial.stream) (g.W.Write.contents l.stream) l.piece l.rest
-    × (g.W.Stream.sure l.initial.stream ≡ true → (g.W.Stream.sure l.stream ≡ true) × (l._turn + length l.rest ≤ length l.piece))
+invariant-loop-turn g l = TookUpTo l.initial.system_log.bytes l.system_log.bytes (g.W.Write.contents l.initial.stream) (g.W.Write.contents l.stream) l.piece l.rest
+    × (g.W.Writer.sure l.initial.stream ≡ true → (g.W.Writer.sure l.stream ≡ true) × (l._turn + length l.rest ≤ length l.piece))

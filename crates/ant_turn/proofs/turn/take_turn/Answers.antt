@@ -2,7 +2,7 @@
 use Rattle.std.proofs.Common.{◌≡◌, ◌+◌, ◌-◌, Option, Some, slice_get, refl, sym, ◌∙◌, ap, subst, arith, add-zero}
 use Rattle.std.specs.Prelude.{IfSome, option_map}
 use Rattle.hex_geometry.specs.declared.position.Pos.{Pos}
-use Rattle.cell_world.specs.declared.ant.Standing.{Standing}
+use Rattle.cell_world.specs.declared.ant.PlacedAnt.{PlacedAnt}
 use Rattle.cell_world.specs.Valid.{Valid}
 use Rattle.cell_world.specs.World.{World, place_in, with_cells}
 use Rattle.ant_random.specs.Stream.{SeedAndPlace}
@@ -21,18 +21,18 @@ undrawn : (s : SeedAndPlace) → s ≡ record s { place = s.place + 0 }
 undrawn s = ap (λ n. record s { place = n }) (sym (add-zero s.place))
 
 -- where the ant is that was found
-found : (place : Option Pos) (result : Option Standing) (it : Standing) → option_map (λ (s : Standing). s.place) result ≡ place → result ≡ Some it → place ≡ Some it.place
-found place result it told is = sym told ∙ ap (option_map (λ (s : Standing). s.place)) is
+found : (place : Option Pos) (result : Option PlacedAnt) (it : PlacedAnt) → option_map (λ (s : PlacedAnt). s.place) result ≡ place → result ≡ Some it → place ≡ Some it.place
+found place result it told is = sym told ∙ ap (option_map (λ (s : PlacedAnt). s.place)) is
 
 -- and that it is there
-holds : (w : World) (result : Option Standing) (it : Standing) → IfSome result (λ s. (w.cells s.place).ant ≡ Some s.ant) → result ≡ Some it → (w.cells it.place).ant ≡ Some it.ant
+holds : (w : World) (result : Option PlacedAnt) (it : PlacedAnt) → IfSome result (λ s. (w.cells s.place).ant ≡ Some s.ant) → result ≡ Some it → (w.cells it.place).ant ≡ Some it.ant
 holds w result it told is = subst (λ o. IfSome o (λ s. (w.cells s.place).ant ≡ Some s.ant)) is told
 
 pub returns-in_default : goal.returns-in_default
 returns-in_default g c =
     let w = g.G.Ground.world c.args.ground.now in
     let s = c.args.stream.now in
-    let dead = turn-dead (minds_of c.args.brains) s.seed w s.place c.args.id (sym c.ant_of.ensures.place ∙ ap (option_map (λ (it : Standing). it.place)) c.in_default.is) in
+    let dead = turn-dead (minds_of c.args.brains) s.seed w s.place c.args.id (sym c.ant_of.ensures.place ∙ ap (option_map (λ (it : PlacedAnt). it.place)) c.in_default.is) in
     record {
       world = rw dead c.ant_of.ensures.world;
       stream = rw dead (undrawn s);

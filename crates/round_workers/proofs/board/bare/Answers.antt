@@ -1,5 +1,5 @@
 use Rattle.std.proofs.Common.{◌++◌, ◌∷◌, [], ◌∙◌, ap, arith}
-use Rattle.round_workers.specs.declared.board.view.Place.TheVariants.{TheBook}
+use Rattle.round_workers.specs.declared.board.view.BoardSlot.TheVariants.{TheBook}
 use Rattle.round_workers.proofs.BoardSeating.{bare-first, bare-more}
 use Rattle.round_workers.proofs.board.bare.Goals as goal
 

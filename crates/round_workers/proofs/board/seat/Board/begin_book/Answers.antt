@@ -1,6 +1,6 @@
 use Rattle.std.proofs.Common.{Some, arith, sym, ap, ◌∙◌, subst}
 use Rattle.std.specs.Prelude.{IsSomeAnd}
-use Rattle.round_workers.specs.declared.board.view.Place.TheVariants.{Nothing, TheBook}
+use Rattle.round_workers.specs.declared.board.view.BoardSlot.TheVariants.{Nothing, TheBook}
 use Rattle.round_workers.specs.Inner.BoardPlaces.{book_room}
 use Rattle.round_workers.specs.BoardRule.{StandsFor}
 use Rattle.round_workers.specs.BoardSeats.{basis_of, board_window}

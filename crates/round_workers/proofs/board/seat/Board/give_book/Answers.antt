@@ -1,6 +1,6 @@
 use Rattle.std.proofs.Common.{None, sym, ap, ◌∙◌, [], subst}
 use Rattle.std.specs.Prelude.{IsSomeAnd}
-use Rattle.round_workers.specs.declared.board.view.Place.TheVariants.{Nothing, TheBook}
+use Rattle.round_workers.specs.declared.board.view.BoardSlot.TheVariants.{Nothing, TheBook}
 use Rattle.round_workers.specs.Inner.BoardPlaces.{book_room}
 use Rattle.round_workers.specs.BoardRule.{StandsFor}
 use Rattle.round_workers.specs.BoardSeats.{board_window}

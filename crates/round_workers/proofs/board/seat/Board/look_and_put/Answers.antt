@@ -1,6 +1,6 @@
 use Rattle.std.proofs.Common.{◌≡◌, ℕ, Some, ◌+◌, arith, sym, ap, refl, ◌∙◌}
 use Rattle.atomic_table.specs.Table.{rest}
-use Rattle.round_workers.specs.declared.board.view.Place.TheVariants.{Nothing}
+use Rattle.round_workers.specs.declared.board.view.BoardSlot.TheVariants.{Nothing}
 use Rattle.round_workers.specs.BoardPlays.{has_put}
 use Rattle.cell_world.specs.Grid.{world_of}
 use Rattle.round_book.specs.Window.{Window, guess_for, look_for}

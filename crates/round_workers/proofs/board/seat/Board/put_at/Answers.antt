@@ -1,6 +1,6 @@
 use Rattle.std.proofs.Common.{ℕ, Some, ◌+◌, ap, refl, ◌∙◌}
 use Rattle.atomic_table.specs.Table.{rest}
-use Rattle.round_workers.specs.declared.board.view.Place.TheVariants.{Nothing}
+use Rattle.round_workers.specs.declared.board.view.BoardSlot.TheVariants.{Nothing}
 use Rattle.round_workers.specs.BoardPlays.{has_put}
 use Rattle.round_workers.proofs.BoardMoves.{At, at-rest-so, slot-held}
 use Rattle.round_workers.proofs.board.seat.Board.put_at.Goals as goal

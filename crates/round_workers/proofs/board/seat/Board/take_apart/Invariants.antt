@@ -2,7 +2,7 @@ use Rattle.std.proofs.Common.{◌≡◌, ℕ, ◌+◌, ◌<◌, length, slice_in
 use Rattle.std.specs.Mem.Slots.{slots_filled, slots_items, slots_len}
 use Rattle.std.specs.Vec.{vec_capacity}
 use Rattle.round_workers.specs.Inner.BoardPlaces.{AreTaken, look_in}
-use Rattle.round_workers.specs.declared.board.view.Place.TheVariants.{Nothing}
+use Rattle.round_workers.specs.declared.board.view.BoardSlot.TheVariants.{Nothing}
 use Rattle.round_workers.specs.BoardSeats.{known, left_look, board_window}
 use Rattle.round_workers.proofs.board.seat.Board.take_apart.Given as goal
 

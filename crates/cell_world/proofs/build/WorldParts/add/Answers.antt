@@ -3,7 +3,7 @@ use Rattle.std.proofs.Common.{sym, subst, arith}
 use Rattle.cell_world.specs.declared.cell.Cell.{Cell}
 use Rattle.cell_world.specs.Inner.Bodies.{IsKnown}
 use Rattle.cell_world.proofs.OpeningStores.{IsKnown-opening_cell}
-use Rattle.cell_world.proofs.build.Parts.add.Goals as goal
+use Rattle.cell_world.proofs.build.WorldParts.add.Goals as goal
 
 pub of-tile-requires : goal.of-tile-requires
 of-tile-requires c =

@@ -7,7 +7,7 @@ ghost use Rattle.ant_base.specs.Streams.{TakesSome};
 use std::io::{self, BufWriter, Stderr, Write};
 
 /// A writer that may hold back some of what it took.
-pub trait Stream: Write {
+pub trait Writer: Write {
     /// The bytes that wait in the writer's buffer, the first first.
     ghost waiting: { Self → List ℕ };
 
@@ -27,7 +27,7 @@ pub trait Stream: Write {
         ensures sure { sure self.old ≡ true → IsOk result × (sure self.new ≡ true) };
 }
 
-impl<W: Write + Drop> Stream for BufWriter<W> {
+impl<W: Write + Drop> Writer for BufWriter<W> {
     ghost use Rattle.std.specs.Io.Buffered.{writer_buffer};
 
     ghost waiting = { writer_buffer };
@@ -44,7 +44,7 @@ impl<W: Write + Drop> Stream for BufWriter<W> {
 }
 
 // It has no buffer.
-impl Stream for Stderr {
+impl Writer for Stderr {
     ghost waiting = { λ _. [] };
 
     ghost sure = { λ _. false };

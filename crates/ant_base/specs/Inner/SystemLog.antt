@@ -1,8 +1,8 @@
--- What a note adds to a trail.
+-- What a note adds to a log of the system.
 use Rattle.std.specs.Prelude.{ℕ, List, [], ◌∷◌, Ok, Err}
 use Rattle.ant_base.specs.Fetched.{Fetched}
-use Rattle.ant_base.specs.declared.trail.Note.{Note}
-use Rattle.ant_base.specs.declared.trail.Note.TheVariants.{Bytes, Content, Fault}
+use Rattle.ant_base.specs.declared.system_log.Note.{Note}
+use Rattle.ant_base.specs.declared.system_log.Note.TheVariants.{Bytes, Content, Fault}
 
 -- the fetch of a note
 abbrev pub noted_fetches : Note → List Fetched

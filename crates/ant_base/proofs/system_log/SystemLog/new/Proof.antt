@@ -11,10 +11,10 @@ use denote.RattleType.{owns}
 use denote.Shadow.{pure_i}
 use denote.Triple.Entry.{alive}
 use denote.Triple.Walked.{Stays, walk_of, says, ends_at}
-use Rattle.ant_base.specs.contracts.trail.Trail as made
-use Rattle.ant_base.specs.contracts.trail.Trail.new as f
-use Rattle.ant_base.proofs.trail.Trail.new.Statement.{statement}
-use Rattle.ant_base.proofs.trail.Trail.new.Code as code
+use Rattle.ant_base.specs.contracts.system_log.SystemLog as made
+use Rattle.ant_base.specs.contracts.system_log.SystemLog.new as f
+use Rattle.ant_base.proofs.system_log.SystemLog.new.Statement.{statement}
+use Rattle.ant_base.proofs.system_log.SystemLog.new.Code as code
 
 abbrev stayed : Stays f.ended.signature.params f.ended.kept
 stayed = tt

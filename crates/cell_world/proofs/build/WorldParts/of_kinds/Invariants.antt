@@ -5,7 +5,7 @@ use Rattle.cell_world.specs.declared.kind.Kind.{Kind}
 use Rattle.cell_world.specs.declared.tile.Tile.{Tile}
 use Rattle.cell_world.specs.Opening.{hill_count}
 use Rattle.cell_world.specs.Inner.Stored.{opening_bodies, opening_tiles}
-use Rattle.cell_world.proofs.build.Parts.of_kinds.Given as goal
+use Rattle.cell_world.proofs.build.WorldParts.of_kinds.Given as goal
 
 -- the first i kinds are done: what there is, and what the other kinds give, is the whole
 pub record IsBegun (width : ℕ) (kinds : List Kind) (i : ℕ) (tiles : List Tile) (bodies : List Body) : Type 0 where

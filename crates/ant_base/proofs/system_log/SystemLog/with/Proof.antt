@@ -15,12 +15,12 @@ use denote.Shadow.{pure_i}
 use denote.Signature.{plain, types_at, named_lft}
 use denote.Triple.Entry.{alive}
 use denote.Triple.Walked.{Stays, stay_none_ref, Goes-none_ref, walk_of, says, ends_at}
-use Rattle.ant_base.specs.contracts.trail.Trail as made
-use Rattle.ant_base.specs.contracts.trail.Note as note
-use Rattle.ant_base.specs.contracts.trail.Trail.with as f
-use Rattle.ant_base.specs.Inner.Trail.{noted_fetches, noted_bytes}
-use Rattle.ant_base.proofs.trail.Trail.with.Statement.{statement}
-use Rattle.ant_base.proofs.trail.Trail.with.Code as code
+use Rattle.ant_base.specs.contracts.system_log.SystemLog as made
+use Rattle.ant_base.specs.contracts.system_log.Note as note
+use Rattle.ant_base.specs.contracts.system_log.SystemLog.with as f
+use Rattle.ant_base.specs.Inner.SystemLog.{noted_fetches, noted_bytes}
+use Rattle.ant_base.proofs.system_log.SystemLog.with.Statement.{statement}
+use Rattle.ant_base.proofs.system_log.SystemLog.with.Code as code
 
 abbrev stayed : Stays f.ended.signature.params f.ended.kept
 stayed = (stay_none_ref (0 ∷ []) tt (plain (λ _. made.the_row)) yes, (stay_none_ref (1 ∷ []) tt (plain (λ κs. note.the_row (named_lft 3 2 tt κs))) yes, tt))

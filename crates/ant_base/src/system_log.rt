@@ -2,23 +2,23 @@
 ghost use Rattle.std.specs.Prelude.{◌≡◌, ◌++◌, ℕ, List, [], ◌∷◌};
 ghost use Rattle.std.specs.Borrow.{ftrue};
 ghost use Rattle.ant_base.specs.Fetched.{Fetched, fetched};
-ghost use Rattle.ant_base.specs.Inner.Trail.{noted_fetches, noted_bytes};
+ghost use Rattle.ant_base.specs.Inner.SystemLog.{noted_fetches, noted_bytes};
 
 use crate::FetchFault;
 use std::marker::Model;
 
 // What was fetched and which bytes were taken, the first first. It takes no memory.
 #[derive(Drop)]
-pub(crate) struct Trail {
+pub(crate) struct SystemLog {
     pub ghost fetches: { List Fetched },
     pub ghost bytes: { List ℕ },
 }
 
-impl Model for Trail {
+impl Model for SystemLog {
     ghost also_owns = { λ _. ftrue };
 }
 
-// What a trail gets.
+// What a log gets.
 #[derive(Clone, Copy, Drop)]
 enum Note<'n> {
     Bytes(&'n [u8]),
@@ -26,18 +26,18 @@ enum Note<'n> {
     Fault(&'n str, FetchFault),
 }
 
-impl Trail {
-    pub(crate) fn new() -> Trail
+impl SystemLog {
+    pub(crate) fn new() -> SystemLog
         ensures { (result.fetches ≡ []) × (result.bytes ≡ []) }
     {
-        Trail {}
+        SystemLog {}
     }
 
-    // The trail with one note more. Its body does nothing: ghost data is set by a proof.
-    fn with(&self, _note: &Note<'_>) -> Trail
+    // The log with one note more. Its body does nothing: ghost data is set by a proof.
+    fn with(&self, _note: &Note<'_>) -> SystemLog
         ensures { (result.fetches ≡ self.now.fetches ++ noted_fetches _note.now) × (result.bytes ≡ self.now.bytes ++ noted_bytes _note.now) }
     {
-        Trail {}
+        SystemLog {}
     }
 
     // Notes what a fetch of this name answered.
