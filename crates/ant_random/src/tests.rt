@@ -2,7 +2,7 @@
 ghost use Rattle.std.specs.Prelude.{◌≡◌, ◌-◌, ◌^◌, ◌<◌};
 
 use crate::steps::Steps;
-use crate::stream::Writer;
+use crate::stream::Stream;
 use std::marker::Brand;
 use std::sync::ledger::{Blank, Ledger};
 
@@ -10,10 +10,10 @@ const NUMBERS: [u32; 10] = [7193, 2932, 10386, 5575, 100, 15976, 430, 9740, 9449
 
 #[test]
 fn first_ten_numbers_are_those_of_the_task(rt: HostRuntime) {
-    let mut stream = Writer::from_seed(12345);
+    let mut stream = Stream::from_seed(12345);
     assert_eq!(rt; stream.seed(), 12345);
     for (place, number) in NUMBERS.iter().enumerate() {
-        let mut jumped = Writer::at_place_uncounted(12345, place as u64);
+        let mut jumped = Stream::at_place_uncounted(12345, place as u64);
         assert!(rt; stream.place() < 10);
         assert_eq!(rt; stream.place(), jumped.place());
         assert_eq!(rt; stream.draw(16384), *number, "drawn at {place}");
@@ -29,7 +29,7 @@ fn two_numbers_at<L: Ledger>(seed: u32, place: u64, blank: Blank) -> (u32, u32)
     requires place { place < 2 ^ 63 - 2 }
 {
     let mut steps = Steps::<L>::new(blank);
-    let mut stream = Writer::at_place(seed, place, &mut steps);
+    let mut stream = Stream::at_place(seed, place, &mut steps);
     let first = stream.draw(16384);
     (first, stream.draw(16384))
 }

@@ -31,7 +31,7 @@ pub trait FileText: Sized {
 
 impl FileText for World {
     ghost use Rattle.ants.specs.Files.FileKind.{WorldFile};
-    ghost use Rattle.ants.specs.Files.Content.{WorldContent};
+    ghost use Rattle.ants.specs.Files.FileContent.{WorldContent};
 
     ghost kind = { WorldFile };
 
@@ -47,7 +47,7 @@ impl FileText for World {
 
 impl FileText for Brain {
     ghost use Rattle.ants.specs.Files.FileKind.{BrainFile};
-    ghost use Rattle.ants.specs.Files.Content.{BrainContent};
+    ghost use Rattle.ants.specs.Files.FileContent.{BrainContent};
 
     ghost kind = { BrainFile };
 
@@ -63,7 +63,7 @@ impl FileText for Brain {
 
 impl FileText for Breaks {
     ghost use Rattle.ants.specs.Files.FileKind.{BreakFile};
-    ghost use Rattle.ants.specs.Files.Content.{BreakContent};
+    ghost use Rattle.ants.specs.Files.FileContent.{BreakContent};
 
     ghost kind = { BreakFile };
 

@@ -1,7 +1,7 @@
 // The command `show`.
 ghost use Rattle.ant_base.specs.Sink.{Pushed};
 ghost use Rattle.command_words.specs.Command.PlainCommand.{ShowCommand};
-ghost use Rattle.ants.specs.Files.Content.{WorldContent};
+ghost use Rattle.ants.specs.Files.FileContent.{WorldContent};
 ghost use Rattle.ants.specs.Inner.Reading.{CarriesOut, ending_of};
 ghost use Rattle.ants.specs.Jobs.{show_output};
 

@@ -7,7 +7,7 @@ ghost use Rattle.brain_read.specs.declared.instr.Instr.TheVariants.{Mark, Unmark
 
 use crate::draft::Draft;
 use crate::fault::Refusal;
-use crate::form::{Figure, form_table};
+use crate::form::{Form, form_table};
 use crate::positions::{bound, condition, marker, side, sight, state};
 use crate::tokens::Tokens;
 use word_table::word_arms;
@@ -19,24 +19,24 @@ pub fn instruction(tokens: &mut Tokens) -> Result<Draft, Refusal>
 {
     let place = tokens.word(&form_table())?;
     match form_at(place) {
-        Figure::Sense => sense(tokens),
-        Figure::Mark => mark(tokens),
-        Figure::Unmark => unmark(tokens),
-        Figure::PickUp => pick_up(tokens),
-        Figure::Drop => drop_food(tokens),
-        Figure::Turn => turn(tokens),
-        Figure::Move => step(tokens),
-        Figure::Flip => flip(tokens),
+        Form::Sense => sense(tokens),
+        Form::Mark => mark(tokens),
+        Form::Unmark => unmark(tokens),
+        Form::PickUp => pick_up(tokens),
+        Form::Drop => drop_food(tokens),
+        Form::Turn => turn(tokens),
+        Form::Move => step(tokens),
+        Form::Flip => flip(tokens),
     }
 }
 
-fn form_at(place: usize) -> Figure
+fn form_at(place: usize) -> Form
     ensures { result ≡ places.form_at place }
 {
     word_arms!(
         place;
-        Figure::Sense, Figure::Mark, Figure::Unmark, Figure::PickUp,
-        Figure::Drop, Figure::Turn, Figure::Move, Figure::Flip
+        Form::Sense, Form::Mark, Form::Unmark, Form::PickUp,
+        Form::Drop, Form::Turn, Form::Move, Form::Flip
     )
 }
 

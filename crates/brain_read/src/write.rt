@@ -3,7 +3,7 @@ ghost use Rattle.std.specs.Prelude.{◌≡◌, [], ◌∷◌, OnOk};
 ghost use Rattle.std.specs.List.{AllByRecursion};
 ghost use Rattle.ant_base.specs.Sink.{Pushed};
 ghost use Rattle.brain_read.specs.Forms.{word_of_form, word_of_sight, word_of_side, word_of_condition, fields_of_condition, HasBound};
-ghost use Rattle.brain_read.specs.Forms.Field.{Word, Number};
+ghost use Rattle.brain_read.specs.Forms.LineField.{Word, Number};
 ghost use Rattle.brain_read.specs.declared.instr.Cond.TheVariants.{Marker};
 ghost use Rattle.brain_read.specs.declared.instr.Instr.TheVariants.{Sense, Drop, Turn, Flip};
 ghost use Rattle.brain_read.specs.Inner.Places.{place_of_form, place_of_sight, place_of_side, place_of_condition};
@@ -11,7 +11,7 @@ ghost use Rattle.brain_read.specs.Grammar.{IsBrainText};
 ghost use Rattle.brain_read.specs.Canonical.{line_text, further_text, instruction_text, brain_text};
 
 use crate::brain::Brain;
-use crate::form::{ConditionWord, Figure, condition_table, form_table, side_table, sight_table};
+use crate::form::{ConditionWord, Form, condition_table, form_table, side_table, sight_table};
 use crate::instr::{Cond, Instr};
 use ant_base::{Failed, Layout, Sink, layout};
 use hex_geometry::{Side, Sight};
@@ -50,12 +50,12 @@ fn push_line<K: Sink>(instruction: Instr, sink: &mut K) -> Result<(), Failed>
             no,
             cond,
         } => push_sense(sight, yes, no, cond, sink),
-        Instr::Mark { mark, next } => push_numbers(Figure::Mark, mark as u16, next, sink),
-        Instr::Unmark { mark, next } => push_numbers(Figure::Unmark, mark as u16, next, sink),
-        Instr::PickUp { yes, no } => push_numbers(Figure::PickUp, yes, no, sink),
+        Instr::Mark { mark, next } => push_numbers(Form::Mark, mark as u16, next, sink),
+        Instr::Unmark { mark, next } => push_numbers(Form::Unmark, mark as u16, next, sink),
+        Instr::PickUp { yes, no } => push_numbers(Form::PickUp, yes, no, sink),
         Instr::Drop { next } => push_drop(next, sink),
         Instr::Turn { side, next } => push_turn(side, next, sink),
-        Instr::Move { yes, no } => push_numbers(Figure::Move, yes, no, sink),
+        Instr::Move { yes, no } => push_numbers(Form::Move, yes, no, sink),
         Instr::Flip { bound, yes, no } => push_flip(bound, yes, no, sink),
     }
 }
@@ -71,13 +71,13 @@ fn push_sense<K: Sink>(
     ensures { Pushed (K.state sink.old) (K.state sink.new)
         (instruction_text (Sense sight yes no cond)) result }
 {
-    let word = FormText(Figure::Sense);
+    let word = FormText(Form::Sense);
     let sight = SightText(sight);
     layout!(word, " ", sight, " ", yes, " ", no, ConditionEnd(cond)).push_to(sink)
 }
 
 // A line of a word and two numbers.
-fn push_numbers<K: Sink>(form: Figure, first: u16, second: u16, sink: &mut K) -> Result<(), Failed>
+fn push_numbers<K: Sink>(form: Form, first: u16, second: u16, sink: &mut K) -> Result<(), Failed>
     ensures { Pushed (K.state sink.old) (K.state sink.new)
         (line_text (Word (word_of_form form) ∷ Number first ∷ Number second ∷ [])) result }
 {
@@ -88,21 +88,21 @@ fn push_numbers<K: Sink>(form: Figure, first: u16, second: u16, sink: &mut K) ->
 fn push_drop<K: Sink>(next: u16, sink: &mut K) -> Result<(), Failed>
     ensures { Pushed (K.state sink.old) (K.state sink.new) (instruction_text (Drop next)) result }
 {
-    layout!(FormText(Figure::Drop), " ", next, "\n").push_to(sink)
+    layout!(FormText(Form::Drop), " ", next, "\n").push_to(sink)
 }
 
 #[tactic(auto, unfolding(crate::specs::Canonical::instruction_text))]
 fn push_turn<K: Sink>(side: Side, next: u16, sink: &mut K) -> Result<(), Failed>
     ensures { Pushed (K.state sink.old) (K.state sink.new) (instruction_text (Turn side next)) result }
 {
-    layout!(FormText(Figure::Turn), " ", SideText(side), " ", next, "\n").push_to(sink)
+    layout!(FormText(Form::Turn), " ", SideText(side), " ", next, "\n").push_to(sink)
 }
 
 #[tactic(auto, unfolding(crate::specs::Canonical::instruction_text))]
 fn push_flip<K: Sink>(bound: u32, yes: u16, no: u16, sink: &mut K) -> Result<(), Failed>
     ensures { Pushed (K.state sink.old) (K.state sink.new) (instruction_text (Flip bound yes no)) result }
 {
-    let word = FormText(Figure::Flip);
+    let word = FormText(Form::Flip);
     layout!(word, " ", bound, " ", yes, " ", no, "\n").push_to(sink)
 }
 
@@ -147,7 +147,7 @@ fn push_marker<K: Sink>(mark: u8, sink: &mut K) -> Result<(), Failed>
 
 // The word of a form.
 #[derive(Clone, Copy)]
-struct FormText(Figure);
+struct FormText(Form);
 
 impl Layout for FormText {
     ghost text = { λ form. word_of_form form.0 };
@@ -158,7 +158,7 @@ impl Layout for FormText {
     }
 }
 
-fn form_place(form: Figure) -> usize
+fn form_place(form: Form) -> usize
     ensures { result ≡ place_of_form form }
 {
     form as usize

@@ -5,7 +5,7 @@ ghost use Rattle.dump_print.specs.Texts.{cells_text};
 ghost use Rattle.cell_world.specs.Grid.{world_of};
 ghost use Rattle.break_view.specs.Texts.{end_text, no_stop_line, stop_line, view_text};
 
-use crate::stop::CommandStop;
+use crate::stop::Stop;
 use ant_base::{Failed, Layout, Sink, layout};
 use cell_world::World;
 use dump_print::{push_cells, push_seed};
@@ -17,7 +17,7 @@ pub fn push_view<K: Sink>(
     world: &World,
     seed: u32,
     rounds: u32,
-    stop: Option<CommandStop>,
+    stop: Option<Stop>,
     sink: &mut K,
 ) -> Result<(), Failed>
     ensures { Pushed (K.state sink.old) (K.state sink.new) (view_text (world_of world.now) seed rounds stop) result }
@@ -30,7 +30,7 @@ pub fn push_view<K: Sink>(
 fn push_end<K: Sink>(
     world: &World,
     rounds: u32,
-    stop: Option<CommandStop>,
+    stop: Option<Stop>,
     sink: &mut K,
 ) -> Result<(), Failed>
     ensures { Pushed (K.state sink.old) (K.state sink.new) (end_text (world_of world.now) rounds stop) result }
@@ -42,7 +42,7 @@ fn push_end<K: Sink>(
 }
 
 // Pushes the line of a stop, and the lines of the cells.
-fn push_stop<K: Sink>(world: &World, stop: CommandStop, sink: &mut K) -> Result<(), Failed>
+fn push_stop<K: Sink>(world: &World, stop: Stop, sink: &mut K) -> Result<(), Failed>
     ensures { Pushed (K.state sink.old) (K.state sink.new) (stop_line stop +++ cells_text (world_of world.now)) result }
 {
     StopLine(stop).push_to(sink)?;
@@ -59,7 +59,7 @@ fn push_no_stop<K: Sink>(rounds: u32, sink: &mut K) -> Result<(), Failed>
 
 // The line of a stop.
 #[derive(Clone, Copy)]
-struct StopLine(CommandStop);
+struct StopLine(Stop);
 
 impl Layout for StopLine {
     ghost text = { λ line. stop_line line.0 };

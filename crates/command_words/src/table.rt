@@ -2,7 +2,7 @@
 ghost use Rattle.std.specs.Prelude.{◌≡◌};
 ghost use Rattle.command_words.specs.Table.{choices_of, fewest_names, is_needed, keyword_of, kinds, must_differ, option_of, places_of, values_of, word_of};
 
-use crate::{NumberKind, BoardSlot, Slot};
+use crate::{NumberKind, Place, Slot};
 
 /// A command, by its first word, which is spelled exactly as here.
 #[derive(Clone, Copy, Debug, PartialEq, Eq)]
@@ -117,38 +117,38 @@ impl CommandKind {
     }
 
     // What stands after its first word.
-    pub(crate) fn places(self) -> &'static [BoardSlot]
+    pub(crate) fn places(self) -> &'static [Place]
         ensures { result.now ≡ places_of self }
     {
         match self {
             CommandKind::Show => &[
-                BoardSlot::Word(Slot::FileName),
-                BoardSlot::Word(Slot::Number(NumberKind::SeedNumber)),
+                Place::Word(Slot::FileName),
+                Place::Word(Slot::Number(NumberKind::SeedNumber)),
             ],
-            CommandKind::Brain => &[BoardSlot::Word(Slot::FileName)],
-            CommandKind::Minimise => &[BoardSlot::Word(Slot::FileName)],
+            CommandKind::Brain => &[Place::Word(Slot::FileName)],
+            CommandKind::Minimise => &[Place::Word(Slot::FileName)],
             CommandKind::Run => &[
-                BoardSlot::Word(Slot::FileName),
-                BoardSlot::Word(Slot::FileName),
-                BoardSlot::Word(Slot::FileName),
+                Place::Word(Slot::FileName),
+                Place::Word(Slot::FileName),
+                Place::Word(Slot::FileName),
             ],
-            CommandKind::Gen => &[BoardSlot::Word(Slot::Number(NumberKind::SeedNumber))],
+            CommandKind::Gen => &[Place::Word(Slot::Number(NumberKind::SeedNumber))],
             CommandKind::Cup => &[
-                BoardSlot::Word(Slot::Keyword(NameList::Worlds)),
-                BoardSlot::Names(NameList::Worlds),
-                BoardSlot::Word(Slot::Keyword(NameList::Brains)),
-                BoardSlot::Names(NameList::Brains),
+                Place::Word(Slot::Keyword(NameList::Worlds)),
+                Place::Names(NameList::Worlds),
+                Place::Word(Slot::Keyword(NameList::Brains)),
+                Place::Names(NameList::Brains),
             ],
             CommandKind::View => &[
-                BoardSlot::Word(Slot::FileName),
-                BoardSlot::Word(Slot::FileName),
-                BoardSlot::Word(Slot::FileName),
-                BoardSlot::Word(Slot::FileName),
+                Place::Word(Slot::FileName),
+                Place::Word(Slot::FileName),
+                Place::Word(Slot::FileName),
+                Place::Word(Slot::FileName),
             ],
             CommandKind::Workload => &[
-                BoardSlot::Word(Slot::Number(NumberKind::SeedNumber)),
-                BoardSlot::Word(Slot::Number(NumberKind::RoundCount)),
-                BoardSlot::Word(Slot::Number(NumberKind::WorkerCount)),
+                Place::Word(Slot::Number(NumberKind::SeedNumber)),
+                Place::Word(Slot::Number(NumberKind::RoundCount)),
+                Place::Word(Slot::Number(NumberKind::WorkerCount)),
             ],
         }
     }
@@ -202,23 +202,23 @@ impl Choice {
     }
 
     // What stands after its word.
-    pub(crate) fn values(self) -> &'static [BoardSlot]
+    pub(crate) fn values(self) -> &'static [Place]
         ensures { result.now ≡ values_of self }
     {
         match self {
-            Choice::Seed => &[BoardSlot::Word(Slot::Number(NumberKind::SeedNumber))],
-            Choice::Rounds => &[BoardSlot::Word(Slot::Number(NumberKind::RoundCount))],
-            Choice::Dump => &[BoardSlot::Word(Slot::Dumps)],
-            Choice::Workers => &[BoardSlot::Word(Slot::Number(NumberKind::WorkerCount))],
-            Choice::Window => &[BoardSlot::Word(Slot::Number(NumberKind::WindowSize))],
-            Choice::Surround => &[BoardSlot::Word(Slot::Number(NumberKind::FoeCount))],
-            Choice::Corpse => &[BoardSlot::Word(Slot::Number(NumberKind::CorpseFood))],
-            Choice::Rest => &[BoardSlot::Word(Slot::Number(NumberKind::RestRounds))],
+            Choice::Seed => &[Place::Word(Slot::Number(NumberKind::SeedNumber))],
+            Choice::Rounds => &[Place::Word(Slot::Number(NumberKind::RoundCount))],
+            Choice::Dump => &[Place::Word(Slot::Dumps)],
+            Choice::Workers => &[Place::Word(Slot::Number(NumberKind::WorkerCount))],
+            Choice::Window => &[Place::Word(Slot::Number(NumberKind::WindowSize))],
+            Choice::Surround => &[Place::Word(Slot::Number(NumberKind::FoeCount))],
+            Choice::Corpse => &[Place::Word(Slot::Number(NumberKind::CorpseFood))],
+            Choice::Rest => &[Place::Word(Slot::Number(NumberKind::RestRounds))],
             Choice::Stats => &[],
-            Choice::Width => &[BoardSlot::Word(Slot::Number(NumberKind::SideLength))],
-            Choice::Height => &[BoardSlot::Word(Slot::Number(NumberKind::SideLength))],
-            Choice::Rocks => &[BoardSlot::Word(Slot::Number(NumberKind::ElementCount))],
-            Choice::Blobs => &[BoardSlot::Word(Slot::Number(NumberKind::ElementCount))],
+            Choice::Width => &[Place::Word(Slot::Number(NumberKind::SideLength))],
+            Choice::Height => &[Place::Word(Slot::Number(NumberKind::SideLength))],
+            Choice::Rocks => &[Place::Word(Slot::Number(NumberKind::ElementCount))],
+            Choice::Blobs => &[Place::Word(Slot::Number(NumberKind::ElementCount))],
         }
     }
 

@@ -7,7 +7,7 @@ ghost use Rattle.command_words.specs.Words.{texts};
 
 use crate::slot::is_file_name;
 use crate::table::{MOST_NAMES, kinds};
-use crate::{Choice, CommandKind, NameList, BoardSlot, Refused};
+use crate::{Choice, CommandKind, NameList, Place, Refused};
 
 // The known command of this first word.
 #[tactic(auto, unfolding(crate::specs::Inner::Walk::command_kind_of))]
@@ -18,7 +18,7 @@ pub(crate) fn kind_of(word: &str) -> Option<CommandKind>
 }
 
 // The places that are due after all the words, or the first word that no command of this kind has there.
-pub(crate) fn walk(kind: CommandKind, words: &[String]) -> Result<&'static [BoardSlot], Refused>
+pub(crate) fn walk(kind: CommandKind, words: &[String]) -> Result<&'static [Place], Refused>
     requires { 0 < length words.now }
     ensures { plain_walk result ≡ walk kind (drop 1 (texts words.now)) (places_of kind) [] (take 1 (texts words.now)) }
 {
@@ -39,7 +39,7 @@ pub(crate) fn walk(kind: CommandKind, words: &[String]) -> Result<&'static [Boar
 }
 
 // Whether no place is due, and each option that is needed stands among the words.
-pub(crate) fn is_finished(kind: CommandKind, due: &[BoardSlot], words: &[String]) -> bool
+pub(crate) fn is_finished(kind: CommandKind, due: &[Place], words: &[String]) -> bool
     ensures { result ≡ is_finished kind due.now (texts words.now) }
 {
     due.is_empty() && has_needed(kind, words)
@@ -58,24 +58,24 @@ fn has_needed(kind: CommandKind, words: &[String]) -> bool
 }
 
 // The places that are due where the words end: names that are enough are past.
-fn closed(due: &'static [BoardSlot], names: &[String]) -> &'static [BoardSlot]
+fn closed(due: &'static [Place], names: &[String]) -> &'static [Place]
     ensures { result.now ≡ closed due.now (texts names.now) }
 {
     match due {
         [] => due,
-        [BoardSlot::Word(_), ..] => due,
-        [BoardSlot::Names(list), later @ ..] => { if has_enough(*list, names) { later } else { due } }
+        [Place::Word(_), ..] => due,
+        [Place::Names(list), later @ ..] => { if has_enough(*list, names) { later } else { due } }
     }
 }
 
 // The places that are due where one more word stands: one that is no name ends names that are enough.
-fn reached(due: &'static [BoardSlot], names: &[String], word: &str) -> &'static [BoardSlot]
+fn reached(due: &'static [Place], names: &[String], word: &str) -> &'static [Place]
     ensures { result.now ≡ reached due.now (texts names.now) word.now }
 {
     match due {
         [] => due,
-        [BoardSlot::Word(_), ..] => due,
-        [BoardSlot::Names(_), ..] => {
+        [Place::Word(_), ..] => due,
+        [Place::Names(_), ..] => {
             if is_file_name(word) {
                 due
             } else {
@@ -88,17 +88,17 @@ fn reached(due: &'static [BoardSlot], names: &[String], word: &str) -> &'static 
 // The places that are due after one more word; where none is due, an option may follow.
 fn due_after(
     kind: CommandKind,
-    due: &'static [BoardSlot],
+    due: &'static [Place],
     names: &[String],
     before: &[String],
     word: &str,
-) -> Option<&'static [BoardSlot]>
+) -> Option<&'static [Place]>
     ensures { option_copied result ≡ due_after kind due.now (texts names.now) (texts before.now) word.now }
 {
     match due {
         [] => due_after_option(kind, before, word),
-        [BoardSlot::Word(slot), later @ ..] => { if slot.fits(word) { Some(later) } else { None } }
-        [BoardSlot::Names(list), ..] => {
+        [Place::Word(slot), later @ ..] => { if slot.fits(word) { Some(later) } else { None } }
+        [Place::Names(list), ..] => {
             if may_follow(*list, names, word) {
                 Some(due)
             } else {
@@ -109,7 +109,7 @@ fn due_after(
 }
 
 // The places that are due after an option's word; no option stands twice.
-fn due_after_option(kind: CommandKind, before: &[String], word: &str) -> Option<&'static [BoardSlot]>
+fn due_after_option(kind: CommandKind, before: &[String], word: &str) -> Option<&'static [Place]>
     ensures { option_copied result ≡ due_after_option (choice_of kind word.now) (is_among word.now (texts before.now)) }
 {
     let choice = choice_of(kind, word)?;
@@ -121,14 +121,14 @@ fn due_after_option(kind: CommandKind, before: &[String], word: &str) -> Option<
 }
 
 // Where the names at the place that is due begin, after one more word.
-fn names_from(due: &'static [BoardSlot], from: usize, at: usize) -> usize
+fn names_from(due: &'static [Place], from: usize, at: usize) -> usize
     requires { at < 18446744073709551615 }
     ensures { result ≡ if takes_names due.now then from else (at + 1) }
 {
     match due {
         [] => at + 1,
-        [BoardSlot::Word(_), ..] => at + 1,
-        [BoardSlot::Names(_), ..] => from,
+        [Place::Word(_), ..] => at + 1,
+        [Place::Names(_), ..] => from,
     }
 }
 

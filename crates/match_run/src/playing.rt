@@ -16,7 +16,7 @@ ghost use Rattle.match_run.specs.Run.{dumps_text, ended, most_rounds, world_afte
 
 use crate::dumps::{Dumps, push_chosen};
 use crate::fault::PlayFault;
-use crate::game::Pairing;
+use crate::game::Game;
 use crate::plan::Plan;
 use ant_base::{Failed, Sink};
 use ant_turn::Brains;
@@ -64,20 +64,20 @@ fn game_of<'b>(
     world: World,
     brains: Brains<'b>,
     plan: &Plan,
-) -> Result<Pairing<'b>, OutOfMemory>
+) -> Result<Game<'b>, OutOfMemory>
     requires fit { Fits (world_of world) (minds_of brains) }
     requires sized { 1 ≤ plan.now.window }
     ensures { IfOk result (λ game. game ≡ beginning (record { world = world; minds = minds_of brains.entry; seed = plan.now.seed; place = 0; whole = true }) plan.now.window) }
 {
     let field = Field::new(alloc, world, brains, plan.seed, 0)?;
-    Ok(Pairing::begin(field, plan.window))
+    Ok(Game::begin(field, plan.window))
 }
 
 // Plays a game from its start, and pushes the dumps that the plan chooses, the score and, where the plan asks for them, the counts.
 fn play_game<C: Crew, K: Sink>(
     alloc: Global,
     crew: &mut C,
-    game: &mut Pairing<'_>,
+    game: &mut Game<'_>,
     plan: &Plan,
     sink: &mut K,
 ) -> Result<Score, PlayFault>
@@ -101,7 +101,7 @@ fn play_game<C: Crew, K: Sink>(
 fn play_rounds<C: Crew, K: Sink>(
     alloc: Global,
     crew: &mut C,
-    game: &mut Pairing<'_>,
+    game: &mut Game<'_>,
     plan: &Plan,
     sink: &mut K,
 ) -> Result<(), PlayFault>
@@ -128,7 +128,7 @@ fn play_rounds<C: Crew, K: Sink>(
 fn play_round<C: Crew, K: Sink>(
     alloc: Global,
     crew: &mut C,
-    game: &mut Pairing<'_>,
+    game: &mut Game<'_>,
     dumps: &Dumps,
     round: u32,
     sink: &mut K,

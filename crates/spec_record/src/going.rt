@@ -12,7 +12,7 @@ ghost use Rattle.spec_record.specs.Reads.{ant_and_food, load_and_food, whole_ant
 ghost use Rattle.spec_record.specs.Trail.{trail_world};
 
 use crate::sightings::{is_same, note_read, note_write};
-use crate::trail::SystemLog;
+use crate::trail::Trail;
 use arrayvec::ArrayVec;
 use cell_world::{Cell, Part, Parts, World};
 use hex_geometry::{Pos, neighbours};
@@ -90,7 +90,7 @@ pub(crate) fn note_fallen(
     reads: &mut ArrayVec<(Pos, Parts, Cell), 19>,
     writes: &mut ArrayVec<(Pos, Parts, Cell), 7>,
     base: &World,
-    trail: &SystemLog<'_>,
+    trail: &Trail<'_>,
     p: Pos,
     q: Pos,
 )
@@ -120,7 +120,7 @@ fn note_if_fallen(
     reads: &mut ArrayVec<(Pos, Parts, Cell), 19>,
     writes: &mut ArrayVec<(Pos, Parts, Cell), 7>,
     base: &World,
-    trail: &SystemLog<'_>,
+    trail: &Trail<'_>,
     p: Pos,
     q: Pos,
     r: Pos,
@@ -145,7 +145,7 @@ fn note_if_fallen(
 
 // Whether an ant was on `r` when the ant of `p` had gone to `q`, and none is at last.
 #[inline]
-fn has_fallen(base: &World, trail: &SystemLog<'_>, p: Pos, q: Pos, r: Pos) -> bool
+fn has_fallen(base: &World, trail: &Trail<'_>, p: Pos, q: Pos, r: Pos) -> bool
     requires inside { IsInside base.now.width base.now.height r }
     requires wide { (trail_world trail.now).width ≡ base.now.width }
     requires high { (trail_world trail.now).height ≡ base.now.height }

@@ -6,7 +6,7 @@ use crate::fork::played_together;
 use crate::games::games_of;
 use crate::pieces::dealt;
 use crate::referee::Referee;
-use crate::standing::StandingAnt;
+use crate::standing::Standing;
 use crate::tally::standing_of;
 use hex_geometry::OutOfMemory;
 use std::alloc::Global;
@@ -22,7 +22,7 @@ pub fn play_all<R: Threads + Sync, F: Referee>(
     players: u32,
     worlds: u32,
     workers: u32,
-) -> Result<StandingAnt, OutOfMemory>
+) -> Result<Standing, OutOfMemory>
     requires players { (2 ≤ players) × (players ≤ 16) }
     requires worlds { (1 ≤ worlds) × (worlds ≤ 16) }
     requires workers { (1 ≤ workers) × (workers ≤ 16) }

@@ -5,19 +5,19 @@ ghost use Rattle.tournament.specs.Games.{below};
 ghost use Rattle.tournament.specs.Standing.{is_won, is_lost, is_drawn, line_of, Ranks, StandsAbove};
 
 use crate::games::Played;
-use crate::standing::{Line, StandingAnt};
+use crate::standing::{Line, Standing};
 use hex_geometry::OutOfMemory;
 use std::alloc::Global;
 use std::cmp::Reverse;
 
 // The standing after these games.
-pub fn standing_of(alloc: Global, players: u32, games: &[Played]) -> Result<StandingAnt, OutOfMemory>
+pub fn standing_of(alloc: Global, players: u32, games: &[Played]) -> Result<Standing, OutOfMemory>
     requires few { length games.now < 2 ^ 30 }
     ensures { IfOk result (λ standing. Ranks players games.now standing) }
 {
     let mut lines = lines_of(alloc, players, games)?;
     rank(&mut lines);
-    Ok(StandingAnt::from_list(lines))
+    Ok(Standing::from_list(lines))
 }
 
 // The players' lines, by player number.

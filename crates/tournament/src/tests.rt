@@ -1,7 +1,7 @@
 // What no clause says: that cups succeed, their exact text, and that games are played side by side.
 ghost use Rattle.std.specs.Prelude.{ℕ};
 
-use crate::{Added, FileNames, OutOfMemory, Referee, play_all, push_standing};
+use crate::{Added, Names, OutOfMemory, Referee, play_all, push_standing};
 use ant_base::{Calls, MemSink};
 use cell_world::Score;
 use std::alloc::Global;
@@ -100,8 +100,8 @@ fn meets(own: &AtomicBool, other: &AtomicBool) -> bool {
 }
 
 // These names.
-fn named(alloc: Global, list: &[&str]) -> Result<FileNames, Fail> {
-    let mut names = FileNames::new(alloc);
+fn named(alloc: Global, list: &[&str]) -> Result<Names, Fail> {
+    let mut names = Names::new(alloc);
     for name in list {
         names.add(name)?;
     }
@@ -113,7 +113,7 @@ fn check<R: Threads + Sync + Abort, F: Referee>(
     rt: &R,
     alloc: Global,
     referee: &F,
-    names: &FileNames,
+    names: &Names,
     worlds: u32,
     text: &str,
 ) -> Result<(), Fail>
@@ -189,7 +189,7 @@ fn two_workers_play_two_games_at_once(rt: HostRuntime) -> Result<(), Fail> {
 
 #[test]
 fn a_known_name_keeps_its_place(rt: HostRuntime) -> Result<(), Fail> {
-    let mut names = FileNames::new(rt.alloc());
+    let mut names = Names::new(rt.alloc());
     for (name, added, length) in [
         ("a", Added::New, 1),
         ("ab", Added::New, 2),

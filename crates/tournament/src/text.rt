@@ -5,15 +5,15 @@ ghost use Rattle.ant_base.specs.Layout.{◌+++◌};
 ghost use Rattle.tournament.specs.Inner.Blank.{blank};
 ghost use Rattle.tournament.specs.Text.{table_line_text, standing_text};
 
-use crate::names::FileNames;
-use crate::standing::{Line, StandingAnt};
+use crate::names::Names;
+use crate::standing::{Line, Standing};
 use ant_base::{Each, Failed, Layout, Parts, Sink, layout};
 
 // The lines of a standing, whose players all have names.
 #[derive(Clone, Copy)]
 struct TableLines<'s> {
-    standing: &'s StandingAnt,
-    names: &'s FileNames,
+    standing: &'s Standing,
+    names: &'s Names,
     ghost named: { All (λ line. line.player < length names.now) standing.now },
 }
 
@@ -34,7 +34,7 @@ impl Parts for TableLines<'_> {
 
 // Pushes one line.
 #[tactic(auto, unfolding(crate::specs::Text::table_line_text))]
-fn push_line<K: Sink>(names: &FileNames, line: Line, sink: &mut K) -> Result<(), Failed>
+fn push_line<K: Sink>(names: &Names, line: Line, sink: &mut K) -> Result<(), Failed>
     requires { line.player < length names.now }
     ensures { Pushed (K.state sink.old) (K.state sink.new) (table_line_text names.now line) result }
 {
@@ -57,8 +57,8 @@ fn push_line<K: Sink>(names: &FileNames, line: Line, sink: &mut K) -> Result<(),
 /// Pushes a line for each player, the best first, as `3 points: b (1 won, 1 drawn, 0 lost)`. Each player of the standing has a name. Where
 /// the sink failed, a front of the lines was pushed. It takes no memory.
 pub fn push_standing<K: Sink>(
-    standing: &StandingAnt,
-    names: &FileNames,
+    standing: &Standing,
+    names: &Names,
     sink: &mut K,
 ) -> Result<(), Failed>
     requires { All (λ line. line.player < length names.now) standing.now }

@@ -3,7 +3,7 @@ ghost use Rattle.std.specs.Prelude.{◌≡◌, length};
 ghost use Rattle.cell_world.specs.Grid.{world_of};
 ghost use Rattle.cell_world.specs.Inner.Bodies.{IsKnown, IsMadeBody, Moved};
 
-use crate::ant::{Ant, StandingAnt};
+use crate::ant::{Ant, PlacedAnt};
 use crate::body::Body;
 use crate::cell::Cell;
 use crate::ground::Ground;
@@ -39,10 +39,10 @@ impl Ground for World {
     }
 
     #[inline]
-    fn ant_of(&mut self, id: u32) -> Option<StandingAnt> {
+    fn ant_of(&mut self, id: u32) -> Option<PlacedAnt> {
         let body = self.bodies[id as usize];
         let place = body.place?;
-        Some(StandingAnt {
+        Some(PlacedAnt {
             place,
             ant: body.ant(id),
         })

@@ -22,7 +22,7 @@ use crate::guess::instruction;
 use crate::record::Look;
 use crate::sightings::{note_alone, note_two, union};
 use crate::staying::{destination, read_at, read_parts, written_besides};
-use crate::trail::SystemLog;
+use crate::trail::Trail;
 use ant_random::Stream;
 use ant_turn::{Brains, Deed, take_turn, turn_in_place};
 use arrayvec::ArrayVec;
@@ -212,7 +212,7 @@ impl Look {
         brains: Brains<'_>,
         stream: &mut Stream,
         id: u32,
-    ) -> SystemLog<'w>
+    ) -> Trail<'w>
         requires fit { Fits (world_of base.now) (minds_of brains) }
         requires id { id < base.now.ids }
         requires place { stream.old.place + 1 < 2 ^ 63 }
@@ -226,7 +226,7 @@ impl Look {
           place = stream.old.place + one_if (turn.turn (minds_of brains.entry) stream.old.seed (world_of base.now) stream.old.place id).drew;
         } }
     {
-        let mut trail = SystemLog::over(base);
+        let mut trail = Trail::over(base);
         let Deed { drew, killed } = take_turn(&mut trail, brains, stream, id);
         self.drew = drew;
         self.killed = killed;
@@ -235,7 +235,7 @@ impl Look {
 
     // Records what the ant of `p`, which goes to `q`, reads and, by a trail on which its turn was executed, writes.
     #[inline]
-    fn record_going(&mut self, base: &World, trail: &SystemLog<'_>, p: Pos, q: Pos)
+    fn record_going(&mut self, base: &World, trail: &Trail<'_>, p: Pos, q: Pos)
         requires reads { self.old.reads ≡ [] }
         requires writes { self.old.writes ≡ [] }
         requires inside { IsInside base.now.width base.now.height p }
