@@ -15,8 +15,8 @@ use std::marker::Model;
 /// A sink over a stream. It tells the bytes that the stream took.
 ///
 /// It writes by a loop, in which a write that was interrupted is made again, and sends on what waits after each piece that ends in LF. A
-/// write that takes nothing of what is left is a fault, as is a failure to send on; over a stream that never fails no push does. The count of faults rises by one at each push that is
-/// `Failed` and at no other, and stays at the last value of a u64.
+/// write that takes nothing of what is left is a fault, as is a failure to send on; over a stream that never fails no push does. The count
+/// of faults rises by one at each push that is `Failed` and at no other, and stays at the last value of a u64.
 #[derive(Drop)]
 pub struct StreamSink<W: Writer> {
     stream: W,

@@ -18,7 +18,8 @@ AllDumps = (minds : Minds) (seed rounds : ℕ) (w : World) → run_text minds se
 
 -- without dumps it is the line of the seed and the score
 abbrev pub NoDumps : Type 0
-NoDumps = (minds : Minds) (seed rounds : ℕ) (w : World) → run_text minds seed rounds (chooses Nothing) w ≡ seed_text seed +++ score_text (score_of (world_after minds seed w rounds))
+NoDumps = (minds : Minds) (seed rounds : ℕ) (w : World) → run_text minds seed rounds (chooses Nothing) w
+    ≡ seed_text seed +++ score_text (score_of (world_after minds seed w rounds))
 
 -- lists that have the same rounds, up to the number of rounds, give the same text, in whatever order and however often
 abbrev pub SameRounds : Type 0

@@ -51,7 +51,8 @@ impl Yard {
         ensures width { self.new.width ≡ self.old.width }
         ensures height { self.new.height ≡ self.old.height }
         ensures blocked { OnOk result (self.new.blocked.items ≡ self.old.blocked.items ++ is_rim self.old.width self.old.height (pos_at self.old.width number) ∷ []) }
-        ensures kinds { OnOk result (self.new.kinds.items ≡ self.old.kinds.items ++ bare_kind (is_rim self.old.width self.old.height (pos_at self.old.width number)) ∷ []) }
+        ensures kinds { OnOk result (self.new.kinds.items ≡ self.old.kinds.items ++ bare_kind
+            (is_rim self.old.width self.old.height (pos_at self.old.width number)) ∷ []) }
     {
         let rim = is_rim(self.width, self.height, number);
         let kind = bare_kind(rim);

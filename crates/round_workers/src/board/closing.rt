@@ -42,7 +42,8 @@ impl Board {
         ensures book { StandsFor (board_window self) result.book }
         ensures drawn { (k : ℕ) → times k (known seat).drawn ≡ once_below k result.drawn }
         ensures turns { length result.looks.items ≡ (basis_of self).to - (basis_of self).from }
-        ensures looks { (k : ℕ) → k < (basis_of self).to - (basis_of self).from → slice_index_or result.looks.items k None ≡ left_look (board_window self) (known seat) k }
+        ensures looks { (k : ℕ) → k < (basis_of self).to - (basis_of self).from
+            → slice_index_or result.looks.items k None ≡ left_look (board_window self) (known seat) k }
     {
         let Ended {
             book,
@@ -67,7 +68,8 @@ impl Board {
         ensures book { StandsFor (board_window self) result.book }
         ensures drawn { (k : ℕ) → times k (known seat).drawn ≡ once_below k result.drawn }
         ensures turns { length result.places.items ≡ (basis_of self).to - (basis_of self).from }
-        ensures looks { (k : ℕ) → k < (basis_of self).to - (basis_of self).from → look_in (slice_index_or result.places.items k Nothing) ≡ left_look (board_window self) (known seat) k }
+        ensures looks { (k : ℕ) → k < (basis_of self).to - (basis_of self).from
+            → look_in (slice_index_or result.places.items k Nothing) ≡ left_look (board_window self) (known seat) k }
         ensures bare { result.room.items ≡ [] }
         ensures roomy { (basis_of self).to - (basis_of self).from ≤ vec_capacity result.room }
     {
