@@ -9,7 +9,7 @@
 #![tactic(auto)]
 
 ghost use Rattle.std.specs.Prelude.{◌≡◌, ◌≢◌, ℕ, ◌+◌, ◌<◌, ◌≤◌, ◌^◌, true, slice_index_or, IfSome, OnSome};
-ghost use Rattle.round_book.specs.Book.{CanBegin, IsSameWindow, StandsOn, window_of};
+ghost use Rattle.round_book.specs.Book.{CanBegin, StandsOn, window_of};
 ghost use Rattle.round_book.specs.Machine.{times};
 ghost use Rattle.round_book.specs.Window.{look_for};
 ghost use Rattle.round_workers.specs.BoardPlays.{drew, has_put, views_joined};
@@ -20,7 +20,7 @@ ghost use Rattle.board_steps.specs.Seats.{AreLeft, IsFirst, IsFor, IsLaid, IsSec
 
 use ant_turn::{Brains, Sheet};
 use brain_read::{Brain, read_brain};
-use round_book::{Book, Cause, Field};
+use round_book::{Book, Cause, Field, advance};
 use round_workers::{Board, Closed, Seat};
 use spec_record::{Look, guess_at, guesses, look};
 use std::alloc::Global;
@@ -120,24 +120,6 @@ fn put(board: &Board, field: &Field<'_>, seat: &mut Seat, turn: u32)
     board.put(seat, look);
 }
 
-// Settles the next turn by the look at it, and executes it anew where the look doesn't hold; says why it doesn't.
-fn settle_next(book: &mut Book, field: &Field<'_>, look: Look) -> Option<Cause>
-    requires stands { StandsOn field.now book.old }
-    requires left { book.old.next < book.old.to }
-    requires look { look ≡ look_for (window_of field.now book.old.from book.old.to) book.old.next }
-    ensures stands { StandsOn field.now book.new }
-    ensures next { book.new.next ≡ book.old.next + 1 }
-    ensures same { IsSameWindow book.old book.new }
-{
-    match book.settle(look) {
-        None => None,
-        Some(cause) => {
-            book.redo(field.brains(), cause);
-            Some(cause)
-        }
-    }
-}
-
 // What became of a look.
 fn fate(cause: &Option<Cause>) -> &'static str {
     match cause {
@@ -222,7 +204,7 @@ fn settle_look<R: Print>(
         return None;
     };
     println!(rt; "b takes the look of turn {turn}: there").ok()?;
-    let cause = settle_next(book, field, look);
+    let cause = advance(book, field, &look);
     println!(rt; "b settles turn {turn}: {}", fate(&cause)).ok()
 }
 
@@ -327,7 +309,7 @@ fn settle_left<R: Print>(rt: &R, field: &Field<'_>, book: &mut Book) -> Option<(
     while book.next() < TURNS {
         let turn = book.next();
         let look = look_at(field, turn);
-        let cause = settle_next(book, field, look);
+        let cause = advance(book, field, &look);
         println!(rt; "turn {turn} is settled: {}", fate(&cause)).ok()?;
     }
     Some(())

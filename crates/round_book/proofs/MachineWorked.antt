@@ -1,12 +1,12 @@
 -- Workers on windows, worked out.
-use Rattle.std.proofs.Common.{◌≡◌, ◌≢◌, ⊎_elim, ℕ, ◌+◌, ◌-◌, ◌<◌, Bool, true, false, ◌||◌, nat_eq, List, [], ◌∷◌, ◌++◌, None, refl, sym, ◌∙◌, ap, subst, arith}
+use Rattle.std.proofs.Common.{◌≡◌, ⊎_elim, ℕ, ◌+◌, ◌-◌, ◌<◌, Bool, true, false, ◌||◌, nat_eq, List, [], ◌∷◌, ◌++◌, None, refl, sym, ◌∙◌, ap, arith}
 use Rattle.std.proofs.lemmas.Bool.{eq-eqb, false≢true, or_left, or_right}
 use Rattle.std.specs.List.{Contains}
 use Rattle.hex_geometry.specs.declared.position.Pos.{Pos}
 use Rattle.hex_geometry.specs.Direction.{directions}
 use Rattle.hex_geometry.specs.Neighbourhood.{adjacent_pos, neighbours_of}
 use Rattle.hex_geometry.specs.Position.{same_pos}
-use Rattle.cell_world.specs.declared.part.Part.TheVariants.{Who, Mind, Load, Food}
+use Rattle.cell_world.specs.declared.part.Part.TheVariants.{Who, Load}
 use Rattle.cell_world.specs.Cell.{rock}
 use Rattle.cell_world.specs.Parts.{has_part, patched}
 use Rattle.cell_world.specs.Grid.{cell_in}
@@ -28,7 +28,7 @@ use Rattle.round_book.specs.declared.verdict.Verdict.TheVariants.{Taken, Redone}
 use Rattle.round_book.specs.Counts.{look_holds}
 use Rattle.round_book.specs.Machine.{AreLawful, Event, IsLawful, IsPut, Put, State, first_state, run}
 use Rattle.round_book.specs.Machine.Event.{Draws, Puts, Settles}
-use Rattle.round_book.specs.Window.{HoldsIn, IsVerdict, Window, guess_for, look_for}
+use Rattle.round_book.specs.Window.{IsVerdict, Window, guess_for, look_for}
 use Rattle.round_book.proofs.CountLemmas.{Redone-refutes, parts-test}
 use Rattle.round_book.proofs.CountsWorked.{all_seven}
 use Rattle.round_book.proofs.MarkLemmas.{Contains-cons, none_contained}

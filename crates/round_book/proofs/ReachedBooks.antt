@@ -6,9 +6,9 @@ use Rattle.ant_turn.specs.Rounds.{Moment, after_turn}
 use Rattle.round_book.specs.declared.verdict.Cause.{Cause}
 use Rattle.round_book.specs.declared.verdict.Verdict.{Verdict}
 use Rattle.round_book.specs.declared.verdict.Verdict.TheVariants.{Taken, Redone}
-use Rattle.round_book.specs.Book.{BookValue, FieldValue, IsSameWindow, StandsOn, begun, moment_of, window_of}
-use Rattle.round_book.specs.BookLaws.{BooksAreReached, IsAt, IsSettled, MaySettle, StandingBooksSettle, next_look, verdict_of, window_of_book}
-use Rattle.round_book.specs.Machine.{AreLawful, CanSettle, Event, IsLawful, IsPut, Put, State, first_state, happens, run, taken}
+use Rattle.round_book.specs.Book.{BookValue, FieldValue, IsSameWindow, StandsOn, moment_of}
+use Rattle.round_book.specs.BookLaws.{BooksAreReached, IsAt, IsSettled, StandingBooksSettle, next_look, verdict_of, window_of_book}
+use Rattle.round_book.specs.Machine.{AreLawful, Event, IsLawful, IsPut, Put, State, first_state, happens, run, taken}
 use Rattle.round_book.specs.Machine.Event.{Draws, Puts, Settles}
 use Rattle.round_book.specs.Window.{AreVerdicts, HoldsIn, IsPlayable, IsVerdict, Window, look_for, moment_before}
 use Rattle.round_book.proofs.BookLemmas.{IsVerdict-cause, look_for-holds}

@@ -3,7 +3,6 @@ use Rattle.std.specs.Prelude.{◌≡◌, ℕ, ◌-◌, ◌<◌, ◌≤◌, List,
 use Rattle.std.specs.List.{AllByRecursion}
 use Rattle.cell_world.specs.Grid.{world_of}
 use Rattle.ant_turn.specs.Minds.{Fits, Minds}
-use Rattle.ant_turn.specs.Rounds.{Moment}
 use Rattle.spec_record.specs.Look.{LookValue}
 use Rattle.round_book.specs.declared.verdict.Cause.{Cause}
 use Rattle.round_book.specs.declared.verdict.Verdict.{Verdict}

@@ -10,7 +10,6 @@
 //! What is true of a board between any two steps of its seats stands in `specs/BoardRule.antt`.
 #![tactic(auto)]
 
-mod alone;
 mod board;
 mod fork;
 mod piece;

@@ -10,7 +10,6 @@ ghost use Rattle.round_workers.specs.BoardRule.{StandsFor};
 ghost use Rattle.round_workers.specs.BoardSeats.{IsSeatOf, known, board_window};
 ghost use Rattle.round_workers.specs.BoardWorker.{IsLentFor, guesses_for, turns_in};
 
-use crate::alone::play_alone;
 use crate::board::closing::Ended;
 use crate::board::looking::look_at;
 use crate::board::places::{look_in, room_of};
@@ -20,7 +19,7 @@ use crate::board::view::BoardSlot;
 use crate::board::worker::Worker;
 use ant_base::Gate;
 use hex_geometry::OutOfMemory;
-use round_book::{Book, Counts, Field, advance};
+use round_book::{Book, Counts, Field, advance, play_window};
 use spec_record::{Look, guesses};
 use std::alloc::Global;
 use std::marker::Model;
@@ -131,7 +130,7 @@ fn play<R: Threads + Sync, G: Gate>(
     ensures unchanged { OnErr result (field.new ≡ field.old) }
 {
     if workers.min(to - from) <= 1 {
-        play_alone(gate, alloc, field, from, to)
+        play_window(gate, alloc, field, from, to)
     } else {
         play_on_board(rt, gate, alloc, rooms, workers, field, from, to)
     }
@@ -431,5 +430,5 @@ fn settle_next(
     match look_in(&places[ticket as usize]) {
         Some(look) => advance(book, field, look),
         None => advance(book, field, &look_at(field, guesses, from, to, ticket)),
-    }
+    };
 }

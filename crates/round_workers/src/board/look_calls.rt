@@ -250,5 +250,5 @@ fn settle_by(book: &mut Book, field: &Field<'_>, room: &Room<Look>)
     match room.content() {
         Some(look) => advance(book, field, look),
         None => unreachable!(),
-    }
+    };
 }

@@ -1,20 +1,26 @@
-// One worker alone: each look is settled as soon as it is made, so that one room is enough for all looks.
+// A window played on one thread: each look is settled as soon as it is made, so that one room is enough for all looks.
 ghost use Rattle.std.specs.Prelude.{◌≡◌, IfOk, OnOk, OnErr};
 ghost use Rattle.round_book.specs.Book.{CanBegin, IsPlayed, IsSameWindow, StandsOn, window_of};
 ghost use Rattle.round_book.specs.Counts.{counts_of};
 
+use crate::advancing::advance;
+use crate::book::Book;
+use crate::counts::Counts;
+use crate::field::Field;
 use ant_base::Gate;
 use ant_random::Stream;
 use hex_geometry::OutOfMemory;
-use round_book::{Book, Counts, Field, advance};
 use spec_record::look_by;
 use std::alloc::Global;
 
 // The number of a worker that works alone.
 const ALONE: u32 = 0;
 
-// Plays a window by one worker, which calls the gate before each look.
-pub fn play_alone<G: Gate>(
+/// Plays the turns of the ids from `from` up to, and not including, `to` on the caller's thread, which calls the gate as worker 0 before
+/// each look that it makes. The field is whole, `from` is at most `to`, `to` at most the number of ids, and the place with the number of
+/// turns is below 2^63. The field is whole afterwards, its world and place are those to which the turns lead in order, and the answer counts
+/// the looks that were taken and the turns that were executed anew. It is refused for want of memory alone; the field is as before then.
+pub fn play_window<G: Gate>(
     gate: &G,
     alloc: Global,
     field: &mut Field<'_>,

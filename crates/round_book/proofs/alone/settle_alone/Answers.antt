@@ -2,7 +2,7 @@ use Rattle.std.proofs.Common.{◌∙◌, ap, arith}
 use Rattle.ant_random.specs.Stream.{SeedAndPlace}
 use Rattle.ant_turn.specs.Minds.{minds_of}
 use Rattle.round_book.proofs.SoloLemmas.{Going-next, Going-none, going-guess, going-look, same-then}
-use Rattle.round_workers.proofs.alone.settle_alone.Goals as goal
+use Rattle.round_book.proofs.alone.settle_alone.Goals as goal
 
 pub look_by-look-requires-clause-place : goal.look_by-look-requires-clause-place
 look_by-look-requires-clause-place g c =

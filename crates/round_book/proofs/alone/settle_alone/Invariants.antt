@@ -2,7 +2,7 @@
 use Rattle.std.proofs.Common.{◌≡◌}
 use Rattle.round_book.proofs.SoloLemmas.{Going}
 use Rattle.round_book.specs.Book.{IsSameWindow}
-use Rattle.round_workers.proofs.alone.settle_alone.Given as goal
+use Rattle.round_book.proofs.alone.settle_alone.Given as goal
 
 abbrev pub invariant-loop-id : goal.invariant-loop-id
 invariant-loop-id g l = record {

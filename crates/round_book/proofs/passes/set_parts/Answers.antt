@@ -5,7 +5,7 @@ use Rattle.cell_world.specs.Grid.{world_of}
 use Rattle.cell_world.specs.Parts.{CanPatch, patched}
 use Rattle.cell_world.specs.Valid.{CanSet}
 use Rattle.round_book.proofs.PassLemmas.{CanSet-alone}
-use Rattle.round_book.proofs.passes.set_one.Goals as goal
+use Rattle.round_book.proofs.passes.set_parts.Goals as goal
 
 pub patched-requires : goal.patched-requires
 patched-requires c = subst (λ (cell : Cell). CanPatch cell c.args.write.now.2 c.args.write.now.1) (sym c.cell-cell.ensures.content) c.requires.each.0.1
