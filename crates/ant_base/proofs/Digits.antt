@@ -56,9 +56,9 @@ pub all_ascii_digits-IsNumeralModel : IsNumeralModel (λ ds. all_ascii_digits ds
 all_ascii_digits-IsNumeralModel = numerals_by_value (λ ds. all_ascii_digits ds ≡ true) tells_all_ascii_digits
 
 -- a printed number is read back
-pub number_of-decimal : (n : ℕ) → n < 10000000000 → decimal_value (decimal n) ≡ Some n
+pub decimal_value-decimal : (n : ℕ) → n < 10000000000 → decimal_value (decimal n) ≡ Some n
 unfolding decimal_value
-number_of-decimal n small =
+decimal_value-decimal n small =
     let digits : all_ascii_digits (decimal n) ≡ true = digits_decimal all_ascii_digits-IsNumeralModel n (omega arith) in
     let low : nat_le 1 (length (decimal n)) ≡ true = le-leb 1 (length (decimal n)) (decimal_nonempty n (omega arith)) in
     let high : nat_le (length (decimal n)) 10 ≡ true = le-leb (length (decimal n)) 10 (length-decimal-le 10 n (omega arith) small (omega arith)) in

@@ -28,8 +28,8 @@ food_is_light w p valid =
     omega arith
 
 -- an ant that a cell of a world holds stands there
-pub Stands-there : (w : World) (p : Pos) (cell : Cell) (ant : Ant) → Valid w → cell ≡ w.cells p → cell.ant ≡ Some ant → StandsAt w p cell ant
-Stands-there w p cell ant valid here holds =
+pub StandsAt-there : (w : World) (p : Pos) (cell : Cell) (ant : Ant) → Valid w → cell ≡ w.cells p → cell.ant ≡ Some ant → StandsAt w p cell ant
+StandsAt-there w p cell ant valid here holds =
     let clear : (w.cells p).rocky ≡ false = ant-clear w p ant valid (ap (λ (c : Cell). c.ant) (sym here) ∙ holds) in
     record {
       valid = valid;
@@ -42,8 +42,8 @@ Stands-there w p cell ant valid here holds =
     }
 
 -- likewise on the world's own cell
-pub Stands-at : (w : World) (p : Pos) (ant : Ant) → Valid w → (w.cells p).ant ≡ Some ant → StandsAt w p (w.cells p) ant
-Stands-at w p ant valid holds = Stands-there w p (w.cells p) ant valid refl holds
+pub StandsAt-at : (w : World) (p : Pos) (ant : Ant) → Valid w → (w.cells p).ant ≡ Some ant → StandsAt w p (w.cells p) ant
+StandsAt-at w p ant valid holds = StandsAt-there w p (w.cells p) ant valid refl holds
 
 -- it stands on the cell that was read
 pub own_read : {w : World} {p : Pos} {ant : Ant} {cell : Cell} → StandsAt w p (w.cells p) ant → cell ≡ w.cells p → StandsAt w p cell ant

@@ -106,9 +106,9 @@ others-stay numbers Black Red state other = refl
 others-stay numbers Black Black state other = absurd (other refl)
 
 -- an ant is the same but for its state
-IsSameAnt-renumbered : (numbers : Numbers) (side : Colour) (o : Option Ant) → IsMatchingAnt side o (option_map (renumbered_ant (side_states numbers side)) o)
-IsSameAnt-renumbered numbers side None = tt
-IsSameAnt-renumbered numbers side (Some ant) = (refl, λ other. others-stay numbers side ant.colour ant.state other)
+IsMatchingAnt-renumbered : (numbers : Numbers) (side : Colour) (o : Option Ant) → IsMatchingAnt side o (option_map (renumbered_ant (side_states numbers side)) o)
+IsMatchingAnt-renumbered numbers side None = tt
+IsMatchingAnt-renumbered numbers side (Some ant) = (refl, λ other. others-stay numbers side ant.colour ant.state other)
 
 -- renumbering changes states alone
 DiffersInStates-renumbered : (numbers : Numbers) (side : Colour) (w : World) → DiffersInStates side w (renumbered numbers side w)
@@ -117,7 +117,7 @@ DiffersInStates-renumbered numbers side w = record {
   height = refl;
   ids = refl;
   cells = λ p. refl;
-  ants = λ p. IsSameAnt-renumbered numbers side (w.cells p).ant;
+  ants = λ p. IsMatchingAnt-renumbered numbers side (w.cells p).ant;
 }
 
 -- so what a dump shows differs in them alone

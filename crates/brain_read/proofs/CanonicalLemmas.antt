@@ -12,7 +12,7 @@ use Rattle.hex_geometry.specs.declared.direction.Side.TheVariants.{Left, Right}
 use Rattle.hex_geometry.specs.declared.neighbourhood.Sight.{Sight}
 use Rattle.hex_geometry.specs.declared.neighbourhood.Sight.TheVariants.{Here, Ahead, LeftAhead, RightAhead}
 use Rattle.ant_base.specs.Lines.{is_lf, has_no_lf, lines_of}
-use Rattle.ant_base.proofs.Digits.{number_of-decimal}
+use Rattle.ant_base.proofs.Digits.{decimal_value-decimal}
 use Rattle.ant_base.proofs.Linewise.{lines_of-line, has_no_lf-append}
 use Rattle.brain_read.specs.declared.instr.Cond.{Cond}
 use Rattle.brain_read.specs.declared.instr.Cond.TheVariants.{Friend, Foe, FriendWithFood, FoeWithFood, Food, Rock, Marker, FoeMarker, Home, FoeHome}
@@ -139,7 +139,7 @@ no_lf-body (field ∷ fields) all = has_no_lf-append (field_text field) (further
 spelled_again : (fields : List LineField) → AllByRecursion IsPrinted fields → SpellsAll fields (map field_text fields)
 spelled_again [] all = tt
 spelled_again (Word word ∷ fields) all = (refl, spelled_again fields all.1)
-spelled_again (Number n ∷ fields) all = (number_of-decimal n all.0, spelled_again fields all.1)
+spelled_again (Number n ∷ fields) all = (decimal_value-decimal n all.0, spelled_again fields all.1)
 
 -- the words are tokens
 token : (word : List ℕ) → list_all is_plain_byte word ≡ true → has_byte word ≡ true → IsToken word

@@ -22,7 +22,7 @@ use Rattle.brain_read.specs.Forms.LineField.{Word, Number}
 use Rattle.brain_read.specs.Inner.Places.{form_at, place_of_form, place_of_sight, place_of_side, place_of_condition}
 use Rattle.brain_read.specs.Places.{sight_at, side_at, condition_word_at}
 use Rattle.brain_read.specs.Inner.Reading.{read_sense, read_marked, read_branches, read_drop, read_turn, read_flip, read_form, read_line}
-use Rattle.brain_read.proofs.PlacesLemmas.{Names, word-found, word-again, number_of-small}
+use Rattle.brain_read.proofs.PlacesLemmas.{Names, word-found, word-again, decimal_value-small}
 
 pub form_names : Names form_words 8 (λ i. word_of_form (form_at i))
 unfolding form_words
@@ -124,7 +124,7 @@ pub state_takes : Takes take_state (λ n token. decimal_value token ≡ Some n)
 unfolding take_state
 state_takes = record {
   taken = λ tokens n rest e. let t = (number_takes 0 9999999999).taken tokens n rest e in record { token = t.token; front = t.front; spelled = t.spelled.value };
-  again = λ n token rest is. (number_takes 0 9999999999).again n token rest (record { value = is; low = omega arith; high = number_of-small token n is });
+  again = λ n token rest is. (number_takes 0 9999999999).again n token rest (record { value = is; low = omega arith; high = decimal_value-small token n is });
 }
 
 -- what the word that was taken stands for

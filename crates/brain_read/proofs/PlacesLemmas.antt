@@ -114,8 +114,8 @@ digits_of token n is = go (is_number token) refl is
     go false e k = (let never : None ≡ Some n = k in cc)
 
 -- a number of at most ten digits is below 10 ^ 10
-pub number_of-small : (token : List ℕ) (n : ℕ) → decimal_value token ≡ Some n → n ≤ 9999999999
-number_of-small token n is =
+pub decimal_value-small : (token : List ℕ) (n : ℕ) → decimal_value token ≡ Some n → n ≤ 9999999999
+decimal_value-small token n is =
     let d = digits_of token n is in
     let small = digits_value_short all_ascii_digits-IsNumeralModel token 10 d.digits d.short in
     omega (arith, small, d.value)
@@ -130,8 +130,8 @@ digits-good (byte ∷ token) all =
     rw (good_byte byte (omega arith) (omega arith)) (digits-good token parts.1)
 
 -- a number has no bad byte
-pub number_of-good : (token : List ℕ) (n : ℕ) → decimal_value token ≡ Some n → has_bad_byte token ≡ false
-number_of-good token n is = digits-good token (digits_of token n is).digits
+pub decimal_value-good : (token : List ℕ) (n : ℕ) → decimal_value token ≡ Some n → has_bad_byte token ≡ false
+decimal_value-good token n is = digits-good token (digits_of token n is).digits
 
 -- every number lies between 0 and the largest of ten digits
 pub number_within-any : (token : List ℕ) → number_within 0 9999999999 token ≡ decimal_value token
@@ -139,4 +139,4 @@ number_within-any token = go (decimal_value token) refl
   where
     go : (o : Option ℕ) → decimal_value token ≡ o → within 0 9999999999 o ≡ o
     go None e = refl
-    go (Some n) e = ap (λ b. cond b (Some n) None) (and_from (nat_le 0 n) (nat_le n 9999999999) (le-leb 0 n (omega arith)) (le-leb n 9999999999 (number_of-small token n e)))
+    go (Some n) e = ap (λ b. cond b (Some n) None) (and_from (nat_le 0 n) (nat_le n 9999999999) (le-leb 0 n (omega arith)) (le-leb n 9999999999 (decimal_value-small token n e)))

@@ -41,10 +41,10 @@ is_ant-named t bodies None = refl
 is_ant-named t bodies (Some u) = refl
 
 -- an id was made where the ant that is read is known
-pub IsMade-named : (ids : ℕ) (bodies : List Body) (o : Option ℕ) → ((ant : Ant) → ant_named bodies o ≡ Some ant → ant.id < ids) → IsMadeBody ids o
+pub IsMadeBody-named : (ids : ℕ) (bodies : List Body) (o : Option ℕ) → ((ant : Ant) → ant_named bodies o ≡ Some ant → ant.id < ids) → IsMadeBody ids o
 unfolding ant_named
-IsMade-named ids bodies None known = tt
-IsMade-named ids bodies (Some t) known = known (ant_from t (get_or bodies t no_body)) refl
+IsMadeBody-named ids bodies None known = tt
+IsMadeBody-named ids bodies (Some t) known = known (ant_from t (get_or bodies t no_body)) refl
 
 -- the place of a body whose ant was on the cell
 gone-place : (t : ℕ) (before : Option ℕ) (body : Body) → (gone t before body).place ≡ cond (is_id t before) None body.place

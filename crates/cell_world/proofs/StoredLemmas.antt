@@ -15,7 +15,7 @@ use Rattle.cell_world.specs.Inner.Bodies.{IsMadeBody, Moved}
 use Rattle.cell_world.specs.Inner.Stored.{ant_named, cell_from, grid_from, occupant_id, stored_places}
 use Rattle.cell_world.specs.Valid.{CanSet}
 use Rattle.cell_world.specs.World.{pos_at}
-use Rattle.cell_world.proofs.Bodies.{IsMade-named, ant_named-stays, is_ant-named, is_id, is_id-true, places_of-moved}
+use Rattle.cell_world.proofs.Bodies.{IsMadeBody-named, ant_named-stays, is_ant-named, is_id, is_id-true, places_of-moved}
 use Rattle.cell_world.proofs.GridSums.{cell_in-pos_at}
 use Rattle.cell_world.proofs.GridLemmas.{cell_in-inside, index_of-early, index_of-pos_at}
 use Rattle.cell_world.proofs.Places.{holds_id-inside}
@@ -40,7 +40,7 @@ module _ (width height : ℕ) (tiles : List Tile) (bodies : List Body) where
   -- its id was made
   pub tile-made : (p : Pos) (tile : Tile) → IsWorld (grid_from width height tiles bodies) → IsInside width height p → tile ≡ get_or tiles (index_of width p) tile → IsMadeBody (length bodies) (occupant_id tile.ant)
   tile-made p tile world inside is =
-      IsMade-named (length bodies) bodies (occupant_id tile.ant) (λ ant has. world.valid.known p ant (ap (λ (c : Cell). c.ant) (cell_in-tile_is p tile world inside is) ∙ has))
+      IsMadeBody-named (length bodies) bodies (occupant_id tile.ant) (λ ant has. world.valid.known p ant (ap (λ (c : Cell). c.ant) (cell_in-tile_is p tile world inside is) ∙ has))
 
   -- an ant that a cell holds is read from its body
   pub ant-read : (t : ℕ) (p : Pos) (d : Tile) → IsWorld (grid_from width height tiles bodies) → holds_id t (cell_in (grid_from width height tiles bodies) p) ≡ true →
@@ -71,7 +71,7 @@ module _ (width height : ℕ) (tiles : List Tile) (bodies : List Body) where
     tile-stays k d early apart =
         let content = cell_in-tile k d full early in
         let made : IsMadeBody (length bodies) (occupant_id (get_or tiles k d).ant) =
-        IsMade-named (length bodies) bodies (occupant_id (get_or tiles k d).ant) (λ ant is. world.valid.known (pos_at width k) ant (ap (λ (c : Cell). c.ant) content ∙ is)) in
+        IsMadeBody-named (length bodies) bodies (occupant_id (get_or tiles k d).ant) (λ ant is. world.valid.known (pos_at width k) ant (ap (λ (c : Cell). c.ant) content ∙ is)) in
         let other : (ant : Ant) → cell.ant ≡ Some ant → is_id ant.id (occupant_id (get_or tiles k d).ant) ≡ false = λ ant is.
         sym (is_ant-named ant.id bodies (occupant_id (get_or tiles k d).ant))
         ∙ ap (holds_id ant.id) (sym content)

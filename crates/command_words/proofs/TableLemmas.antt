@@ -166,17 +166,17 @@ option-not_first kind choice =
     (list_all-at (λ choice. not (bytes_eq (word_of kind) (option_of choice))) choices choice (no_option_first kind) (choices-all choice))
 
 -- each known command is found by its first word
-pub kind_of-word : (kind : CommandKind) → Contains kinds kind → command_kind_of (word_of kind) ≡ Some kind
+pub command_kind_of-word : (kind : CommandKind) → Contains kinds kind → command_kind_of (word_of kind) ≡ Some kind
 unfolding command_kind_of
-kind_of-word kind has = find-word word_of same_kind kinds kind has
+command_kind_of-word kind has = find-word word_of same_kind kinds kind has
 
-pub kind_of-found : (word : List ℕ) (kind : CommandKind) → command_kind_of word ≡ Some kind → word ≡ word_of kind
+pub command_kind_of-found : (word : List ℕ) (kind : CommandKind) → command_kind_of word ≡ Some kind → word ≡ word_of kind
 unfolding command_kind_of
-kind_of-found word kind e = sym ((bytes_eq-Decides (word_of kind) word).0 (find-passes (λ kind. bytes_eq (word_of kind) word) kinds kind e))
+command_kind_of-found word kind e = sym ((bytes_eq-Decides (word_of kind) word).0 (find-passes (λ kind. bytes_eq (word_of kind) word) kinds kind e))
 
-pub kind_of-known : (word : List ℕ) (kind : CommandKind) → command_kind_of word ≡ Some kind → Contains kinds kind
+pub command_kind_of-known : (word : List ℕ) (kind : CommandKind) → command_kind_of word ≡ Some kind → Contains kinds kind
 unfolding command_kind_of
-kind_of-known word kind e = find-Contains (λ kind. bytes_eq (word_of kind) word) kinds kind e
+command_kind_of-known word kind e = find-Contains (λ kind. bytes_eq (word_of kind) word) kinds kind e
 
 pub choice_of-found : (kind : CommandKind) (word : List ℕ) (choice : Choice) → choice_of kind word ≡ Some choice → word ≡ option_of choice
 unfolding choice_of

@@ -78,13 +78,13 @@ own-turn minds seed w place t valid =
     sym (ap (λ (out : Outcome). record { world = with_cells w out.cells; place = place + one_if out.drew }) same)
 
 -- the positions of a look's writes are those of the turn's writes
-places_of-claims : (after : Cells) (claims : List Claim) → seen_positions (with_cells_at after claims) ≡ map (λ write. write.at) claims
-places_of-claims after [] = refl
-places_of-claims after (c ∷ claims) = ap (λ l. c.at ∷ l) (places_of-claims after claims)
+seen_positions-claims : (after : Cells) (claims : List Claim) → seen_positions (with_cells_at after claims) ≡ map (λ write. write.at) claims
+seen_positions-claims after [] = refl
+seen_positions-claims after (c ∷ claims) = ap (λ l. c.at ∷ l) (seen_positions-claims after claims)
 
 look-places : (minds : Minds) (seed : ℕ) (w : World) (place t : ℕ) → seen_positions (look_of minds seed w place t).writes ≡ map (λ write. write.at) (writes minds w t)
 unfolding look_of
-look-places minds seed w place t = places_of-claims (turn minds seed w place t).cells (writes minds w t)
+look-places minds seed w place t = seen_positions-claims (turn minds seed w place t).cells (writes minds w t)
 
 -- a turn that ended as the look at it in the book's own world was executed anew
 pub IsRedone-ended : (minds : Minds) (found : Cause) (look : LookValue) (book new : BookValue) → Valid (world_of book.world) → look ≡ look_of minds book.seed (world_of book.world) book.place book.next →

@@ -19,7 +19,7 @@ use Rattle.round_workers.specs.declared.piece.Piece.{Piece}
 use Rattle.round_workers.specs.declared.share.Share.{Share}
 use Rattle.round_workers.specs.Inner.Pieces.{AreLooked, AreConsecutive, HasPieceRoom, IsPieceDone, IsPieceReady, all_have_room, shares_among}
 use Rattle.round_workers.specs.Inner.Shares.{looks_for, shares}
-use Rattle.round_workers.proofs.ShareLemmas.{Follow-shares, Follow-within}
+use Rattle.round_workers.proofs.ShareLemmas.{Follow-shares, AreConsecutive-within}
 
 pub looks_for-length : (window : Window) (t n : ℕ) → length (looks_for window t n) ≡ n
 looks_for-length window t zero = refl
@@ -127,7 +127,7 @@ module _ (field : FieldValue) (from to : ℕ) (begin : CanBegin field from to) w
   ready-from (piece ∷ pieces) at first follow rooms =
       let here : piece.share.from ≡ at = follow.0 in
       let forwards : piece.share.from ≤ piece.share.to = follow.1 in
-      let within : piece.share.to ≤ to = Follow-within (map (λ p. p.share) pieces) piece.share.to to follow.2 in
+      let within : piece.share.to ≤ to = AreConsecutive-within (map (λ p. p.share) pieces) piece.share.to to follow.2 in
       All-cons (IsPieceReady field from) piece pieces
       (record { begin = begin-front field from to piece.share.to begin (omega arith) within; first = omega arith; forwards = forwards; room = rooms 0 piece (omega arith) })
       (ready-from pieces piece.share.to (omega arith) follow.2 (λ k d lt. rooms (suc k) d (omega arith)))
@@ -163,10 +163,10 @@ module _ (field : FieldValue) (from to : ℕ) where
       ap₂ (λ s ss. s ∷ ss) here (done-shares xs ys (omega arith) (λ i d lt. each (suc i) d (omega arith)))
 
 -- a piece that is next ends within what is left
-pub Follow-item : (pieces : List Piece) (i : ℕ) (piece : Piece) (from to : ℕ) → i < length pieces → piece ≡ get_or pieces i piece → AreConsecutive (map (λ p. p.share) (drop i pieces)) from to → piece.share.to ≤ to
-Follow-item pieces i piece from to below is follow =
+pub AreConsecutive-item : (pieces : List Piece) (i : ℕ) (piece : Piece) (from to : ℕ) → i < length pieces → piece ≡ get_or pieces i piece → AreConsecutive (map (λ p. p.share) (drop i pieces)) from to → piece.share.to ≤ to
+AreConsecutive-item pieces i piece from to below is follow =
     let front : AreConsecutive (map (λ p. p.share) (get_or pieces i piece ∷ drop (suc i) pieces)) from to = subst (λ ps. AreConsecutive (map (λ p. p.share) ps) from to) (drop-cons pieces i piece below) follow in
-    let rest : (get_or pieces i piece).share.to ≤ to = Follow-within (map (λ p. p.share) (drop (suc i) pieces)) (get_or pieces i piece).share.to to front.2 in
+    let rest : (get_or pieces i piece).share.to ≤ to = AreConsecutive-within (map (λ p. p.share) (drop (suc i) pieces)) (get_or pieces i piece).share.to to front.2 in
     subst (λ (p : Piece). p.share.to ≤ to) (sym is) rest
 
 module _ (window : Window) (share : Share) (looks : List LookValue) (looked : AreLooked window share looks) where

@@ -33,7 +33,7 @@ use Rattle.spec_record.specs.Inner.Standing.{blank_look, read_at, rested_look, s
 use Rattle.spec_record.proofs.Claiming.{EachOnce-sightings}
 use Rattle.spec_record.proofs.Bounds.{going_reads-fit, going_writes-fit}
 use Rattle.spec_record.proofs.Emptying.{emptied-fallen, emptied-none, seen_around-from}
-use Rattle.spec_record.proofs.Sighting.{all_sighted-append, claims-append, claims-sights, with_cells_at-merged}
+use Rattle.spec_record.proofs.Sighting.{all_sighted-append, claims-append, claims-sightings_of, with_cells_at-merged}
 
 -- the look of an outcome with these claims
 abbrev look_claiming : Cells → ℕ → ℕ → Outcome → List Claim → List Claim → LookValue
@@ -214,8 +214,8 @@ reads-goes sheet cells last p ant q next left top is =
     let both : with_cells_at cells (checks ++ corpses) ≡ sightings_of cells (only part.Who) (seen_from cells p q) ++ sightings_of cells load_and_food (fallen cells last p q) =
     claims-append cells checks corpses
     ∙ ap₂ (λ xs ys. xs ++ ys)
-    (claims-sights cells (only part.Who) (seen_around after q) ∙ ap (sightings_of cells (only part.Who)) (seen_around-from sheet cells p ant q next left top))
-    (claims-sights cells load_and_food (emptied sheet after (places_around q)) ∙ ap (sightings_of cells load_and_food) (emptied-fallen sheet cells last p ant q next left top is)) in
+    (claims-sightings_of cells (only part.Who) (seen_around after q) ∙ ap (sightings_of cells (only part.Who)) (seen_around-from sheet cells p ant q next left top))
+    (claims-sightings_of cells load_and_food (emptied sheet after (places_around q)) ∙ ap (sightings_of cells load_and_food) (emptied-fallen sheet cells last p ant q next left top is)) in
     with_cells_at-merged cells (claim p who_and_mind ∷ claim p (only part.Load) ∷ (checks ++ corpses))
     ∙ ap (λ list. all_sighted list (with_cells_at cells (checks ++ corpses))) (cond-true _ ((p, whole_ant, cells p) ∷ []) _ (same_pos_self p))
     ∙ ap (all_sighted ((p, whole_ant, cells p) ∷ [])) both
@@ -227,7 +227,7 @@ writes-goes sheet cells last p ant q next left top other is =
     let after : Cells = stepped sheet cells p ant q next in
     let corpses : List Claim = map (λ r. claim r ant_and_food) (emptied sheet after (places_around q)) in
     let left_there : with_cells_at last corpses ≡ sightings_of last ant_and_food (fallen cells last p q) =
-    claims-sights last ant_and_food (emptied sheet after (places_around q)) ∙ ap (sightings_of last ant_and_food) (emptied-fallen sheet cells last p ant q next left top is) in
+    claims-sightings_of last ant_and_food (emptied sheet after (places_around q)) ∙ ap (sightings_of last ant_and_food) (emptied-fallen sheet cells last p ant q next left top is) in
     with_cells_at-merged last (claim p (only part.Mind) ∷ claim p whole_ant ∷ claim q whole_ant ∷ corpses)
     ∙ ap (λ list. all_sighted (sighted list (q, whole_ant, last q)) (with_cells_at last corpses)) (cond-true _ ((p, whole_ant, last p) ∷ []) _ (same_pos_self p))
     ∙ ap (λ list. all_sighted list (with_cells_at last corpses)) (cond-false _ _ ((p, whole_ant, last p) ∷ (q, whole_ant, last q) ∷ []) (same_pos_apart p q other))

@@ -18,19 +18,19 @@ abbrev pub sight : Cells → Claim → Sighting
 sight cells c = (c.at, c.parts, cells c.at)
 
 -- a claim more is a sighting more
-with_cells_at-joined : (cells : Cells) (claims : List Claim) (new : Claim) → with_cells_at cells (with_claim claims new) ≡ sighted (with_cells_at cells claims) (sight cells new)
-with_cells_at-joined cells [] new = refl
-with_cells_at-joined cells (old ∷ claims) new =
+with_cells_at-with_claim : (cells : Cells) (claims : List Claim) (new : Claim) → with_cells_at cells (with_claim claims new) ≡ sighted (with_cells_at cells claims) (sight cells new)
+with_cells_at-with_claim cells [] new = refl
+with_cells_at-with_claim cells (old ∷ claims) new =
     elim (cases_Bool (same_pos old.at new.at)) [
       | inl same ↦ ap (with_cells_at cells) (cond-true _ _ _ same) ∙ sym (cond-true _ _ _ same)
-      | inr apart ↦ ap (with_cells_at cells) (cond-false _ _ _ apart) ∙ ap (λ more. sight cells old ∷ more) (with_cells_at-joined cells claims new) ∙ sym (cond-false _ _ _ apart)
+      | inr apart ↦ ap (with_cells_at cells) (cond-false _ _ _ apart) ∙ ap (λ more. sight cells old ∷ more) (with_cells_at-with_claim cells claims new) ∙ sym (cond-false _ _ _ apart)
     ]
 
 -- so are many
 with_cells_at-merged_onto : (cells : Cells) (claims more : List Claim) → with_cells_at cells (merged_onto claims more) ≡ all_sighted (with_cells_at cells claims) (with_cells_at cells more)
 with_cells_at-merged_onto cells claims [] = refl
 with_cells_at-merged_onto cells claims (new ∷ more) =
-    with_cells_at-merged_onto cells (with_claim claims new) more ∙ ap (λ list. all_sighted list (with_cells_at cells more)) (with_cells_at-joined cells claims new)
+    with_cells_at-merged_onto cells (with_claim claims new) more ∙ ap (λ list. all_sighted list (with_cells_at cells more)) (with_cells_at-with_claim cells claims new)
 
 -- merged claims with their cells are the sightings of all claims, one after another
 pub with_cells_at-merged : (cells : Cells) (claims : List Claim) → with_cells_at cells (merged claims) ≡ all_sighted [] (with_cells_at cells claims)
@@ -105,9 +105,9 @@ sighted-first (old ∷ list) new beyond =
     ]
 
 -- the number of a position from a place of the list on
-pub number_of-drop : (p : Pos) (list : List Sighting) (k : ℕ) (z : Sighting) → k < length list →
+pub seen_number-drop : (p : Pos) (list : List Sighting) (k : ℕ) (z : Sighting) → k < length list →
     seen_number p (drop k list) ≡ cond (same_pos (slice_index_or list k z).0 p) zero (suc (seen_number p (drop (k + 1) list)))
-number_of-drop p list k z below =
+seen_number-drop p list k z below =
     ap (seen_number p) (drop-cons list k z below)
     ∙ ap (λ n. cond (same_pos (slice_index_or list k z).0 p) zero (suc (seen_number p (drop n list)))) (sym (add-one k))
 
@@ -200,37 +200,37 @@ all_sighted-fits more places all =
     apart-fits (all_sighted [] more) places (all_sighted-apart [] more tt) (all_sighted-all (λ p. among p places ≡ true) [] more tt all)
 
 -- the sightings at the positions from a place of a list on: the one there, and the rest
-pub sights-next : (list : List Sighting) (cells : Cells) (parts : Parts) (places : List Pos) (k : ℕ) (z : Pos) → k < length places →
+pub sightings_of-next : (list : List Sighting) (cells : Cells) (parts : Parts) (places : List Pos) (k : ℕ) (z : Pos) → k < length places →
     all_sighted list (sightings_of cells parts (drop k places)) ≡ all_sighted (sighted list (slice_index_or places k z, parts, cells (slice_index_or places k z))) (sightings_of cells parts (drop (k + 1) places))
-sights-next list cells parts places k z below =
+sightings_of-next list cells parts places k z below =
     ap (λ rest. all_sighted list (sightings_of cells parts rest)) (drop-cons places k z below)
     ∙ ap (λ n. all_sighted (sighted list (slice_index_or places k z, parts, cells (slice_index_or places k z))) (sightings_of cells parts (drop n places))) (sym (add-one k))
 
 -- the sightings at some positions and then at others
-pub sights-append : (list : List Sighting) (cells : Cells) (parts : Parts) (some more : List Pos) →
+pub sightings_of-append : (list : List Sighting) (cells : Cells) (parts : Parts) (some more : List Pos) →
     all_sighted list (sightings_of cells parts (some ++ more)) ≡ all_sighted (all_sighted list (sightings_of cells parts some)) (sightings_of cells parts more)
-sights-append list cells parts [] more = refl
-sights-append list cells parts (r ∷ some) more = sights-append (sighted list (r, parts, cells r)) cells parts some more
+sightings_of-append list cells parts [] more = refl
+sightings_of-append list cells parts (r ∷ some) more = sightings_of-append (sighted list (r, parts, cells r)) cells parts some more
 
 -- the same of positions that each bring some
-pub sights-flat_next : (list : List Sighting) (cells : Cells) (parts : Parts) (f : Pos → List Pos) (places : List Pos) (k : ℕ) (z : Pos) → k < length places →
+pub sightings_of-flat_next : (list : List Sighting) (cells : Cells) (parts : Parts) (f : Pos → List Pos) (places : List Pos) (k : ℕ) (z : Pos) → k < length places →
     all_sighted list (sightings_of cells parts (flat_map f (drop k places))) ≡ all_sighted (all_sighted list (sightings_of cells parts (f (slice_index_or places k z)))) (sightings_of cells parts (flat_map f (drop (k + 1) places)))
-sights-flat_next list cells parts f places k z below =
+sightings_of-flat_next list cells parts f places k z below =
     ap (λ rest. all_sighted list (sightings_of cells parts (flat_map f rest))) (drop-cons places k z below)
     ∙ ap (λ n. all_sighted list (sightings_of cells parts (f (slice_index_or places k z) ++ flat_map f (drop n places)))) (sym (add-one k))
-    ∙ sights-append list cells parts (f (slice_index_or places k z)) (flat_map f (drop (k + 1) places))
+    ∙ sightings_of-append list cells parts (f (slice_index_or places k z)) (flat_map f (drop (k + 1) places))
 
 -- nothing more than the sightings at all positions of a list
-pub sights-room : (list whole : List Sighting) (cells : Cells) (parts : Parts) (more : List Pos) (n : ℕ) → all_sighted list (sightings_of cells parts more) ≡ whole → length whole ≤ n → length list ≤ n
-sights-room list whole cells parts more n is fits =
+pub sightings_of-room : (list whole : List Sighting) (cells : Cells) (parts : Parts) (more : List Pos) (n : ℕ) → all_sighted list (sightings_of cells parts more) ≡ whole → length whole ≤ n → length list ≤ n
+sightings_of-room list whole cells parts more n is fits =
     let grows = all_sighted-grows list (sightings_of cells parts more) in
     let same = ap length is in
     omega (arith, grows, same)
 
 -- a property of positions is one of sightings there
-pub sights-all : (P : Pos → Type 0) (cells : Cells) (parts : Parts) (places : List Pos) → AllByRecursion P places → AllByRecursion (λ s. P s.0) (sightings_of cells parts places)
-sights-all P cells parts [] all = tt
-sights-all P cells parts (r ∷ places) all = (all.0, sights-all P cells parts places all.1)
+pub sightings_of-all : (P : Pos → Type 0) (cells : Cells) (parts : Parts) (places : List Pos) → AllByRecursion P places → AllByRecursion (λ s. P s.0) (sightings_of cells parts places)
+sightings_of-all P cells parts [] all = tt
+sightings_of-all P cells parts (r ∷ places) all = (all.0, sightings_of-all P cells parts places all.1)
 
 -- of two lists together
 pub all-append : {X : Type 0} (P : X → Type 0) (xs ys : List X) → AllByRecursion P xs → AllByRecursion P ys → AllByRecursion P (xs ++ ys)
@@ -238,9 +238,9 @@ all-append P [] ys first second = second
 all-append P (x ∷ xs) ys first second = (first.0, all-append P xs ys first.1 second)
 
 -- claims of the same parts at some positions
-pub claims-sights : (cells : Cells) (parts : Parts) (places : List Pos) → with_cells_at cells (map (λ r. claim r parts) places) ≡ sightings_of cells parts places
-claims-sights cells parts [] = refl
-claims-sights cells parts (r ∷ places) = ap (λ more. (r, parts, cells r) ∷ more) (claims-sights cells parts places)
+pub claims-sightings_of : (cells : Cells) (parts : Parts) (places : List Pos) → with_cells_at cells (map (λ r. claim r parts) places) ≡ sightings_of cells parts places
+claims-sightings_of cells parts [] = refl
+claims-sightings_of cells parts (r ∷ places) = ap (λ more. (r, parts, cells r) ∷ more) (claims-sightings_of cells parts places)
 
 -- claims and more claims
 pub claims-append : (cells : Cells) (some more : List Claim) → with_cells_at cells (some ++ more) ≡ with_cells_at cells some ++ with_cells_at cells more
@@ -248,13 +248,13 @@ claims-append cells [] more = refl
 claims-append cells (c ∷ some) more = ap (λ rest. sight cells c ∷ rest) (claims-append cells some more)
 
 -- there is room for the next sighting where there is room for all
-pub sights-step_room : (list whole : List Sighting) (cells : Cells) (parts : Parts) (places : List Pos) (k : ℕ) (z : Pos) (n : ℕ) → k < length places →
+pub sightings_of-step_room : (list whole : List Sighting) (cells : Cells) (parts : Parts) (places : List Pos) (k : ℕ) (z : Pos) (n : ℕ) → k < length places →
     all_sighted list (sightings_of cells parts (drop k places)) ≡ whole → length whole ≤ n → length (sighted list (slice_index_or places k z, parts, cells (slice_index_or places k z))) ≤ n
-sights-step_room list whole cells parts places k z n below is fits =
-    sights-room (sighted list (slice_index_or places k z, parts, cells (slice_index_or places k z))) whole cells parts (drop (k + 1) places) n (sym (sights-next list cells parts places k z below) ∙ is) fits
+sightings_of-step_room list whole cells parts places k z n below is fits =
+    sightings_of-room (sighted list (slice_index_or places k z, parts, cells (slice_index_or places k z))) whole cells parts (drop (k + 1) places) n (sym (sightings_of-next list cells parts places k z below) ∙ is) fits
 
 -- and for those that the next position brings
-pub sights-flat_room : (list whole : List Sighting) (cells : Cells) (parts : Parts) (f : Pos → List Pos) (places : List Pos) (k : ℕ) (z : Pos) (n : ℕ) → k < length places →
+pub sightings_of-flat_room : (list whole : List Sighting) (cells : Cells) (parts : Parts) (f : Pos → List Pos) (places : List Pos) (k : ℕ) (z : Pos) (n : ℕ) → k < length places →
     all_sighted list (sightings_of cells parts (flat_map f (drop k places))) ≡ whole → length whole ≤ n → length (all_sighted list (sightings_of cells parts (f (slice_index_or places k z)))) ≤ n
-sights-flat_room list whole cells parts f places k z n below is fits =
-    sights-room (all_sighted list (sightings_of cells parts (f (slice_index_or places k z)))) whole cells parts (flat_map f (drop (k + 1) places)) n (sym (sights-flat_next list cells parts f places k z below) ∙ is) fits
+sightings_of-flat_room list whole cells parts f places k z n below is fits =
+    sightings_of-room (all_sighted list (sightings_of cells parts (f (slice_index_or places k z)))) whole cells parts (flat_map f (drop (k + 1) places)) n (sym (sightings_of-flat_next list cells parts f places k z below) ∙ is) fits

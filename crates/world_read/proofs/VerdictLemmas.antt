@@ -9,9 +9,9 @@ use Rattle.world_read.proofs.TextReads.{plan_of-known, plan_of-text}
 use Rattle.world_read.proofs.WrongReads.{plan_of-wrong}
 
 -- what is read is a verdict
-pub IsVerdict-read : (text : List ℕ) (read : Result Plan WorldFault) → plan_of text ≡ read → IsPlanVerdict text read
-IsVerdict-read text (Ok plan) is = plan_of-known text plan is
-IsVerdict-read text (Err fault) is = plan_of-fault text fault is
+pub IsPlanVerdict-read : (text : List ℕ) (read : Result Plan WorldFault) → plan_of text ≡ read → IsPlanVerdict text read
+IsPlanVerdict-read text (Ok plan) is = plan_of-known text plan is
+IsPlanVerdict-read text (Err fault) is = plan_of-fault text fault is
 
 -- a verdict is what is read
 pub plan_of-verdict : (text : List ℕ) (verdict : Result Plan WorldFault) → IsPlanVerdict text verdict → verdict ≡ plan_of text

@@ -20,7 +20,7 @@ use Rattle.world_read.specs.Faulty.{BeginsWithNoSize, HasExtraRow, HasNoHeight, 
 use Rattle.world_read.specs.Grammar.{Plan}
 use Rattle.world_read.specs.Inner.Reading.{after_height, after_width, cell_of, rows_ended, first_size, is_open_at, limited, onto_row, open_rim, plan_of, row_from, rows_from, size_of, with_cell, with_row}
 use Rattle.world_read.specs.Inner.Scan.{IsClosedBefore}
-use Rattle.world_read.proofs.BytesLemmas.{kind_of-known}
+use Rattle.world_read.proofs.BytesLemmas.{command_kind_of-known}
 use Rattle.world_read.proofs.ScanLemmas.{IsInner-closed, first_of-closed, is_open-closed, open_rim-closed, open_rim-first, pos_at-within}
 use Rattle.world_read.proofs.RowReads.{row_from-cells, rows_from-front, rows_from-rows}
 use Rattle.world_read.proofs.TextReads.{size_of-known, size_of-line}
@@ -30,7 +30,7 @@ kind_of-none : (byte : ℕ) → IsNoCell byte → kind_of byte ≡ None
 kind_of-none byte never = go (kind_of byte) refl where
   go : (told : Option Kind) → kind_of byte ≡ told → told ≡ None
   go None told = refl
-  go (Some kind) told = let spells = kind_of-known byte kind told in absurd (never kind spells.fed spells.is)
+  go (Some kind) told = let spells = command_kind_of-known byte kind told in absurd (never kind spells.fed spells.is)
 
 -- what is wrong with the bytes of a row is its fault
 row_from-wrong : (width y column : ℕ) (bytes : List ℕ) (fault : WorldFault) → IsCellFault width y column bytes fault → row_from width y column bytes ≡ Err fault

@@ -12,7 +12,7 @@ use Rattle.ant_turn.specs.Sheet.{sheet_of}
 use Rattle.ant_turn.specs.Turn.{ant_becomes, execute, with_ant}
 use Rattle.ant_turn.proofs.KeptByTurns.{Keeps-stays, Keeps-execute}
 use Rattle.ant_turn.proofs.OwnCells.{rest_stays}
-use Rattle.ant_turn.proofs.StandsLemmas.{Stands-at, own_thinks}
+use Rattle.ant_turn.proofs.StandsLemmas.{StandsAt-at, own_thinks}
 use Rattle.ant_turn.proofs.Turns.{turn-dead, turn-rests, turn-executes}
 use Rattle.ant_turn.proofs.turn.take_turn.Goals as goal
 
@@ -48,7 +48,7 @@ think-requires g c =
     let w = g.G.Ground.world c.args.ground.now in
     let it = c.in-Some.standing in
     rw (c.rested.ensures, c.ant_of.ensures.world)
-    (own_thinks (Stands-at w it.place it.ant (subst Valid c.ant_of.ensures.world c.ant_of.ensures.valid) (holds w c.ant_of.result it c.ant_of.ensures.ant c.in-Some.is)) _ (record it.ant { resting = it.ant.resting - 1 }) (omega (arith, c.ant_of.ensures.room, c.requires.room)) refl refl refl)
+    (own_thinks (StandsAt-at w it.place it.ant (subst Valid c.ant_of.ensures.world c.ant_of.ensures.valid) (holds w c.ant_of.result it c.ant_of.ensures.ant c.in-Some.is)) _ (record it.ant { resting = it.ant.resting - 1 }) (omega (arith, c.ant_of.ensures.room, c.requires.room)) refl refl refl)
 
 pub returns-then-ant-gt0 : goal.returns-then-ant-gt0
 returns-then-ant-gt0 g c =
@@ -79,7 +79,7 @@ execute-requires-clause-stands g c =
     let w = g.G.Ground.world c.args.ground.now in
     let it = c.in-Some.standing in
     rw c.ant_of.ensures.world
-    (Stands-at w it.place it.ant (subst Valid c.ant_of.ensures.world c.ant_of.ensures.valid) (holds w c.ant_of.result it c.ant_of.ensures.ant c.in-Some.is))
+    (StandsAt-at w it.place it.ant (subst Valid c.ant_of.ensures.world c.ant_of.ensures.valid) (holds w c.ant_of.result it c.ant_of.ensures.ant c.in-Some.is))
 
 pub returns : goal.returns
 returns g c =
