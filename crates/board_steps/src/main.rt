@@ -192,11 +192,11 @@ fn settle_look<R: Print>(
     requires board { IsSeatOf board.now seat.old }
     requires holds { (known seat.old).holds ≡ true }
     requires field { IsFor field.now board.now }
-    requires stands { StandsFor (seats.window_of board.now) book.old }
+    requires stands { StandsFor (seats.board_window board.now) book.old }
     requires left { book.old.next < 7 }
     ensures board { OnSome result (IsSeatOf board.now seat.new) }
     ensures took { OnSome result (calm (known seat.new) ≡ view_taking (calm (known seat.old)) book.old.next) }
-    ensures stands { OnSome result (StandsFor (seats.window_of board.now) book.new) }
+    ensures stands { OnSome result (StandsFor (seats.board_window board.now) book.new) }
     ensures next { OnSome result (book.new.next ≡ book.old.next + 1) }
 {
     let turn = book.next();
@@ -278,7 +278,7 @@ fn close_first<R: Print>(rt: &R, board: Board, a: Seat, b: Seat) -> Option<Close
     requires to { (basis_of board).to ≡ 7 }
     requires a { Shows board (has_put (drew (first_at (basis_of board)) 0) 0) a }
     requires b { Shows board (view_taking (view_taking (has_put (drew (second_at (basis_of board)) 1) 1) 0) 1) b }
-    ensures book { IfSome result (λ closed. StandsFor (seats.window_of board) closed.book) }
+    ensures book { IfSome result (λ closed. StandsFor (seats.board_window board) closed.book) }
     ensures drawn { IfSome result (λ closed. closed.drawn ≡ 2) }
     ensures looks { IfSome result (λ closed. (k : ℕ) → k < 7 → slice_index_or closed.looks.items k None ≡ None) }
 {
@@ -292,7 +292,7 @@ fn close_second<R: Print>(rt: &R, board: Board, a: Seat, b: Seat) -> Option<Clos
     requires a { Shows board (drew (first_at (basis_of board)) 0) a }
     requires b { Shows board (has_put (drew (second_at (basis_of board)) 1) 1) b }
     ensures drawn { IfSome result (λ closed. closed.drawn ≡ 2) }
-    ensures left { IfSome result (λ closed. slice_index_or closed.looks.items 1 None ≡ Some (look_for (seats.window_of board) 1)) }
+    ensures left { IfSome result (λ closed. slice_index_or closed.looks.items 1 None ≡ Some (look_for (seats.board_window board) 1)) }
     ensures others { IfSome result (λ closed. (k : ℕ) → k < 7 → k ≢ 1 → slice_index_or closed.looks.items k None ≡ None) }
 {
     close(rt, board, a, b)
