@@ -78,7 +78,7 @@ fn think<G: Ground>(ground: &mut G, p: Pos, ant: Ant) -> Deed
 }
 
 // The ant of `p` steps onto `q`, and surrounded ants are checked around `q`.
-#[inline]
+#[inline(always)]
 fn step<G: Ground>(
     ground: &mut G,
     sheet: Sheet,
@@ -109,7 +109,7 @@ fn step<G: Ground>(
 }
 
 // A Move of the ant of `p`.
-#[inline]
+#[inline(always)]
 fn go<G: Ground>(ground: &mut G, sheet: Sheet, p: Pos, ant: Ant, met: u16, unmet: u16) -> Deed
     requires stands { StandsAt (G.world ground.old) p ((G.world ground.old).cells p) ant }
     requires room { 9 ≤ G.room ground.old }
@@ -129,7 +129,7 @@ fn go<G: Ground>(ground: &mut G, sheet: Sheet, p: Pos, ant: Ant, met: u16, unmet
 }
 
 // Executes the instruction of the ant of `p`.
-#[inline]
+#[inline(always)]
 fn execute<G: Ground>(
     ground: &mut G,
     sheet: Sheet,
@@ -196,7 +196,7 @@ fn execute<G: Ground>(
 ///
 /// The id is below the number of ids, each ant's state is below the length of its colour's brain, and stays so. The stream stands below
 /// 2^63 - 1 and goes on by one number exactly where a Flip was executed. The ground has room for 9 cells. Gives what was done besides.
-#[inline]
+#[inline(always)]
 pub fn take_turn<G: Ground>(
     ground: &mut G,
     brains: Brains<'_>,
