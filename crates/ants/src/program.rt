@@ -1,9 +1,9 @@
 // The whole program, over any shelf and any sinks.
 ghost use Rattle.std.specs.Prelude.{◌≡◌, ◌↔◌, ◌≤◌, Some};
-ghost use Rattle.command_words.specs.Command.PlainCommand.{RunCommand, WorkloadCommand};
-ghost use Rattle.command_words.specs.Laws.{IsWithin, SetupWithin};
+ghost use Rattle.command_words.specs.Command.PlainCommand.{CupCommand, RunCommand, WorkloadCommand};
+ghost use Rattle.command_words.specs.Laws.{CommandWithin, CupWithin, IsWithin, SetupWithin};
 ghost use Rattle.command_words.specs.declared.limits.NumberKind.TheVariants.{WorkerCount};
-ghost use Rattle.command_words.specs.Words.{plain_setup, texts};
+ghost use Rattle.command_words.specs.Words.{plain, plain_setup, texts};
 ghost use Rattle.match_run.specs.Run.{most_rounds};
 ghost use Rattle.round_book.specs.Book.{CanBegin};
 ghost use Rattle.round_book.specs.Led.{IsWindow};
@@ -100,6 +100,85 @@ fn carry_out_workload<'w, R: Threads + Sync, S: Shelf, K: Sink, G: Gate>(
     workload(alloc, &mut crew, seed, rounds, shelf, out)
 }
 
+// Plays the games of the cup that the words ask for.
+fn carry_out_cup<'w, R: Threads + Sync, S: Shelf, K: Sink>(
+    rt: &R,
+    alloc: Global,
+    worlds: &'w [String],
+    brains: &'w [String],
+    seed: u32,
+    rounds: u32,
+    workers: u32,
+    shelf: &mut S,
+    out: &mut K,
+) -> Result<(), CommandStop<'w>>
+    requires { CupWithin (texts worlds.now) (texts brains.now) seed rounds workers }
+    ensures { CarriesOut (CupCommand (texts worlds.now) (texts brains.now) seed rounds workers)
+        (S.state shelf.old) (S.state shelf.new) (K.state out.old) (K.state out.new) (ending_of result) }
+{
+    let entry = Entry {
+        worlds,
+        brains,
+        seed,
+        rounds,
+        workers,
+    };
+    cup(rt, alloc, entry, shelf, out)
+}
+
+// Carries out a command, whose numbers and names are within their limits.
+fn carry_out_command<'w, R: Threads + Sync, S: Shelf, K: Sink, G: Gate>(
+    rt: &R,
+    alloc: Global,
+    command: Command<'w>,
+    shelf: &mut S,
+    out: &mut K,
+    gate: &G,
+) -> Result<(), CommandStop<'w>>
+    requires within { CommandWithin (plain command) }
+    ensures { CarriesOut (plain command.entry) (S.state shelf.old) (S.state shelf.new) (K.state out.old) (K.state out.new) (ending_of result) }
+{
+    match command {
+        Command::Show { world, seed } => show(alloc, world, seed, shelf, out),
+        Command::Brain { file } => brain(alloc, file, shelf, out),
+        Command::Minimise { file } => minimise(alloc, file, shelf, out),
+        Command::Gen { seed, shape } => gen_world(alloc, seed, shape, shelf, out),
+        Command::Run {
+            world,
+            red,
+            black,
+            options,
+        } => {
+            let names = FileNames { world, red, black };
+            carry_out_run(rt, alloc, names, options, shelf, out, gate)
+        }
+        Command::Cup {
+            worlds,
+            brains,
+            seed,
+            rounds,
+            workers,
+        } => carry_out_cup(rt, alloc, worlds, brains, seed, rounds, workers, shelf, out),
+        Command::View {
+            world,
+            red,
+            black,
+            breaks,
+            seed,
+            rounds,
+        } => {
+            let names = FileNames { world, red, black };
+            view(alloc, names, breaks, seed, rounds, shelf, out)
+        }
+        Command::Workload {
+            seed,
+            rounds,
+            workers,
+        } => carry_out_workload(rt, alloc, seed, rounds, workers, shelf, out, gate),
+    }
+}
+
+// Carries out the command that the words are.
 fn carry_out<'w, R: Threads + Sync, S: Shelf, K: Sink, G: Gate>(
     rt: &R,
     alloc: Global,
@@ -111,73 +190,8 @@ fn carry_out<'w, R: Threads + Sync, S: Shelf, K: Sink, G: Gate>(
     ensures { CarriesOutWords (texts words.now) (S.state shelf.old) (S.state shelf.new) (K.state out.old) (K.state out.new) (ending_of result) }
 {
     match read_words(words) {
+        Ok(command) => carry_out_command(rt, alloc, command, shelf, out, gate),
         Err(refused) => Err(CommandStop::Words(refused.word)),
-        Ok(Command::Show { world, seed }) => show(alloc, world, seed, shelf, out),
-        Ok(Command::Brain { file }) => brain(alloc, file, shelf, out),
-        Ok(Command::Minimise { file }) => minimise(alloc, file, shelf, out),
-        Ok(
-            Command::Run {
-                world,
-                red,
-                black,
-                options,
-            },
-        ) => carry_out_run(
-            rt,
-            alloc,
-            FileNames { world, red, black },
-            options,
-            shelf,
-            out,
-            gate,
-        ),
-        Ok(Command::Gen { seed, shape }) => gen_world(alloc, seed, shape, shelf, out),
-        Ok(
-            Command::Cup {
-                worlds,
-                brains,
-                seed,
-                rounds,
-                workers,
-            },
-        ) => cup(
-            rt,
-            alloc,
-            Entry {
-                worlds,
-                brains,
-                seed,
-                rounds,
-                workers,
-            },
-            shelf,
-            out,
-        ),
-        Ok(
-            Command::View {
-                world,
-                red,
-                black,
-                breaks,
-                seed,
-                rounds,
-            },
-        ) => view(
-            alloc,
-            FileNames { world, red, black },
-            breaks,
-            seed,
-            rounds,
-            shelf,
-            out,
-        ),
-        Ok(
-            Command::Workload {
-                seed,
-                rounds,
-                workers,
-            },
-        ) => carry_out_workload(rt, alloc, seed, rounds, workers, shelf, out, gate),
     }
 }
 
