@@ -80,7 +80,11 @@ impl<W: Writer> Sink for StreamSink<W> {
 }
 
 // Writes the whole piece, and sends it on where it ends in LF.
-fn write_whole<W: Writer>(stream: &mut W, system_log: &mut SystemLog, piece: &[u8]) -> Result<(), Failed>
+fn write_whole<W: Writer>(
+    stream: &mut W,
+    system_log: &mut SystemLog,
+    piece: &[u8],
+) -> Result<(), Failed>
     ensures taken { Takes system_log.old.bytes system_log.new.bytes (W.contents stream.old) (W.contents stream.new) piece.now result }
     ensures sent { OnOk result (ends_in_lf piece.now ≡ true → W.waiting stream.new ≡ []) }
     ensures sure { W.sure stream.old ≡ true → IsOk result × (W.sure stream.new ≡ true) }

@@ -7,7 +7,7 @@ ghost use Rattle.ants.specs.Inner.Cups.{files_named};
 ghost use Rattle.ants.specs.Inner.Reading.{FetchesFile, ReadsFiles, ReadsText, brain_reason, break_reason, fetch_reason, outcome_of, world_reason};
 ghost use Rattle.ants.specs.Stopping.{reason_of};
 
-use crate::stop::{FileFault, CommandStop};
+use crate::stop::{CommandStop, FileFault};
 use ant_base::{FetchFault, Shelf};
 use brain_read::{Brain, BrainFault, read_brain};
 use break_view::{BreakFault, Breaks, read_breaks};

@@ -94,7 +94,7 @@ fn play_setting<C: Crew, K: Sink>(
     requires planned { CanPlay plan.now }
     ensures { PushedBy (K.state out.old) (K.state out.new)
         (whole_text (record { red = setting.red; black = setting.black; sheet = sheet_of sheet }) plan.now.seed plan.now.rounds
-            (chooses plan.now.dumps) plan.now.window plan.now.stats (world_of setting.world)) result }
+        (chooses plan.now.dumps) plan.now.window plan.now.stats (world_of setting.world)) result }
 {
     let Setting { world, red, black } = setting;
     let brains = Brains {
@@ -122,7 +122,7 @@ pub fn run<'w, C: Crew, S: Shelf, K: Sink>(
     requires planned { CanPlay plan.now }
     ensures { (setup : RunSetup) → Plans setup plan.now → IsSheetOf setup sheet
         → CarriesOut (RunCommand names.entry.world.now names.entry.red.now names.entry.black.now setup) (S.state shelf.old) (S.state shelf.new)
-            (K.state out.old) (K.state out.new) (ending_of result) }
+        (K.state out.old) (K.state out.new) (ending_of result) }
 {
     let setting = setting_of(alloc, names, shelf)?;
     play_setting(alloc, crew, setting, sheet, plan, out)?;

@@ -57,7 +57,7 @@ pub record BooksAreReached : Type 0 where
   pub first : (field : FieldValue) (from to : ℕ) → IsAt (first_state (window_of field from to)) (begun field from to)
   pub reached : (field : FieldValue) (book : BookValue) → StandsOn field book → book.next ≤ book.to →
       (events : List Event) × AreLawful (window_of_book field book) (first_state (window_of_book field book)) events
-          × IsAt (run (window_of_book field book) (first_state (window_of_book field book)) events) book
+      × IsAt (run (window_of_book field book) (first_state (window_of_book field book)) events) book
   pub settled : (field : FieldValue) (answer : Option Cause) (book new : BookValue) (state : State) →
       StandsOn field book → book.next < book.to → IsSettled field.minds (next_look field book) answer book new → IsAt state book → IsPut state (book.next - book.from) →
       IsLawful (window_of_book field book) state (Settles (verdict_of answer)) × IsAt (happens (window_of_book field book) state (Settles (verdict_of answer))) new

@@ -136,7 +136,7 @@ pub record IsLookKept (window : Window) (ticket word : ℕ) (home : maybe.Option
 abbrev pub IsBookKeptBy : Window → ℕ → maybe.Option (maybe.Option BoardSlot) → List View → Type 0
 IsBookKeptBy window word home views =
     IsBookKept window word home (summed (λ v. one_if v.holds) views) (summed (λ v. phase_opening v.phase) views) (summed has_opened views)
-        (summed (λ v. one_if v.opened) views)
+    (summed (λ v. one_if v.opened) views)
 
 abbrev pub IsLookKeptBy : Window → ℕ → ℕ → maybe.Option (maybe.Option BoardSlot) → List View → Type 0
 IsLookKeptBy window j word home views =

@@ -34,7 +34,7 @@ pub use seat::{Board, Seat};
 use spec_record::Look;
 use std::alloc::Global;
 use std::snapshot::Snapshot;
-pub use view::{Basis, Phase, BoardSlot, Try, View};
+pub use view::{Basis, BoardSlot, Phase, Try, View};
 pub use worker::Worker;
 
 impl Board {
@@ -187,7 +187,11 @@ fn basis(field: &Field<'_>, from: u32, to: u32) -> Basis
 }
 
 // The slots with which a board of so many turns begins, with the rooms that were kept, and such as are wanted besides.
-fn bare(alloc: Global, turns: usize, kept: &mut Vec<Room<Look>>) -> Result<Vec<BoardSlot>, OutOfMemory>
+fn bare(
+    alloc: Global,
+    turns: usize,
+    kept: &mut Vec<Room<Look>>,
+) -> Result<Vec<BoardSlot>, OutOfMemory>
     requires { turns < 2 ^ 32 }
     ensures { IfOk result (λ slots. AreBare turns slots.items) }
 {

@@ -17,6 +17,6 @@ mod piece_crew;
 mod settling;
 mod share;
 
-pub use board::{Basis, Board, BoardCrew, Closed, Phase, BoardSlot, Room, Seat, Try, View, Worker};
+pub use board::{Basis, Board, BoardCrew, BoardSlot, Closed, Phase, Room, Seat, Try, View, Worker};
 pub use hex_geometry::OutOfMemory;
 pub use piece_crew::PieceCrew;

@@ -78,8 +78,10 @@ fn make_look(looks: &mut Vec<Look>, at: usize, field: &Field<'_>, stream: &mut S
     requires room { at < vec_capacity looks.old }
     ensures made { take (at + 1) looks.new.items ≡ take at looks.old.items ++ look_of field.now.minds stream.old.seed
         (world_of field.now.world) stream.old.place id ∷ [] }
-    ensures stream { stream.new ≡ record stream.old { place = stream.old.place + one_if
-        (look_of field.now.minds stream.old.seed (world_of field.now.world) stream.old.place id).drew } }
+    ensures stream { stream.new ≡ record stream.old {
+      place = stream.old.place + one_if
+          (look_of field.now.minds stream.old.seed (world_of field.now.world) stream.old.place id).drew;
+    } }
     ensures len { at + 1 ≤ vec_len looks.new }
     ensures capacity { vec_capacity looks.new ≡ vec_capacity looks.old }
 {

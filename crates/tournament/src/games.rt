@@ -43,7 +43,12 @@ fn add_world(games: &mut Vec<Pairing>, players: u32, world: u32) -> Result<(), O
 }
 
 // Adds the games on one world of a player with those of a higher number.
-fn add_pairs(games: &mut Vec<Pairing>, players: u32, world: u32, first: u32) -> Result<(), OutOfMemory>
+fn add_pairs(
+    games: &mut Vec<Pairing>,
+    players: u32,
+    world: u32,
+    first: u32,
+) -> Result<(), OutOfMemory>
     requires { first < players }
     ensures { IfOk result (λ _. games.new.items ≡ games.old.items ++ games_with players world first) }
 {
@@ -54,7 +59,12 @@ fn add_pairs(games: &mut Vec<Pairing>, players: u32, world: u32, first: u32) -> 
 }
 
 // Adds the two games of a pair on one world.
-fn add_pair(games: &mut Vec<Pairing>, world: u32, first: u32, second: u32) -> Result<(), OutOfMemory>
+fn add_pair(
+    games: &mut Vec<Pairing>,
+    world: u32,
+    first: u32,
+    second: u32,
+) -> Result<(), OutOfMemory>
     ensures { IfOk result (λ _. games.new.items ≡ games.old.items ++ both_ways world first second) }
 {
     let there = Pairing {

@@ -115,7 +115,12 @@ impl Board {
 
     // Gives the room back, with the look of the ticket.
     #[inline]
-    fn end_put(&self, hand: &mut atomic_table::Seat<BoardSlot, View>, ticket: usize, room: Room<Look>)
+    fn end_put(
+        &self,
+        hand: &mut atomic_table::Seat<BoardSlot, View>,
+        ticket: usize,
+        room: Room<Look>,
+    )
         requires table { hand.old.table_id ≡ self.now.table.shared.table_id }
         requires knows { hand.old.me.0.about ≡ Some (basis_of self.now) }
         requires ticket { ticket < turns_of (basis_of self.now) }
@@ -222,7 +227,12 @@ impl Board {
 
     // Gives the room back, in which no look waits any more.
     #[inline]
-    fn end_take(&self, hand: &mut atomic_table::Seat<BoardSlot, View>, ticket: usize, room: Room<Look>)
+    fn end_take(
+        &self,
+        hand: &mut atomic_table::Seat<BoardSlot, View>,
+        ticket: usize,
+        room: Room<Look>,
+    )
         requires table { hand.old.table_id ≡ self.now.table.shared.table_id }
         requires knows { hand.old.me.0.about ≡ Some (basis_of self.now) }
         requires ticket { ticket < turns_of (basis_of self.now) }
