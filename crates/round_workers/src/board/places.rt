@@ -37,12 +37,21 @@ pub(crate) fn book_room(place: Place) -> Room<Book>
 
 // The room of a look that lies in a place, if there is one.
 #[inline]
-pub(crate) fn room_of(place: Place) -> Option<Room<Look>> {
+fn room_of(place: Place) -> Option<Room<Look>> {
     match place {
         Place::Spare(room) => Some(room),
         Place::OneLook(room) => Some(room),
         Place::TheBook(_room) => None,
         Place::Nothing => None,
+    }
+}
+
+// Keeps the rooms of looks in these places for another window, as far as there is memory for their list.
+pub(crate) fn keep(rooms: &mut Vec<Room<Look>>, mut places: Vec<Place>) {
+    while let Some(place) = places.pop() {
+        if let Some(room) = room_of(place) {
+            let _ = rooms.push(room);
+        }
     }
 }
 
