@@ -11,7 +11,7 @@ use spec_record::Look;
 /// Settles the next turn of a window by the look at it: takes the look where it holds, and else executes the turn anew and says why it
 /// doesn't. The book stands on the field, the next turn is one of the window, and the look is that at the turn on the field's world at its
 /// guess; the book stands on the field again, one turn further. So where a book stands, the conditions of `settle` are met.
-#[inline]
+#[inline(always)]
 pub fn advance(book: &mut Book, field: &Field<'_>, look: &Look) -> Option<Cause>
     requires stands { StandsOn field.now book.old }
     requires left { book.old.next < book.old.to }

@@ -132,7 +132,7 @@ impl Book {
     }
 
     // The same by a look that stays with the caller.
-    #[inline]
+    #[inline(always)]
     pub(crate) fn settle_by(&mut self, look: &Look) -> Option<Cause>
         requires in_window { self.old.next < self.old.to }
         requires turn { look.now.turn ≡ self.old.next }
@@ -149,7 +149,7 @@ impl Book {
     }
 
     // Why a look doesn't hold, if it doesn't.
-    #[inline]
+    #[inline(always)]
     fn cause_against(&self, look: &Look) -> Option<Cause>
         requires { AllByRecursion (AgreesUnwritten self.now) look.now.reads }
         ensures { MatchOption result (HoldsInBook self.now look.now) (λ cause. IsCause look.now (moment_of self.now) cause) }
@@ -161,7 +161,7 @@ impl Book {
     }
 
     // Why a look doesn't hold, if it doesn't, where all that it read is as it was.
-    #[inline]
+    #[inline(always)]
     fn move_against(&self, look: &Look) -> Option<Cause>
         requires { AllByRecursion (λ read. Agree read.1 read.2 ((world_of self.now.world).cells read.0)) look.now.reads }
         ensures { MatchOption result (HoldsInBook self.now look.now) (λ cause. IsCause look.now (moment_of self.now) cause) }
@@ -180,6 +180,7 @@ impl Book {
     ///
     /// The next turn is one of the window, and the brains fit the book's world. A book in which a turn was executed anew although its look
     /// holds, or for another cause than the look's, doesn't stand.
+    #[inline(never)]
     pub fn redo(&mut self, brains: Brains<'_>, cause: Cause)
         requires in_window { self.old.next < self.old.to }
         requires fit { Fits (world_of self.old.world) (minds_of brains) }
@@ -193,7 +194,7 @@ impl Book {
     }
 
     // Ends the next turn, which does what the look says, with a verdict.
-    #[inline]
+    #[inline(always)]
     pub(crate) fn end_turn(&mut self, look: &Look, verdict: Verdict)
         requires in_window { self.old.next < self.old.to }
         requires writes { CanTake (world_of self.old.world) look.now.writes }

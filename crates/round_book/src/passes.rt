@@ -16,7 +16,7 @@ use hex_geometry::Pos;
 
 // Sets the named parts of each write: of one alone at once; of more first where that doesn't raise the weight of the cell, then at the others, so that the world is
 // light enough at every step.
-#[inline]
+#[inline(always)]
 pub(crate) fn set_writes(world: &mut World, writes: &[(Pos, Parts, Cell)])
     requires once { EachOnce (seen_positions writes.now) }
     requires may { CanTake (world_of world.old) writes.now }
@@ -31,7 +31,7 @@ pub(crate) fn set_writes(world: &mut World, writes: &[(Pos, Parts, Cell)])
 }
 
 // Sets the named parts of a write that is the only one. Most turns write what their ant is about and nothing else.
-#[inline]
+#[inline(always)]
 fn set_one(world: &mut World, write: &(Pos, Parts, Cell))
     requires { CanTake (world_of world.old) (write.now ∷ []) }
     ensures { world_of world.new ≡ with_cells (world_of world.old) (patched_cells (world_of world.old).cells (write.now ∷ [])) }
@@ -52,7 +52,7 @@ fn is_mind_alone(parts: Parts) -> bool
 }
 
 // Gives the ant of `p` the posture of that of another cell.
-#[inline]
+#[inline(always)]
 fn set_posture(world: &mut World, p: Pos, source: &Cell)
     requires { CanPatchIn (world_of world.old) (p, only Part.Mind, source.now) }
     ensures { world_of world.new ≡ put (world_of world.old) p (patched ((world_of world.old).cells p) source.now (only Part.Mind)) }
@@ -73,7 +73,7 @@ fn set_posture(world: &mut World, p: Pos, source: &Cell)
 }
 
 // Sets the named parts of a write that is the only one, whichever they are.
-#[inline]
+#[inline(never)]
 fn set_parts(world: &mut World, write: &(Pos, Parts, Cell))
     requires { CanTake (world_of world.old) (write.now ∷ []) }
     ensures { world_of world.new ≡ with_cells (world_of world.old) (patched_cells (world_of world.old).cells (write.now ∷ [])) }

@@ -98,7 +98,7 @@ impl Workspace {
     }
 
     // The first part, in the order of the reads, that was read and is another now. It compares the written cells alone.
-    #[inline]
+    #[inline(always)]
     pub(crate) fn first_change(&self, reads: &[(Pos, Parts, Cell)]) -> Option<Cause>
         requires marks { AreMarked self.now.world self.now.marked.items self.now.written.items }
         requires unwritten { AllByRecursion (AgreesIfUnwritten self.now.written.items (world_of self.now.world).cells) reads.now }
@@ -114,7 +114,7 @@ impl Workspace {
     }
 
     // The same of one position.
-    #[inline]
+    #[inline(always)]
     fn change(&self, read: &(Pos, Parts, Cell)) -> Option<Cause>
         requires marks { AreMarked self.now.world self.now.marked.items self.now.written.items }
         requires unwritten { AgreesIfUnwritten self.now.written.items (world_of self.now.world).cells read.now }
@@ -123,12 +123,21 @@ impl Workspace {
         if !self.is_marked(read.0) {
             return None;
         }
+        self.difference_at(read)
+    }
+
+    // The same of one position, which is compared. Few are, so it is a call.
+    #[inline(never)]
+    fn difference_at(&self, read: &(Pos, Parts, Cell)) -> Option<Cause>
+        requires { IsInside self.now.world.width self.now.world.height read.now.0 }
+        ensures { Changes (read.now ∷ []) (world_of self.now.world).cells result }
+    {
         let part = read.2.difference(&self.world.cell(read.0), read.1)?;
         Some(Cause::Part { at: read.0, part })
     }
 
     // Sets the named parts of writes, and marks their cells.
-    #[inline]
+    #[inline(always)]
     pub(crate) fn write(&mut self, writes: &[(Pos, Parts, Cell)])
         requires marks { AreMarked self.old.world self.old.marked.items self.old.written.items }
         requires once { EachOnce (seen_positions writes.now) }
@@ -146,7 +155,7 @@ impl Workspace {
     }
 
     // Marks the cells of writes.
-    #[inline]
+    #[inline(always)]
     fn mark_all(&mut self, writes: &[(Pos, Parts, Cell)])
         requires marks { AreMarked self.old.world self.old.marked.items self.old.written.items }
         requires inside { AllByRecursion (λ write. IsInside self.old.world.width self.old.world.height write.0) writes.now }

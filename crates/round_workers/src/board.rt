@@ -28,6 +28,7 @@ pub use closing::Closed;
 pub use crew::BoardCrew;
 use hex_geometry::OutOfMemory;
 use law::{Draws, Joins, SeesEachOnce, Splits};
+use places::keep;
 pub use room::Room;
 use round_book::Field;
 pub use seat::{Board, Seat};
@@ -57,7 +58,7 @@ impl Board {
         Board::over(alloc, field, from, to, &mut kept)
     }
 
-    // The same, with the rooms for looks that were kept, and such as are wanted besides.
+    // The same, with the rooms for looks that were kept, and such as are wanted besides. Where it is refused, the rooms are kept still.
     pub(crate) fn over(
         alloc: Global,
         field: &Field<'_>,
@@ -73,11 +74,15 @@ impl Board {
         let basis = basis(field, from, to);
         let turns = (to - from) as usize;
         let words = vec![in alloc; 0u64; turns + 2]?;
-        let slots = bare(alloc, turns, kept)?;
         let places = Vec::with_capacity(alloc, turns)?;
         let room = Vec::with_capacity(alloc, turns)?;
-        let Ok((table, hand)) = Table::new(alloc, &words, slots, &basis) else {
-            return Err(OutOfMemory);
+        let slots = bare(alloc, turns, kept)?;
+        let (table, hand) = match Table::new(alloc, &words, slots, &basis) {
+            Ok(made) => made,
+            Err(refused) => {
+                keep(kept, refused.slots);
+                return Err(OutOfMemory);
+            }
         };
         let board = Board {
             table,
@@ -186,7 +191,8 @@ fn basis(field: &Field<'_>, from: u32, to: u32) -> Basis
     }
 }
 
-// The slots with which a board of so many turns begins, with the rooms that were kept, and such as are wanted besides.
+// The slots with which a board of so many turns begins, with the rooms that were kept, and such as are wanted besides. Where memory is
+// wanting, those that are there by then are kept.
 fn bare(
     alloc: Global,
     turns: usize,
@@ -199,7 +205,10 @@ fn bare(
     let book = Room::new(alloc)?;
     slots.push_reserved(BoardSlot::TheBook(book));
     for _ in 0..turns {
-        let room = spare(alloc, kept)?;
+        let Ok(room) = spare(alloc, kept) else {
+            keep(kept, slots);
+            return Err(OutOfMemory);
+        };
         slots.push_reserved(BoardSlot::Spare(room));
     }
     Ok(slots)

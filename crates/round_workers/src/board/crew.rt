@@ -12,7 +12,7 @@ ghost use Rattle.round_workers.specs.BoardWorker.{IsLentFor, guesses_for, turns_
 
 use crate::board::closing::Ended;
 use crate::board::looking::look_at;
-use crate::board::places::{look_in, room_of};
+use crate::board::places::{keep, look_in};
 use crate::board::room::Room;
 use crate::board::seat::{Board, Seat};
 use crate::board::view::BoardSlot;
@@ -394,15 +394,6 @@ fn settle_left(
     }
     keep(rooms, places);
     book
-}
-
-// Keeps the rooms of looks in these places for another window, as far as there is memory for their list.
-fn keep(rooms: &mut Vec<Room<Look>>, mut places: Vec<BoardSlot>) {
-    while let Some(place) = places.pop() {
-        if let Some(room) = room_of(place) {
-            let _ = rooms.push(room);
-        }
-    }
 }
 
 // Settles the next turn.

@@ -37,12 +37,21 @@ pub(crate) fn book_room(place: BoardSlot) -> Room<Book>
 
 // The room of a look that lies in a place, if there is one.
 #[inline]
-pub(crate) fn room_of(place: BoardSlot) -> Option<Room<Look>> {
+fn room_of(place: BoardSlot) -> Option<Room<Look>> {
     match place {
         BoardSlot::Spare(room) => Some(room),
         BoardSlot::OneLook(room) => Some(room),
         BoardSlot::TheBook(_room) => None,
         BoardSlot::Nothing => None,
+    }
+}
+
+// Keeps the rooms of looks in these places for another window, as far as there is memory for their list.
+pub(crate) fn keep(rooms: &mut Vec<Room<Look>>, mut places: Vec<BoardSlot>) {
+    while let Some(place) = places.pop() {
+        if let Some(room) = room_of(place) {
+            let _ = rooms.push(room);
+        }
     }
 }
 

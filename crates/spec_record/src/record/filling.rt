@@ -189,7 +189,8 @@ impl Look {
         note_alone(&mut self.writes, p, written, after.cell);
     }
 
-    // Records the ant of `p`, which goes to `q`, by a trail on which it takes its turn.
+    // Records the ant of `p`, which goes to `q`, by a trail on which it takes its turn. Few turns go, and a trail is large: so it is a call.
+    #[inline(never)]
     fn go(&mut self, base: &World, brains: Brains<'_>, stream: &mut Stream, id: u32, p: Pos, q: Pos)
         requires fit { Fits (world_of base.now) (minds_of brains) }
         requires id { id < base.now.ids }
