@@ -1,5 +1,5 @@
 -- The reading of a line stops at the first position at fault.
-use Rattle.std.proofs.Common.{◌≡◌, ℕ, Bool, true, false, List, [], ◌∷◌, ◌++◌, Option, Some, None, Ok, Err, option_map, cond, refl, sym, ap, ◌∙◌}
+use Rattle.std.proofs.Common.{◌≡◌, ℕ, Bool, true, false, List, [], ◌∷◌, ◌++◌, Option, Some, None, Ok, option_map, cond, refl, sym, ap, ◌∙◌}
 use Rattle.ant_base.specs.Number.{decimal_value, number_within}
 use Rattle.word_table.specs.Words.{word_place}
 use Rattle.brain_read.specs.declared.fault.BrainFault.{BrainFault}

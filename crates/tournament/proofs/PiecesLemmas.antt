@@ -1,8 +1,7 @@
 -- Pieces of a list of games: where they begin, and what they are together.
 use Rattle.hex_geometry.specs.declared.memory.OutOfMemory.{OutOfMemory}
-use Rattle.std.proofs.Common.{Result, Ok, Err, Vec, IfOk, OnOk, ◌≡◌, ◌≢◌, ℕ, suc, ◌+◌, ◌-◌, ◌*◌, ◌/◌, ◌^◌, ◌<◌, ◌≤◌, Bool, true, false, List, [], ◌∷◌, ◌++◌, length, get_or, take, drop, map, All, refl, sym, ◌∙◌, ap, arith}
+use Rattle.std.proofs.Common.{Result, Ok, Err, Vec, IfOk, OnOk, ◌≡◌, ◌≢◌, ℕ, suc, ◌+◌, ◌-◌, ◌<◌, ◌≤◌, Bool, true, false, List, [], ◌∷◌, ◌++◌, length, get_or, take, drop, map, All, refl, sym, ◌∙◌, ap, arith}
 use Rattle.std.specs.Bool.{OnFalse}
-use Rattle.std.proofs.Math.Nat.{mul-le-mul_right, div-mul-le_self, le-div_iff_mul-le, div-le_of_le-mul, mul-div_cancel_left}
 use Rattle.std.proofs.Math.Seq.{take-add}
 use Rattle.std.proofs.lemmas.List.{map-append, take_more, take_at, drop_at, flat_map_more}
 use Rattle.std.proofs.lemmas.List.Elements.{All-take, All-drop, All-same, All-nil, All-cons, All-weaker}
