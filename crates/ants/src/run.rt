@@ -69,7 +69,8 @@ pub fn setting_of<'w, S: Shelf>(
     names: Names<'w>,
     shelf: &mut S,
 ) -> Result<Setting, Stop<'w>>
-    ensures { ReadsFiles (S.state shelf.old) (S.state shelf.new) (game_files names.entry.world.now names.entry.red.now names.entry.black.now) (outcome_of setting_contents result) }
+    ensures { ReadsFiles (S.state shelf.old) (S.state shelf.new) (game_files names.entry.world.now names.entry.red.now names.entry.black.now)
+        (outcome_of setting_contents result) }
 {
     let world = read_file(alloc, shelf, names.world)?;
     let red_text = fetch_file(alloc, shelf, names.red)?;
@@ -92,7 +93,8 @@ fn play_setting<C: Crew, K: Sink>(
     requires fit { Fits (world_of setting.world) (record { red = setting.red; black = setting.black; sheet = sheet_of sheet }) }
     requires planned { CanPlay plan.now }
     ensures { PushedBy (K.state out.old) (K.state out.new)
-        (whole_text (record { red = setting.red; black = setting.black; sheet = sheet_of sheet }) plan.now.seed plan.now.rounds (chooses plan.now.dumps) plan.now.window plan.now.stats (world_of setting.world)) result }
+        (whole_text (record { red = setting.red; black = setting.black; sheet = sheet_of sheet }) plan.now.seed plan.now.rounds
+        (chooses plan.now.dumps) plan.now.window plan.now.stats (world_of setting.world)) result }
 {
     let Setting { world, red, black } = setting;
     let brains = Brains {
@@ -118,7 +120,9 @@ pub fn run<'w, C: Crew, S: Shelf, K: Sink>(
 ) -> Result<(), Stop<'w>>
     requires ready { C.ready crew.old }
     requires planned { CanPlay plan.now }
-    ensures { (setup : RunSetup) → Plans setup plan.now → IsSheetOf setup sheet → CarriesOut (RunCommand names.entry.world.now names.entry.red.now names.entry.black.now setup) (S.state shelf.old) (S.state shelf.new) (K.state out.old) (K.state out.new) (ending_of result) }
+    ensures { (setup : RunSetup) → Plans setup plan.now → IsSheetOf setup sheet →
+        CarriesOut (RunCommand names.entry.world.now names.entry.red.now names.entry.black.now setup)
+        (S.state shelf.old) (S.state shelf.new) (K.state out.old) (K.state out.new) (ending_of result) }
 {
     let setting = setting_of(alloc, names, shelf)?;
     play_setting(alloc, crew, setting, sheet, plan, out)?;
