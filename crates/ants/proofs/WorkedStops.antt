@@ -1,5 +1,5 @@
 -- Lines, statuses and numbers of endings, among them those that no test brings about.
-use Rattle.std.proofs.Common.{◌≡◌, ℕ, List, [], ◌∷◌, codes, map, refl}
+use Rattle.std.proofs.Common.{◌≡◌, [], ◌∷◌, codes, map, refl}
 use Rattle.std.specs.Fmt.{digits}
 use Rattle.brain_read.specs.declared.fault.BrainFault.TheVariants as brain
 use Rattle.world_read.specs.declared.fault.WorldFault.TheVariants as world

@@ -97,7 +97,8 @@ pub fn read_file<'w, T: FileText, S: Shelf>(
     shelf: &mut S,
     name: &'w str,
 ) -> Result<T, CommandStop<'w>>
-    ensures { ReadsFiles (S.state shelf.old) (S.state shelf.new) (record { name = name.now; kind = T.kind } ∷ []) (outcome_of (λ value. T.content value ∷ []) result) }
+    ensures { ReadsFiles (S.state shelf.old) (S.state shelf.new) (record { name = name.now; kind = T.kind } ∷ [])
+        (outcome_of (λ value. T.content value ∷ []) result) }
 {
     let bytes = fetch_file(alloc, shelf, name)?;
     T::read(alloc, name, &bytes)
