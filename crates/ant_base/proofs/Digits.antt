@@ -11,7 +11,7 @@ use Rattle.std.specs.Prelude.{nat_le}
 use Rattle.std.specs.Char.{digit_value, is_ascii_digit}
 use Rattle.std.specs.Str.{all_ascii_digits}
 use Rattle.std.specs.Str.Parse.{digits_value, AllDigits}
-use Rattle.ant_base.specs.Number.{is_number, number_of}
+use Rattle.ant_base.specs.Number.{is_number, decimal_value}
 
 -- how far a text has been read: all bytes so far are digits, and n is their value
 pub record Read (text : List ℕ) (at n : ℕ) : Type 0 where
@@ -45,8 +45,8 @@ and-false true = refl
 and-false false = refl
 
 -- a text with a byte that is no digit is no number
-pub none_of_other : (text : List ℕ) → all_ascii_digits text ≡ false → number_of text ≡ None
-unfolding number_of
+pub none_of_other : (text : List ℕ) → all_ascii_digits text ≡ false → decimal_value text ≡ None
+unfolding decimal_value
 none_of_other text other =
     let no : is_number text ≡ false = ap (λ b. (nat_le 1 (length text) && nat_le (length text) 10) && b) other ∙ and-false (nat_le 1 (length text) && nat_le (length text) 10) in
     rw no refl
@@ -56,9 +56,9 @@ pub all_ascii_digits-IsNumeralModel : IsNumeralModel (λ ds. all_ascii_digits ds
 all_ascii_digits-IsNumeralModel = numerals_by_value (λ ds. all_ascii_digits ds ≡ true) tells_all_ascii_digits
 
 -- a printed number is read back
-pub number_of-decimal : (n : ℕ) → n < 10000000000 → number_of (decimal n) ≡ Some n
-unfolding number_of
-number_of-decimal n small =
+pub decimal_value-decimal : (n : ℕ) → n < 10000000000 → decimal_value (decimal n) ≡ Some n
+unfolding decimal_value
+decimal_value-decimal n small =
     let digits : all_ascii_digits (decimal n) ≡ true = digits_decimal all_ascii_digits-IsNumeralModel n (omega arith) in
     let low : nat_le 1 (length (decimal n)) ≡ true = le-leb 1 (length (decimal n)) (decimal_nonempty n (omega arith)) in
     let high : nat_le (length (decimal n)) 10 ≡ true = le-leb (length (decimal n)) 10 (length-decimal-le 10 n (omega arith) small (omega arith)) in

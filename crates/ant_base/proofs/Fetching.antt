@@ -1,40 +1,100 @@
 -- Fetches from a list of files.
-use Rattle.std.proofs.Common.{◌≡◌, ℕ, ◌+◌, ◌<◌, ◌≤◌, true, false, cond, ◌&&◌, List, [], ◌∷◌, ◌++◌, length, drop, get_or, Some, None, Ok, Err, Result, is_some, refl, sym, ◌∙◌, ap, subst, append-nil, append_assoc, arith}
+use Rattle.std.proofs.Common.{◌≡◌, ℕ, ◌+◌, ◌<◌, ◌≤◌, true, false, cond, ◌&&◌, List, [], ◌∷◌, ◌++◌, length, take, drop, get_or, Some, None, Ok, Err, Result, is_some, refl, sym, ◌∙◌, ap, subst, append-nil, append_assoc, arith}
 use Rattle.std.proofs.lemmas.Bool.{and_right, false≢true}
-use Rattle.std.proofs.lemmas.List.{at_drop_more}
+use Rattle.std.proofs.Math.Seq.{take-append_seam, drop-append_seam, take-length}
+use Rattle.std.proofs.lemmas.List.{at_drop_more, drop-append-le, length-append, length-drop, take-append-le}
 use Rattle.std.specs.List.{AllByRecursion}
-use Rattle.std.specs.Prelude.{string_bytes, Vec}
+use Rattle.std.specs.Prelude.{Vec}
 use Rattle.std.specs.Str.{bytes_eq}
 use Rattle.ant_base.specs.Calls.{is_failing}
-use Rattle.ant_base.specs.Inner.Entries.{named_bytes}
+use Rattle.ant_base.specs.Inner.Entries.{bytes_in, files_in}
 use Rattle.ant_base.specs.Inner.Noted.{noted}
 use Rattle.ant_base.specs.Faults.{Rose}
 use Rattle.ant_base.specs.Fetched.{Fetched, fetched}
 use Rattle.ant_base.specs.MemShelf.{MemShelfState, content_of, none_fails, shelf_of}
 use Rattle.ant_base.specs.Shelf.{Answers, Fetches, FetchesEach, IsTold, ShelfState, Told}
-use Rattle.ant_base.specs.declared.files.Entry.{Entry}
+use Rattle.ant_base.specs.declared.files.Sizes.{Sizes}
 use Rattle.ant_base.specs.declared.shelf.FetchFault.{FetchFault}
 use Rattle.ant_base.specs.declared.shelf.FetchFault.TheVariants.{Failed, TooLong, OutOfMemory}
 
-content_of-drop : (entries : List Entry) (i : ℕ) (entry : Entry) (name : List ℕ) → i < length entries → entry ≡ get_or entries i entry
-    → content_of (named_bytes (drop i entries)) name ≡ cond (bytes_eq (string_bytes entry.name) name) (Some entry.bytes.items) (content_of (named_bytes (drop (i + 1) entries)) name)
-content_of-drop entries i entry name lt is =
-    at_drop_more (λ es. content_of (named_bytes es) name) entries i entry lt
-    ∙ ap (λ e. content_of (named_bytes (e ∷ drop (i + 1) entries)) name) (sym is)
+content_of-drop : (entries : List Sizes) (i : ℕ) (sizes : Sizes) (texts name : List ℕ) → i < length entries → sizes ≡ get_or entries i sizes
+    → content_of (files_in (drop i entries) texts) name
+    ≡ cond (bytes_eq (take sizes.name texts) name) (Some (take sizes.bytes (drop sizes.name texts))) (content_of (files_in (drop (i + 1) entries) (drop sizes.bytes (drop sizes.name texts))) name)
+content_of-drop entries i sizes texts name lt is =
+    at_drop_more (λ more. content_of (files_in more texts) name) entries i sizes lt
+    ∙ ap (λ (one : Sizes). content_of (files_in (one ∷ drop (i + 1) entries) texts) name) (sym is)
 
 -- the entry at i has the name
-pub content_found : (entries : List Entry) (i : ℕ) (entry : Entry) (text name : List ℕ) → i < length entries → entry ≡ get_or entries i entry → text ≡ string_bytes entry.name → true ≡ bytes_eq text name
-    → content_of (named_bytes (drop i entries)) name ≡ Some entry.bytes.items
-content_found entries i entry text name lt is spelled same =
-    let test = sym (same ∙ ap (λ t. bytes_eq t name) spelled) in
-    content_of-drop entries i entry name lt is ∙ ap (λ b. cond b (Some entry.bytes.items) (content_of (named_bytes (drop (i + 1) entries)) name)) test
+pub content_found : (entries : List Sizes) (i : ℕ) (sizes : Sizes) (texts name own after bytes : List ℕ) → i < length entries → sizes ≡ get_or entries i sizes
+    → own ≡ take sizes.name texts → after ≡ drop sizes.name texts → bytes ≡ take sizes.bytes after → true ≡ bytes_eq own name
+    → content_of (files_in (drop i entries) texts) name ≡ Some bytes
+content_found entries i sizes texts name own after bytes lt is named left under same =
+    let test = sym (same ∙ ap (λ t. bytes_eq t name) named) in
+    content_of-drop entries i sizes texts name lt is
+    ∙ ap (λ b. cond b (Some (take sizes.bytes (drop sizes.name texts))) (content_of (files_in (drop (i + 1) entries) (drop sizes.bytes (drop sizes.name texts))) name)) test
+    ∙ ap Some (sym (under ∙ ap (λ t. take sizes.bytes t) left))
 
 -- the entry at i has another name
-pub content_further : (entries : List Entry) (i : ℕ) (entry : Entry) (text name : List ℕ) → i < length entries → entry ≡ get_or entries i entry → text ≡ string_bytes entry.name → false ≡ bytes_eq text name
-    → content_of (named_bytes (drop i entries)) name ≡ content_of (named_bytes (drop (i + 1) entries)) name
-content_further entries i entry text name lt is spelled other =
-    let test = sym (other ∙ ap (λ t. bytes_eq t name) spelled) in
-    content_of-drop entries i entry name lt is ∙ ap (λ b. cond b (Some entry.bytes.items) (content_of (named_bytes (drop (i + 1) entries)) name)) test
+pub content_further : (entries : List Sizes) (i : ℕ) (sizes : Sizes) (texts name own after others : List ℕ) → i < length entries → sizes ≡ get_or entries i sizes
+    → own ≡ take sizes.name texts → after ≡ drop sizes.name texts → others ≡ drop sizes.bytes after → false ≡ bytes_eq own name
+    → content_of (files_in (drop i entries) texts) name ≡ content_of (files_in (drop (i + 1) entries) others) name
+content_further entries i sizes texts name own after others lt is named left beyond other =
+    let test = sym (other ∙ ap (λ t. bytes_eq t name) named) in
+    content_of-drop entries i sizes texts name lt is
+    ∙ ap (λ b. cond b (Some (take sizes.bytes (drop sizes.name texts))) (content_of (files_in (drop (i + 1) entries) (drop sizes.bytes (drop sizes.name texts))) name)) test
+    ∙ ap (λ t. content_of (files_in (drop (i + 1) entries) t) name) (sym (beyond ∙ ap (λ t. drop sizes.bytes t) left))
+
+-- the entry at i and those after it have their bytes in what is left
+pub bytes_in-drop : (entries : List Sizes) (i : ℕ) (sizes : Sizes) → i < length entries → sizes ≡ get_or entries i sizes
+    → bytes_in (drop i entries) ≡ sizes.name + sizes.bytes + bytes_in (drop (i + 1) entries)
+bytes_in-drop entries i sizes lt is =
+    at_drop_more bytes_in entries i sizes lt ∙ ap (λ (one : Sizes). one.name + one.bytes + bytes_in (drop (i + 1) entries)) (sym is)
+
+empty_text : (texts : List ℕ) → 0 ≡ length texts → texts ≡ []
+empty_text [] none = refl
+empty_text (byte ∷ texts) none = absurd (omega (arith, none))
+
+-- a name and its bytes behind all others
+files_in-append : (entries : List Sizes) (sizes : Sizes) (texts name bytes : List ℕ) → bytes_in entries ≡ length texts → sizes.name ≡ length name → sizes.bytes ≡ length bytes
+    → files_in (entries ++ sizes ∷ []) (texts ++ (name ++ bytes)) ≡ files_in entries texts ++ (name, bytes) ∷ []
+files_in-append [] sizes texts name bytes full named under =
+    ap (λ t. files_in (sizes ∷ []) (t ++ (name ++ bytes))) (empty_text texts full)
+    ∙ ap (λ n. (take n (name ++ bytes), take sizes.bytes (drop n (name ++ bytes))) ∷ []) named
+    ∙ ap (λ t. (t, take sizes.bytes (drop (length name) (name ++ bytes))) ∷ []) (take-append_seam name bytes)
+    ∙ ap (λ t. (name, take sizes.bytes t) ∷ []) (drop-append_seam name bytes)
+    ∙ ap (λ n. (name, take n bytes) ∷ []) under
+    ∙ ap (λ t. (name, t) ∷ []) (take-length bytes)
+files_in-append (one ∷ entries) sizes texts name bytes full named under =
+    let tail = name ++ bytes in
+    let left = drop one.name texts in
+    let first : one.name ≤ length texts = omega (arith, full) in
+    let second : one.bytes ≤ length left = omega (arith, full, length-drop one.name texts) in
+    let rest : bytes_in entries ≡ length (drop one.bytes left) = omega (arith, full, length-drop one.name texts, length-drop one.bytes left) in
+    ap (λ t. (t, take one.bytes (drop one.name (texts ++ tail))) ∷ files_in (entries ++ sizes ∷ []) (drop one.bytes (drop one.name (texts ++ tail)))) (take-append-le one.name texts tail first)
+    ∙ ap (λ t. (take one.name texts, take one.bytes t) ∷ files_in (entries ++ sizes ∷ []) (drop one.bytes t)) (drop-append-le one.name texts tail first)
+    ∙ ap (λ t. (take one.name texts, t) ∷ files_in (entries ++ sizes ∷ []) (drop one.bytes (left ++ tail))) (take-append-le one.bytes left tail second)
+    ∙ ap (λ t. (take one.name texts, take one.bytes left) ∷ files_in (entries ++ sizes ∷ []) t) (drop-append-le one.bytes left tail second)
+    ∙ ap (λ files. (take one.name texts, take one.bytes left) ∷ files) (files_in-append entries sizes (drop one.bytes left) name bytes rest named under)
+
+bytes_in-append : (entries : List Sizes) (sizes : Sizes) → bytes_in (entries ++ sizes ∷ []) ≡ bytes_in entries + (sizes.name + sizes.bytes)
+bytes_in-append [] sizes = omega arith
+bytes_in-append (one ∷ entries) sizes = omega (arith, bytes_in-append entries sizes)
+
+-- they lie end to end again
+bytes_in-more : (entries : List Sizes) (sizes : Sizes) (texts name bytes : List ℕ) → bytes_in entries ≡ length texts → sizes.name ≡ length name → sizes.bytes ≡ length bytes
+    → bytes_in (entries ++ sizes ∷ []) ≡ length (texts ++ (name ++ bytes))
+bytes_in-more entries sizes texts name bytes full named under = omega (arith, bytes_in-append entries sizes, full, named, under, length-append texts (name ++ bytes), length-append name bytes)
+
+-- what an add leaves, by the two lists after each of its steps
+pub files_in-added : (entries kept more : List Sizes) (sizes : Sizes) (texts room one two own name bytes : List ℕ) → more ≡ kept ++ sizes ∷ [] → kept ≡ entries → two ≡ one ++ bytes → one ≡ room ++ own → room ≡ texts → own ≡ name
+    → bytes_in entries ≡ length texts → sizes.name ≡ length name → sizes.bytes ≡ length bytes
+    → (files_in more two ≡ files_in entries texts ++ (name, bytes) ∷ []) × (bytes_in more ≡ length two)
+files_in-added entries kept more sizes texts room one two own name bytes pushed kept-is second first room-is own-is full named under =
+    let grown : more ≡ entries ++ sizes ∷ [] = pushed ∙ ap (λ xs. xs ++ sizes ∷ []) kept-is in
+    let held : two ≡ texts ++ (name ++ bytes) = second ∙ ap (λ xs. xs ++ bytes) (first ∙ ap (λ xs. xs ++ own) room-is ∙ ap (λ xs. texts ++ xs) own-is) ∙ append_assoc texts name bytes in (
+      ap (λ xs. files_in xs two) grown ∙ ap (files_in (entries ++ sizes ∷ [])) held ∙ files_in-append entries sizes texts name bytes full named under,
+      ap bytes_in grown ∙ bytes_in-more entries sizes texts name bytes full named under ∙ ap length (sym held),
+    )
 
 none_fails-failing : (failing : List ℕ) (number : ℕ) → is_failing failing number ≡ true → none_fails failing ≡ false
 none_fails-failing [] number e = sym e

@@ -1,7 +1,7 @@
 -- Lines, separators and numbers of small texts, worked out.
 use Rattle.std.proofs.Common.{◌≡◌, [], ◌∷◌, ◌++◌, map, Some, None, codes, refl}
 use Rattle.ant_base.specs.Lines.{lines_of, first_line, after_line, after_separators, trimmed}
-use Rattle.ant_base.specs.Number.{number_of, number_within}
+use Rattle.ant_base.specs.Number.{decimal_value, number_within}
 
 -- an empty line in the middle counts, and a last line needs no LF
 pub lines_between : lines_of (97 ∷ 10 ∷ 10 ∷ 98 ∷ []) ≡ codes "a" ∷ [] ∷ codes "b" ∷ []
@@ -26,15 +26,15 @@ pub after_a_tab : after_separators (9 ∷ codes "4 ") ≡ codes "4 "
 after_a_tab = refl
 
 -- leading zeros are read, up to ten digits in all
-pub numbers_of_texts : map number_of (codes "007" ∷ codes "4294967296" ∷ codes "0000000000" ∷ []) ≡ Some 7 ∷ Some 4294967296 ∷ Some 0 ∷ []
-unfolding number_of
+pub numbers_of_texts : map decimal_value (codes "007" ∷ codes "4294967296" ∷ codes "0000000000" ∷ []) ≡ Some 7 ∷ Some 4294967296 ∷ Some 0 ∷ []
+unfolding decimal_value
 numbers_of_texts = refl
 
-pub texts_without_a_number : map number_of ([] ∷ codes "12345678901" ∷ codes "00000000000" ∷ codes "+1" ∷ codes "1 " ∷ []) ≡ None ∷ None ∷ None ∷ None ∷ None ∷ []
-unfolding number_of
+pub texts_without_a_number : map decimal_value ([] ∷ codes "12345678901" ∷ codes "00000000000" ∷ codes "+1" ∷ codes "1 " ∷ []) ≡ None ∷ None ∷ None ∷ None ∷ None ∷ []
+unfolding decimal_value
 texts_without_a_number = refl
 
 -- both bounds are included
 pub numbers_within : map (number_within 3 5) (codes "2" ∷ codes "3" ∷ codes "05" ∷ codes "6" ∷ codes "x" ∷ []) ≡ None ∷ Some 3 ∷ Some 5 ∷ None ∷ None ∷ []
-unfolding number_of
+unfolding decimal_value
 numbers_within = refl

@@ -1,4 +1,4 @@
 pub mod Answered
 pub mod Entries
 pub mod Noted
-pub mod Trail
+pub mod SystemLog

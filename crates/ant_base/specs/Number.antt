@@ -8,8 +8,8 @@ abbrev pub is_number : List ℕ → Bool
 is_number text = nat_le 1 (length text) && nat_le (length text) 10 && all_ascii_digits text
 
 -- the value of 1 to 10 decimal digits, leading zeros included; any other text has none
-unfoldable pub number_of : List ℕ → Option ℕ
-number_of text = if is_number text then Some (digits_value 10 text) else None
+unfoldable pub decimal_value : List ℕ → Option ℕ
+decimal_value text = if is_number text then Some (digits_value 10 text) else None
 
 -- a number, where it lies between the least and the greatest that are accepted
 abbrev pub within : ℕ → ℕ → Option ℕ → Option ℕ
@@ -18,4 +18,4 @@ within least most (Some n) = if nat_le least n && nat_le n most then Some n else
 
 -- the value of a text, where it lies between them
 abbrev pub number_within : ℕ → ℕ → List ℕ → Option ℕ
-number_within least most text = within least most (number_of text)
+number_within least most text = within least most (decimal_value text)

@@ -2,20 +2,27 @@
 --
 -- The bytes that a stream took and the log of a shelf of files are ghost data: no memory holds them. They are what the system's own calls
 -- answered: each write adds the bytes that it answered to have taken, and each fetch adds its name with its answer.
-use Rattle.std.specs.Prelude.{◌≡◌, ℕ, List, ◌++◌, [], Option, Result, Ok, Err, false, None, Some}
+use Rattle.std.specs.Prelude.{◌≡◌, ℕ, ◌<◌, Bool, List, ◌++◌, [], Option, Result, Ok, Err, false, None, Some}
 use Rattle.std.specs.Io.KnownBytes.{Appends}
+use Rattle.std.specs.declared.io.Error.{Error}
 use Rattle.ant_base.specs.declared.sink.Failed.{Failed}
 use Rattle.ant_base.specs.Fetched.{Fetched}
 use Rattle.ant_base.specs.Shelf.{ShelfState}
 use Rattle.ant_base.specs.Sink.{SinkState}
 
 -- the bytes that the stream took since the sink was made, those that still wait in its buffer, those that it tells by itself where it does,
--- and the count of faults
+-- the count of faults, and whether the stream never fails
 pub record StreamState : Type 0 where
   pub taken : List ℕ
   pub waiting : List ℕ
   pub written : Option (List ℕ)
   pub faults : ℕ
+  pub sure : Bool
+
+-- a write was done, and took one byte or more
+abbrev pub TakesSome : Result ℕ Error → Type 0
+TakesSome (Ok taken) = 0 < taken
+TakesSome (Err _) = ⊥
 
 -- a sink over a stream holds the bytes that the stream took
 abbrev pub sink_of_stream : StreamState → SinkState

@@ -3,12 +3,12 @@ ghost use Rattle.std.specs.Prelude.{◌≡◌, ◌≢◌, ◌<◌, ◌≤◌, �
 ghost use Rattle.std.specs.Io.KnownBytes.{Consumes, IsAtEnd};
 ghost use Rattle.std.specs.IoError.{error_kind};
 ghost use Rattle.ant_base.specs.Faults.{one_more};
-ghost use Rattle.ant_base.specs.Inner.Answered.{IsReadOf, TakesAtMost, fault_at, given_of};
+ghost use Rattle.ant_base.specs.Inner.Answered.{IsReadOf, TakesAtMost, fetch_fault_at, given_of};
 ghost use Rattle.ant_base.specs.Shelf.{Fetches, is_failed, longest};
 ghost use Rattle.ant_base.specs.Streams.{shelf_of_files};
 
 use crate::shelf::LONGEST;
-use crate::trail::Trail;
+use crate::system_log::SystemLog;
 use crate::{FetchFault, Shelf};
 use std::alloc::Global;
 use std::fs::{self, Files};
@@ -26,7 +26,7 @@ const CHUNK: usize = 8192;
 pub struct FileShelf<'r, R> {
     rt: &'r R,
     faults: u64,
-    trail: Trail,
+    system_log: SystemLog,
 }
 
 impl<'r, R> Model for FileShelf<'r, R> {
@@ -34,7 +34,7 @@ impl<'r, R> Model for FileShelf<'r, R> {
 
     ghost Value = { FileShelfState };
 
-    ghost view = { λ s. record { faults = s.faults; log = s.trail.fetches } };
+    ghost view = { λ s. record { faults = s.faults; log = s.system_log.fetches } };
 }
 
 impl<'r, R: Files + Input> FileShelf<'r, R> {
@@ -45,7 +45,7 @@ impl<'r, R: Files + Input> FileShelf<'r, R> {
         FileShelf {
             rt,
             faults: 0,
-            trail: Trail::new(),
+            system_log: SystemLog::new(),
         }
     }
 
@@ -72,7 +72,7 @@ impl<R: Files + Input> Shelf for FileShelf<'_, R> {
         if matches!(content, Err(FetchFault::Failed)) {
             self.faults = self.faults.saturating_add(1);
         }
-        self.trail.note_fetch(name, &content);
+        self.system_log.note_fetch(name, &content);
         content
     }
 }
@@ -80,7 +80,7 @@ impl<R: Files + Input> Shelf for FileShelf<'_, R> {
 // The content of a file that was opened, or why it has none.
 fn read_opened<R: Read + Drop>(alloc: Global, opened: io::Result<R>) -> Result<Vec<u8>, FetchFault>
     ensures short { IfOk result (λ content. length content.items ≤ longest) }
-    ensures refused { IfErr opened (λ error. result ≡ Err (fault_at (error_kind error))) }
+    ensures refused { IfErr opened (λ error. result ≡ Err (fetch_fault_at (error_kind error))) }
     ensures read { IfOk opened (λ file. IsReadOf (R.remaining file) result) }
 {
     match opened {
@@ -148,7 +148,7 @@ fn given_by(answer: io::Result<usize>) -> Result<Option<usize>, FetchFault>
 
 // Want of memory is told from a failed open or read.
 fn fault_of(error: io::Error) -> FetchFault
-    ensures { result ≡ fault_at (error_kind error) }
+    ensures { result ≡ fetch_fault_at (error_kind error) }
 {
     match error.kind() {
         ErrorKind::OutOfMemory => FetchFault::OutOfMemory,

@@ -1,75 +1,87 @@
 // Names with bytes.
-ghost use Rattle.std.specs.Prelude.{◌≡◌, ◌++◌, [], ◌∷◌, OnOk, OnErr, IfOk, option_copied, string_bytes};
+ghost use Rattle.std.specs.Prelude.{◌≡◌, ◌<◌, ◌≤◌, ◌+◌, ◌++◌, ◌⊎◌, [], ◌∷◌, OnOk, OnErr, length, option_copied};
 ghost use Rattle.ant_base.specs.MemShelf.{content_of};
 
 use crate::OutOfMemory;
-use std::alloc::{AllocError, Global};
+use std::alloc::Global;
 use std::marker::Model;
 
-/// A list of names with bytes. A name that was added twice has the bytes that were added first.
+/// A list of names with bytes. A name that was added twice has the bytes that were added first. Contracts see its names with their bytes,
+/// and for how many more names and for how many more bytes it has room.
 #[derive(Drop)]
 pub struct Files {
-    alloc: Global,
-    entries: Vec<Entry>,
+    // Each name and the bytes under it, end to end.
+    texts: Vec<u8>,
+    sizes: Vec<Sizes>,
 }
 
-// A name with its bytes.
-#[derive(Drop)]
-struct Entry {
-    name: String,
-    bytes: Vec<u8>,
+// How many bytes a name has, and how many are under it.
+#[derive(Clone, Copy, Drop)]
+struct Sizes {
+    name: usize,
+    bytes: usize,
 }
 
 impl Model for Files {
-    ghost use Rattle.std.specs.Prelude.{List, ℕ};
+    ghost use Rattle.std.specs.Prelude.{◌≡◌, ◌-◌, length, vec_len, vec_capacity};
+    ghost use Rattle.ant_base.specs.MemShelf.{FileList};
+    ghost use Rattle.ant_base.specs.Inner.Entries.{files_in, bytes_in};
 
-    ghost Value = { List (List ℕ × List ℕ) };
+    ghost Value = { FileList };
 
-    ghost use Rattle.ant_base.specs.Inner.Entries.{named_bytes};
+    ghost view = { λ files. record {
+      files = files_in files.sizes.items files.texts.items;
+      spare = vec_capacity files.sizes - vec_len files.sizes;
+      room = vec_capacity files.texts - vec_len files.texts;
+    } };
 
-    ghost view = { λ files. named_bytes files.entries.items };
+    ghost invariant = { λ files. bytes_in files.sizes.items ≡ length files.texts.items };
 }
 
 impl Files {
-    /// An empty list. It takes no memory, and keeps the allocator for what is added.
+    /// An empty list. It takes no memory.
     pub fn new(alloc: Global) -> Self
-        ensures { result ≡ [] }
+        ensures { result ≡ record { files = []; spare = 0; room = 0 } }
     {
         Files {
-            alloc,
-            entries: Vec::new(alloc),
+            texts: Vec::new(alloc),
+            sizes: Vec::new(alloc),
         }
     }
 
-    /// Adds a name with its bytes last. It is refused for want of memory alone, and then changes nothing.
+    /// Adds a name with its bytes last. It is refused only where there is no room for one name more or for the bytes of both, and memory for
+    /// more could not be had; the list then has the same names and bytes. An add takes no more room than it needs.
     pub fn add(&mut self, name: &str, bytes: &[u8]) -> Result<(), OutOfMemory>
-        ensures added { OnOk result (self.new ≡ self.old ++ (name.now, bytes.now) ∷ []) }
-        ensures refused { OnErr result (self.new ≡ self.old) }
+        ensures added { OnOk result (self.new.files ≡ self.old.files ++ (name.now, bytes.now) ∷ []) }
+        ensures refused { OnErr result (self.new.files ≡ self.old.files) }
+        ensures full { OnErr result ((self.old.spare ≡ 0) ⊎ (self.old.room < length name.now + length bytes.now)) }
+        ensures spare { self.old.spare ≤ self.new.spare + 1 }
+        ensures room { self.old.room ≤ self.new.room + (length name.now + length bytes.now) }
     {
-        let entry = entry_of(self.alloc, name, bytes)?;
-        self.entries.push(entry)?;
+        self.sizes.reserve(1)?;
+        self.texts.reserve(name.len() + bytes.len())?;
+        self.texts.extend_from_slice(name.as_bytes())?;
+        self.texts.extend_from_slice(bytes)?;
+        self.sizes.push(Sizes {
+            name: name.len(),
+            bytes: bytes.len(),
+        })?;
         Ok(())
     }
 
     // The bytes that were added first under the name.
     pub(crate) fn content(&self, name: &str) -> Option<&[u8]>
-        ensures { option_copied result ≡ content_of self.now name.now }
+        ensures { option_copied result ≡ content_of self.now.files name.now }
     {
-        for entry in &self.entries {
-            if entry.name.as_str() == name {
-                return Some(&entry.bytes);
+        let mut rest = self.texts.as_slice();
+        for sizes in &self.sizes {
+            let (own, after) = rest.split_at(sizes.name);
+            let (bytes, others) = after.split_at(sizes.bytes);
+            if own == name.as_bytes() {
+                return Some(bytes);
             }
+            rest = others;
         }
         None
     }
-}
-
-// An entry of this name and these bytes.
-fn entry_of(alloc: Global, name: &str, bytes: &[u8]) -> Result<Entry, AllocError>
-    ensures { IfOk result (λ entry. (string_bytes entry.name ≡ name.now) × (entry.bytes.items ≡ bytes.now)) }
-{
-    Ok(Entry {
-        name: String::from_str(alloc, name)?,
-        bytes: bytes.to_vec(alloc)?,
-    })
 }

@@ -22,11 +22,11 @@ mod number;
 mod parts;
 mod shelf;
 mod sink;
-mod stream;
 mod stream_sink;
+mod system_log;
 #[cfg(test)]
 mod tests;
-mod trail;
+mod writer;
 
 pub use calls::Calls;
 pub use file_shelf::FileShelf;
@@ -41,5 +41,5 @@ pub use number::{push_number, read_number, read_number_within};
 pub use parts::{Each, Parts};
 pub use shelf::{FetchFault, Shelf};
 pub use sink::{Failed, Sink};
-pub use stream::Stream;
 pub use stream_sink::{ErrSink, OutSink, StreamSink};
+pub use writer::Writer;

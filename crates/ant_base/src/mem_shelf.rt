@@ -7,7 +7,7 @@ ghost use Rattle.ant_base.specs.Shelf.{Fetches, is_failed, is_too_long};
 ghost use Rattle.ant_base.specs.MemShelf.{shelf_of, fails, is_long, IsCopyOf};
 
 use crate::shelf::LONGEST;
-use crate::trail::Trail;
+use crate::system_log::SystemLog;
 use crate::{Calls, FetchFault, Files, Shelf};
 use std::alloc::Global;
 use std::marker::Model;
@@ -22,7 +22,7 @@ pub struct MemShelf {
     failing: Calls,
     calls: u64,
     faults: u64,
-    trail: Trail,
+    system_log: SystemLog,
 }
 
 impl Model for MemShelf {
@@ -30,20 +30,20 @@ impl Model for MemShelf {
 
     ghost Value = { MemShelfState };
 
-    ghost view = { λ s. record { files = s.files; failing = s.failing.numbers; calls = s.calls; faults = s.faults; log = s.trail.fetches } };
+    ghost view = { λ s. record { files = s.files.files; failing = s.failing.numbers; calls = s.calls; faults = s.faults; log = s.system_log.fetches } };
 }
 
 impl MemShelf {
     /// A shelf that has these files, whose fetches of the given numbers fail; the first fetch has the number 1.
     pub fn new(files: Files, failing: Calls) -> Self
-        ensures { result ≡ record { files = files; failing = failing.numbers; calls = 0; faults = 0; log = [] } }
+        ensures { result ≡ record { files = files.files; failing = failing.numbers; calls = 0; faults = 0; log = [] } }
     {
         MemShelf {
             files,
             failing,
             calls: 0,
             faults: 0,
-            trail: Trail::new(),
+            system_log: SystemLog::new(),
         }
     }
 
@@ -93,7 +93,7 @@ impl Shelf for MemShelf {
         } }
     {
         let answer = self.answer(alloc, name);
-        self.trail.note_fetch(name, &answer);
+        self.system_log.note_fetch(name, &answer);
         answer
     }
 }

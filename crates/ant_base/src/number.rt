@@ -2,16 +2,16 @@
 ghost use Rattle.std.specs.Prelude.{◌≡◌, ◌<◌, ◌≤◌, IfSome};
 ghost use Rattle.std.specs.Fmt.{decimal};
 ghost use Rattle.ant_base.specs.Sink.{Pushed};
-ghost use Rattle.ant_base.specs.Number.{number_of, number_within};
+ghost use Rattle.ant_base.specs.Number.{decimal_value, number_within};
 
 use crate::{Failed, Layout, Sink};
 
 const MAX_DIGITS: usize = 10;
 
 /// The value of 1 to 10 decimal digits, leading zeros included; `None` exactly where the text isn't 1 to 10 digits (the contest's files).
-#[tactic(auto, unfolding(crate::specs::Number::number_of))]
+#[tactic(auto, unfolding(crate::specs::Number::decimal_value))]
 pub fn read_number(text: &[u8]) -> Option<u64>
-    ensures value { result ≡ number_of text.now }
+    ensures value { result ≡ decimal_value text.now }
     ensures small { IfSome result (λ n. n < 10000000000) }
 {
     if text.is_empty() || text.len() > MAX_DIGITS {

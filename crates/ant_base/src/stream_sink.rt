@@ -1,5 +1,5 @@
 // Sinks over the writers of std.
-ghost use Rattle.std.specs.Prelude.{◌≡◌, ◌++◌, [], Some, is_ok, if◌then◌else◌, OnOk, true};
+ghost use Rattle.std.specs.Prelude.{◌≡◌, ◌++◌, [], Some, is_ok, if◌then◌else◌, IsOk, OnOk, true};
 ghost use Rattle.std.specs.Io.KnownBytes.{Keeps};
 ghost use Rattle.ant_base.specs.Faults.{one_more};
 ghost use Rattle.ant_base.specs.Lines.{ends_in_lf};
@@ -7,21 +7,21 @@ ghost use Rattle.ant_base.specs.Inner.Answered.{taken_of};
 ghost use Rattle.ant_base.specs.Sink.{Pushed};
 ghost use Rattle.ant_base.specs.Streams.{Takes, sink_of_stream};
 
-use crate::trail::Trail;
-use crate::{Failed, Sink, Stream};
+use crate::system_log::SystemLog;
+use crate::{Failed, Sink, Writer};
 use std::io::{self, BufWriter, ErrorKind, Stderr, Stdout};
 use std::marker::Model;
 
 /// A sink over a stream. It tells the bytes that the stream took.
 ///
 /// It writes by a loop, in which a write that was interrupted is made again, and sends on what waits after each piece that ends in LF. A
-/// write that takes nothing of what is left is a fault, as is a failure to send on. The count of faults rises by one at each push that is
-/// `Failed` and at no other, and stays at the last value of a u64.
+/// write that takes nothing of what is left is a fault, as is a failure to send on; over a stream that never fails no push does. The count
+/// of faults rises by one at each push that is `Failed` and at no other, and stays at the last value of a u64.
 #[derive(Drop)]
-pub struct StreamSink<W: Stream> {
+pub struct StreamSink<W: Writer> {
     stream: W,
     faults: u64,
-    trail: Trail,
+    system_log: SystemLog,
 }
 
 /// A sink on standard output, which gets what was pushed at each piece that ends in LF.
@@ -30,23 +30,23 @@ pub type OutSink = StreamSink<BufWriter<Stdout>>;
 /// A sink on standard error.
 pub type ErrSink = StreamSink<Stderr>;
 
-impl<W: Stream> Model for StreamSink<W> {
+impl<W: Writer> Model for StreamSink<W> {
     ghost use Rattle.ant_base.specs.Streams.{StreamState};
 
     ghost Value = { StreamState };
 
-    ghost view = { λ s. record { taken = s.trail.bytes; waiting = W.waiting s.stream; written = W.contents s.stream; faults = s.faults } };
+    ghost view = { λ s. record { taken = s.system_log.bytes; waiting = W.waiting s.stream; written = W.contents s.stream; faults = s.faults; sure = W.sure s.stream } };
 }
 
-impl<W: Stream> StreamSink<W> {
+impl<W: Writer> StreamSink<W> {
     /// A sink over this stream, which took nothing yet, without a fault.
     pub fn new(stream: W) -> Self
-        ensures { result ≡ record { taken = []; waiting = W.waiting stream; written = W.contents stream; faults = 0 } }
+        ensures { result ≡ record { taken = []; waiting = W.waiting stream; written = W.contents stream; faults = 0; sure = W.sure stream } }
     {
         StreamSink {
             stream,
             faults: 0,
-            trail: Trail::new(),
+            system_log: SystemLog::new(),
         }
     }
 
@@ -58,7 +58,7 @@ impl<W: Stream> StreamSink<W> {
     }
 }
 
-impl<W: Stream> Sink for StreamSink<W> {
+impl<W: Writer> Sink for StreamSink<W> {
     ghost state = { sink_of_stream };
 
     fn push(&mut self, piece: &[u8]) -> Result<(), Failed>
@@ -68,8 +68,10 @@ impl<W: Stream> Sink for StreamSink<W> {
         ensures taken { Takes self.old.taken self.new.taken self.old.written self.new.written piece.now result }
         // Nothing waits behind the end of a line.
         ensures sent { OnOk result (ends_in_lf piece.now ≡ true → self.new.waiting ≡ []) }
+        // It fails only where the stream does.
+        ensures sure { self.old.sure ≡ true → IsOk result × (self.new.sure ≡ true) }
     {
-        let written = write_whole(&mut self.stream, &mut self.trail, piece);
+        let written = write_whole(&mut self.stream, &mut self.system_log, piece);
         if written.is_err() {
             self.faults = self.faults.saturating_add(1);
         }
@@ -78,9 +80,14 @@ impl<W: Stream> Sink for StreamSink<W> {
 }
 
 // Writes the whole piece, and sends it on where it ends in LF.
-fn write_whole<W: Stream>(stream: &mut W, trail: &mut Trail, piece: &[u8]) -> Result<(), Failed>
-    ensures taken { Takes trail.old.bytes trail.new.bytes (W.contents stream.old) (W.contents stream.new) piece.now result }
+fn write_whole<W: Writer>(
+    stream: &mut W,
+    system_log: &mut SystemLog,
+    piece: &[u8],
+) -> Result<(), Failed>
+    ensures taken { Takes system_log.old.bytes system_log.new.bytes (W.contents stream.old) (W.contents stream.new) piece.now result }
     ensures sent { OnOk result (ends_in_lf piece.now ≡ true → W.waiting stream.new ≡ []) }
+    ensures sure { W.sure stream.old ≡ true → IsOk result × (W.sure stream.new ≡ true) }
 {
     let mut rest = piece;
     // As many turns as std's own loops have: nothing says how often a write is interrupted.
@@ -88,8 +95,8 @@ fn write_whole<W: Stream>(stream: &mut W, trail: &mut Trail, piece: &[u8]) -> Re
         if rest.is_empty() {
             return send_line(stream, piece);
         }
-        let taken = taken_by(stream.write(rest))?;
-        trail.note_bytes(&rest[..taken]);
+        let taken = taken_by(stream.take(rest))?;
+        system_log.note_bytes(&rest[..taken]);
         rest = &rest[taken..];
     }
     Err(Failed)
@@ -110,9 +117,10 @@ fn taken_by(answer: io::Result<usize>) -> Result<usize, Failed>
 }
 
 // Sends on what waits where the piece ends in LF.
-fn send_line<W: Stream>(stream: &mut W, piece: &[u8]) -> Result<(), Failed>
+fn send_line<W: Writer>(stream: &mut W, piece: &[u8]) -> Result<(), Failed>
     ensures kept { Keeps (W.contents stream.old) (W.contents stream.new) }
     ensures sent { OnOk result (ends_in_lf piece.now ≡ true → W.waiting stream.new ≡ []) }
+    ensures sure { W.sure stream.old ≡ true → IsOk result × (W.sure stream.new ≡ true) }
 {
     if piece.is_empty() || piece[piece.len() - 1] != b'\n' {
         return Ok(());

@@ -15,7 +15,7 @@ use Rattle.brain_read.specs.declared.instr.Instr.{Instr}
 use Rattle.ant_turn.specs.FoodLaws.{killed_in}
 use Rattle.ant_turn.specs.Kills.{after_kill, check_all, check_at, killed_all, killed_at, places_around}
 use Rattle.ant_turn.specs.Minds.{Minds, mind_of}
-use Rattle.ant_turn.specs.Rounds.{Moment, after_turn, moment_of}
+use Rattle.ant_turn.specs.Rounds.{Moment, after_turn, moment_after}
 use Rattle.ant_turn.specs.Sheet.{Sheet}
 use Rattle.ant_turn.specs.Turn.{Outcome, acts, arrived, instruction_at, left_by_ant, stepped, turn, with_ant}
 use Rattle.ant_turn.proofs.Checks.{check_at-cases}
@@ -27,14 +27,14 @@ use Rattle.ant_turn.proofs.Turns.{turn-acts, turn-dead, turn-rests}
 -- the turn of a dead ant changes nothing
 pub after_turn-dead : (minds : Minds) (seed : ℕ) (m : Moment) (t : ℕ) → place_in m.world t ≡ None → after_turn minds seed m t ≡ m
 unfolding after_turn
-after_turn-dead minds seed m t dead = ap (moment_of m) (turn-dead minds seed m.world m.place t dead) ∙ ap (λ n. record m { place = n }) (add-zero m.place)
+after_turn-dead minds seed m t dead = ap (moment_after m) (turn-dead minds seed m.world m.place t dead) ∙ ap (λ n. record m { place = n }) (add-zero m.place)
 
 -- the turn of an ant that rests
 pub after_turn-rests : (minds : Minds) (seed : ℕ) (m : Moment) (t : ℕ) (p : Pos) (ant : Ant) (left : ℕ) → place_in m.world t ≡ Some p → (m.world.cells p).ant ≡ Some ant → ant.resting ≡ left + 1 →
     after_turn minds seed m t ≡ record m { world = put m.world p (with_ant (m.world.cells p) (record ant { resting = left })) }
 unfolding after_turn
 after_turn-rests minds seed m t p ant left found is tired =
-    ap (moment_of m) (turn-rests minds seed m.world m.place t p ant left found is tired)
+    ap (moment_after m) (turn-rests minds seed m.world m.place t p ant left found is tired)
     ∙ ap (λ n. record { world = put m.world p (with_ant (m.world.cells p) (record ant { resting = left })); place = n }) (add-zero m.place)
 
 -- a position that isn't one of a list's isn't its first

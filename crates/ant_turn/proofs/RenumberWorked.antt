@@ -7,7 +7,7 @@ use Rattle.cell_world.specs.declared.ant.Colour.{Colour}
 use Rattle.cell_world.specs.declared.ant.Colour.TheVariants.{Red, Black}
 use Rattle.brain_read.specs.declared.instr.Cond.TheVariants.{Marker}
 use Rattle.brain_read.specs.declared.instr.Instr.TheVariants.{Sense, Flip}
-use Rattle.ant_turn.specs.Renumber.{Numbers, number_of, redirected, renumbered_ant, side_states}
+use Rattle.ant_turn.specs.Renumber.{Numbers, state_number, redirected, renumbered_ant, side_states}
 
 -- state 0 stays 0, state 1 has no number, and each later state is one less
 abbrev closing : Numbers
@@ -28,6 +28,6 @@ ants_renumbered = (refl, refl, refl)
 
 -- an instruction keeps its kind and its parameters
 instructions_redirected :
-    (redirected (number_of closing) (Sense Ahead 2 0 (Marker 5)) ≡ Sense Ahead 1 0 (Marker 5))
-    × (redirected (number_of closing) (Flip 9 3 1) ≡ Flip 9 2 1)
+    (redirected (state_number closing) (Sense Ahead 2 0 (Marker 5)) ≡ Sense Ahead 1 0 (Marker 5))
+    × (redirected (state_number closing) (Flip 9 3 1) ≡ Flip 9 2 1)
 instructions_redirected = (refl, refl)

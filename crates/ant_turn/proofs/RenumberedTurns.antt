@@ -19,8 +19,8 @@ use Rattle.ant_random.specs.Stream.{drawn}
 use Rattle.ant_turn.specs.Conditions.{meets}
 use Rattle.ant_turn.specs.Kills.{after_kill, check_all, check_at, places_around}
 use Rattle.ant_turn.specs.Minds.{Minds, mind_of}
-use Rattle.ant_turn.specs.Renumber.{Numbers, Carries, AreNumbered, number_of, redirected, renumbered, renumbered_ant, renumbered_cells, renumbered_moment, renumbered_outcome, renumbered_world, side_states, with_mind}
-use Rattle.ant_turn.specs.Rounds.{Moment, after_round, after_rounds, after_turn, after_turns, moment_of}
+use Rattle.ant_turn.specs.Renumber.{Numbers, Carries, AreNumbered, state_number, redirected, renumbered, renumbered_ant, renumbered_cells, renumbered_moment, renumbered_outcome, renumbered_world, side_states, with_mind}
+use Rattle.ant_turn.specs.Rounds.{Moment, after_round, after_rounds, after_turn, after_turns, moment_after}
 use Rattle.ant_turn.specs.Sheet.{Sheet}
 use Rattle.ant_turn.specs.Turn.{Outcome, acts, arrived, execute, in_state, instruction_at, is_blocked, left_by_ant, marked, stepped, turn, turn_from, turn_at, unmarked, with_ant}
 use Rattle.ant_turn.proofs.Checks.{check_at-cases}
@@ -172,7 +172,7 @@ the_number None none = absurd (cc)
 the_number (Some k) some = (k, refl)
 
 -- a state with a number is carried over
-carried : (numbers : Numbers) (old new : List Instr) (state : ℕ) → Carries numbers old new → IsSome (numbers state) → instruction_at new (number_of numbers state) ≡ redirected (number_of numbers) (instruction_at old state)
+carried : (numbers : Numbers) (old new : List Instr) (state : ℕ) → Carries numbers old new → IsSome (numbers state) → instruction_at new (state_number numbers state) ≡ redirected (state_number numbers) (instruction_at old state)
 carried numbers old new state carries some =
     let k : (k : ℕ) × (numbers state ≡ Some k) = the_number (numbers state) some in
     ap (λ (o : Option ℕ). instruction_at new (unwrap_or o state)) k.1 ∙ carries.acts state k.0 k.1
@@ -237,7 +237,7 @@ after_turn-renumbered : (numbers : Numbers) (colour : Colour) (minds : Minds) (b
     after_turn (with_mind minds colour brain) seed (renumbered_moment numbers colour m) t ≡ renumbered_moment numbers colour (after_turn minds seed m t)
 unfolding after_turn
 after_turn-renumbered numbers colour minds brain seed m t carries numbered =
-    ap (moment_of (renumbered_moment numbers colour m)) (turn-renumbered numbers colour minds brain seed m.world m.place t carries numbered)
+    ap (moment_after (renumbered_moment numbers colour m)) (turn-renumbered numbers colour minds brain seed m.world m.place t carries numbered)
 
 after_turn-numbered : (numbers : Numbers) (colour : Colour) (minds : Minds) (brain : List Instr) (seed : ℕ) (m : Moment) (t : ℕ) → Carries numbers (mind_of minds colour) brain → AreNumbered numbers colour m.world →
     AreNumbered numbers colour (after_turn minds seed m t).world

@@ -15,7 +15,7 @@ use Rattle.cell_world.proofs.ValidLemmas.{CanSet-replaces}
 use Rattle.cell_world.proofs.Weights.{cell_weight-light, cell_weight-parts}
 use Rattle.brain_read.specs.declared.instr.Instr.{Instr}
 use Rattle.ant_turn.specs.Sheet.{Sheet}
-use Rattle.ant_turn.specs.Inner.Stands.{Stands}
+use Rattle.ant_turn.specs.Inner.Stands.{StandsAt}
 use Rattle.ant_turn.specs.Turn.{is_blocked, left_by_ant, with_ant, arrived, stepped}
 use Rattle.ant_turn.proofs.OwnCells.{Stays, stays_replaces}
 use Rattle.ant_turn.proofs.KeptByTurns.{Replaces-left_by_ant, CanSet-arrived}
@@ -28,8 +28,8 @@ food_is_light w p valid =
     omega arith
 
 -- an ant that a cell of a world holds stands there
-pub Stands-there : (w : World) (p : Pos) (cell : Cell) (ant : Ant) → Valid w → cell ≡ w.cells p → cell.ant ≡ Some ant → Stands w p cell ant
-Stands-there w p cell ant valid here holds =
+pub StandsAt-there : (w : World) (p : Pos) (cell : Cell) (ant : Ant) → Valid w → cell ≡ w.cells p → cell.ant ≡ Some ant → StandsAt w p cell ant
+StandsAt-there w p cell ant valid here holds =
     let clear : (w.cells p).rocky ≡ false = ant-clear w p ant valid (ap (λ (c : Cell). c.ant) (sym here) ∙ holds) in
     record {
       valid = valid;
@@ -42,14 +42,14 @@ Stands-there w p cell ant valid here holds =
     }
 
 -- likewise on the world's own cell
-pub Stands-at : (w : World) (p : Pos) (ant : Ant) → Valid w → (w.cells p).ant ≡ Some ant → Stands w p (w.cells p) ant
-Stands-at w p ant valid holds = Stands-there w p (w.cells p) ant valid refl holds
+pub StandsAt-at : (w : World) (p : Pos) (ant : Ant) → Valid w → (w.cells p).ant ≡ Some ant → StandsAt w p (w.cells p) ant
+StandsAt-at w p ant valid holds = StandsAt-there w p (w.cells p) ant valid refl holds
 
 -- it stands on the cell that was read
-pub own_read : {w : World} {p : Pos} {ant : Ant} {cell : Cell} → Stands w p (w.cells p) ant → cell ≡ w.cells p → Stands w p cell ant
-own_read {w} {p} {ant} stands is = subst (λ c. Stands w p c ant) (sym is) stands
+pub own_read : {w : World} {p : Pos} {ant : Ant} {cell : Cell} → StandsAt w p (w.cells p) ant → cell ≡ w.cells p → StandsAt w p cell ant
+own_read {w} {p} {ant} stands is = subst (λ c. StandsAt w p c ant) (sym is) stands
 
-module _ {w : World} {p : Pos} {cell : Cell} {ant : Ant} (stands : Stands w p cell ant) where
+module _ {w : World} {p : Pos} {cell : Cell} {ant : Ant} (stands : StandsAt w p cell ant) where
   -- the cell of an ant that stays may replace the one there
   pub own_replaces : {instruction : Instr} {kept : Cell} (new : Cell) → new ≡ kept → Stays instruction cell ant kept → Replaces (w.cells p) new
   own_replaces new is stays =

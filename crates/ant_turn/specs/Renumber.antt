@@ -20,12 +20,12 @@ abbrev pub Numbers : Type 0
 Numbers = ℕ → Option ℕ
 
 -- the new number of a state; a state that has none stays
-abbrev pub number_of : Numbers → ℕ → ℕ
-number_of numbers state = unwrap_or (numbers state) state
+abbrev pub state_number : Numbers → ℕ → ℕ
+state_number numbers state = unwrap_or (numbers state) state
 
 -- what becomes of the state of an ant of the colour `own`, where the states of this colour get new numbers
 abbrev pub side_states : Numbers → Colour → Colour → ℕ → ℕ
-side_states numbers colour own state = if same_colour colour own then number_of numbers state else state
+side_states numbers colour own state = if same_colour colour own then state_number numbers state else state
 
 -- the instruction with each state that it names mapped: its kind and its parameters stay
 abbrev pub redirected : (ℕ → ℕ) → Instr → Instr
@@ -75,7 +75,7 @@ with_mind minds Black brain = record minds { black = brain }
 -- mapped, of the same kind and with the same parameters; and the successors of a state that has a number have numbers
 pub record Carries (numbers : Numbers) (old new : List Instr) : Type 0 where
   pub inside : (state number : ℕ) → numbers state ≡ Some number → (state < length old) × (number < length new)
-  pub acts : (state number : ℕ) → numbers state ≡ Some number → instruction_at new number ≡ redirected (number_of numbers) (instruction_at old state)
+  pub acts : (state number : ℕ) → numbers state ≡ Some number → instruction_at new number ≡ redirected (state_number numbers) (instruction_at old state)
   pub onward : (state number : ℕ) → numbers state ≡ Some number → AllByRecursion (λ next. IsSome (numbers next)) (states_of (instruction_at old state))
 
 -- the state of each ant of this colour has a number

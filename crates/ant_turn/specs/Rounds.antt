@@ -11,12 +11,12 @@ pub record Moment : Type 0 where
   pub place : ℕ
 
 -- the moment that an outcome makes of one
-abbrev pub moment_of : Moment → Outcome → Moment
-moment_of m outcome = record { world = with_cells m.world outcome.cells; place = m.place + one_if outcome.drew }
+abbrev pub moment_after : Moment → Outcome → Moment
+moment_after m outcome = record { world = with_cells m.world outcome.cells; place = m.place + one_if outcome.drew }
 
 -- the moment after the turn of id t
 unfoldable pub after_turn : Minds → ℕ → Moment → ℕ → Moment
-after_turn minds seed m t = moment_of m (turn minds seed m.world m.place t)
+after_turn minds seed m t = moment_after m (turn minds seed m.world m.place t)
 
 -- the moment after the turns of n ids from `from` on, in rising order
 abbrev pub after_turns : Minds → ℕ → Moment → ℕ → ℕ → Moment

@@ -40,6 +40,7 @@ pub fn surrounded<G: Ground>(ground: &mut G, sheet: Sheet, p: Pos) -> bool
 ///
 /// The position is inside and not on the rim, and the ground has room for 7 cells. Gives the ids of the killed, in the order of the
 /// checks. No other cell changes.
+#[inline(always)]
 pub fn check_around<G: Ground>(ground: &mut G, sheet: Sheet, p: Pos) -> ArrayVec<u32, 7>
     requires inner { IsInner (G.world ground.old).width (G.world ground.old).height p }
     requires room { 7 ≤ G.room ground.old }

@@ -7,7 +7,7 @@ ghost use Rattle.cell_world.specs.World.{put, with_cells};
 ghost use Rattle.brain_read.specs.Soundness.{IsSound};
 ghost use Rattle.ant_turn.specs.Minds.{Fits, minds_of};
 ghost use Rattle.ant_turn.specs.Sheet.{sheet_of};
-ghost use Rattle.ant_turn.specs.Inner.Stands.{Stands};
+ghost use Rattle.ant_turn.specs.Inner.Stands.{StandsAt};
 ghost use Rattle.ant_turn.specs.Turn as turn;
 
 use crate::brains::Brains;
@@ -78,7 +78,7 @@ fn think<G: Ground>(ground: &mut G, p: Pos, ant: Ant) -> Deed
 }
 
 // The ant of `p` steps onto `q`, and surrounded ants are checked around `q`.
-#[inline]
+#[inline(always)]
 fn step<G: Ground>(
     ground: &mut G,
     sheet: Sheet,
@@ -88,7 +88,7 @@ fn step<G: Ground>(
     there: &Cell,
     next: u16,
 ) -> Deed
-    requires stands { Stands (G.world ground.old) p ((G.world ground.old).cells p) ant }
+    requires stands { StandsAt (G.world ground.old) p ((G.world ground.old).cells p) ant }
     requires there { there.now ≡ (G.world ground.old).cells q }
     requires free { turn.is_blocked there.now ≡ false }
     requires room { 9 ≤ G.room ground.old }
@@ -109,9 +109,9 @@ fn step<G: Ground>(
 }
 
 // A Move of the ant of `p`.
-#[inline]
+#[inline(always)]
 fn go<G: Ground>(ground: &mut G, sheet: Sheet, p: Pos, ant: Ant, met: u16, unmet: u16) -> Deed
-    requires stands { Stands (G.world ground.old) p ((G.world ground.old).cells p) ant }
+    requires stands { StandsAt (G.world ground.old) p ((G.world ground.old).cells p) ant }
     requires room { 9 ≤ G.room ground.old }
     ensures world { (seed place : ℕ) → G.world ground.new ≡ with_cells (G.world ground.old)
         (turn.execute (sheet_of sheet) seed (G.world ground.old).cells place p ant (Instr.Move met unmet)).cells }
@@ -129,7 +129,7 @@ fn go<G: Ground>(ground: &mut G, sheet: Sheet, p: Pos, ant: Ant, met: u16, unmet
 }
 
 // Executes the instruction of the ant of `p`.
-#[inline]
+#[inline(always)]
 fn execute<G: Ground>(
     ground: &mut G,
     sheet: Sheet,
@@ -138,7 +138,7 @@ fn execute<G: Ground>(
     ant: Ant,
     instruction: Instr,
 ) -> Deed
-    requires stands { Stands (G.world ground.old) p ((G.world ground.old).cells p) ant }
+    requires stands { StandsAt (G.world ground.old) p ((G.world ground.old).cells p) ant }
     requires sound { (states : ℕ) × IsSound states instruction }
     requires place { stream.old.place + 1 < 2 ^ 63 }
     requires room { 9 ≤ G.room ground.old }
@@ -196,7 +196,7 @@ fn execute<G: Ground>(
 ///
 /// The id is below the number of ids, each ant's state is below the length of its colour's brain, and stays so. The stream stands below
 /// 2^63 - 1 and goes on by one number exactly where a Flip was executed. The ground has room for 9 cells. Gives what was done besides.
-#[inline]
+#[inline(always)]
 pub fn take_turn<G: Ground>(
     ground: &mut G,
     brains: Brains<'_>,

@@ -8,7 +8,7 @@ use Rattle.brain_read.proofs.SoundnessLemmas.{brain_of}
 use Rattle.ant_turn.specs.Sheet.{Sheet}
 use Rattle.cell_world.specs.Grid.{Grid, world_of}
 use Rattle.ants.specs.Files.{AreAccepted, IsAccepted}
-use Rattle.ants.specs.Files.Content.{WorldContent, BrainContent}
+use Rattle.ants.specs.Files.FileContent.{WorldContent, BrainContent}
 use Rattle.ants.specs.Jobs.{brain_file, game_files, world_file}
 
 fits : (name red_name black_name : List ℕ) (grid : Grid) (red black : List Instr) (sheet : Sheet) (a b c : Fetched) → IsAccepted (world_file name) a (WorldContent grid) → IsAccepted (brain_file red_name) b (BrainContent red)

@@ -22,8 +22,8 @@ use Rattle.command_words.specs.Words.{texts}
 use Rattle.match_run.specs.Run.{most_rounds, world_after}
 use Rattle.tournament.specs.Names.{has_name, with_name}
 use Rattle.ants.specs.Files.{AreAccepted}
-use Rattle.ants.specs.Inner.Cups.{AreReady, IsPlayable, Opens}
-use Rattle.ants.specs.Jobs.{brain_file, cup_contents, cup_files, nowhere, score_between, world_file}
+use Rattle.ants.specs.Inner.Cups.{AreReady, CanBePlayed, Opens}
+use Rattle.ants.specs.Jobs.{brain_file, cup_contents, cup_files, nowhere, score_between}
 
 -- what holds of all of a list holds at each place
 all_at : {X : Type 0} (P : X → Type 0) (xs : List X) (i : ℕ) (none : X) → AllByRecursion P xs → i < length xs → P (get_or xs i none)
@@ -99,7 +99,7 @@ fits world red black opens red_some black_some =
     subst (λ (g : Grid). Fits (world_of g) (contest_minds red black)) (sym opens.opened) (Fits-opening world.width world.height opens.kinds (contest_minds red black) red_some black_some)
 
 playable : (worlds : List Grid) (players : List (List Instr)) (rounds : ℕ) → AreReady worlds players → rounds ≤ most_rounds
-    → (world red black : ℕ) → world < length worlds → red < length players → black < length players → IsPlayable worlds players rounds world red black
+    → (world red black : ℕ) → world < length worlds → red < length players → black < length players → CanBePlayed worlds players rounds world red black
 playable worlds players rounds is few world red black world_there red_there black_there =
     record {
       world_there = world_there;
@@ -113,14 +113,14 @@ playable worlds players rounds is few world red black world_there red_there blac
 
 -- each game of a cup can be played
 pub all_playable : (worlds others : List Grid) (players same : List (List Instr)) (rounds world_count player_count : ℕ) → others ≡ worlds → same ≡ players → world_count ≡ length others → player_count ≡ length same
-    → AreReady worlds players → rounds ≤ most_rounds → (world red black : ℕ) → world < world_count → red < player_count → black < player_count → red ≢ black → IsPlayable others same rounds world red black
+    → AreReady worlds players → rounds ≤ most_rounds → (world red black : ℕ) → world < world_count → red < player_count → black < player_count → red ≢ black → CanBePlayed others same rounds world red black
 all_playable worlds others players same rounds world_count player_count worlds_are players_are worlds_counted players_counted is few world red black world_there red_there black_there differ =
     let worlds_long = ap length worlds_are in
     let players_long = ap length players_are in
     rw (worlds_are, players_are) (playable worlds players rounds is few world red black (omega arith) (omega arith) (omega arith))
 
 -- the score of a game on a copy of its world
-pub score_between-copy : (worlds : List Grid) (players : List (List Instr)) (seed rounds world red black : ℕ) (field any : Grid) (one two : List Instr) (sheet : Sheet) → IsPlayable worlds players rounds world red black
+pub score_between-copy : (worlds : List Grid) (players : List (List Instr)) (seed rounds world red black : ℕ) (field any : Grid) (one two : List Instr) (sheet : Sheet) → CanBePlayed worlds players rounds world red black
     → field ≡ get_or worlds world any → sheet ≡ contest
     → score_of (world_after (record { red = get_or players red one; black = get_or players black two; sheet = sheet }) seed (world_of field) rounds) ≡ score_between worlds players seed rounds world red black
 unfolding score_between

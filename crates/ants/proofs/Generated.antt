@@ -16,8 +16,8 @@ use Rattle.world_gen.specs.Painting.{IsGenerated}
 use Rattle.world_gen.specs.Placing.{HasNoRoom}
 use Rattle.world_read.specs.Canonical.{canonical_text}
 use Rattle.world_read.specs.Opened.{IsOpeningWorld, kinds_of}
-use Rattle.ants.specs.declared.stop.Stop.{Stop}
-use Rattle.ants.specs.declared.stop.Stop.TheVariants as stop
+use Rattle.ants.specs.declared.stop.CommandStop.{CommandStop}
+use Rattle.ants.specs.declared.stop.CommandStop.TheVariants as stop
 use Rattle.ants.specs.Files.{AreAccepted, File}
 use Rattle.ants.specs.Inner.Planning.{IsGenerating}
 use Rattle.ants.specs.Inner.Reading.{CarriesOut, ending_of}
@@ -45,7 +45,7 @@ fits_generated seed shape world generated =
     subst (λ (g : Grid). Fits (world_of g) sample_minds) (sym generated.is) (Fits-opening shape.width shape.height generated.kinds sample_minds sample_brain-sound.some sample_brain-sound.some)
 
 -- no world came, for want of room or of memory
-pub carries_ungenerated : {U : Type 0} (command : PlainCommand) (seed : ℕ) (shape : Shape) (shelf : ShelfState) (out : SinkState) (result : Result U Stop) (why : Stop) → files_of command ≡ []
+pub carries_ungenerated : {U : Type 0} (command : PlainCommand) (seed : ℕ) (shape : Shape) (shelf : ShelfState) (out : SinkState) (result : Result U CommandStop) (why : CommandStop) → files_of command ≡ []
     → ((element : ℕ) → HasNoRoom seed shape element → LacksRoom command element) → IsErrAnd result (λ other. other ≡ why)
     → IsGenerating seed shape (Err why) → CarriesOut command shelf shelf out out (ending_of result)
 carries_ungenerated command seed shape shelf out result (stop.Words word) no_file room same none = absurd none
@@ -67,7 +67,7 @@ carries_generated seed shape shelf out new_out world generated pushed =
     carries_done (GenCommand seed shape) shelf shelf out new_out [] (reads_none shelf) (canonical_text world.width world.height (kinds_of world)) (record { world = world; generated = generated; told = refl }) pushed
 
 -- a front of it was written
-pub carries_generated_front : {U : Type 0} (seed : ℕ) (shape : GenShape) (shelf : ShelfState) (out new_out : SinkState) (world : Grid) (result : Result U Stop) → IsErrAnd result (λ other. other ≡ stop.Write) → IsGenerated seed (shape_named shape) world
+pub carries_generated_front : {U : Type 0} (seed : ℕ) (shape : GenShape) (shelf : ShelfState) (out new_out : SinkState) (world : Grid) (result : Result U CommandStop) → IsErrAnd result (λ other. other ≡ stop.Write) → IsGenerated seed (shape_named shape) world
     → PushedFront out new_out (canonical_text world.width world.height (kinds_of world)) → CarriesOut (GenCommand seed shape) shelf shelf out new_out (ending_of result)
 carries_generated_front seed shape shelf out new_out world result same generated pushed =
     carries_failure (GenCommand seed shape) shelf shelf out new_out [] result same (reads_none shelf) (canonical_text world.width world.height (kinds_of world)) (record { world = world; generated = generated; told = refl }) pushed

@@ -8,9 +8,9 @@ use Rattle.ant_base.specs.Shelf.{IsTold, longest}
 use Rattle.ant_base.specs.declared.shelf.FetchFault.TheVariants as answer
 use Rattle.ants.specs.declared.stop.FileFault.{FileFault}
 use Rattle.ants.specs.declared.stop.FileFault.TheVariants.{TooLong, World, Brain, Breaks}
-use Rattle.ants.specs.Files.{AreAccepted, Content, File, IsAccepted, IsNoText, IsRefused, Refuses, StopsAt}
-use Rattle.ants.specs.Judged.{AreThere, IsJudged, IsRefusedAs, Judged, JudgesOnce, Verdict}
-use Rattle.ants.specs.Judged.Verdict.{AllAccepted, FirstRefused}
+use Rattle.ants.specs.Files.{AreAccepted, FileContent, File, IsAccepted, IsNoText, IsRefused, Refuses, StopsAt}
+use Rattle.ants.specs.Judged.{AreThere, IsJudged, IsRefusedAs, Judged, JudgesOnce, FilesVerdict}
+use Rattle.ants.specs.Judged.FilesVerdict.{AllAccepted, FirstRefused}
 use Rattle.ants.proofs.Readings.{refused_text}
 use Rattle.ants.proofs.Texts.{one_refusal, some_reading}
 use Rattle.ants.proofs.Verdicts.{accepted_never_refused, never_bytes, one_bytes, one_content, one_verdict}
@@ -44,7 +44,7 @@ one_fault at file first second (Breaks a) (Brain b) one two is also = one_text_f
 one_fault at file first second (Breaks a) (Breaks b) one two is also = one_text_fault at file first second (Breaks a) (Breaks b) one two is also
 
 -- files are accepted as the same contents
-same_contents : (at : At) (files : List File) (first second : List Fetched) (a b : List Content) → AllByRecursion (IsTold (Some at)) first → AllByRecursion (IsTold (Some at)) second → AreAccepted files first a → AreAccepted files second b → a ≡ b
+same_contents : (at : At) (files : List File) (first second : List Fetched) (a b : List FileContent) → AllByRecursion (IsTold (Some at)) first → AllByRecursion (IsTold (Some at)) second → AreAccepted files first a → AreAccepted files second b → a ≡ b
 same_contents at [] first second a b one two is also = is.1 ∙ sym also.1
 same_contents at (file ∷ files) [] second a b one two is also = absurd is
 same_contents at (file ∷ files) (x ∷ first) [] a b one two is also = absurd also
@@ -76,7 +76,7 @@ same_refusal at (file ∷ files) (x ∷ first) (y ∷ second) name other fault a
       ]
     ]
 
-same_verdict : (at : At) (files : List File) (first second : List Fetched) (a b : Verdict) → AllByRecursion (IsTold (Some at)) first → AllByRecursion (IsTold (Some at)) second → Judged files first a → Judged files second b → a ≡ b
+same_verdict : (at : At) (files : List File) (first second : List Fetched) (a b : FilesVerdict) → AllByRecursion (IsTold (Some at)) first → AllByRecursion (IsTold (Some at)) second → Judged files first a → Judged files second b → a ≡ b
 same_verdict at files first second (AllAccepted a) (AllAccepted b) one two is also = ap AllAccepted (same_contents at files first second a b one two is also)
 same_verdict at files first second (AllAccepted a) (FirstRefused name fault) one two is also = absurd (accepted_never_refused at files first second a name fault one two is also)
 same_verdict at files first second (FirstRefused name fault) (AllAccepted b) one two is also = absurd (accepted_never_refused at files second first b name fault two one also is)
@@ -85,7 +85,7 @@ same_verdict at files first second (FirstRefused name fault) (FirstRefused other
 -- a file that was judged: by a fetch that agrees with what is told it is accepted, or refused
 abbrev HasFileVerdict : At → File → Type 0
 HasFileVerdict at file =
-    ((fetch : Fetched) × (content : Content) × IsTold (Some at) fetch × IsAccepted file fetch content) ⊎ ((fetch : Fetched) × (fault : FileFault) × IsTold (Some at) fetch × IsRefused file fetch fault)
+    ((fetch : Fetched) × (content : FileContent) × IsTold (Some at) fetch × IsAccepted file fetch content) ⊎ ((fetch : Fetched) × (fault : FileFault) × IsTold (Some at) fetch × IsRefused file fetch fault)
 
 short_file : (at : At) (file : File) (bytes : List ℕ) → at file.name ≡ Some bytes → length bytes ≤ longest → HasFileVerdict at file
 short_file at file bytes is short =
@@ -107,12 +107,12 @@ one_file : (at : At) (file : File) (found : Option (List ℕ)) → at file.name 
 one_file at file None is there = absurd (cc)
 one_file at file (Some bytes) is there = elim (cases_Bool (leb (length bytes) longest)) [ inl short ↦ short_file at file bytes is (leb-true (length bytes) longest short) | inr long ↦ long_file at file bytes is (leb-false (length bytes) longest long) ]
 
-judged_then : (at : At) (file : File) (files : List File) (verdict : Verdict) (fetch : Fetched) (content : Content) (fetches : List Fetched) → IsTold (Some at) fetch → IsAccepted file fetch content → AllByRecursion (IsTold (Some at)) fetches
-    → Judged files fetches verdict → (all : Verdict) × IsJudged at (file ∷ files) all
+judged_then : (at : At) (file : File) (files : List File) (verdict : FilesVerdict) (fetch : Fetched) (content : FileContent) (fetches : List Fetched) → IsTold (Some at) fetch → IsAccepted file fetch content → AllByRecursion (IsTold (Some at)) fetches
+    → Judged files fetches verdict → (all : FilesVerdict) × IsJudged at (file ∷ files) all
 judged_then at file files (AllAccepted contents) fetch content fetches told is others judged = (AllAccepted (content ∷ contents), record { fetches = fetch ∷ fetches; told = (told, others); judged = (is, judged) })
 judged_then at file files (FirstRefused name fault) fetch content fetches told is others judged = (FirstRefused name fault, record { fetches = fetch ∷ fetches; told = (told, others); judged = inr (content, is, judged) })
 
-some_verdict : (at : At) (files : List File) → AreThere at files → (verdict : Verdict) × IsJudged at files verdict
+some_verdict : (at : At) (files : List File) → AreThere at files → (verdict : FilesVerdict) × IsJudged at files verdict
 some_verdict at [] there = (AllAccepted [], record { fetches = []; told = tt; judged = (refl, refl) })
 some_verdict at (file ∷ files) there =
     elim (one_file at file (at file.name) refl there.0) [

@@ -9,7 +9,7 @@ use Rattle.command_words.specs.Command.{RunSetup}
 use Rattle.match_run.specs.declared.plan.Plan.{Plan}
 use Rattle.match_run.specs.Counts.{whole_text}
 use Rattle.match_run.specs.Dumps.{chooses}
-use Rattle.ants.specs.Files.Content.{BrainContent, WorldContent}
+use Rattle.ants.specs.Files.FileContent.{BrainContent, WorldContent}
 use Rattle.ants.specs.Inner.Planning.{IsSheetOf, Plans}
 use Rattle.ants.specs.Jobs.{chosen_rounds, match_output, minds_named}
 

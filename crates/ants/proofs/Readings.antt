@@ -14,12 +14,12 @@ use Rattle.match_run.specs.declared.fault.PlayFault.TheVariants as play
 use Rattle.match_run.specs.Play.{PushedSome, StoppedBy}
 use Rattle.ants.specs.declared.stop.FileFault.{FileFault}
 use Rattle.ants.specs.declared.stop.FileFault.TheVariants.{TooLong, World, Brain, Breaks}
-use Rattle.ants.specs.declared.stop.Stop.{Stop}
-use Rattle.ants.specs.declared.stop.Stop.TheVariants as stop
-use Rattle.ants.specs.Files.{File, Content, AreAccepted, AreBegun, IsRefused, Refuses, StopsAt}
+use Rattle.ants.specs.declared.stop.CommandStop.{CommandStop}
+use Rattle.ants.specs.declared.stop.CommandStop.TheVariants as stop
+use Rattle.ants.specs.Files.{File, FileContent, AreAccepted, AreBegun, IsRefused, Refuses, StopsAt}
 use Rattle.ants.specs.Inner.Planning.{stop_of}
-use Rattle.ants.specs.Inner.Reading.{CarriesOut, CarriesOutWords, ComesTo, Outcome, ReadingStops, ReadsFiles, ReadsText, TextStops, ending_of, fetch_reason, outcome_of}
-use Rattle.ants.specs.Inner.Reading.Outcome.{Contents, Stopped}
+use Rattle.ants.specs.Inner.Reading.{CarriesOut, CarriesOutWords, ComesTo, ReadOutcome, ReadingStops, ReadsFiles, ReadsText, TextStops, ending_of, fetch_reason, outcome_of}
+use Rattle.ants.specs.Inner.Reading.ReadOutcome.{Contents, Stopped}
 use Rattle.ants.specs.Jobs.{files_of, IsJobText}
 use Rattle.ants.specs.Judged.{IsRefusedAs}
 use Rattle.ants.specs.Performing.{EndsBy, IsUnsure, StopsFor, WritesInPlay}
@@ -29,14 +29,14 @@ use Rattle.ants.specs.Stopping.Reason.{AtWord, AtFile, AtOutput, AtInput, AtRoom
 use Rattle.ants.proofs.Texts.{never_long}
 
 -- the files a were accepted, and then the files b
-accepted_then : (a b : List File) (fetches more : List Fetched) (contents others : List Content) → AreAccepted a fetches contents → AreAccepted b more others → AreAccepted (a ++ b) (fetches ++ more) (contents ++ others)
+accepted_then : (a b : List File) (fetches more : List Fetched) (contents others : List FileContent) → AreAccepted a fetches contents → AreAccepted b more others → AreAccepted (a ++ b) (fetches ++ more) (contents ++ others)
 accepted_then [] b fetches more contents others one two = rw (one.0, one.1) two
 accepted_then (file ∷ a) b [] more contents others one two = absurd one
 accepted_then (file ∷ a) b (fetch ∷ fetches) more [] others one two = absurd one
 accepted_then (file ∷ a) b (fetch ∷ fetches) more (content ∷ contents) others one two = (one.0, accepted_then a b fetches more contents others one.1 two)
 
 -- the files a were accepted, and then the reading stopped at one of b
-stops_later : (P : File → Fetched → Type 0) (a b : List File) (fetches more : List Fetched) (contents : List Content) → AreAccepted a fetches contents → StopsAt P b more → StopsAt P (a ++ b) (fetches ++ more)
+stops_later : (P : File → Fetched → Type 0) (a b : List File) (fetches more : List Fetched) (contents : List FileContent) → AreAccepted a fetches contents → StopsAt P b more → StopsAt P (a ++ b) (fetches ++ more)
 stops_later P [] b fetches more contents one two = rw one.0 two
 stops_later P (file ∷ a) b [] more contents one two = absurd one
 stops_later P (file ∷ a) b (fetch ∷ fetches) more [] one two = absurd one
@@ -62,14 +62,14 @@ begun_none [] = refl
 begun_none (file ∷ files) = tt
 
 -- the files a were accepted, and those of b begun
-begun_later : (a b : List File) (fetches more : List Fetched) (contents : List Content) → AreAccepted a fetches contents → AreBegun b more → AreBegun (a ++ b) (fetches ++ more)
+begun_later : (a b : List File) (fetches more : List Fetched) (contents : List FileContent) → AreAccepted a fetches contents → AreBegun b more → AreBegun (a ++ b) (fetches ++ more)
 begun_later [] b fetches more contents one two = rw one.0 two
 begun_later (file ∷ a) b [] more contents one two = absurd one
 begun_later (file ∷ a) b (fetch ∷ fetches) more [] one two = absurd one
 begun_later (file ∷ a) b (fetch ∷ fetches) more (content ∷ contents) one two = inr (content, one.0, begun_later a b fetches more contents one.1 two)
 
 -- files that were accepted are begun
-accepted_begun : (files : List File) (fetches : List Fetched) (contents : List Content) → AreAccepted files fetches contents → AreBegun files fetches
+accepted_begun : (files : List File) (fetches : List Fetched) (contents : List FileContent) → AreAccepted files fetches contents → AreBegun files fetches
 accepted_begun [] fetches contents are = are.0
 accepted_begun (file ∷ files) [] contents are = tt
 accepted_begun (file ∷ files) (fetch ∷ fetches) [] are = absurd are
@@ -94,7 +94,7 @@ unsure_before first second fetches name each unsure = go (first.sure name) refl
 rose_before : (first second third : ℕ) → first ≤ second → Rose second third → Rose first third
 rose_before first second third later rose = omega arith
 
-reading_stops_later : (first second third : ShelfState) (a b : List File) (fetches more : List Fetched) (contents : List Content) (reason : Reason) → FetchesEach first second fetches → AreAccepted a fetches contents
+reading_stops_later : (first second third : ShelfState) (a b : List File) (fetches more : List Fetched) (contents : List FileContent) (reason : Reason) → FetchesEach first second fetches → AreAccepted a fetches contents
     → ReadingStops second third b more reason → ReadingStops first third (a ++ b) (fetches ++ more) reason
 reading_stops_later first second third a b fetches more contents (AtWord word) each accepted stops = stops
 reading_stops_later first second third a b fetches more contents (AtFile name) each accepted stops =
@@ -117,11 +117,11 @@ reading_stops_first first second a b fetches (AtRoom element) stops = stops
 reading_stops_first first second a b fetches AtMemory stops = begun_first a b fetches stops
 
 -- what comes of some contents, and then of an outcome
-abbrev pub after : List Content → Outcome → Outcome
+abbrev pub after : List FileContent → ReadOutcome → ReadOutcome
 after contents (Contents others) = Contents (contents ++ others)
 after contents (Stopped reason) = Stopped reason
 
-comes_then : (first second third : ShelfState) (a b : List File) (fetches more : List Fetched) (contents : List Content) (outcome : Outcome) → FetchesEach first second fetches → AreAccepted a fetches contents
+comes_then : (first second third : ShelfState) (a b : List File) (fetches more : List Fetched) (contents : List FileContent) (outcome : ReadOutcome) → FetchesEach first second fetches → AreAccepted a fetches contents
     → ComesTo second third b more outcome → ComesTo first third (a ++ b) (fetches ++ more) (after contents outcome)
 comes_then first second third a b fetches more contents (Contents others) each accepted comes = accepted_then a b fetches more contents others accepted comes
 comes_then first second third a b fetches more contents (Stopped reason) each accepted comes = reading_stops_later first second third a b fetches more contents reason each accepted comes
@@ -131,7 +131,7 @@ pub reads_none : (shelf : ShelfState) → ReadsFiles shelf shelf [] (Contents []
 reads_none shelf = record { fetches = []; fetched = fetches_none shelf; comes = (refl, refl) }
 
 -- the files a were read, and then those of b
-pub reads_then : (first second third : ShelfState) (a b : List File) (contents : List Content) (outcome : Outcome) → ReadsFiles first second a (Contents contents) → ReadsFiles second third b outcome
+pub reads_then : (first second third : ShelfState) (a b : List File) (contents : List FileContent) (outcome : ReadOutcome) → ReadsFiles first second a (Contents contents) → ReadsFiles second third b outcome
     → ReadsFiles first third (a ++ b) (after contents outcome)
 reads_then first second third a b contents outcome one two =
     record {
@@ -146,7 +146,7 @@ reads_stopped first second a b reason reads =
     record { fetches = reads.fetches; fetched = reads.fetched; comes = reading_stops_first first second a b reads.fetches reason reads.comes }
 
 -- files were read, and then memory was wanting
-pub reads_wanting : (first second : ShelfState) (files : List File) (contents : List Content) → ReadsFiles first second files (Contents contents) → ReadsFiles first second files (Stopped AtMemory)
+pub reads_wanting : (first second : ShelfState) (files : List File) (contents : List FileContent) → ReadsFiles first second files (Contents contents) → ReadsFiles first second files (Stopped AtMemory)
 reads_wanting first second files contents reads =
     record { fetches = reads.fetches; fetched = reads.fetched; comes = accepted_begun files reads.fetches contents reads.comes }
 
@@ -166,13 +166,13 @@ text_stops shelf new_shelf file fetch bytes (AtInput name fault) got stops = inl
 text_stops shelf new_shelf file fetch bytes (AtRoom element) got stops = absurd stops
 text_stops shelf new_shelf file fetch bytes AtMemory got stops = inl (inl (bytes, got), refl)
 
-text_comes : {A : Type 0} (content_of : A → Content) (shelf new_shelf : ShelfState) (file : File) (fetch : Fetched) (bytes : List ℕ) (result : Result A Stop) → fetch ≡ record { name = file.name; answer = Ok bytes }
+text_comes : {A : Type 0} (content_of : A → FileContent) (shelf new_shelf : ShelfState) (file : File) (fetch : Fetched) (bytes : List ℕ) (result : Result A CommandStop) → fetch ≡ record { name = file.name; answer = Ok bytes }
     → ReadsText content_of file.kind bytes file.name result → ComesTo shelf new_shelf (file ∷ []) (fetch ∷ []) (outcome_of (λ value. content_of value ∷ []) result)
 text_comes content_of shelf new_shelf file fetch bytes (Ok value) got reads = (record { bytes = bytes; got = got; reads = reads }, (refl, refl))
 text_comes content_of shelf new_shelf file fetch bytes (Err stop) got reads = text_stops shelf new_shelf file fetch bytes (reason_of stop) got reads
 
 -- a file was fetched, and its bytes were read
-pub reads_text : {A V : Type 0} (content_of : V → Content) (shelf new_shelf : ShelfState) (file : File) (bytes : Vec ℕ A) (result : Result V Stop) → Fetches {A = A} shelf new_shelf file.name (Ok bytes)
+pub reads_text : {A V : Type 0} (content_of : V → FileContent) (shelf new_shelf : ShelfState) (file : File) (bytes : Vec ℕ A) (result : Result V CommandStop) → Fetches {A = A} shelf new_shelf file.name (Ok bytes)
     → ReadsText content_of file.kind bytes.items file.name result → ReadsFiles shelf new_shelf (file ∷ []) (outcome_of (λ value. content_of value ∷ []) result)
 reads_text content_of shelf new_shelf file bytes result fetches reads =
     let fetch : Fetched = record { name = file.name; answer = Ok bytes.items } in
@@ -204,19 +204,19 @@ carries_stopped command shelf new_shelf out reason reads =
     record { fetches = reads.fetches; fetched = reads.fetched; ends = stops_for command shelf new_shelf reads.fetches out reason reads.comes }
 
 -- a command's files were read, and its whole text was written
-pub carries_done : (command : PlainCommand) (shelf new_shelf : ShelfState) (out new_out : SinkState) (contents : List Content) → ReadsFiles shelf new_shelf (files_of command) (Contents contents)
+pub carries_done : (command : PlainCommand) (shelf new_shelf : ShelfState) (out new_out : SinkState) (contents : List FileContent) → ReadsFiles shelf new_shelf (files_of command) (Contents contents)
     → (text : List ℕ) → IsJobText command contents text → PushedAll out new_out text → CarriesOut command shelf new_shelf out new_out None
 carries_done command shelf new_shelf out new_out contents reads text is pushed =
     record { fetches = reads.fetches; fetched = reads.fetched; ends = record { contents = contents; accepted = reads.comes; text = text; is_text = is; written = pushed } }
 
 -- a command's files were read, and a front of its text was written
-pub carries_cut : (command : PlainCommand) (shelf new_shelf : ShelfState) (out new_out : SinkState) (contents : List Content) → ReadsFiles shelf new_shelf (files_of command) (Contents contents)
+pub carries_cut : (command : PlainCommand) (shelf new_shelf : ShelfState) (out new_out : SinkState) (contents : List FileContent) → ReadsFiles shelf new_shelf (files_of command) (Contents contents)
     → (text : List ℕ) → IsJobText command contents text → PushedFront out new_out text → CarriesOut command shelf new_shelf out new_out (Some AtOutput)
 carries_cut command shelf new_shelf out new_out contents reads text is pushed =
     record { fetches = reads.fetches; fetched = reads.fetched; ends = record { contents = contents; accepted = reads.comes; text = text; is_text = is; cut = pushed } }
 
 -- a command's files were read, and a front of its text was written before memory was wanting
-carries_broken : (command : PlainCommand) (shelf new_shelf : ShelfState) (out new_out : SinkState) (contents : List Content) → ReadsFiles shelf new_shelf (files_of command) (Contents contents)
+carries_broken : (command : PlainCommand) (shelf new_shelf : ShelfState) (out new_out : SinkState) (contents : List FileContent) → ReadsFiles shelf new_shelf (files_of command) (Contents contents)
     → (text : List ℕ) → IsJobText command contents text → PushedSome out new_out text → WritesInPlay command → CarriesOut command shelf new_shelf out new_out (Some AtMemory)
 carries_broken command shelf new_shelf out new_out contents reads text is pushed in_play =
     record { fetches = reads.fetches; fetched = reads.fetched; ends = inr (record { contents = contents; accepted = reads.comes; text = text; is_text = is; broken = pushed; in_play = in_play }) }
@@ -242,40 +242,40 @@ carries_words words command shelf new_shelf out new_out ending is carried =
     record { fetches = carried.fetches; fetched = carried.fetched; ends = ends_as words command shelf new_shelf carried.fetches out new_out ending is carried.ends }
 
 -- the outcome of a call that answers with a stop
-pub outcome_stopped : {V : Type 0} (contents_of : V → List Content) (result : Result V Stop) (why : Stop) → IsErrAnd result (λ other. other ≡ why) → Stopped (reason_of why) ≡ outcome_of contents_of result
+pub outcome_stopped : {V : Type 0} (contents_of : V → List FileContent) (result : Result V CommandStop) (why : CommandStop) → IsErrAnd result (λ other. other ≡ why) → Stopped (reason_of why) ≡ outcome_of contents_of result
 outcome_stopped contents_of (Ok value) why same = absurd same
 outcome_stopped contents_of (Err other) why same = ap (λ s. Stopped (reason_of s)) (sym same)
 
 -- a call that answers with the stop of the files a, which come first
-pub stopped_first : {V : Type 0} (contents_of : V → List Content) (first second : ShelfState) (a b : List File) (result : Result V Stop) (why : Stop) → IsErrAnd result (λ other. other ≡ why)
+pub stopped_first : {V : Type 0} (contents_of : V → List FileContent) (first second : ShelfState) (a b : List File) (result : Result V CommandStop) (why : CommandStop) → IsErrAnd result (λ other. other ≡ why)
     → ReadsFiles first second a (Stopped (reason_of why)) → ReadsFiles first second (a ++ b) (outcome_of contents_of result)
 stopped_first contents_of first second a b result why same reads =
     subst (ReadsFiles first second (a ++ b)) (outcome_stopped contents_of result why same) (reads_stopped first second a b (reason_of why) reads)
 
 -- a call that answers with the stop of the files b, before which those of a were read
-pub stopped_later : {V : Type 0} (contents_of : V → List Content) (first second third : ShelfState) (a b : List File) (contents : List Content) (result : Result V Stop) (why : Stop) → IsErrAnd result (λ other. other ≡ why)
+pub stopped_later : {V : Type 0} (contents_of : V → List FileContent) (first second third : ShelfState) (a b : List File) (contents : List FileContent) (result : Result V CommandStop) (why : CommandStop) → IsErrAnd result (λ other. other ≡ why)
     → ReadsFiles first second a (Contents contents) → ReadsFiles second third b (Stopped (reason_of why)) → ReadsFiles first third (a ++ b) (outcome_of contents_of result)
 stopped_later contents_of first second third a b contents result why same one two =
     subst (ReadsFiles first third (a ++ b)) (outcome_stopped contents_of result why same) (reads_then first second third a b contents (Stopped (reason_of why)) one two)
 
-pub ending_stopped : {U : Type 0} (result : Result U Stop) (why : Stop) → IsErrAnd result (λ other. other ≡ why) → Some (reason_of why) ≡ ending_of result
+pub ending_stopped : {U : Type 0} (result : Result U CommandStop) (why : CommandStop) → IsErrAnd result (λ other. other ≡ why) → Some (reason_of why) ≡ ending_of result
 ending_stopped (Ok done) why same = absurd same
 ending_stopped (Err other) why same = ap (λ s. Some (reason_of s)) (sym same)
 
 -- a command that answers with the stop of its files
-pub carries_stop : {U : Type 0} (command : PlainCommand) (shelf new_shelf : ShelfState) (out : SinkState) (result : Result U Stop) (why : Stop) → IsErrAnd result (λ other. other ≡ why)
+pub carries_stop : {U : Type 0} (command : PlainCommand) (shelf new_shelf : ShelfState) (out : SinkState) (result : Result U CommandStop) (why : CommandStop) → IsErrAnd result (λ other. other ≡ why)
     → ReadsFiles shelf new_shelf (files_of command) (Stopped (reason_of why)) → CarriesOut command shelf new_shelf out out (ending_of result)
 carries_stop command shelf new_shelf out result why same reads =
     subst (CarriesOut command shelf new_shelf out out) (ending_stopped result why same) (carries_stopped command shelf new_shelf out (reason_of why) reads)
 
 -- a command that answers with a failed output
-pub carries_failure : {U : Type 0} (command : PlainCommand) (shelf new_shelf : ShelfState) (out new_out : SinkState) (contents : List Content) (result : Result U Stop) → IsErrAnd result (λ other. other ≡ stop.Write)
+pub carries_failure : {U : Type 0} (command : PlainCommand) (shelf new_shelf : ShelfState) (out new_out : SinkState) (contents : List FileContent) (result : Result U CommandStop) → IsErrAnd result (λ other. other ≡ stop.Write)
     → ReadsFiles shelf new_shelf (files_of command) (Contents contents) → (text : List ℕ) → IsJobText command contents text → PushedFront out new_out text → CarriesOut command shelf new_shelf out new_out (ending_of result)
 carries_failure command shelf new_shelf out new_out contents result same reads text is pushed =
     subst (CarriesOut command shelf new_shelf out new_out) (ending_stopped result stop.Write same) (carries_cut command shelf new_shelf out new_out contents reads text is pushed)
 
 -- a command that answers with the fault of a play
-pub carries_fault : {U : Type 0} (command : PlainCommand) (shelf new_shelf : ShelfState) (out new_out : SinkState) (contents : List Content) (result : Result U Stop) (fault : PlayFault) → IsErrAnd result (λ other. other ≡ stop_of fault)
+pub carries_fault : {U : Type 0} (command : PlainCommand) (shelf new_shelf : ShelfState) (out new_out : SinkState) (contents : List FileContent) (result : Result U CommandStop) (fault : PlayFault) → IsErrAnd result (λ other. other ≡ stop_of fault)
     → ReadsFiles shelf new_shelf (files_of command) (Contents contents) → (text : List ℕ) → IsJobText command contents text → StoppedBy out new_out text fault → WritesInPlay command
     → CarriesOut command shelf new_shelf out new_out (ending_of result)
 carries_fault command shelf new_shelf out new_out contents result play.WriteFault same reads text is pushed in_play = carries_failure command shelf new_shelf out new_out contents result same reads text is pushed
@@ -283,17 +283,17 @@ carries_fault command shelf new_shelf out new_out contents result play.OutOfMemo
     subst (CarriesOut command shelf new_shelf out new_out) (ending_stopped result stop.Memory same) (carries_broken command shelf new_shelf out new_out contents reads text is pushed in_play)
 
 -- a command that answers with want of memory before a file was fetched
-pub carries_wanting : {U : Type 0} (command : PlainCommand) (shelf : ShelfState) (out : SinkState) (result : Result U Stop) → IsErrAnd result (λ other. other ≡ stop.Memory) → CarriesOut command shelf shelf out out (ending_of result)
+pub carries_wanting : {U : Type 0} (command : PlainCommand) (shelf : ShelfState) (out : SinkState) (result : Result U CommandStop) → IsErrAnd result (λ other. other ≡ stop.Memory) → CarriesOut command shelf shelf out out (ending_of result)
 carries_wanting command shelf out result same = subst (CarriesOut command shelf shelf out out) (ending_stopped result stop.Memory same) (carries_nothing command shelf out)
 
 -- a command that answers with want of memory after its files were read
-pub carries_wanting_later : {U : Type 0} (command : PlainCommand) (shelf new_shelf : ShelfState) (out : SinkState) (contents : List Content) (result : Result U Stop) → IsErrAnd result (λ other. other ≡ stop.Memory)
+pub carries_wanting_later : {U : Type 0} (command : PlainCommand) (shelf new_shelf : ShelfState) (out : SinkState) (contents : List FileContent) (result : Result U CommandStop) → IsErrAnd result (λ other. other ≡ stop.Memory)
     → ReadsFiles shelf new_shelf (files_of command) (Contents contents) → CarriesOut command shelf new_shelf out out (ending_of result)
 carries_wanting_later command shelf new_shelf out contents result same reads =
     carries_stop command shelf new_shelf out result stop.Memory same (reads_wanting shelf new_shelf (files_of command) contents reads)
 
 -- words that answer with want of memory before a file was fetched
-pub carries_want : {U : Type 0} (words : List (List ℕ)) (command : PlainCommand) (shelf : ShelfState) (out : SinkState) (result : Result U Stop) → IsErrAnd result (λ other. other ≡ stop.Memory) → IsCommand words command
+pub carries_want : {U : Type 0} (words : List (List ℕ)) (command : PlainCommand) (shelf : ShelfState) (out : SinkState) (result : Result U CommandStop) → IsErrAnd result (λ other. other ≡ stop.Memory) → IsCommand words command
     → CarriesOutWords words shelf shelf out out (ending_of result)
 carries_want words command shelf out result same is_command =
     subst (CarriesOutWords words shelf shelf out out) (ending_stopped result stop.Memory same) (carries_words words command shelf shelf out out (Some AtMemory) is_command (carries_nothing command shelf out))

@@ -1,14 +1,13 @@
 -- The text of the task's sample brain, as the task prints it, is read as these instructions.
-use Rattle.std.proofs.Common.{List, codes, refl, arith}
-use Rattle.ant_base.specs.Number.{number_of}
+use Rattle.std.proofs.Common.{codes, refl, arith}
+use Rattle.ant_base.specs.Number.{decimal_value}
 use Rattle.brain_read.proofs.SoundnessLemmas.{brain_of}
 use Rattle.brain_read.specs.Grammar.{IsBrainText}
 use Rattle.brain_read.specs.Soundness.{IsBrain}
-use Rattle.brain_read.specs.declared.instr.Instr.{Instr}
 use Rattle.ants.specs.Sample.{sample_brain}
 
 pub sample_text : IsBrainText (codes "Sense Ahead 1 3 Food\nMove 2 0\nPickUp 8 0\nFlip 3 4 5\nTurn Left 0\nFlip 2 6 7\nTurn Right 0\nMove 0 3\nSense Ahead 9 11 Home\nMove 10 8\nDrop 0\nFlip 3 12 13\nTurn Left 8\nFlip 2 14 15\nTurn Right 8\nMove 8 11\n") sample_brain
-unfolding number_of sample_brain
+unfolding decimal_value sample_brain
 sample_text = record {
   lines = (
     record { spelled = (refl, (refl, (refl, (refl, (refl, tt))))); in_range = tt },

@@ -18,8 +18,8 @@ use Rattle.world_read.specs.declared.fault.WorldFault.{WorldFault}
 use Rattle.world_read.specs.declared.fault.WorldFault.TheVariants as world
 use Rattle.ants.specs.declared.stop.FileFault.{FileFault}
 use Rattle.ants.specs.declared.stop.FileFault.TheVariants.{TooLong, World, Brain, Breaks}
-use Rattle.ants.specs.Files.{Content, FileKind, Reads, Refuses}
-use Rattle.ants.specs.Files.Content.{WorldContent, BrainContent, BreakContent}
+use Rattle.ants.specs.Files.{FileContent, FileKind, Reads, Refuses}
+use Rattle.ants.specs.Files.FileContent.{WorldContent, BrainContent, BreakContent}
 use Rattle.ants.specs.Files.FileKind.{WorldFile, BrainFile, BreakFile}
 use Rattle.ants.specs.Inner.Reading.{TextStops, brain_reason, break_reason, world_reason}
 use Rattle.ants.specs.Stopping.Reason.{AtInput}
@@ -32,7 +32,7 @@ never_wrong bytes grid fault opens wrong =
     cc
 
 -- bytes are never both read and refused
-pub never_both : (kind : FileKind) (bytes : List ℕ) (content : Content) (fault : FileFault) → Reads kind bytes content → Refuses kind bytes fault → ⊥
+pub never_both : (kind : FileKind) (bytes : List ℕ) (content : FileContent) (fault : FileFault) → Reads kind bytes content → Refuses kind bytes fault → ⊥
 never_both WorldFile bytes content TooLong reads refuses = refuses
 never_both WorldFile bytes content (Brain fault) reads refuses = refuses
 never_both WorldFile bytes content (Breaks fault) reads refuses = refuses
@@ -65,7 +65,7 @@ one_world_fault bytes a b first second =
     cc
 
 -- bytes are read in one way
-pub one_reading : (kind : FileKind) (bytes : List ℕ) (a b : Content) → Reads kind bytes a → Reads kind bytes b → a ≡ b
+pub one_reading : (kind : FileKind) (bytes : List ℕ) (a b : FileContent) → Reads kind bytes a → Reads kind bytes b → a ≡ b
 one_reading WorldFile bytes (WorldContent a) (WorldContent b) first second = ap WorldContent (one_world bytes a b first second)
 one_reading WorldFile bytes (WorldContent a) (BrainContent b) first second = absurd second
 one_reading WorldFile bytes (WorldContent a) (BreakContent b) first second = absurd second
@@ -114,7 +114,7 @@ some_world bytes = go (world_of_text bytes) refl
     go (Err fault) is = inr (fault, told.IsWorldFault-known bytes fault is)
 
 -- bytes are read or refused
-pub some_reading : (kind : FileKind) (bytes : List ℕ) → ((content : Content) × Reads kind bytes content) ⊎ ((fault : FileFault) × Refuses kind bytes fault)
+pub some_reading : (kind : FileKind) (bytes : List ℕ) → ((content : FileContent) × Reads kind bytes content) ⊎ ((fault : FileFault) × Refuses kind bytes fault)
 some_reading WorldFile bytes = elim (some_world bytes) [ inl opens ↦ inl (WorldContent opens.0, opens.1) | inr wrong ↦ inr (World wrong.0, wrong.1) ]
 some_reading BrainFile bytes = elim (whole.some_answer bytes) [ inl is ↦ inl (BrainContent is.0, is.1) | inr wrong ↦ inr (Brain wrong.0, wrong.1) ]
 some_reading BreakFile bytes = elim (break_whole.some_answer bytes) [ inl is ↦ inl (BreakContent is.0, is.1) | inr wrong ↦ inr (Breaks wrong.0, wrong.1) ]

@@ -16,10 +16,10 @@ use Rattle.ants.specs.declared.status.Status.{Status}
 use Rattle.ants.specs.declared.status.Status.TheVariants as status
 use Rattle.ants.specs.declared.stop.FileFault.{FileFault}
 use Rattle.ants.specs.declared.stop.FileFault.TheVariants.{TooLong, World, Brain, Breaks}
-use Rattle.ants.specs.Files.{AreAccepted, AreBegun, AreInOrder, Content, File, IsAccepted, IsFetched, IsNoText, IsRefused, Reads, Refuses, StopsAt}
+use Rattle.ants.specs.Files.{AreAccepted, AreBegun, AreInOrder, FileContent, File, IsAccepted, IsFetched, IsNoText, IsRefused, Reads, Refuses, StopsAt}
 use Rattle.ants.specs.Jobs.{HasRoom, IsJobText, LacksRoom, contest_shape, files_of, shape_named}
-use Rattle.ants.specs.Judged.{IsRefusedAs, Judged, Verdict}
-use Rattle.ants.specs.Judged.Verdict.{AllAccepted, FirstRefused}
+use Rattle.ants.specs.Judged.{IsRefusedAs, Judged, FilesVerdict}
+use Rattle.ants.specs.Judged.FilesVerdict.{AllAccepted, FirstRefused}
 use Rattle.ants.specs.Performing.{EndsBy, IsUnsure}
 use Rattle.ants.specs.Running.{Ends, IsComplete, IsNoCommand, IsOrderly, NeverUnread, IsRefusing, IsRun, ending_status, IsCrowding}
 use Rattle.ants.specs.Stopping.{Reason}
@@ -59,25 +59,25 @@ never_bytes at name bytes first second one two got long =
     never_long name bytes (at name) content.told content.short (told_long at name second two long)
 
 -- a file is accepted as one content
-pub one_content : (at : At) (file : File) (first second : Fetched) (a b : Content) → IsTold (Some at) first → IsTold (Some at) second → IsAccepted file first a → IsAccepted file second b → a ≡ b
+pub one_content : (at : At) (file : File) (first second : Fetched) (a b : FileContent) → IsTold (Some at) first → IsTold (Some at) second → IsAccepted file first a → IsAccepted file second b → a ≡ b
 one_content at file first second a b one two is also =
     let same = one_bytes at file.name also.bytes is.bytes second first two one also.got is.got in
     one_reading file.kind is.bytes a b is.reads (subst (λ (bytes : List ℕ). Reads file.kind bytes b) same also.reads)
 
-accepted_no_text : (at : At) (file : File) (first second : Fetched) (content : Content) (fault : FileFault) → IsTold (Some at) first → IsTold (Some at) second → IsAccepted file first content → IsNoText file second fault → ⊥
+accepted_no_text : (at : At) (file : File) (first second : Fetched) (content : FileContent) (fault : FileFault) → IsTold (Some at) first → IsTold (Some at) second → IsAccepted file first content → IsNoText file second fault → ⊥
 accepted_no_text at file first second content fault one two is refused =
     let same = one_bytes at file.name refused.bytes is.bytes second first two one refused.got is.got in
     never_both file.kind is.bytes content fault is.reads (subst (λ (bytes : List ℕ). Refuses file.kind bytes fault) same refused.refuses)
 
 -- a file is never both accepted and refused
-pub one_verdict : (at : At) (file : File) (first second : Fetched) (content : Content) (fault : FileFault) → IsTold (Some at) first → IsTold (Some at) second → IsAccepted file first content → IsRefused file second fault → ⊥
+pub one_verdict : (at : At) (file : File) (first second : Fetched) (content : FileContent) (fault : FileFault) → IsTold (Some at) first → IsTold (Some at) second → IsAccepted file first content → IsRefused file second fault → ⊥
 one_verdict at file first second content TooLong one two is refused = never_bytes at file.name is.bytes first second one two is.got refused
 one_verdict at file first second content (World fault) one two is refused = accepted_no_text at file first second content (World fault) one two is refused
 one_verdict at file first second content (Brain fault) one two is refused = accepted_no_text at file first second content (Brain fault) one two is refused
 one_verdict at file first second content (Breaks fault) one two is refused = accepted_no_text at file first second content (Breaks fault) one two is refused
 
 -- files that are all accepted have none that is refused
-pub accepted_never_refused : (at : At) (files : List File) (first second : List Fetched) (contents : List Content) (name : List ℕ) (fault : FileFault) → AllByRecursion (IsTold (Some at)) first → AllByRecursion (IsTold (Some at)) second
+pub accepted_never_refused : (at : At) (files : List File) (first second : List Fetched) (contents : List FileContent) (name : List ℕ) (fault : FileFault) → AllByRecursion (IsTold (Some at)) first → AllByRecursion (IsTold (Some at)) second
     → AreAccepted files first contents → StopsAt (IsRefusedAs name fault) files second → ⊥
 accepted_never_refused at [] first second contents name fault one two are stops = stops
 accepted_never_refused at (file ∷ files) [] second contents name fault one two are stops = are
@@ -90,7 +90,7 @@ accepted_never_refused at (file ∷ files) (x ∷ first) (y ∷ second) (content
     ]
 
 -- the fetch of an accepted file asked for its name
-accepted_name : (file : File) (fetch : Fetched) (content : Content) → IsAccepted file fetch content → fetch.name ≡ file.name
+accepted_name : (file : File) (fetch : Fetched) (content : FileContent) → IsAccepted file fetch content → fetch.name ≡ file.name
 accepted_name file fetch content is = ap (λ (f : Fetched). f.name) is.got
 
 -- so did that of a refused one
@@ -106,7 +106,7 @@ never_sure shelf name file fetch other unsure named sure =
     false≢true (sym unsure.unsure ∙ ap shelf.sure (sym unsure.named ∙ sym named) ∙ sure)
 
 -- where the shelf was sure of all files up to the verdict, no reading stopped at one of which it wasn't
-sure_accepted : (shelf : ShelfState) (name : List ℕ) (files : List File) (first second : List Fetched) (contents : List Content) → AreSure shelf second → StopsAt (IsUnsure shelf name) files first → AreAccepted files second contents → ⊥
+sure_accepted : (shelf : ShelfState) (name : List ℕ) (files : List File) (first second : List Fetched) (contents : List FileContent) → AreSure shelf second → StopsAt (IsUnsure shelf name) files first → AreAccepted files second contents → ⊥
 sure_accepted shelf name [] first second contents sure stops are = stops
 sure_accepted shelf name (file ∷ files) [] second contents sure stops are = stops
 sure_accepted shelf name (file ∷ files) (x ∷ first) [] contents sure stops are = are
@@ -134,7 +134,7 @@ sure_refused at shelf name other fault (file ∷ files) (x ∷ first) (y ∷ sec
       ]
     ]
 
-sure_judged : (at : At) (shelf : ShelfState) (name : List ℕ) (files : List File) (first second : List Fetched) (verdict : Verdict) → AllByRecursion (IsTold (Some at)) first → AllByRecursion (IsTold (Some at)) second
+sure_judged : (at : At) (shelf : ShelfState) (name : List ℕ) (files : List File) (first second : List Fetched) (verdict : FilesVerdict) → AllByRecursion (IsTold (Some at)) first → AllByRecursion (IsTold (Some at)) second
     → AreSure shelf second → StopsAt (IsUnsure shelf name) files first → Judged files second verdict → ⊥
 sure_judged at shelf name files first second (AllAccepted contents) one two sure stops judged = sure_accepted shelf name files first second contents sure stops judged
 sure_judged at shelf name files first second (FirstRefused other fault) one two sure stops judged = sure_refused at shelf name other fault files first second one two sure stops judged
@@ -150,7 +150,7 @@ in_order_none files = record { left = map (λ (file : File). file.name) files; i
 in_order_here : (file : File) (files : List File) (fetch : Fetched) (fetches : List Fetched) → fetch.name ≡ file.name → fetches ≡ [] → AreInOrder (file ∷ files) (fetch ∷ fetches)
 in_order_here file files fetch fetches named none = in_order_then file files fetch fetches named (subst (AreInOrder files) (sym none) (in_order_none files))
 
-in_order_accepted : (files : List File) (fetches : List Fetched) (contents : List Content) → AreAccepted files fetches contents → AreInOrder files fetches
+in_order_accepted : (files : List File) (fetches : List Fetched) (contents : List FileContent) → AreAccepted files fetches contents → AreInOrder files fetches
 in_order_accepted [] fetches contents are = subst (AreInOrder []) (sym are.0) (in_order_none [])
 in_order_accepted (file ∷ files) [] contents are = absurd are
 in_order_accepted (file ∷ files) (fetch ∷ fetches) [] are = absurd are
@@ -219,7 +219,7 @@ orderly_run words shelf new_shelf out new_out err new_err ended run = λ command
     (in_order_by command shelf new_shelf run.fetches out new_out run.ending (as_command words command shelf new_shelf run.fetches out new_out run.ending is run.ends))
 
 -- a run whose files are all accepted is done, or wants memory
-complete_by : (at : At) (command : PlainCommand) (shelf new_shelf : ShelfState) (fetches told : List Fetched) (out new_out : SinkState) (contents : List Content) (ending : Option Reason) → AllByRecursion (IsTold (Some at)) fetches
+complete_by : (at : At) (command : PlainCommand) (shelf new_shelf : ShelfState) (fetches told : List Fetched) (out new_out : SinkState) (contents : List FileContent) (ending : Option Reason) → AllByRecursion (IsTold (Some at)) fetches
     → AllByRecursion (IsTold (Some at)) told → AreAccepted (files_of command) told contents → HasRoom command → EndsBy command shelf new_shelf fetches out new_out ending → ¬ Rose shelf.faults new_shelf.faults → ¬ Rose out.faults new_out.faults
     → (ending_status ending ≡ status.Done) ⊎ (ending_status ending ≡ status.Memory)
 complete_by at command shelf new_shelf fetches told out new_out contents None one two are room ends shelf_held out_held = inl refl
@@ -242,7 +242,7 @@ complete_run words shelf new_shelf out new_out err new_err ended run = λ conten
     (as_command words is.command shelf new_shelf run.fetches out new_out run.ending is.is_command run.ends) shelf_held out_held)
 
 -- a text that is written of a generated world is none where an element has no room
-text_has_room : (command : PlainCommand) (contents : List Content) (text : List ℕ) (element : ℕ) → IsJobText command contents text → LacksRoom command element → ⊥
+text_has_room : (command : PlainCommand) (contents : List FileContent) (text : List ℕ) (element : ℕ) → IsJobText command contents text → LacksRoom command element → ⊥
 text_has_room (GenCommand seed shape) [] text element is lacks = one_outcome.none seed (shape_named shape) is.generated.placed element is.generated.placing lacks
 text_has_room (GenCommand seed shape) (content ∷ contents) text element is lacks = is
 text_has_room (WorkloadCommand seed rounds workers) [] text element is lacks = one_outcome.none seed contest_shape is.generated.placed element is.generated.placing lacks
@@ -302,7 +302,7 @@ refusing_run words shelf new_shelf out new_out err new_err ended run = λ name f
     (as_command words is.command shelf new_shelf run.fetches out new_out run.ending is.is_command run.ends) shelf_held)
 
 -- no run ends at a file that was not read where the shelf is sure of the files up to the verdict
-read_by : (at : At) (command : PlainCommand) (shelf new_shelf : ShelfState) (fetches told : List Fetched) (out new_out : SinkState) (verdict : Verdict) (ending : Option Reason) → AllByRecursion (IsTold (Some at)) fetches
+read_by : (at : At) (command : PlainCommand) (shelf new_shelf : ShelfState) (fetches told : List Fetched) (out new_out : SinkState) (verdict : FilesVerdict) (ending : Option Reason) → AllByRecursion (IsTold (Some at)) fetches
     → AllByRecursion (IsTold (Some at)) told → Judged (files_of command) told verdict → AreSure shelf told → EndsBy command shelf new_shelf fetches out new_out ending → ending_status ending ≢ status.Read
 read_by at command shelf new_shelf fetches told out new_out verdict None one two judged sure ends = λ same. cc
 read_by at command shelf new_shelf fetches told out new_out verdict (Some (AtWord word)) one two judged sure ends = λ same. cc

@@ -1,16 +1,16 @@
 -- Lines, statuses and numbers of endings, among them those that no test brings about.
-use Rattle.std.proofs.Common.{◌≡◌, ℕ, List, [], ◌∷◌, codes, map, refl}
+use Rattle.std.proofs.Common.{◌≡◌, [], ◌∷◌, codes, map, refl}
 use Rattle.std.specs.Fmt.{digits}
 use Rattle.brain_read.specs.declared.fault.BrainFault.TheVariants as brain
 use Rattle.world_read.specs.declared.fault.WorldFault.TheVariants as world
 use Rattle.ants.specs.declared.status.Status.TheVariants.{Done, Words, Read, Write, Input, Memory}
 use Rattle.ants.specs.declared.stop.FileFault.TheVariants as file
-use Rattle.ants.specs.Status.{number_of}
+use Rattle.ants.specs.Status.{status_number}
 use Rattle.ants.specs.Stopping.{fault_line, status_of}
 use Rattle.ants.specs.Stopping.Reason.{AtFile, AtInput, AtMemory, AtOutput, AtRoom, AtWord}
 
 -- the numbers with which the program exits
-pub numbers : map number_of (Done ∷ Words ∷ Read ∷ Write ∷ Input ∷ Memory ∷ []) ≡ 0 ∷ 2 ∷ 3 ∷ 4 ∷ 5 ∷ 6 ∷ []
+pub numbers : map status_number (Done ∷ Words ∷ Read ∷ Write ∷ Input ∷ Memory ∷ []) ≡ 0 ∷ 2 ∷ 3 ∷ 4 ∷ 5 ∷ 6 ∷ []
 numbers = refl
 
 -- the status of each reason

@@ -26,13 +26,13 @@ pub record File : Type 0 where
   pub kind : FileKind
 
 -- what was read of a file
-pub data Content : Type 0 where
-  WorldContent : Grid → Content
-  BrainContent : List Instr → Content
-  BreakContent : List Break → Content
+pub data FileContent : Type 0 where
+  WorldContent : Grid → FileContent
+  BrainContent : List Instr → FileContent
+  BreakContent : List Break → FileContent
 
 -- bytes are read as this content in a file of this kind
-abbrev pub Reads : FileKind → List ℕ → Content → Type 0
+abbrev pub Reads : FileKind → List ℕ → FileContent → Type 0
 Reads WorldFile bytes (WorldContent grid) = OpensAs bytes grid
 Reads BrainFile bytes (BrainContent list) = IsBrainText bytes list
 Reads BreakFile bytes (BreakContent items) = IsBreakText bytes items
@@ -46,7 +46,7 @@ Refuses BreakFile bytes (Breaks fault) = IsBreakFault bytes fault
 Refuses kind bytes fault = ⊥
 
 -- the file was fetched, and its bytes are read as this content
-pub record IsAccepted (file : File) (fetch : Fetched) (content : Content) : Type 0 where
+pub record IsAccepted (file : File) (fetch : Fetched) (content : FileContent) : Type 0 where
   pub bytes : List ℕ
   pub got : fetch ≡ record { name = file.name; answer = Ok bytes }
   pub reads : Reads file.kind bytes content
@@ -65,7 +65,7 @@ IsRefused file fetch (Brain fault) = IsNoText file fetch (Brain fault)
 IsRefused file fetch (Breaks fault) = IsNoText file fetch (Breaks fault)
 
 -- the files were fetched, each once and in order, and accepted as these contents
-abbrev pub AreAccepted : List File → List Fetched → List Content → Type 0
+abbrev pub AreAccepted : List File → List Fetched → List FileContent → Type 0
 AreAccepted [] fetches contents = (fetches ≡ []) × (contents ≡ [])
 AreAccepted (file ∷ files) [] contents = ⊥
 AreAccepted (file ∷ files) (fetch ∷ fetches) [] = ⊥
@@ -76,7 +76,7 @@ abbrev pub StopsAt : (File → Fetched → Type 0) → List File → List Fetche
 StopsAt IsSuch [] fetches = ⊥
 StopsAt IsSuch (file ∷ files) [] = ⊥
 StopsAt IsSuch (file ∷ files) (fetch ∷ fetches) =
-    (IsSuch file fetch × (fetches ≡ [])) ⊎ ((content : Content) × IsAccepted file fetch content × StopsAt IsSuch files fetches)
+    (IsSuch file fetch × (fetches ≡ [])) ⊎ ((content : FileContent) × IsAccepted file fetch content × StopsAt IsSuch files fetches)
 
 -- the file was fetched: its bytes came, or memory could not be had for them
 abbrev pub IsFetched : File → Fetched → Type 0
@@ -89,7 +89,7 @@ abbrev pub AreBegun : List File → List Fetched → Type 0
 AreBegun [] fetches = fetches ≡ []
 AreBegun (file ∷ files) [] = Unit {0}
 AreBegun (file ∷ files) (fetch ∷ fetches) =
-    (IsFetched file fetch × (fetches ≡ [])) ⊎ ((content : Content) × IsAccepted file fetch content × AreBegun files fetches)
+    (IsFetched file fetch × (fetches ≡ [])) ⊎ ((content : FileContent) × IsAccepted file fetch content × AreBegun files fetches)
 
 -- the names that were fetched are those of the first of these files, in order and each once
 pub record AreInOrder (files : List File) (fetches : List Fetched) : Type 0 where

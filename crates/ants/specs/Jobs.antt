@@ -32,9 +32,9 @@ use Rattle.world_gen.specs.Placing.{HasNoRoom}
 use Rattle.world_read.specs.Canonical.{canonical_text}
 use Rattle.world_read.specs.Opened.{kinds_of}
 use Rattle.ants.specs.declared.workload.Summary.{Summary}
-use Rattle.ants.specs.Files.{File, Content}
+use Rattle.ants.specs.Files.{File, FileContent}
 use Rattle.ants.specs.Files.FileKind.{WorldFile, BrainFile, BreakFile}
-use Rattle.ants.specs.Files.Content.{WorldContent, BrainContent, BreakContent}
+use Rattle.ants.specs.Files.FileContent.{WorldContent, BrainContent, BreakContent}
 use Rattle.ants.specs.Sample.{sample_brain}
 
 -- a file with a world, one with a brain, and one with breaks
@@ -67,13 +67,13 @@ files_of (ViewCommand world red black breaks seed rounds) = game_files world red
 files_of (WorkloadCommand seed rounds workers) = []
 
 -- the output of `show`: the line of the seed, and the dump after round 0
-unfoldable pub show_output : ℕ → Content → List ℕ
+unfoldable pub show_output : ℕ → FileContent → List ℕ
 show_output seed (WorldContent grid) = seed_text seed +++ dump_text (world_of grid) 0
 -- never: its file is a world
 show_output seed content = []
 
 -- the output of `brain`: the canonical text
-unfoldable pub brain_output : Content → List ℕ
+unfoldable pub brain_output : FileContent → List ℕ
 brain_output (BrainContent list) = brain_text list
 -- never: its file is a brain
 brain_output content = []
@@ -93,7 +93,7 @@ abbrev pub minds_named : RunSetup → List Instr → List Instr → Minds
 minds_named setup red black = record { red = red; black = black; sheet = sheet_named setup }
 
 -- the output of `run`: the line of the seed, the chosen dumps, the score, and the counts where they are asked for
-unfoldable pub match_output : RunSetup → Content → Content → Content → List ℕ
+unfoldable pub match_output : RunSetup → FileContent → FileContent → FileContent → List ℕ
 match_output setup (WorldContent grid) (BrainContent red) (BrainContent black) =
     whole_text (minds_named setup red black) setup.seed setup.rounds (chosen_rounds setup.dumps) setup.window setup.stats (world_of grid)
 -- never: its files are a world and two brains
@@ -106,13 +106,13 @@ pub record TellsMinimised (old : List Instr) (text : List ℕ) : Type 0 where
   pub minimised : IsMinimised old new numbers
   pub told : text ≡ minimised_text old new
 
-abbrev pub IsMinimisedOutput : Content → List ℕ → Type 0
+abbrev pub IsMinimisedOutput : FileContent → List ℕ → Type 0
 IsMinimisedOutput (BrainContent list) text = TellsMinimised list text
 -- never: its file is a brain
 IsMinimisedOutput content text = ⊥
 
 -- the output of `view`: the view of the game, by the contest's rules, with these breaks
-abbrev pub IsViewOutput : ℕ → ℕ → Content → Content → Content → Content → List ℕ → Type 0
+abbrev pub IsViewOutput : ℕ → ℕ → FileContent → FileContent → FileContent → FileContent → List ℕ → Type 0
 IsViewOutput seed rounds (WorldContent grid) (BrainContent red) (BrainContent black) (BreakContent items) text =
     IsViewText (contest_minds red black) seed rounds (world_of grid) items text
 -- never: its files are a world, two brains and a list of breaks
@@ -132,11 +132,11 @@ score_between worlds players seed rounds world red black =
     score_of (world_after (minds_between players red black) seed (world_of (slice_index_or worlds world nowhere)) rounds)
 
 -- what was read are these worlds, and then these players
-abbrev pub cup_contents : List Grid → List (List Instr) → List Content
+abbrev pub cup_contents : List Grid → List (List Instr) → List FileContent
 cup_contents worlds players = map WorldContent worlds ++ map BrainContent players
 
 -- the output of `cup`: that of all games between the players, on all worlds, with this seed and so many rounds each
-pub record IsCupOutput (names : List (List ℕ)) (seed rounds : ℕ) (contents : List Content) (text : List ℕ) : Type 0 where
+pub record IsCupOutput (names : List (List ℕ)) (seed rounds : ℕ) (contents : List FileContent) (text : List ℕ) : Type 0 where
   pub worlds : List Grid
   pub players : List (List Instr)
   pub read : contents ≡ cup_contents worlds players
@@ -206,7 +206,7 @@ abbrev pub HasRoom : PlainCommand → Type 0
 HasRoom command = (element : ℕ) → ¬ LacksRoom command element
 
 -- a text is the output of a command whose files were accepted as these contents
-abbrev pub IsJobText : PlainCommand → List Content → List ℕ → Type 0
+abbrev pub IsJobText : PlainCommand → List FileContent → List ℕ → Type 0
 IsJobText (ShowCommand world seed) (content ∷ []) text = text ≡ show_output seed content
 IsJobText (BrainCommand file) (content ∷ []) text = text ≡ brain_output content
 IsJobText (MinimiseCommand file) (content ∷ []) text = IsMinimisedOutput content text

@@ -9,7 +9,7 @@ use Rattle.command_words.specs.Command.{PlainCommand}
 use Rattle.command_words.specs.Command.PlainCommand.{RunCommand}
 use Rattle.match_run.specs.Play.{PushedSome}
 use Rattle.ants.specs.declared.stop.FileFault.{FileFault}
-use Rattle.ants.specs.Files.{File, Content, AreAccepted, AreBegun, StopsAt}
+use Rattle.ants.specs.Files.{File, FileContent, AreAccepted, AreBegun, StopsAt}
 use Rattle.ants.specs.Jobs.{files_of, IsJobText, LacksRoom}
 use Rattle.ants.specs.Judged.{IsRefusedAs}
 use Rattle.ants.specs.Stopping.{Reason}
@@ -17,7 +17,7 @@ use Rattle.ants.specs.Stopping.Reason.{AtWord, AtFile, AtOutput, AtInput, AtRoom
 
 -- all files were accepted, and the whole text was written
 pub record IsDone (command : PlainCommand) (fetches : List Fetched) (out new_out : SinkState) : Type 0 where
-  pub contents : List Content
+  pub contents : List FileContent
   pub accepted : AreAccepted (files_of command) fetches contents
   pub text : List ℕ
   pub is_text : IsJobText command contents text
@@ -25,7 +25,7 @@ pub record IsDone (command : PlainCommand) (fetches : List Fetched) (out new_out
 
 -- all files were accepted, and a front of the text was written before the output failed
 pub record IsCut (command : PlainCommand) (fetches : List Fetched) (out new_out : SinkState) : Type 0 where
-  pub contents : List Content
+  pub contents : List FileContent
   pub accepted : AreAccepted (files_of command) fetches contents
   pub text : List ℕ
   pub is_text : IsJobText command contents text
@@ -50,7 +50,7 @@ pub record IsBadInput (command : PlainCommand) (fetches : List Fetched) (out new
 
 -- all files were accepted, an element of the world to be generated has no room, and nothing was written
 pub record IsCrowded (command : PlainCommand) (fetches : List Fetched) (out new_out : SinkState) (element : ℕ) : Type 0 where
-  pub contents : List Content
+  pub contents : List FileContent
   pub accepted : AreAccepted (files_of command) fetches contents
   pub lacks : LacksRoom command element
   pub unwritten : new_out ≡ out
@@ -67,7 +67,7 @@ WritesInPlay command = ⊥
 
 -- all files were accepted, and a front of the text was written before memory could not be had; only a command that writes while it plays ends so
 pub record IsBrokenOff (command : PlainCommand) (fetches : List Fetched) (out new_out : SinkState) : Type 0 where
-  pub contents : List Content
+  pub contents : List FileContent
   pub accepted : AreAccepted (files_of command) fetches contents
   pub text : List ℕ
   pub is_text : IsJobText command contents text

@@ -9,12 +9,12 @@ use Rattle.command_words.specs.Command.{PlainCommand, IsCommand, IsRefusedAt}
 use Rattle.ants.specs.declared.status.Status.{Status}
 use Rattle.ants.specs.declared.status.Status.TheVariants as status
 use Rattle.ants.specs.declared.stop.FileFault.{FileFault}
-use Rattle.ants.specs.Files.{AreInOrder, Content}
+use Rattle.ants.specs.Files.{AreInOrder, FileContent}
 use Rattle.ants.specs.Jobs.{HasRoom, LacksRoom, files_of}
-use Rattle.ants.specs.Judged.{IsJudged, Verdict}
-use Rattle.ants.specs.Judged.Verdict.{AllAccepted, FirstRefused}
+use Rattle.ants.specs.Judged.{IsJudged, FilesVerdict}
+use Rattle.ants.specs.Judged.FilesVerdict.{AllAccepted, FirstRefused}
 use Rattle.ants.specs.Performing.{EndsBy}
-use Rattle.ants.specs.Status.{number_of}
+use Rattle.ants.specs.Status.{status_number}
 use Rattle.ants.specs.Stopping.{Reason, fault_line, status_of}
 use Rattle.ants.specs.Stopping.Reason.{AtWord, AtFile, AtOutput, AtInput, AtRoom, AtMemory}
 
@@ -65,7 +65,7 @@ pub record IsRun (words : List (List ℕ)) (shelf new_shelf : ShelfState) (out n
 pub record IsRunTo (words : List (List ℕ)) (shelf new_shelf : ShelfState) (out new_out err new_err : SinkState) (number : ℕ) : Type 0 where
   pub status : Status
   pub run : IsRun words shelf new_shelf out new_out err new_err status
-  pub is_number : number ≡ number_of status
+  pub is_number : number ≡ status_number status
 
 -- where the words are a command, the fetches of a run are those of its first files, in order and each once
 abbrev pub IsOrderly : List (List ℕ) → ShelfState → ShelfState → Type 0
@@ -73,7 +73,7 @@ IsOrderly words shelf new_shelf =
     (command : PlainCommand) → IsCommand words command → (fetches : List Fetched) → new_shelf.log ≡ shelf.log ++ fetches → AreInOrder (files_of command) fetches
 
 -- the words are a command, whose files are judged so by the contents that the shelf tells
-pub record IsJudgedCommand (words : List (List ℕ)) (shelf : ShelfState) (verdict : Verdict) : Type 0 where
+pub record IsJudgedCommand (words : List (List ℕ)) (shelf : ShelfState) (verdict : FilesVerdict) : Type 0 where
   pub command : PlainCommand
   pub is_command : IsCommand words command
   pub at : List ℕ → Option (List ℕ)
@@ -84,7 +84,7 @@ pub record IsJudgedCommand (words : List (List ℕ)) (shelf : ShelfState) (verdi
 -- done, or wants memory
 abbrev pub IsComplete : List (List ℕ) → ShelfState → ShelfState → SinkState → SinkState → Status → Type 0
 IsComplete words shelf new_shelf out new_out ended =
-    (contents : List Content) (is : IsJudgedCommand words shelf (AllAccepted contents)) → HasRoom is.command
+    (contents : List FileContent) (is : IsJudgedCommand words shelf (AllAccepted contents)) → HasRoom is.command
     → ¬ Rose shelf.faults new_shelf.faults → ¬ Rose out.faults new_out.faults → (ended ≡ status.Done) ⊎ (ended ≡ status.Memory)
 
 -- where an element of a world to be generated has no room, a run ends as refused input, or wants memory
@@ -101,7 +101,7 @@ IsRefusing words shelf new_shelf ended =
 
 -- where the shelf is sure of the files up to the first that is refused, or of all where none is, no run ends at a file that was not read
 abbrev pub NeverUnread : List (List ℕ) → ShelfState → Status → Type 0
-NeverUnread words shelf ended = (verdict : Verdict) (is : IsJudgedCommand words shelf verdict) → AreSure shelf is.judged.fetches → ended ≢ status.Read
+NeverUnread words shelf ended = (verdict : FilesVerdict) (is : IsJudgedCommand words shelf verdict) → AreSure shelf is.judged.fetches → ended ≢ status.Read
 
 -- the words are no command
 abbrev pub IsNoCommand : List (List ℕ) → Type 0

@@ -4,10 +4,10 @@ use Rattle.ants.specs.declared.status.Status.{Status}
 use Rattle.ants.specs.declared.status.Status.TheVariants.{Done, Words, Read, Write, Input, Memory}
 
 -- the number of a status
-abbrev pub number_of : Status → ℕ
-number_of Done = 0
-number_of Words = 2
-number_of Read = 3
-number_of Write = 4
-number_of Input = 5
-number_of Memory = 6
+abbrev pub status_number : Status → ℕ
+status_number Done = 0
+status_number Words = 2
+status_number Read = 3
+status_number Write = 4
+status_number Input = 5
+status_number Memory = 6

@@ -11,8 +11,8 @@ use Rattle.ants.specs.declared.status.Status.{Status}
 use Rattle.ants.specs.declared.status.Status.TheVariants as status
 use Rattle.ants.specs.declared.stop.FileFault.{FileFault}
 use Rattle.ants.specs.declared.stop.FileFault.TheVariants.{TooLong, World, Brain, Breaks}
-use Rattle.ants.specs.declared.stop.Stop.{Stop}
-use Rattle.ants.specs.declared.stop.Stop.TheVariants as stop
+use Rattle.ants.specs.declared.stop.CommandStop.{CommandStop}
+use Rattle.ants.specs.declared.stop.CommandStop.TheVariants as stop
 
 -- why a command stopped: at a word, at a file that was not read, at the output, at a file that was refused, at an element of a
 -- generated world that has no room, or for want of memory
@@ -25,7 +25,7 @@ pub data Reason : Type 0 where
   AtMemory : Reason
 
 -- a stop without the addresses of its names
-abbrev pub reason_of : Stop → Reason
+abbrev pub reason_of : CommandStop → Reason
 reason_of (stop.Words word) = AtWord word
 reason_of (stop.Read name) = AtFile name.now
 reason_of stop.Write = AtOutput

@@ -3,7 +3,7 @@ ghost use Rattle.command_words.specs.Command.PlainCommand.{BrainCommand};
 ghost use Rattle.ants.specs.Inner.Reading.{CarriesOut, ending_of};
 
 use crate::fetching::read_file;
-use crate::stop::Stop;
+use crate::stop::CommandStop;
 use ant_base::{Shelf, Sink};
 use brain_read::{Brain, write_brain};
 use std::alloc::Global;
@@ -14,7 +14,7 @@ pub fn brain<'w, S: Shelf, K: Sink>(
     name: &'w str,
     shelf: &mut S,
     out: &mut K,
-) -> Result<(), Stop<'w>>
+) -> Result<(), CommandStop<'w>>
     ensures { CarriesOut (BrainCommand name.now) (S.state shelf.old) (S.state shelf.new) (K.state out.old) (K.state out.new) (ending_of result) }
 {
     let brain: Brain = read_file(alloc, shelf, name)?;

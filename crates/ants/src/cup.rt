@@ -7,12 +7,12 @@ ghost use Rattle.command_words.specs.Slots.{AllDiffer};
 ghost use Rattle.command_words.specs.Words.{texts};
 ghost use Rattle.match_run.specs.Run.{most_rounds};
 ghost use Rattle.tournament.specs.Standing.{IsStandingOf};
-ghost use Rattle.ants.specs.Inner.Cups.{AreReady, IsPlayable};
+ghost use Rattle.ants.specs.Inner.Cups.{AreReady, CanBePlayed};
 ghost use Rattle.ants.specs.Inner.Reading.{CarriesOut, ReadsFiles, ending_of, outcome_of};
 ghost use Rattle.ants.specs.Jobs.{cup_contents, cup_files, score_between};
 
 use crate::fetching::read_files;
-use crate::stop::Stop;
+use crate::stop::CommandStop;
 use ant_base::{Shelf, Sink};
 use ant_turn::{Brains, Sheet};
 use brain_read::Brain;
@@ -54,12 +54,12 @@ struct Games<'c> {
 }
 
 impl Referee for Games<'_> {
-    ghost use Rattle.ants.specs.Inner.Cups.{IsPlayable};
+    ghost use Rattle.ants.specs.Inner.Cups.{CanBePlayed};
     ghost use Rattle.ants.specs.Jobs.{score_between};
 
     ghost score = { λ games. score_between games.worlds.now games.players.now games.seed games.rounds };
 
-    ghost knows = { λ games. IsPlayable games.worlds.now games.players.now games.rounds };
+    ghost knows = { λ games. CanBePlayed games.worlds.now games.players.now games.rounds };
 
     fn game(&self, alloc: Global, world: u32, red: u32, black: u32) -> Result<Score, OutOfMemory> {
         let field = self.worlds[world as usize].copy(alloc)?;
@@ -77,7 +77,7 @@ fn roster_of<'w, S: Shelf>(
     alloc: Global,
     entry: Entry<'w>,
     shelf: &mut S,
-) -> Result<Roster, Stop<'w>>
+) -> Result<Roster, CommandStop<'w>>
     ensures { ReadsFiles (S.state shelf.old) (S.state shelf.new) (cup_files (texts entry.entry.worlds.now) (texts entry.entry.brains.now))
         (outcome_of (λ roster. cup_contents roster.worlds.items roster.players.items) result) }
 {
@@ -131,7 +131,7 @@ pub fn cup<'w, R: Threads + Sync, S: Shelf, K: Sink>(
     entry: Entry<'w>,
     shelf: &mut S,
     out: &mut K,
-) -> Result<(), Stop<'w>>
+) -> Result<(), CommandStop<'w>>
     requires { CupWithin (texts entry.worlds.now) (texts entry.brains.now) entry.seed entry.rounds entry.workers }
     ensures { CarriesOut
         (CupCommand (texts entry.entry.worlds.now) (texts entry.entry.brains.now) entry.entry.seed entry.entry.rounds entry.entry.workers)

@@ -2,12 +2,12 @@
 ghost use Rattle.std.specs.Prelude.{◌≡◌, ◌≤◌, [], ◌∷◌, length, map};
 ghost use Rattle.ant_base.specs.Shelf.{longest};
 ghost use Rattle.command_words.specs.Words.{texts};
-ghost use Rattle.ants.specs.Files.{Content, FileKind};
+ghost use Rattle.ants.specs.Files.{FileContent, FileKind};
 ghost use Rattle.ants.specs.Inner.Cups.{files_named};
 ghost use Rattle.ants.specs.Inner.Reading.{FetchesFile, ReadsFiles, ReadsText, brain_reason, break_reason, fetch_reason, outcome_of, world_reason};
 ghost use Rattle.ants.specs.Stopping.{reason_of};
 
-use crate::stop::{FileFault, Stop};
+use crate::stop::{CommandStop, FileFault};
 use ant_base::{FetchFault, Shelf};
 use brain_read::{Brain, BrainFault, read_brain};
 use break_view::{BreakFault, Breaks, read_breaks};
@@ -21,23 +21,23 @@ pub trait FileText: Sized {
     ghost kind: { FileKind };
 
     /// What was read of it.
-    ghost content: { Self → Content };
+    ghost content: { Self → FileContent };
 
     /// Reads the bytes of the file of this name.
-    fn read<'w>(alloc: Global, name: &'w str, bytes: &[u8]) -> Result<Self, Stop<'w>>
+    fn read<'w>(alloc: Global, name: &'w str, bytes: &[u8]) -> Result<Self, CommandStop<'w>>
         requires { length bytes.now ≤ longest }
         ensures { ReadsText content kind bytes.now name.now result };
 }
 
 impl FileText for World {
     ghost use Rattle.ants.specs.Files.FileKind.{WorldFile};
-    ghost use Rattle.ants.specs.Files.Content.{WorldContent};
+    ghost use Rattle.ants.specs.Files.FileContent.{WorldContent};
 
     ghost kind = { WorldFile };
 
     ghost content = { WorldContent };
 
-    fn read<'w>(alloc: Global, name: &'w str, bytes: &[u8]) -> Result<World, Stop<'w>> {
+    fn read<'w>(alloc: Global, name: &'w str, bytes: &[u8]) -> Result<World, CommandStop<'w>> {
         match read_world(alloc, bytes) {
             Ok(world) => Ok(world),
             Err(fault) => Err(world_stop(name, fault)),
@@ -47,13 +47,13 @@ impl FileText for World {
 
 impl FileText for Brain {
     ghost use Rattle.ants.specs.Files.FileKind.{BrainFile};
-    ghost use Rattle.ants.specs.Files.Content.{BrainContent};
+    ghost use Rattle.ants.specs.Files.FileContent.{BrainContent};
 
     ghost kind = { BrainFile };
 
     ghost content = { BrainContent };
 
-    fn read<'w>(alloc: Global, name: &'w str, bytes: &[u8]) -> Result<Brain, Stop<'w>> {
+    fn read<'w>(alloc: Global, name: &'w str, bytes: &[u8]) -> Result<Brain, CommandStop<'w>> {
         match read_brain(alloc, bytes) {
             Ok(brain) => Ok(brain),
             Err(fault) => Err(brain_stop(name, fault)),
@@ -63,13 +63,13 @@ impl FileText for Brain {
 
 impl FileText for Breaks {
     ghost use Rattle.ants.specs.Files.FileKind.{BreakFile};
-    ghost use Rattle.ants.specs.Files.Content.{BreakContent};
+    ghost use Rattle.ants.specs.Files.FileContent.{BreakContent};
 
     ghost kind = { BreakFile };
 
     ghost content = { BreakContent };
 
-    fn read<'w>(alloc: Global, name: &'w str, bytes: &[u8]) -> Result<Breaks, Stop<'w>> {
+    fn read<'w>(alloc: Global, name: &'w str, bytes: &[u8]) -> Result<Breaks, CommandStop<'w>> {
         match read_breaks(alloc, bytes) {
             Ok(breaks) => Ok(breaks),
             Err(fault) => Err(break_stop(name, fault)),
@@ -82,7 +82,7 @@ pub fn fetch_file<'w, S: Shelf>(
     alloc: Global,
     shelf: &mut S,
     name: &'w str,
-) -> Result<Vec<u8>, Stop<'w>>
+) -> Result<Vec<u8>, CommandStop<'w>>
     ensures { FetchesFile (S.state shelf.old) (S.state shelf.new) name.now result }
 {
     match shelf.fetch(alloc, name) {
@@ -96,8 +96,9 @@ pub fn read_file<'w, T: FileText, S: Shelf>(
     alloc: Global,
     shelf: &mut S,
     name: &'w str,
-) -> Result<T, Stop<'w>>
-    ensures { ReadsFiles (S.state shelf.old) (S.state shelf.new) (record { name = name.now; kind = T.kind } ∷ []) (outcome_of (λ value. T.content value ∷ []) result) }
+) -> Result<T, CommandStop<'w>>
+    ensures { ReadsFiles (S.state shelf.old) (S.state shelf.new) (record { name = name.now; kind = T.kind } ∷ [])
+        (outcome_of (λ value. T.content value ∷ []) result) }
 {
     let bytes = fetch_file(alloc, shelf, name)?;
     T::read(alloc, name, &bytes)
@@ -108,7 +109,7 @@ pub fn read_files<'w, T: FileText + Drop, S: Shelf>(
     alloc: Global,
     shelf: &mut S,
     names: &'w [String],
-) -> Result<Vec<T>, Stop<'w>>
+) -> Result<Vec<T>, CommandStop<'w>>
     ensures { ReadsFiles (S.state shelf.old) (S.state shelf.new) (files_named T.kind (texts names.now)) (outcome_of (λ values. map T.content values.items) result) }
 {
     let mut values = Vec::new(alloc);
@@ -120,42 +121,42 @@ pub fn read_files<'w, T: FileText + Drop, S: Shelf>(
 }
 
 // Why a command stops at a fetch.
-fn fetch_stop<'w>(name: &'w str, fault: FetchFault) -> Stop<'w>
+fn fetch_stop<'w>(name: &'w str, fault: FetchFault) -> CommandStop<'w>
     ensures { reason_of result ≡ fetch_reason name.now fault }
 {
     match fault {
-        FetchFault::Failed => Stop::Read(name),
-        FetchFault::TooLong => Stop::Input(name, FileFault::TooLong),
-        FetchFault::OutOfMemory => Stop::Memory,
+        FetchFault::Failed => CommandStop::Read(name),
+        FetchFault::TooLong => CommandStop::Input(name, FileFault::TooLong),
+        FetchFault::OutOfMemory => CommandStop::Memory,
     }
 }
 
 // Why a command stops at the text of a world.
-fn world_stop<'w>(name: &'w str, fault: WorldFault) -> Stop<'w>
+fn world_stop<'w>(name: &'w str, fault: WorldFault) -> CommandStop<'w>
     ensures { reason_of result ≡ world_reason name.now fault }
 {
     match fault {
-        WorldFault::OutOfMemory => Stop::Memory,
-        other => Stop::Input(name, FileFault::World(other)),
+        WorldFault::OutOfMemory => CommandStop::Memory,
+        other => CommandStop::Input(name, FileFault::World(other)),
     }
 }
 
 // Why a command stops at the text of a brain.
-fn brain_stop<'w>(name: &'w str, fault: BrainFault) -> Stop<'w>
+fn brain_stop<'w>(name: &'w str, fault: BrainFault) -> CommandStop<'w>
     ensures { reason_of result ≡ brain_reason name.now fault }
 {
     match fault {
-        BrainFault::OutOfMemory => Stop::Memory,
-        other => Stop::Input(name, FileFault::Brain(other)),
+        BrainFault::OutOfMemory => CommandStop::Memory,
+        other => CommandStop::Input(name, FileFault::Brain(other)),
     }
 }
 
 // Why a command stops at the text of breaks.
-fn break_stop<'w>(name: &'w str, fault: BreakFault) -> Stop<'w>
+fn break_stop<'w>(name: &'w str, fault: BreakFault) -> CommandStop<'w>
     ensures { reason_of result ≡ break_reason name.now fault }
 {
     match fault {
-        BreakFault::OutOfMemory => Stop::Memory,
-        other => Stop::Input(name, FileFault::Breaks(other)),
+        BreakFault::OutOfMemory => CommandStop::Memory,
+        other => CommandStop::Input(name, FileFault::Breaks(other)),
     }
 }

@@ -6,7 +6,7 @@ ghost use Rattle.ants.specs.Inner.Reading.{CarriesOut, ending_of};
 ghost use Rattle.ants.specs.Inner.Planning.{IsGenerating};
 ghost use Rattle.ants.specs.Jobs.{shape_named};
 
-use crate::stop::Stop;
+use crate::stop::CommandStop;
 use ant_base::{Shelf, Sink};
 use cell_world::World;
 use command_words::GenShape;
@@ -15,19 +15,19 @@ use world_gen::{GenFault, Shape, generate};
 use world_read::write_world;
 
 /// The world of a seed and a shape, or why there is none: an element that has no room, or memory that could not be had.
-pub fn generated<'w>(alloc: Global, seed: u32, shape: Shape) -> Result<World, Stop<'w>>
+pub fn generated<'w>(alloc: Global, seed: u32, shape: Shape) -> Result<World, CommandStop<'w>>
     requires { IsShape shape }
     ensures { IsGenerating seed shape result }
 {
     match generate(alloc, seed, shape) {
         Ok(world) => Ok(world),
-        Err(GenFault::NoRoom { element }) => Err(Stop::NoRoom(element)),
-        Err(GenFault::OutOfMemory) => Err(Stop::Memory),
+        Err(GenFault::NoRoom { element }) => Err(CommandStop::NoRoom(element)),
+        Err(GenFault::OutOfMemory) => Err(CommandStop::Memory),
     }
 }
 
 // The world of a seed and the shape that the words name.
-fn named_world<'w>(alloc: Global, seed: u32, named: GenShape) -> Result<World, Stop<'w>>
+fn named_world<'w>(alloc: Global, seed: u32, named: GenShape) -> Result<World, CommandStop<'w>>
     requires { ShapeWithin named }
     ensures { IsGenerating seed (shape_named named) result }
 {
@@ -53,7 +53,7 @@ pub fn gen_world<'w, S: Shelf, K: Sink>(
     shape: GenShape,
     shelf: &mut S,
     out: &mut K,
-) -> Result<(), Stop<'w>>
+) -> Result<(), CommandStop<'w>>
     requires { ShapeWithin shape }
     ensures { CarriesOut (GenCommand seed shape) (S.state shelf.old) (S.state shelf.new) (K.state out.old) (K.state out.new) (ending_of result) }
 {

@@ -3,7 +3,7 @@ ghost use Rattle.command_words.specs.Command.PlainCommand.{MinimiseCommand};
 ghost use Rattle.ants.specs.Inner.Reading.{CarriesOut, ending_of};
 
 use crate::fetching::read_file;
-use crate::stop::Stop;
+use crate::stop::CommandStop;
 use ant_base::{Shelf, Sink};
 use brain_minimise::push_minimised;
 use brain_read::Brain;
@@ -15,7 +15,7 @@ pub fn minimise<'w, S: Shelf, K: Sink>(
     name: &'w str,
     shelf: &mut S,
     out: &mut K,
-) -> Result<(), Stop<'w>>
+) -> Result<(), CommandStop<'w>>
     ensures { CarriesOut (MinimiseCommand name.now) (S.state shelf.old) (S.state shelf.new) (K.state out.old) (K.state out.new) (ending_of result) }
 {
     let brain: Brain = read_file(alloc, shelf, name)?;

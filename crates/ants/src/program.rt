@@ -1,16 +1,16 @@
 // The whole program, over any shelf and any sinks.
 ghost use Rattle.std.specs.Prelude.{◌≡◌, ◌↔◌, ◌≤◌, Some};
-ghost use Rattle.command_words.specs.Command.PlainCommand.{RunCommand, WorkloadCommand};
-ghost use Rattle.command_words.specs.Laws.{IsWithin, SetupWithin};
+ghost use Rattle.command_words.specs.Command.PlainCommand.{CupCommand, RunCommand, WorkloadCommand};
+ghost use Rattle.command_words.specs.Laws.{CommandWithin, CupWithin, IsWithin, SetupWithin};
 ghost use Rattle.command_words.specs.declared.limits.NumberKind.TheVariants.{WorkerCount};
-ghost use Rattle.command_words.specs.Words.{plain_setup, texts};
+ghost use Rattle.command_words.specs.Words.{plain, plain_setup, texts};
 ghost use Rattle.match_run.specs.Run.{most_rounds};
 ghost use Rattle.round_book.specs.Book.{CanBegin};
 ghost use Rattle.round_book.specs.Led.{IsWindow};
 ghost use Rattle.ants.specs.Inner.Planning.{IsPlanned};
 ghost use Rattle.ants.specs.Inner.Reading.{CarriesOut, CarriesOutWords, ending_of};
 ghost use Rattle.ants.specs.Running.{IsComplete, IsCrowding, IsNoCommand, IsOrderly, NeverUnread, IsRefusing, IsRun, IsRunTo, Reports};
-ghost use Rattle.ants.specs.Status.{number_of};
+ghost use Rattle.ants.specs.Status.{status_number};
 ghost use Rattle.ants.specs.Stopping.{reason_of, status_of};
 ghost use Rattle.ants.specs.Stopping.Reason.{AtMemory};
 ghost use Rattle.std.specs.Process.{exit_status};
@@ -19,10 +19,10 @@ use crate::brain::brain;
 use crate::cup::{Entry, cup};
 use crate::generating::gen_world;
 use crate::minimise::minimise;
-use crate::run::{Names, dumps_of, run};
+use crate::run::{FileNames, dumps_of, run};
 use crate::show::show;
 use crate::status::Status;
-use crate::stop::Stop;
+use crate::stop::CommandStop;
 use crate::view::view;
 use crate::workload::workload;
 use ant_base::{Gate, Layout, Shelf, Sink};
@@ -36,7 +36,7 @@ use std::process::ExitCode;
 use std::thread::Threads;
 
 // What a game is asked to do.
-fn plan_of<'w>(alloc: Global, options: RunOptions<'_>) -> Result<Plan, Stop<'w>>
+fn plan_of<'w>(alloc: Global, options: RunOptions<'_>) -> Result<Plan, CommandStop<'w>>
     ensures { IsPlanned (plain_setup options.entry) result }
 {
     let dumps = dumps_of(alloc, options.dumps)?;
@@ -53,12 +53,12 @@ fn plan_of<'w>(alloc: Global, options: RunOptions<'_>) -> Result<Plan, Stop<'w>>
 fn carry_out_run<'w, R: Threads + Sync, S: Shelf, K: Sink, G: Gate>(
     rt: &R,
     alloc: Global,
-    names: Names<'w>,
+    names: FileNames<'w>,
     options: RunOptions<'w>,
     shelf: &mut S,
     out: &mut K,
     gate: &G,
-) -> Result<(), Stop<'w>>
+) -> Result<(), CommandStop<'w>>
     requires within { SetupWithin (plain_setup options) }
     ensures { CarriesOut (RunCommand names.entry.world.now names.entry.red.now names.entry.black.now (plain_setup options.entry))
         (S.state shelf.old) (S.state shelf.new) (K.state out.old) (K.state out.new) (ending_of result) }
@@ -85,7 +85,7 @@ fn carry_out_workload<'w, R: Threads + Sync, S: Shelf, K: Sink, G: Gate>(
     shelf: &mut S,
     out: &mut K,
     gate: &G,
-) -> Result<(), Stop<'w>>
+) -> Result<(), CommandStop<'w>>
     requires few_rounds { rounds ≤ most_rounds }
     requires workers { IsWithin WorkerCount workers }
     ensures { CarriesOut (WorkloadCommand seed rounds workers) (S.state shelf.old) (S.state shelf.new) (K.state out.old) (K.state out.new) (ending_of result) }
@@ -100,6 +100,85 @@ fn carry_out_workload<'w, R: Threads + Sync, S: Shelf, K: Sink, G: Gate>(
     workload(alloc, &mut crew, seed, rounds, shelf, out)
 }
 
+// Plays the games of the cup that the words ask for.
+fn carry_out_cup<'w, R: Threads + Sync, S: Shelf, K: Sink>(
+    rt: &R,
+    alloc: Global,
+    worlds: &'w [String],
+    brains: &'w [String],
+    seed: u32,
+    rounds: u32,
+    workers: u32,
+    shelf: &mut S,
+    out: &mut K,
+) -> Result<(), CommandStop<'w>>
+    requires { CupWithin (texts worlds.now) (texts brains.now) seed rounds workers }
+    ensures { CarriesOut (CupCommand (texts worlds.now) (texts brains.now) seed rounds workers)
+        (S.state shelf.old) (S.state shelf.new) (K.state out.old) (K.state out.new) (ending_of result) }
+{
+    let entry = Entry {
+        worlds,
+        brains,
+        seed,
+        rounds,
+        workers,
+    };
+    cup(rt, alloc, entry, shelf, out)
+}
+
+// Carries out a command, whose numbers and names are within their limits.
+fn carry_out_command<'w, R: Threads + Sync, S: Shelf, K: Sink, G: Gate>(
+    rt: &R,
+    alloc: Global,
+    command: Command<'w>,
+    shelf: &mut S,
+    out: &mut K,
+    gate: &G,
+) -> Result<(), CommandStop<'w>>
+    requires within { CommandWithin (plain command) }
+    ensures { CarriesOut (plain command.entry) (S.state shelf.old) (S.state shelf.new) (K.state out.old) (K.state out.new) (ending_of result) }
+{
+    match command {
+        Command::Show { world, seed } => show(alloc, world, seed, shelf, out),
+        Command::Brain { file } => brain(alloc, file, shelf, out),
+        Command::Minimise { file } => minimise(alloc, file, shelf, out),
+        Command::Gen { seed, shape } => gen_world(alloc, seed, shape, shelf, out),
+        Command::Run {
+            world,
+            red,
+            black,
+            options,
+        } => {
+            let names = FileNames { world, red, black };
+            carry_out_run(rt, alloc, names, options, shelf, out, gate)
+        }
+        Command::Cup {
+            worlds,
+            brains,
+            seed,
+            rounds,
+            workers,
+        } => carry_out_cup(rt, alloc, worlds, brains, seed, rounds, workers, shelf, out),
+        Command::View {
+            world,
+            red,
+            black,
+            breaks,
+            seed,
+            rounds,
+        } => {
+            let names = FileNames { world, red, black };
+            view(alloc, names, breaks, seed, rounds, shelf, out)
+        }
+        Command::Workload {
+            seed,
+            rounds,
+            workers,
+        } => carry_out_workload(rt, alloc, seed, rounds, workers, shelf, out, gate),
+    }
+}
+
+// Carries out the command that the words are.
 fn carry_out<'w, R: Threads + Sync, S: Shelf, K: Sink, G: Gate>(
     rt: &R,
     alloc: Global,
@@ -107,77 +186,12 @@ fn carry_out<'w, R: Threads + Sync, S: Shelf, K: Sink, G: Gate>(
     shelf: &mut S,
     out: &mut K,
     gate: &G,
-) -> Result<(), Stop<'w>>
+) -> Result<(), CommandStop<'w>>
     ensures { CarriesOutWords (texts words.now) (S.state shelf.old) (S.state shelf.new) (K.state out.old) (K.state out.new) (ending_of result) }
 {
     match read_words(words) {
-        Err(refused) => Err(Stop::Words(refused.word)),
-        Ok(Command::Show { world, seed }) => show(alloc, world, seed, shelf, out),
-        Ok(Command::Brain { file }) => brain(alloc, file, shelf, out),
-        Ok(Command::Minimise { file }) => minimise(alloc, file, shelf, out),
-        Ok(
-            Command::Run {
-                world,
-                red,
-                black,
-                options,
-            },
-        ) => carry_out_run(
-            rt,
-            alloc,
-            Names { world, red, black },
-            options,
-            shelf,
-            out,
-            gate,
-        ),
-        Ok(Command::Gen { seed, shape }) => gen_world(alloc, seed, shape, shelf, out),
-        Ok(
-            Command::Cup {
-                worlds,
-                brains,
-                seed,
-                rounds,
-                workers,
-            },
-        ) => cup(
-            rt,
-            alloc,
-            Entry {
-                worlds,
-                brains,
-                seed,
-                rounds,
-                workers,
-            },
-            shelf,
-            out,
-        ),
-        Ok(
-            Command::View {
-                world,
-                red,
-                black,
-                breaks,
-                seed,
-                rounds,
-            },
-        ) => view(
-            alloc,
-            Names { world, red, black },
-            breaks,
-            seed,
-            rounds,
-            shelf,
-            out,
-        ),
-        Ok(
-            Command::Workload {
-                seed,
-                rounds,
-                workers,
-            },
-        ) => carry_out_workload(rt, alloc, seed, rounds, workers, shelf, out, gate),
+        Ok(command) => carry_out_command(rt, alloc, command, shelf, out, gate),
+        Err(refused) => Err(CommandStop::Words(refused.word)),
     }
 }
 
@@ -223,7 +237,7 @@ pub fn run_ants<R: Threads + Sync, S: Shelf, K: Sink, E: Sink, G: Gate>(
 }
 
 // Says why a command stopped.
-fn report<E: Sink>(stop: &Stop<'_>, err: &mut E) -> Status
+fn report<E: Sink>(stop: &CommandStop<'_>, err: &mut E) -> Status
     ensures reports { Reports (E.state err.old) (E.state err.new) (Some (reason_of stop.now)) }
     ensures status { result ≡ status_of (reason_of stop.now) }
 {
@@ -250,13 +264,13 @@ pub fn run_to_exit<R: Threads + Sync, S: Shelf, K: Sink, E: Sink, G: Gate>(
 /// Says that memory can't be had, and gives that status as an exit code: what `main` does before it has a command.
 pub fn exit_without_memory<E: Sink>(err: &mut E) -> ExitCode
     ensures reports { Reports (E.state err.old) (E.state err.new) (Some AtMemory) }
-    ensures status { exit_status result ≡ number_of Status.Memory }
+    ensures status { exit_status result ≡ status_number Status.Memory }
 {
-    exit_of(report(&Stop::Memory, err))
+    exit_of(report(&CommandStop::Memory, err))
 }
 
 fn exit_of(status: Status) -> ExitCode
-    ensures { exit_status result ≡ number_of status }
+    ensures { exit_status result ≡ status_number status }
 {
     ExitCode::from(status.number())
 }

@@ -14,7 +14,7 @@ ghost use Rattle.ants.specs.Inner.Reading.{CarriesOut, ReadsFiles, ending_of, ou
 ghost use Rattle.ants.specs.Jobs.{chosen_rounds, game_files};
 
 use crate::fetching::{FileText, fetch_file, read_file};
-use crate::stop::Stop;
+use crate::stop::CommandStop;
 use ant_base::{Shelf, Sink};
 use ant_turn::{Brains, Sheet};
 use brain_read::Brain;
@@ -26,7 +26,7 @@ use std::alloc::Global;
 
 // The names of the files of a game.
 #[derive(Clone, Copy)]
-pub struct Names<'w> {
+pub struct FileNames<'w> {
     pub world: &'w str,
     pub red: &'w str,
     pub black: &'w str,
@@ -66,10 +66,11 @@ pub fn dumps_of(alloc: Global, word: DumpWord<'_>) -> Result<Dumps, OutOfMemory>
 // where they have one name.
 pub fn setting_of<'w, S: Shelf>(
     alloc: Global,
-    names: Names<'w>,
+    names: FileNames<'w>,
     shelf: &mut S,
-) -> Result<Setting, Stop<'w>>
-    ensures { ReadsFiles (S.state shelf.old) (S.state shelf.new) (game_files names.entry.world.now names.entry.red.now names.entry.black.now) (outcome_of setting_contents result) }
+) -> Result<Setting, CommandStop<'w>>
+    ensures { ReadsFiles (S.state shelf.old) (S.state shelf.new) (game_files names.entry.world.now names.entry.red.now names.entry.black.now)
+        (outcome_of setting_contents result) }
 {
     let world = read_file(alloc, shelf, names.world)?;
     let red_text = fetch_file(alloc, shelf, names.red)?;
@@ -92,7 +93,8 @@ fn play_setting<C: Crew, K: Sink>(
     requires fit { Fits (world_of setting.world) (record { red = setting.red; black = setting.black; sheet = sheet_of sheet }) }
     requires planned { CanPlay plan.now }
     ensures { PushedBy (K.state out.old) (K.state out.new)
-        (whole_text (record { red = setting.red; black = setting.black; sheet = sheet_of sheet }) plan.now.seed plan.now.rounds (chooses plan.now.dumps) plan.now.window plan.now.stats (world_of setting.world)) result }
+        (whole_text (record { red = setting.red; black = setting.black; sheet = sheet_of sheet }) plan.now.seed plan.now.rounds
+        (chooses plan.now.dumps) plan.now.window plan.now.stats (world_of setting.world)) result }
 {
     let Setting { world, red, black } = setting;
     let brains = Brains {
@@ -110,15 +112,17 @@ fn play_setting<C: Crew, K: Sink>(
 pub fn run<'w, C: Crew, S: Shelf, K: Sink>(
     alloc: Global,
     crew: &mut C,
-    names: Names<'w>,
+    names: FileNames<'w>,
     sheet: Sheet,
     plan: &Plan,
     shelf: &mut S,
     out: &mut K,
-) -> Result<(), Stop<'w>>
+) -> Result<(), CommandStop<'w>>
     requires ready { C.ready crew.old }
     requires planned { CanPlay plan.now }
-    ensures { (setup : RunSetup) → Plans setup plan.now → IsSheetOf setup sheet → CarriesOut (RunCommand names.entry.world.now names.entry.red.now names.entry.black.now setup) (S.state shelf.old) (S.state shelf.new) (K.state out.old) (K.state out.new) (ending_of result) }
+    ensures { (setup : RunSetup) → Plans setup plan.now → IsSheetOf setup sheet
+        → CarriesOut (RunCommand names.entry.world.now names.entry.red.now names.entry.black.now setup) (S.state shelf.old) (S.state shelf.new)
+        (K.state out.old) (K.state out.new) (ending_of result) }
 {
     let setting = setting_of(alloc, names, shelf)?;
     play_setting(alloc, crew, setting, sheet, plan, out)?;

@@ -1,12 +1,12 @@
 // The command `show`.
 ghost use Rattle.ant_base.specs.Sink.{Pushed};
 ghost use Rattle.command_words.specs.Command.PlainCommand.{ShowCommand};
-ghost use Rattle.ants.specs.Files.Content.{WorldContent};
+ghost use Rattle.ants.specs.Files.FileContent.{WorldContent};
 ghost use Rattle.ants.specs.Inner.Reading.{CarriesOut, ending_of};
 ghost use Rattle.ants.specs.Jobs.{show_output};
 
 use crate::fetching::read_file;
-use crate::stop::Stop;
+use crate::stop::CommandStop;
 use ant_base::{Failed, Shelf, Sink};
 use cell_world::World;
 use dump_print::{push_dump, push_seed};
@@ -28,7 +28,7 @@ pub fn show<'w, S: Shelf, K: Sink>(
     seed: u32,
     shelf: &mut S,
     out: &mut K,
-) -> Result<(), Stop<'w>>
+) -> Result<(), CommandStop<'w>>
     ensures { CarriesOut (ShowCommand name.now seed) (S.state shelf.old) (S.state shelf.new) (K.state out.old) (K.state out.new) (ending_of result) }
 {
     let world: World = read_file(alloc, shelf, name)?;

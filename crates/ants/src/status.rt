@@ -1,6 +1,6 @@
 // How the program ends.
 ghost use Rattle.std.specs.Prelude.{◌≡◌};
-ghost use Rattle.ants.specs.Status.{number_of};
+ghost use Rattle.ants.specs.Status.{status_number};
 
 /// How a command ended.
 #[derive(Clone, Copy, Debug, PartialEq, Eq)]
@@ -23,7 +23,7 @@ impl Status {
     /// The number with which the program exits: 0, 2, 3, 4, 5, 6 in the order of the variants. 1 is that of a program that the system gave
     /// no words.
     pub fn number(&self) -> u8
-        ensures { result ≡ number_of self.now }
+        ensures { result ≡ status_number self.now }
     {
         match self {
             Status::Done => 0,

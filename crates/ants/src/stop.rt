@@ -25,7 +25,7 @@ pub enum FileFault {
 
 /// Why a command stopped before its whole text was written.
 #[derive(Clone, Copy, Debug)]
-pub enum Stop<'w> {
+pub enum CommandStop<'w> {
     /// The words are no command, and this word, counted from 1, is the first with which they begin none.
     Words(usize),
     /// The file of this name was not read.
@@ -40,45 +40,45 @@ pub enum Stop<'w> {
     Memory,
 }
 
-impl From<Failed> for Stop<'_> {
-    ghost use Rattle.ants.specs.declared.stop.Stop.TheVariants.{Write};
+impl From<Failed> for CommandStop<'_> {
+    ghost use Rattle.ants.specs.declared.stop.CommandStop.TheVariants.{Write};
 
     ghost from_gives = { λ _ stop. stop ≡ Write };
 
     fn from(_: Failed) -> Self {
-        Stop::Write
+        CommandStop::Write
     }
 }
 
-impl From<OutOfMemory> for Stop<'_> {
-    ghost use Rattle.ants.specs.declared.stop.Stop.TheVariants.{Memory};
+impl From<OutOfMemory> for CommandStop<'_> {
+    ghost use Rattle.ants.specs.declared.stop.CommandStop.TheVariants.{Memory};
 
     ghost from_gives = { λ _ stop. stop ≡ Memory };
 
     fn from(_: OutOfMemory) -> Self {
-        Stop::Memory
+        CommandStop::Memory
     }
 }
 
-impl<T: Drop> From<AllocFailed<T>> for Stop<'_> {
-    ghost use Rattle.ants.specs.declared.stop.Stop.TheVariants.{Memory};
+impl<T: Drop> From<AllocFailed<T>> for CommandStop<'_> {
+    ghost use Rattle.ants.specs.declared.stop.CommandStop.TheVariants.{Memory};
 
     ghost from_gives = { λ _ stop. stop ≡ Memory };
 
     fn from(_: AllocFailed<T>) -> Self {
-        Stop::Memory
+        CommandStop::Memory
     }
 }
 
-impl From<PlayFault> for Stop<'_> {
+impl From<PlayFault> for CommandStop<'_> {
     ghost use Rattle.ants.specs.Inner.Planning.{stop_of};
 
     ghost from_gives = { λ fault stop. stop ≡ stop_of fault };
 
     fn from(fault: PlayFault) -> Self {
         match fault {
-            PlayFault::WriteFault => Stop::Write,
-            PlayFault::OutOfMemory => Stop::Memory,
+            PlayFault::WriteFault => CommandStop::Write,
+            PlayFault::OutOfMemory => CommandStop::Memory,
         }
     }
 }
@@ -182,24 +182,24 @@ impl Layout for FileWords {
 
 // What a stop says, without the program's name.
 #[derive(Clone, Copy)]
-struct StopWords<'s>(Stop<'s>);
+struct StopWords<'s>(CommandStop<'s>);
 
 impl Layout for StopWords<'_> {
     ghost text = { λ words. reason_text (reason_of words.0) };
 
     fn push_to<K: Sink>(&self, sink: &mut K) -> Result<(), Failed> {
         match self.0 {
-            Stop::Words(word) => layout!("word ", word, " refused").push_to(sink),
-            Stop::Read(name) => layout!(name, ": not read").push_to(sink),
-            Stop::Write => "output failed".push_to(sink),
-            Stop::Input(name, fault) => layout!(name, ": ", FileWords(fault)).push_to(sink),
-            Stop::NoRoom(element) => layout!("no room for element ", element).push_to(sink),
-            Stop::Memory => "out of memory".push_to(sink),
+            CommandStop::Words(word) => layout!("word ", word, " refused").push_to(sink),
+            CommandStop::Read(name) => layout!(name, ": not read").push_to(sink),
+            CommandStop::Write => "output failed".push_to(sink),
+            CommandStop::Input(name, fault) => layout!(name, ": ", FileWords(fault)).push_to(sink),
+            CommandStop::NoRoom(element) => layout!("no room for element ", element).push_to(sink),
+            CommandStop::Memory => "out of memory".push_to(sink),
         }
     }
 }
 
-impl Layout for Stop<'_> {
+impl Layout for CommandStop<'_> {
     ghost text = { λ stop. fault_line (reason_of stop) };
 
     #[tactic(auto, unfolding(crate::specs::Stopping::fault_line))]
@@ -208,17 +208,17 @@ impl Layout for Stop<'_> {
     }
 }
 
-impl Stop<'_> {
+impl CommandStop<'_> {
     /// The status of a command that stopped so.
     pub fn status(&self) -> Status
         ensures { result ≡ status_of (reason_of self.now) }
     {
         match self {
-            Stop::Words(_) => Status::Words,
-            Stop::Read(_) => Status::Read,
-            Stop::Write => Status::Write,
-            Stop::Input(_, _) | Stop::NoRoom(_) => Status::Input,
-            Stop::Memory => Status::Memory,
+            CommandStop::Words(_) => Status::Words,
+            CommandStop::Read(_) => Status::Read,
+            CommandStop::Write => Status::Write,
+            CommandStop::Input(_, _) | CommandStop::NoRoom(_) => Status::Input,
+            CommandStop::Memory => Status::Memory,
         }
     }
 }

@@ -125,58 +125,80 @@ fn answer_over<R: Threads + Sync, G: Gate>(
     Ok(Outcome { status, out, err })
 }
 
+// A status, and what the output and the errors got.
+#[derive(Clone, Copy, Debug, PartialEq, Eq)]
+struct Ending<'t> {
+    status: Status,
+    out: &'t str,
+    err: &'t str,
+}
+
+// A command that is done, and wrote this text.
+fn done(text: &str) -> Ending<'_> {
+    Ending {
+        status: Status::Done,
+        out: text,
+        err: "",
+    }
+}
+
+// A command that stopped with this line, and wrote nothing.
+fn stopped(status: Status, line: &str) -> Ending<'_> {
+    Ending {
+        status,
+        out: "",
+        err: line,
+    }
+}
+
+// A command whose output failed after a front of the text.
+fn cut<'t>(front: &'t str, line: &'t str) -> Ending<'t> {
+    Ending {
+        status: Status::Write,
+        out: front,
+        err: line,
+    }
+}
+
+// How a command ended.
+fn ending_of(outcome: &Outcome) -> Result<Ending<'_>, Fail> {
+    Ok(Ending {
+        status: outcome.status,
+        out: str::from_utf8(outcome.out.held())?,
+        err: str::from_utf8(outcome.err.held())?,
+    })
+}
+
 // Asserts what comes of a command.
 fn check<R: Threads + Sync + Abort>(
     rt: &R,
     alloc: Global,
     job: &Job<'_>,
-    status: Status,
-    out: &str,
-    err: &str,
+    wanted: Ending<'_>,
 ) -> Result<(), Fail> {
-    check_by(rt, alloc, job, &NoGate, status, out, err)
+    check_over(rt, alloc, job, files_of(alloc, job)?, &NoGate, wanted)
 }
 
-// Asserts what comes of a command, whose workers call this gate.
-fn check_by<R: Threads + Sync + Abort, G: Gate>(
-    rt: &R,
-    alloc: Global,
-    job: &Job<'_>,
-    gate: &G,
-    status: Status,
-    out: &str,
-    err: &str,
-) -> Result<(), Fail> {
-    check_over(
-        rt,
-        alloc,
-        job,
-        files_of(alloc, job)?,
-        gate,
-        status,
-        out,
-        err,
-    )
-}
-
-// Asserts what comes of a command over these files.
+// Asserts what comes of a command over these files, whose workers call this gate.
 fn check_over<R: Threads + Sync + Abort, G: Gate>(
     rt: &R,
     alloc: Global,
     job: &Job<'_>,
     files: Files,
     gate: &G,
-    status: Status,
-    out: &str,
-    err: &str,
+    wanted: Ending<'_>,
 ) -> Result<(), Fail> {
     let outcome = answer_over(rt, alloc, job, files, gate)?;
-    let shown = str::from_utf8(outcome.out.held())?;
-    let told = str::from_utf8(outcome.err.held())?;
-    assert_eq!(rt; shown, out, "at {job:?}");
-    assert_eq!(rt; told, err, "at {job:?}");
-    assert_eq!(rt; outcome.status, status, "at {job:?}");
+    assert_eq!(rt; ending_of(&outcome)?, wanted, "at {job:?}");
     Ok(())
+}
+
+// How a text begins, some of its lines in their order, others between them, and how it ends.
+#[derive(Clone, Copy, Debug)]
+struct Told<'t> {
+    start: &'t str,
+    lines: &'t str,
+    end: &'t str,
 }
 
 // Whether the lines of `wanted` are lines of `text`, in this order, others between them.
@@ -190,21 +212,28 @@ fn has_lines(text: &str, wanted: &str) -> bool {
     true
 }
 
-// Asserts that a command is done, and of its text how it begins, some of its lines in their order, and how it ends.
+// Whether a text is told so.
+fn is_told(text: &str, told: &Told<'_>) -> bool {
+    if !text.starts_with(told.start) {
+        return false;
+    }
+    if !text.ends_with(told.end) {
+        return false;
+    }
+    has_lines(text, told.lines)
+}
+
+// Asserts that a command is done, and how its text is told.
 fn check_text<R: Threads + Sync + Abort>(
     rt: &R,
     alloc: Global,
     job: &Job<'_>,
-    start: &str,
-    lines: &str,
-    end: &str,
+    told: Told<'_>,
 ) -> Result<(), Fail> {
     let outcome = answer(rt, alloc, job)?;
-    let out = str::from_utf8(outcome.out.held())?;
-    assert_eq!(rt; outcome.status, Status::Done, "at {job:?}");
-    assert!(rt; out.starts_with(start), "{start:?} in {out:?}");
-    assert!(rt; has_lines(out, lines), "{lines:?} in {out:?}");
-    assert!(rt; out.ends_with(end), "{end:?} in {out:?}");
+    let ending = ending_of(&outcome)?;
+    assert_eq!(rt; ending, done(ending.out), "at {job:?}");
+    assert!(rt; is_told(ending.out, &told), "{told:?} of {job:?}");
     Ok(())
 }
 
@@ -250,11 +279,11 @@ fn check_rows<R: Threads + Sync + Abort>(
     rows: &[(&str, &str)],
 ) -> Result<(), Fail> {
     for (text, wanted) in rows {
-        let (out, err) = match status {
-            Status::Done => (*wanted, ""),
-            _ => ("", *wanted),
+        let ending = match status {
+            Status::Done => done(wanted),
+            _ => stopped(status, wanted),
         };
-        check(rt, alloc, &job.with(given, text), status, out, err)?;
+        check(rt, alloc, &job.with(given, text), ending)?;
     }
     Ok(())
 }

@@ -9,8 +9,8 @@ ghost use Rattle.match_run.specs.Run.{most_rounds};
 ghost use Rattle.ants.specs.Inner.Reading.{CarriesOut, ending_of};
 
 use crate::fetching::read_file;
-use crate::run::{Names, Setting, setting_of};
-use crate::stop::Stop;
+use crate::run::{FileNames, Setting, setting_of};
+use crate::stop::CommandStop;
 use ant_base::{Failed, Shelf, Sink};
 use ant_turn::{Brains, Sheet};
 use break_view::{Breaks, find_stop, push_view};
@@ -45,13 +45,13 @@ fn push_stop<K: Sink>(
 /// Plays a game of at most 1,000,000 rounds, by the contest's rules, up to its first stop, and writes its view.
 pub fn view<'w, S: Shelf, K: Sink>(
     alloc: Global,
-    names: Names<'w>,
+    names: FileNames<'w>,
     breaks: &'w str,
     seed: u32,
     rounds: u32,
     shelf: &mut S,
     out: &mut K,
-) -> Result<(), Stop<'w>>
+) -> Result<(), CommandStop<'w>>
     requires { rounds ≤ most_rounds }
     ensures { CarriesOut (ViewCommand names.entry.world.now names.entry.red.now names.entry.black.now breaks.now seed rounds)
         (S.state shelf.old) (S.state shelf.new) (K.state out.old) (K.state out.new) (ending_of result) }

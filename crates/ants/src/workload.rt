@@ -16,7 +16,7 @@ ghost use Rattle.ants.specs.Sample.{sample_brain};
 
 use crate::generating::generated;
 use crate::sample::sample_brain;
-use crate::stop::Stop;
+use crate::stop::CommandStop;
 use ant_base::{Failed, Layout, Shelf, Sink, layout};
 use ant_turn::{Brains, Sheet};
 use brain_read::Brain;
@@ -46,7 +46,7 @@ pub struct Summary {
 }
 
 // The world of a seed and the contest's shape.
-fn contest_world<'w>(alloc: Global, seed: u32) -> Result<World, Stop<'w>>
+fn contest_world<'w>(alloc: Global, seed: u32) -> Result<World, CommandStop<'w>>
     ensures { IsGenerating seed contest_shape result }
 {
     generated(alloc, seed, Shape::contest())
@@ -159,7 +159,7 @@ pub fn workload<'w, C: Crew, S: Shelf, K: Sink>(
     rounds: u32,
     shelf: &mut S,
     out: &mut K,
-) -> Result<(), Stop<'w>>
+) -> Result<(), CommandStop<'w>>
     requires ready { C.ready crew.old }
     requires few_rounds { rounds ≤ most_rounds }
     ensures { (workers : ℕ) → CarriesOut (WorkloadCommand seed rounds workers)

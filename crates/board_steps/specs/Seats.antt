@@ -12,7 +12,7 @@ use Rattle.round_workers.specs.declared.board.view.Try.TheVariants.{Never}
 use Rattle.round_workers.specs.declared.board.view.View.{View}
 use Rattle.round_workers.specs.BoardPlays.{has_seen, made_one, newcomer}
 use Rattle.round_workers.specs.BoardRule.{StandsFor}
-use Rattle.round_workers.specs.BoardSeats.{IsSeatOf, basis_of, known, left_look, window_of}
+use Rattle.round_workers.specs.BoardSeats.{IsSeatOf, basis_of, known, left_look, board_window}
 use Rattle.round_workers.specs.BoardTotals.{once_below}
 use Rattle.round_workers.specs.BoardView.{first_seat}
 use Rattle.round_workers.specs.BoardWorker.{IsLentFor}
@@ -35,12 +35,12 @@ abbrev pub second_at : Basis → View
 second_at basis = newcomer (has_seen (first_seat basis))
 
 -- a seat that took the look of a ticket
-abbrev pub taken : View → ℕ → View
-taken v ticket = record v { phase = Resting; took = v.took ++ ticket ∷ [] }
+abbrev pub view_taking : View → ℕ → View
+view_taking v ticket = record v { phase = Resting; took = v.took ++ ticket ∷ [] }
 
 -- a board is for the turns 0 to 6 of a field, which is lent for them
 pub record IsFor (field : FieldValue) (board : Board) : Type 0 where
-  pub lent : IsLentFor field (window_of board)
+  pub lent : IsLentFor field (board_window board)
   pub from : (basis_of board).from ≡ 0
   pub to : (basis_of board).to ≡ 7
   pub ids : 7 ≤ field.world.ids
@@ -68,6 +68,6 @@ pub record IsSecond (v : View) : Type 0 where
 
 -- what a board leaves, where its first seat, with all that went into it, knows this
 pub record AreLeft (board : Board) (v : View) (closed : Closed) : Type 0 where
-  pub book : StandsFor (window_of board) closed.book
+  pub book : StandsFor (board_window board) closed.book
   pub drawn : (k : ℕ) → times k v.drawn ≡ once_below k closed.drawn
-  pub looks : (k : ℕ) → k < (basis_of board).to - (basis_of board).from → slice_index_or closed.looks.items k None ≡ left_look (window_of board) v k
+  pub looks : (k : ℕ) → k < (basis_of board).to - (basis_of board).from → slice_index_or closed.looks.items k None ≡ left_look (board_window board) v k

@@ -9,18 +9,18 @@
 #![tactic(auto)]
 
 ghost use Rattle.std.specs.Prelude.{◌≡◌, ◌≢◌, ℕ, ◌+◌, ◌<◌, ◌≤◌, ◌^◌, true, slice_index_or, IfSome, OnSome};
-ghost use Rattle.round_book.specs.Book.{CanBegin, IsSameWindow, StandsOn, window_of};
+ghost use Rattle.round_book.specs.Book.{CanBegin, StandsOn, window_of};
 ghost use Rattle.round_book.specs.Machine.{times};
 ghost use Rattle.round_book.specs.Window.{look_for};
-ghost use Rattle.round_workers.specs.BoardPlays.{drew, has_put, joined};
+ghost use Rattle.round_workers.specs.BoardPlays.{drew, has_put, views_joined};
 ghost use Rattle.round_workers.specs.BoardRule.{StandsFor};
 ghost use Rattle.round_workers.specs.BoardSeats as seats;
 ghost use Rattle.round_workers.specs.BoardSeats.{IsSeatOf, basis_of, known};
-ghost use Rattle.board_steps.specs.Seats.{AreLeft, IsFirst, IsFor, IsLaid, IsSecond, Shows, calm, first_at, second_at, taken};
+ghost use Rattle.board_steps.specs.Seats.{AreLeft, IsFirst, IsFor, IsLaid, IsSecond, Shows, calm, first_at, second_at, view_taking};
 
 use ant_turn::{Brains, Sheet};
 use brain_read::{Brain, read_brain};
-use round_book::{Book, Cause, Field};
+use round_book::{Book, Cause, Field, advance};
 use round_workers::{Board, Closed, Seat};
 use spec_record::{Look, guess_at, guesses, look};
 use std::alloc::Global;
@@ -120,24 +120,6 @@ fn put(board: &Board, field: &Field<'_>, seat: &mut Seat, turn: u32)
     board.put(seat, look);
 }
 
-// Settles the next turn by the look at it, and executes it anew where the look doesn't hold; says why it doesn't.
-fn settle_next(book: &mut Book, field: &Field<'_>, look: Look) -> Option<Cause>
-    requires stands { StandsOn field.now book.old }
-    requires left { book.old.next < book.old.to }
-    requires look { look ≡ look_for (window_of field.now book.old.from book.old.to) book.old.next }
-    ensures stands { StandsOn field.now book.new }
-    ensures next { book.new.next ≡ book.old.next + 1 }
-    ensures same { IsSameWindow book.old book.new }
-{
-    match book.settle(look) {
-        None => None,
-        Some(cause) => {
-            book.redo(field.brains(), cause);
-            Some(cause)
-        }
-    }
-}
-
 // What became of a look.
 fn fate(cause: &Option<Cause>) -> &'static str {
     match cause {
@@ -210,11 +192,11 @@ fn settle_look<R: Print>(
     requires board { IsSeatOf board.now seat.old }
     requires holds { (known seat.old).holds ≡ true }
     requires field { IsFor field.now board.now }
-    requires stands { StandsFor (seats.window_of board.now) book.old }
+    requires stands { StandsFor (seats.board_window board.now) book.old }
     requires left { book.old.next < 7 }
     ensures board { OnSome result (IsSeatOf board.now seat.new) }
-    ensures took { OnSome result (calm (known seat.new) ≡ taken (calm (known seat.old)) book.old.next) }
-    ensures stands { OnSome result (StandsFor (seats.window_of board.now) book.new) }
+    ensures took { OnSome result (calm (known seat.new) ≡ view_taking (calm (known seat.old)) book.old.next) }
+    ensures stands { OnSome result (StandsFor (seats.board_window board.now) book.new) }
     ensures next { OnSome result (book.new.next ≡ book.old.next + 1) }
 {
     let turn = book.next();
@@ -222,7 +204,7 @@ fn settle_look<R: Print>(
         return None;
     };
     println!(rt; "b takes the look of turn {turn}: there").ok()?;
-    let cause = settle_next(book, field, look);
+    let cause = advance(book, field, &look);
     println!(rt; "b settles turn {turn}: {}", fate(&cause)).ok()
 }
 
@@ -238,7 +220,7 @@ fn settle_both<R: Print>(
     requires a { Shows board.now (drew (first_at (basis_of board.now)) 0) a.old }
     requires b { Shows board.now (has_put (drew (second_at (basis_of board.now)) 1) 1) b.old }
     ensures a { OnSome result (Shows board.now (has_put (drew (first_at (basis_of board.now)) 0) 0) a.new) }
-    ensures b { OnSome result (Shows board.now (taken (taken (has_put (drew (second_at (basis_of board.now)) 1) 1) 0) 1) b.new) }
+    ensures b { OnSome result (Shows board.now (view_taking (view_taking (has_put (drew (second_at (basis_of board.now)) 1) 1) 0) 1) b.new) }
 {
     put(board, field, a, 0);
     println!(rt; "a puts the look of turn 0: done").ok()?;
@@ -273,7 +255,7 @@ fn close<R: Print>(rt: &R, board: Board, mut a: Seat, b: Seat) -> Option<Closed>
     requires b { IsSeatOf board b }
     requires first { IsFirst (known a) }
     requires second { IsSecond (known b) }
-    ensures { IfSome result (AreLeft board (joined (calm (known a)) (calm (known b)))) }
+    ensures { IfSome result (AreLeft board (views_joined (calm (known a)) (calm (known b)))) }
 {
     board.join(&mut a, b);
     println!(rt; "b is joined into a: done").ok()?;
@@ -295,8 +277,8 @@ fn close_first<R: Print>(rt: &R, board: Board, a: Seat, b: Seat) -> Option<Close
     requires from { (basis_of board).from ≡ 0 }
     requires to { (basis_of board).to ≡ 7 }
     requires a { Shows board (has_put (drew (first_at (basis_of board)) 0) 0) a }
-    requires b { Shows board (taken (taken (has_put (drew (second_at (basis_of board)) 1) 1) 0) 1) b }
-    ensures book { IfSome result (λ closed. StandsFor (seats.window_of board) closed.book) }
+    requires b { Shows board (view_taking (view_taking (has_put (drew (second_at (basis_of board)) 1) 1) 0) 1) b }
+    ensures book { IfSome result (λ closed. StandsFor (seats.board_window board) closed.book) }
     ensures drawn { IfSome result (λ closed. closed.drawn ≡ 2) }
     ensures looks { IfSome result (λ closed. (k : ℕ) → k < 7 → slice_index_or closed.looks.items k None ≡ None) }
 {
@@ -310,7 +292,7 @@ fn close_second<R: Print>(rt: &R, board: Board, a: Seat, b: Seat) -> Option<Clos
     requires a { Shows board (drew (first_at (basis_of board)) 0) a }
     requires b { Shows board (has_put (drew (second_at (basis_of board)) 1) 1) b }
     ensures drawn { IfSome result (λ closed. closed.drawn ≡ 2) }
-    ensures left { IfSome result (λ closed. slice_index_or closed.looks.items 1 None ≡ Some (look_for (seats.window_of board) 1)) }
+    ensures left { IfSome result (λ closed. slice_index_or closed.looks.items 1 None ≡ Some (look_for (seats.board_window board) 1)) }
     ensures others { IfSome result (λ closed. (k : ℕ) → k < 7 → k ≢ 1 → slice_index_or closed.looks.items k None ≡ None) }
 {
     close(rt, board, a, b)
@@ -327,7 +309,7 @@ fn settle_left<R: Print>(rt: &R, field: &Field<'_>, book: &mut Book) -> Option<(
     while book.next() < TURNS {
         let turn = book.next();
         let look = look_at(field, turn);
-        let cause = settle_next(book, field, look);
+        let cause = advance(book, field, &look);
         println!(rt; "turn {turn} is settled: {}", fate(&cause)).ok()?;
     }
     Some(())

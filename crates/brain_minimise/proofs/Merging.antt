@@ -6,14 +6,14 @@ use Rattle.brain_read.specs.declared.instr.Instr.{Instr}
 use Rattle.brain_read.specs.declared.instr.Instr.TheVariants.{Drop}
 use Rattle.brain_read.specs.Grammar.{states_of}
 use Rattle.brain_read.specs.Soundness.{IsBrain, IsSound}
-use Rattle.ant_turn.specs.Renumber.{number_of, redirected}
+use Rattle.ant_turn.specs.Renumber.{state_number, redirected}
 use Rattle.ant_turn.specs.Turn.{instruction_at}
 use Rattle.brain_minimise.specs.Equivalence.{Relation, AreRelated, AreEquivalent, IsBisimulation, shape_of}
 use Rattle.brain_minimise.specs.Inner.Classes.{AreClasses, AreStable}
 use Rattle.brain_minimise.specs.Inner.Exploring.{AreSeen}
 use Rattle.brain_minimise.specs.Inner.Kept.{AreKept}
 use Rattle.brain_minimise.specs.Inner.Numbering.{AreNumbers}
-use Rattle.brain_minimise.specs.Minimised.{IsMinimised, number_in}
+use Rattle.brain_minimise.specs.Minimised.{IsMinimised, new_number}
 use Rattle.brain_minimise.specs.Reach.{IsReachable}
 use Rattle.brain_minimise.specs.Reach.IsReachable.{Start, Next}
 use Rattle.brain_minimise.proofs.Equivalences.{class-equivalent, equivalent-class, stable_alike}
@@ -49,34 +49,34 @@ unfolding both
 both-true related o p a b first second holds = ap₂ (both related) first second ∙ holds
 
 -- lists of images that are related are related by the numbers
-pulled : (related : Relation) (numbers : List (Option ℕ)) (states others : List ℕ) → AllByRecursion (λ state. IsSome (number_in numbers state)) states → AllByRecursion (λ state. IsSome (number_in numbers state)) others →
-    AreRelated related (map (number_of (number_in numbers)) states) (map (number_of (number_in numbers)) others) → AreRelated (λ a b. both related (number_in numbers a) (number_in numbers b)) states others
+pulled : (related : Relation) (numbers : List (Option ℕ)) (states others : List ℕ) → AllByRecursion (λ state. IsSome (new_number numbers state)) states → AllByRecursion (λ state. IsSome (new_number numbers state)) others →
+    AreRelated related (map (state_number (new_number numbers)) states) (map (state_number (new_number numbers)) others) → AreRelated (λ a b. both related (new_number numbers a) (new_number numbers b)) states others
 pulled related numbers [] [] first second all = tt
 pulled related numbers [] (b ∷ others) first second all = absurd all
 pulled related numbers (a ∷ states) [] first second all = absurd all
 pulled related numbers (a ∷ states) (b ∷ others) first second all =
-    let j = the_number (number_in numbers a) first.0 in
-    let k = the_number (number_in numbers b) second.0 in
+    let j = the_number (new_number numbers a) first.0 in
+    let k = the_number (new_number numbers b) second.0 in
     let here : related j.0 k.0 ≡ true = ap₂ related (sym (ap (λ o. unwrap_or o a) j.1)) (sym (ap (λ o. unwrap_or o b) k.1)) ∙ all.0 in
-    (both-true related (number_in numbers a) (number_in numbers b) j.0 k.0 j.1 k.1 here, pulled related numbers states others first.1 second.1 all.1)
+    (both-true related (new_number numbers a) (new_number numbers b) j.0 k.0 j.1 k.1 here, pulled related numbers states others first.1 second.1 all.1)
 
 module _ (old new : List Instr) (seen : List Bool) (classes : List ℕ) (numbers : List (Option ℕ)) (is_brain : IsBrain old) (seen_are : AreSeen old seen) (are : AreClasses old classes) (stable : AreStable old classes) (numbered : AreNumbers classes seen numbers) (kept : AreKept old numbers new) where
   -- the new number of a state
   abbrev f : ℕ → ℕ
-  f = number_of (number_in numbers)
+  f = state_number (new_number numbers)
 
   -- what has a number can be reached, and the other way round
-  has-reached : (state number : ℕ) → number_in numbers state ≡ Some number → IsReachable old state
+  has-reached : (state number : ℕ) → new_number numbers state ≡ Some number → IsReachable old state
   has-reached state number has = seen_are.only state (numbered.unseen state number has)
 
-  reached-has : (state : ℕ) → IsReachable old state → IsSome (number_in numbers state)
+  reached-has : (state : ℕ) → IsReachable old state → IsSome (new_number numbers state)
   reached-has state reached = numbered.numbered state (seen_are.all state reached)
 
   reached-inside : (state : ℕ) → IsReachable old state → state < length old
   reached-inside state reached = let size = seen_are.each in omega (arith, seen-inside seen state (seen_are.all state reached))
 
   -- the successors of what can be reached have numbers
-  successors-numbered : (state : ℕ) → IsReachable old state → AllByRecursion (λ next. IsSome (number_in numbers next)) (states_of (instruction_at old state))
+  successors-numbered : (state : ℕ) → IsReachable old state → AllByRecursion (λ next. IsSome (new_number numbers next)) (states_of (instruction_at old state))
   successors-numbered state reached = All-then (states_of (instruction_at old state)) (successors-reached old state reached) reached-has
 
   -- states of the same classes that can be reached have the same numbers
@@ -85,9 +85,9 @@ module _ (old new : List Instr) (seen : List Bool) (classes : List ℕ) (numbers
   same-numbers [] (b ∷ others) same first second = absurd (cc)
   same-numbers (a ∷ states) [] same first second = absurd (cc)
   same-numbers (a ∷ states) (b ∷ others) same first second =
-      let j = the_number (number_in numbers a) (reached-has a first.0) in
+      let j = the_number (new_number numbers a) (reached-has a first.0) in
       let one : slice_index classes a ≡ slice_index classes b = cc in
-      let too : number_in numbers a ≡ number_in numbers b = numbered.same_number a b (seen_are.all a first.0) (seen_are.all b second.0) one in
+      let too : new_number numbers a ≡ new_number numbers b = numbered.same_number a b (seen_are.all a first.0) (seen_are.all b second.0) one in
       let here : f a ≡ f b = ap (λ o. unwrap_or o a) j.1 ∙ sym (ap (λ o. unwrap_or o b) (sym too ∙ j.1)) in
       ap₂ ◌∷◌ here (same-numbers states others (cc) first.1 second.1)
 
@@ -100,41 +100,41 @@ module _ (old new : List Instr) (seen : List Bool) (classes : List ℕ) (numbers
       (same-numbers (states_of (instruction_at old a)) (states_of (instruction_at old b)) (states-from (slice_index classes) (slice_index classes) (instruction_at old a) (instruction_at old b) alike) (successors-reached old a first) (successors-reached old b second))
 
   -- the new instruction of a state
-  acts : (state number : ℕ) → number_in numbers state ≡ Some number → slice_get new number ≡ Some (redirected f (instruction_at old state))
+  acts : (state number : ℕ) → new_number numbers state ≡ Some number → slice_get new number ≡ Some (redirected f (instruction_at old state))
   acts state number has =
       let it = kept.from number (kept.below state number has) in
       it.2 ∙ ap Some (same-instruction it.0 state (has-reached it.0 number it.1) (has-reached state number has) (numbered.same_class it.0 state number it.1 has))
 
-  acts-at : (state number : ℕ) → number_in numbers state ≡ Some number → instruction_at new number ≡ redirected f (instruction_at old state)
+  acts-at : (state number : ℕ) → new_number numbers state ≡ Some number → instruction_at new number ≡ redirected f (instruction_at old state)
   acts-at state number has = get_or_from_slice_get new number (redirected f (instruction_at old state)) (Drop 0) (acts state number has)
 
   -- the number of a state that can be reached can be reached
-  number-reached : (state number : ℕ) → IsReachable old state → number_in numbers state ≡ Some number → IsReachable new number
+  number-reached : (state number : ℕ) → IsReachable old state → new_number numbers state ≡ Some number → IsReachable new number
   number-reached state zero reached has = Start
   number-reached state (suc k) Start has =
       let it = numbered.rising 0 (suc k) 0 has (omega arith) in absurd (omega (arith, it.1))
   number-reached state (suc k) (Next before _ reached named) has =
-      let j = the_number (number_in numbers before) (reached-has before reached) in
+      let j = the_number (new_number numbers before) (reached-has before reached) in
       let images : Contains (states_of (instruction_at new j.0)) (f state) =
       subst (λ list. Contains list (f state)) (sym (ap states_of (acts-at before j.0 j.1) ∙ states_of-redirected f (instruction_at old before))) (Contains-map f (states_of (instruction_at old before)) state named) in
       Next j.0 (suc k) (number-reached before j.0 reached j.1) (subst (Contains (states_of (instruction_at new j.0))) (ap (λ o. unwrap_or o state) has) images)
 
   -- a relation on the new states, seen on the old ones
   abbrev pulled_back : Relation → Relation
-  pulled_back related a b = both related (number_in numbers a) (number_in numbers b)
+  pulled_back related a b = both related (new_number numbers a) (new_number numbers b)
 
   pulled-bisimulation : (related : Relation) → IsBisimulation new related → IsBisimulation old (pulled_back related)
   pulled-bisimulation related bisimulation = record {
     inside = λ a b holds.
-        let it = both-says related (number_in numbers a) (number_in numbers b) holds in
+        let it = both-says related (new_number numbers a) (new_number numbers b) holds in
         (reached-inside a (has-reached a it.a it.first), reached-inside b (has-reached b it.b it.second));
     shape = λ a b holds.
-        let it = both-says related (number_in numbers a) (number_in numbers b) holds in
+        let it = both-says related (new_number numbers a) (new_number numbers b) holds in
         sym (ap shape_of (acts-at a it.a it.first) ∙ shape_of-redirected f (instruction_at old a))
         ∙ bisimulation.shape it.a it.b it.holds
         ∙ ap shape_of (acts-at b it.b it.second) ∙ shape_of-redirected f (instruction_at old b);
     onward = λ a b holds.
-        let it = both-says related (number_in numbers a) (number_in numbers b) holds in
+        let it = both-says related (new_number numbers a) (new_number numbers b) holds in
         let first : states_of (instruction_at new it.a) ≡ map f (states_of (instruction_at old a)) = ap states_of (acts-at a it.a it.first) ∙ states_of-redirected f (instruction_at old a) in
         let second : states_of (instruction_at new it.b) ≡ map f (states_of (instruction_at old b)) = ap states_of (acts-at b it.b it.second) ∙ states_of-redirected f (instruction_at old b) in
         pulled related numbers (states_of (instruction_at old a)) (states_of (instruction_at old b))
@@ -151,7 +151,7 @@ module _ (old new : List Instr) (seen : List Bool) (classes : List ℕ) (numbers
       let one : slice_index classes s.0 ≡ slice_index classes t.0 = equivalent-class old classes are s.0 t.0 (record {
         related = pulled_back equivalent.related;
         bisimulation = pulled-bisimulation equivalent.related equivalent.bisimulation;
-        holds = both-true equivalent.related (number_in numbers s.0) (number_in numbers t.0) a b s.1 t.1 equivalent.holds;
+        holds = both-true equivalent.related (new_number numbers s.0) (new_number numbers t.0) a b s.1 t.1 equivalent.holds;
       }) in
       same_Some a b (sym s.1 ∙ numbered.same_number s.0 t.0 (numbered.unseen s.0 a s.1) (numbered.unseen t.0 b t.1) one ∙ t.1)
 
@@ -177,7 +177,7 @@ module _ (old new : List Instr) (seen : List Bool) (classes : List ℕ) (numbers
   pub IsBrain-kept : IsBrain new
   IsBrain-kept = record {
     some =
-        let zero_has = the_number (number_in numbers 0) (reached-has 0 Start) in
+        let zero_has = the_number (new_number numbers 0) (reached-has 0 Start) in
         omega (arith, kept.below 0 zero_has.0 zero_has.1);
     few = let most = is_brain.few in let few = kept.few in omega arith;
     sound = λ number instruction is.
@@ -186,7 +186,7 @@ module _ (old new : List Instr) (seen : List Bool) (classes : List ℕ) (numbers
         let same : redirected f (instruction_at old it.0) ≡ instruction = same_Some (redirected f (instruction_at old it.0)) instruction (sym it.2 ∙ is) in
         subst (IsSound (length new)) same (IsSound-redirected (length old) (length new) f (instruction_at old it.0) (instruction-sound old it.0 is_brain (reached-inside it.0 reached))
         (All-then (states_of (instruction_at old it.0)) (successors-numbered it.0 reached) (λ next some.
-        let k = the_number (number_in numbers next) some in
+        let k = the_number (new_number numbers next) some in
         let image : f next ≡ k.0 = ap (λ o. unwrap_or o next) k.1 in
         omega (arith, kept.below next k.0 k.1))));
   }

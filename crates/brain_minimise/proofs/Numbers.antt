@@ -10,12 +10,12 @@ use Rattle.std.proofs.lemmas.Option.{none-some, same_Some}
 use Rattle.brain_read.specs.declared.instr.Instr.{Instr}
 use Rattle.brain_read.specs.Grammar.{states_of}
 use Rattle.brain_read.specs.Soundness.{IsBrain}
-use Rattle.ant_turn.specs.Renumber.{number_of, redirected}
+use Rattle.ant_turn.specs.Renumber.{state_number, redirected}
 use Rattle.ant_turn.specs.Turn.{instruction_at}
 use Rattle.brain_minimise.specs.Inner.Exploring.{is_seen}
 use Rattle.brain_minimise.specs.Inner.Numbering.{AreNumbers, IsRising, IsTable}
 use Rattle.brain_minimise.specs.Inner.Kept.{AreKept}
-use Rattle.brain_minimise.specs.Minimised.{number_in}
+use Rattle.brain_minimise.specs.Minimised.{new_number}
 use Rattle.brain_minimise.proofs.Redirecting.{All-then, redirected-agree, successors-below}
 
 -- what stays in the numbering, before the state i: the keys are the classes by number
@@ -23,22 +23,22 @@ pub record IsNumbering (classes : List ℕ) (seen : List Bool) (keys : List ℕ)
   pub each : length numbers ≡ i
   pub few : length keys ≤ i
   pub distinct : (j k : ℕ) → j < length keys → k < length keys → slice_index keys j ≡ slice_index keys k → j ≡ k
-  pub unseen : (state number : ℕ) → number_in numbers state ≡ Some number → is_seen seen state ≡ true
-  pub numbered : (state : ℕ) → state < i → is_seen seen state ≡ true → IsSome (number_in numbers state)
-  pub keyed : (state number : ℕ) → number_in numbers state ≡ Some number → (number < length keys) × (slice_index keys number ≡ slice_index classes state)
-  pub onto : (number : ℕ) → number < length keys → (state : ℕ) × (state < i) × (number_in numbers state ≡ Some number)
+  pub unseen : (state number : ℕ) → new_number numbers state ≡ Some number → is_seen seen state ≡ true
+  pub numbered : (state : ℕ) → state < i → is_seen seen state ≡ true → IsSome (new_number numbers state)
+  pub keyed : (state number : ℕ) → new_number numbers state ≡ Some number → (number < length keys) × (slice_index keys number ≡ slice_index classes state)
+  pub onto : (number : ℕ) → number < length keys → (state : ℕ) × (state < i) × (new_number numbers state ≡ Some number)
   pub rising : IsRising numbers
 
 -- what stays in making the table
 pub record IsTabling (numbers : List (Option ℕ)) (table : List ℕ) (i : ℕ) : Type 0 where
   pub each : length table ≡ i
-  pub entry : (state : ℕ) → state < i → slice_index table state ≡ unwrap_or (number_in numbers state) state
+  pub entry : (state : ℕ) → state < i → slice_index table state ≡ unwrap_or (new_number numbers state) state
 
 -- what stays in keeping the instructions
 pub record IsKeeping (brain : List Instr) (numbers : List (Option ℕ)) (table : List ℕ) (list : List Instr) (i : ℕ) : Type 0 where
   pub few : length list ≤ i
-  pub below : (state number : ℕ) → state < i → number_in numbers state ≡ Some number → number < length list
-  pub from : (number : ℕ) → number < length list → (state : ℕ) × (state < i) × (number_in numbers state ≡ Some number) × (slice_get list number ≡ Some (redirected (slice_index table) (instruction_at brain state)))
+  pub below : (state number : ℕ) → state < i → new_number numbers state ≡ Some number → number < length list
+  pub from : (number : ℕ) → number < length list → (state : ℕ) × (state < i) × (new_number numbers state ≡ Some number) × (slice_get list number ≡ Some (redirected (slice_index table) (instruction_at brain state)))
 
 -- a seen state is one of the list
 pub seen-inside : (seen : List Bool) (state : ℕ) → is_seen seen state ≡ true → state < length seen
@@ -60,7 +60,7 @@ slice_get_last [] x = refl
 slice_get_last (y ∷ list) x = slice_get_last list x
 
 -- a number is that of a state of the map
-pub number-inside : (numbers : List (Option ℕ)) (state number : ℕ) → number_in numbers state ≡ Some number → state < length numbers
+pub number-inside : (numbers : List (Option ℕ)) (state number : ℕ) → new_number numbers state ≡ Some number → state < length numbers
 number-inside numbers state number is =
     elim (cases_lt state (length numbers)) [
       | inl below ↦ below
@@ -68,7 +68,7 @@ number-inside numbers state number is =
     ]
 
 -- of one more state
-pub number-push : (numbers : List (Option ℕ)) (last : Option ℕ) (state number : ℕ) → number_in (numbers ++ last ∷ []) state ≡ Some number → ((state < length numbers) × (number_in numbers state ≡ Some number)) ⊎ ((state ≡ length numbers) × (last ≡ Some number))
+pub number-push : (numbers : List (Option ℕ)) (last : Option ℕ) (state number : ℕ) → new_number (numbers ++ last ∷ []) state ≡ Some number → ((state < length numbers) × (new_number numbers state ≡ Some number)) ⊎ ((state ≡ length numbers) × (last ≡ Some number))
 number-push numbers last state number is =
     let size : length (numbers ++ last ∷ []) ≡ length numbers + 1 = length_push numbers last in
     let inside : state < length (numbers ++ last ∷ []) = number-inside (numbers ++ last ∷ []) state number is in
@@ -76,15 +76,15 @@ number-push numbers last state number is =
       | inl below ↦ inl (below, sym (get_or_append_left numbers (last ∷ []) None state below) ∙ is)
       | inr above ↦
           let one : state ≡ length numbers = omega arith in
-          inr (one, sym (get_or_push numbers last None (length numbers) refl) ∙ ap (number_in (numbers ++ last ∷ [])) (sym one) ∙ is)
+          inr (one, sym (get_or_push numbers last None (length numbers) refl) ∙ ap (new_number (numbers ++ last ∷ [])) (sym one) ∙ is)
     ]
 
 -- the earlier states keep theirs
-pub number-kept : (numbers : List (Option ℕ)) (last : Option ℕ) (state number : ℕ) → number_in numbers state ≡ Some number → number_in (numbers ++ last ∷ []) state ≡ Some number
+pub number-kept : (numbers : List (Option ℕ)) (last : Option ℕ) (state number : ℕ) → new_number numbers state ≡ Some number → new_number (numbers ++ last ∷ []) state ≡ Some number
 number-kept numbers last state number is = get_or_append_left numbers (last ∷ []) None state (number-inside numbers state number is) ∙ is
 
 -- lower numbers come before
-rising-push : (numbers : List (Option ℕ)) (last : Option ℕ) → IsRising numbers → ((number lower : ℕ) → last ≡ Some number → lower < number → (earlier : ℕ) × (earlier < length numbers) × (number_in numbers earlier ≡ Some lower)) → IsRising (numbers ++ last ∷ [])
+rising-push : (numbers : List (Option ℕ)) (last : Option ℕ) → IsRising numbers → ((number lower : ℕ) → last ≡ Some number → lower < number → (earlier : ℕ) × (earlier < length numbers) × (new_number numbers earlier ≡ Some lower)) → IsRising (numbers ++ last ∷ [])
 rising-push numbers last rising new state number lower is less =
     elim (number-push numbers last state number is) [
       | inl old ↦ let it = rising state number lower old.1 less in (it.0, it.1, number-kept numbers last it.0 lower it.2)
@@ -149,7 +149,7 @@ IsNumbering-more classes seen keys after numbers i number class before there is_
         | inr more ↦ absurd (false≢true (sym (apart_from_distinct nat_eq after k j 0 distinct more low) ∙ eq-eqb (slice_index after k) (slice_index after j) (sym one)))
       ]
     ] in
-    let last : number_in (numbers ++ Some number ∷ []) i ≡ Some number = get_or_push numbers (Some number) None i before.each in
+    let last : new_number (numbers ++ Some number ∷ []) i ≡ Some number = get_or_push numbers (Some number) None i before.each in
     let newest : (k : ℕ) → k < length after → length keys ≤ k → slice_index after k ≡ class = λ k below above. elim which [
       | inl same ↦ absurd (omega (arith, ap length same))
       | inr more ↦
@@ -166,7 +166,7 @@ IsNumbering-more classes seen keys after numbers i number class before there is_
       ];
       numbered = λ state early was. elim (cases_lt state i) [
         | inl old ↦ subst IsSome (sym (get_or_append_left numbers (Some number ∷ []) None state (omega arith))) (before.numbered state old was)
-        | inr now ↦ let one : state ≡ i = omega arith in subst IsSome (sym (ap (number_in (numbers ++ Some number ∷ [])) one ∙ last)) refl
+        | inr now ↦ let one : state ≡ i = omega arith in subst IsSome (sym (ap (new_number (numbers ++ Some number ∷ [])) one ∙ last)) refl
       ];
       keyed = λ state k is. elim (number-push numbers (Some number) state k is) [
         | inl old ↦
@@ -197,8 +197,8 @@ IsNumbering-all classes seen keys numbers all = record {
   numbered = λ state was. all.numbered state (seen-inside seen state was) was;
   same_class = λ a b number is too. sym (all.keyed a number is).1 ∙ (all.keyed b number too).1;
   same_number = λ a b was too one.
-      let j = the_number (number_in numbers a) (all.numbered a (seen-inside seen a was) was) in
-      let k = the_number (number_in numbers b) (all.numbered b (seen-inside seen b too) too) in
+      let j = the_number (new_number numbers a) (all.numbered a (seen-inside seen a was) was) in
+      let k = the_number (new_number numbers b) (all.numbered b (seen-inside seen b too) too) in
       let first = all.keyed a j.0 j.1 in
       let second = all.keyed b k.0 k.1 in
       j.1 ∙ ap Some (all.distinct j.0 k.0 first.0 second.0 (first.1 ∙ one ∙ sym second.1)) ∙ sym k.1;
@@ -209,14 +209,14 @@ IsNumbering-all classes seen keys numbers all = record {
 pub IsTabling-none : (numbers : List (Option ℕ)) → IsTabling numbers [] 0
 IsTabling-none numbers = record { each = refl; entry = λ state early. absurd (omega arith) }
 
-pub IsTabling-more : (numbers : List (Option ℕ)) (table : List ℕ) (i entry : ℕ) → IsTabling numbers table i → entry ≡ unwrap_or (number_in numbers i) i → IsTabling numbers (table ++ entry ∷ []) (i + 1)
+pub IsTabling-more : (numbers : List (Option ℕ)) (table : List ℕ) (i entry : ℕ) → IsTabling numbers table i → entry ≡ unwrap_or (new_number numbers i) i → IsTabling numbers (table ++ entry ∷ []) (i + 1)
 IsTabling-more numbers table i entry before is = record {
   each = length_push table entry ∙ ap (λ n. n + 1) before.each;
   entry = λ state early. elim (cases_lt state i) [
     | inl old ↦ let size = before.each in get_or_append_left table (entry ∷ []) 0 state (omega arith) ∙ before.entry state old
     | inr now ↦
         let one : i ≡ state = omega arith in
-        subst (λ s. slice_index (table ++ entry ∷ []) s ≡ unwrap_or (number_in numbers s) s) one (get_or_push table entry 0 i before.each ∙ is)
+        subst (λ s. slice_index (table ++ entry ∷ []) s ≡ unwrap_or (new_number numbers s) s) one (get_or_push table entry 0 i before.each ∙ is)
   ];
 }
 
@@ -232,7 +232,7 @@ IsKeeping-none brain numbers table = record {
 }
 
 -- the instruction of a state with the next number is kept
-pub IsKeeping-more : (brain : List Instr) (numbers : List (Option ℕ)) (table : List ℕ) (list : List Instr) (i : ℕ) (instruction : Instr) → IsKeeping brain numbers table list i → number_in numbers i ≡ Some (length list) → instruction ≡ redirected (slice_index table) (instruction_at brain i) →
+pub IsKeeping-more : (brain : List Instr) (numbers : List (Option ℕ)) (table : List ℕ) (list : List Instr) (i : ℕ) (instruction : Instr) → IsKeeping brain numbers table list i → new_number numbers i ≡ Some (length list) → instruction ≡ redirected (slice_index table) (instruction_at brain i) →
     IsKeeping brain numbers table (list ++ instruction ∷ []) (i + 1)
 IsKeeping-more brain numbers table list i instruction before next is =
     let size : length (list ++ instruction ∷ []) ≡ length list + 1 = length_push list instruction in
@@ -243,7 +243,7 @@ IsKeeping-more brain numbers table list i instruction before next is =
         | inl old ↦ omega (arith, before.below state number old has)
         | inr now ↦
             let one : state ≡ i = omega arith in
-            let same : number ≡ length list = same_Some number (length list) (sym has ∙ ap (number_in numbers) one ∙ next) in
+            let same : number ≡ length list = same_Some number (length list) (sym has ∙ ap (new_number numbers) one ∙ next) in
             omega arith
       ];
       from = λ number below. elim (cases_lt number (length list)) [
@@ -257,7 +257,7 @@ IsKeeping-more brain numbers table list i instruction before next is =
     }
 
 -- the instruction of any other state isn't
-pub IsKeeping-skip : (brain : List Instr) (numbers : List (Option ℕ)) (table : List ℕ) (list : List Instr) (i : ℕ) → IsRising numbers → IsKeeping brain numbers table list i → (number_in numbers i ≡ Some (length list) → ⊥) → IsKeeping brain numbers table list (i + 1)
+pub IsKeeping-skip : (brain : List Instr) (numbers : List (Option ℕ)) (table : List ℕ) (list : List Instr) (i : ℕ) → IsRising numbers → IsKeeping brain numbers table list i → (new_number numbers i ≡ Some (length list) → ⊥) → IsKeeping brain numbers table list (i + 1)
 IsKeeping-skip brain numbers table list i rising before other =
     let few = before.few in
     record {
@@ -266,7 +266,7 @@ IsKeeping-skip brain numbers table list i rising before other =
         | inl old ↦ before.below state number old has
         | inr now ↦
             let one : state ≡ i = omega arith in
-            let here : number_in numbers i ≡ Some number = ap (number_in numbers) (sym one) ∙ has in
+            let here : new_number numbers i ≡ Some number = ap (new_number numbers) (sym one) ∙ has in
             elim (cases_order number (length list)) [
               | inl same ↦ absurd (other (here ∙ ap Some same))
               | inr differ ↦ elim differ [
@@ -287,8 +287,8 @@ IsKeeping-all brain numbers table list is_brain each tabled all = record {
   below = λ state number has. all.below state number (omega (arith, number-inside numbers state number has)) has;
   from = λ number below.
       let it = all.from number below in
-      let same : redirected (slice_index table) (instruction_at brain it.0) ≡ redirected (number_of (number_in numbers)) (instruction_at brain it.0) =
-      redirected-agree (slice_index table) (number_of (number_in numbers)) (instruction_at brain it.0)
+      let same : redirected (slice_index table) (instruction_at brain it.0) ≡ redirected (state_number (new_number numbers)) (instruction_at brain it.0) =
+      redirected-agree (slice_index table) (state_number (new_number numbers)) (instruction_at brain it.0)
       (All-then (states_of (instruction_at brain it.0)) (successors-below brain it.0 is_brain it.1) (λ state low. tabled.entry state (omega arith))) in
       (it.0, it.2, it.3 ∙ ap Some same);
 }

@@ -19,12 +19,12 @@ use Rattle.brain_read.specs.declared.instr.Instr.{Instr}
 use Rattle.brain_read.specs.declared.instr.Instr.TheVariants.{Drop}
 use Rattle.brain_read.specs.Grammar.{states_of}
 use Rattle.ant_turn.specs.Minds.{Minds, mind_of}
-use Rattle.ant_turn.specs.Renumber.{AreNumbered, Carries, Numbers, number_of, redirected, renumbered, renumbered_ant, renumbered_moment, side_states, with_mind}
+use Rattle.ant_turn.specs.Renumber.{AreNumbered, Carries, Numbers, state_number, redirected, renumbered, renumbered_ant, renumbered_moment, side_states, with_mind}
 use Rattle.ant_turn.specs.Rounds.{Moment, after_rounds, start_of}
 use Rattle.ant_turn.specs.Turn.{instruction_at}
 use Rattle.ant_turn.proofs.RenumberedTurns.{after_rounds-renumbered}
-use Rattle.brain_minimise.specs.Match.{DiffersInStates, IsSameAnt, game}
-use Rattle.brain_minimise.specs.Minimised.{IsMinimised, number_in}
+use Rattle.brain_minimise.specs.Match.{DiffersInStates, IsMatchingAnt, game}
+use Rattle.brain_minimise.specs.Minimised.{IsMinimised, new_number}
 use Rattle.brain_minimise.specs.Reach.IsReachable.{Start}
 use Rattle.brain_minimise.proofs.Merging.{successors-reached}
 use Rattle.brain_minimise.proofs.Numbers.{number-inside}
@@ -32,12 +32,12 @@ use Rattle.brain_minimise.proofs.Ranks.{zero-number}
 use Rattle.brain_minimise.proofs.Redirecting.{All-then}
 
 -- the map carries the brain over to its minimised one
-pub Carries-minimised : (old new : List Instr) (numbers : List (Option ℕ)) → IsMinimised old new numbers → Carries (number_in numbers) old new
+pub Carries-minimised : (old new : List Instr) (numbers : List (Option ℕ)) → IsMinimised old new numbers → Carries (new_number numbers) old new
 Carries-minimised old new numbers minimised = record {
   inside = λ state number has.
       let each = minimised.each in
-      (omega (arith, number-inside numbers state number has), slice_get_within new number (redirected (number_of (number_in numbers)) (instruction_at old state)) (minimised.acts state number has));
-  acts = λ state number has. get_or_from_slice_get new number (redirected (number_of (number_in numbers)) (instruction_at old state)) (Drop 0) (minimised.acts state number has);
+      (omega (arith, number-inside numbers state number has), slice_get_within new number (redirected (state_number (new_number numbers)) (instruction_at old state)) (minimised.acts state number has));
+  acts = λ state number has. get_or_from_slice_get new number (redirected (state_number (new_number numbers)) (instruction_at old state)) (Drop 0) (minimised.acts state number has);
   onward = λ state number has. All-then (states_of (instruction_at old state)) (successors-reached old state (minimised.dropped state number has)) minimised.kept;
 }
 
@@ -47,9 +47,9 @@ cond-either true x y z first second = first
 cond-either false x y z first second = second
 
 -- state 0 stays state 0
-zero-stays : (old new : List Instr) (numbers : List (Option ℕ)) (side own : Colour) → IsMinimised old new numbers → side_states (number_in numbers) side own 0 ≡ 0
+zero-stays : (old new : List Instr) (numbers : List (Option ℕ)) (side own : Colour) → IsMinimised old new numbers → side_states (new_number numbers) side own 0 ≡ 0
 zero-stays old new numbers side own minimised =
-    cond-either (same_colour side own) (number_of (number_in numbers) 0) 0 0 (ap (λ o. unwrap_or o 0) (zero-number old new numbers minimised)) refl
+    cond-either (same_colour side own) (state_number (new_number numbers) 0) 0 0 (ap (λ o. unwrap_or o 0) (zero-number old new numbers minimised)) refl
 
 -- an ant whose state stays
 same_ant : (f : Colour → ℕ → ℕ) (o : Option Ant) → ((ant : Ant) → o ≡ Some ant → f ant.colour ant.state ≡ ant.state) → option_map (renumbered_ant f) o ≡ o
@@ -66,25 +66,25 @@ module _ (minds : Minds) (side : Colour) (brain : List Instr) (numbers : List (O
   starts p ant is = ap (λ (a : Ant). a.state) (opening-new width height kinds p ant is)
 
   -- so it is the same renumbered
-  start-renumbered : renumbered_moment (number_in numbers) side (start_of start) ≡ start_of start
+  start-renumbered : renumbered_moment (new_number numbers) side (start_of start) ≡ start_of start
   start-renumbered =
       ap (λ cells. start_of (with_cells start cells)) (fun_ext λ p.
       ap (λ (o : Option Ant). let cell : Cell = record (start.cells p) { ant = o } in cell)
-      (same_ant (side_states (number_in numbers) side) (start.cells p).ant (λ ant is.
+      (same_ant (side_states (new_number numbers) side) (start.cells p).ant (λ ant is.
       let zero : ant.state ≡ 0 = starts p ant is in
-      ap (side_states (number_in numbers) side ant.colour) zero ∙ zero-stays (mind_of minds side) brain numbers side ant.colour minimised ∙ sym zero)))
+      ap (side_states (new_number numbers) side ant.colour) zero ∙ zero-stays (mind_of minds side) brain numbers side ant.colour minimised ∙ sym zero)))
 
   -- and each ant's state has a number
-  start-numbered : AreNumbered (number_in numbers) side start
+  start-numbered : AreNumbered (new_number numbers) side start
   start-numbered = record {
-    each = λ p ant is _. subst (λ state. IsSome (number_in numbers state)) (sym (starts p ant is)) (minimised.kept 0 Start);
+    each = λ p ant is _. subst (λ state. IsSome (new_number numbers state)) (sym (starts p ant is)) (minimised.kept 0 Start);
   }
 
   -- the games are alike
-  pub game-minimised : game (with_mind minds side brain) seed width height kinds r ≡ renumbered_moment (number_in numbers) side (game minds seed width height kinds r)
+  pub game-minimised : game (with_mind minds side brain) seed width height kinds r ≡ renumbered_moment (new_number numbers) side (game minds seed width height kinds r)
   game-minimised =
       ap (λ (m : Moment). after_rounds (with_mind minds side brain) seed m r) (sym start-renumbered)
-      ∙ after_rounds-renumbered (number_in numbers) side minds brain seed (start_of start) r (Carries-minimised (mind_of minds side) brain numbers minimised) start-numbered
+      ∙ after_rounds-renumbered (new_number numbers) side minds brain seed (start_of start) r (Carries-minimised (mind_of minds side) brain numbers minimised) start-numbered
 
 -- renumbering changes no score
 score_of-renumbered : (numbers : Numbers) (side : Colour) (w : World) → score_of (renumbered numbers side w) ≡ score_of w
@@ -96,7 +96,7 @@ pub score-minimised : (minds : Minds) (side : Colour) (brain : List Instr) (numb
     score_of (game (with_mind minds side brain) seed width height kinds r).world ≡ score_of (game minds seed width height kinds r).world
 score-minimised minds side brain numbers seed width height kinds r minimised =
     ap (λ (m : Moment). score_of m.world) (game-minimised minds side brain numbers seed width height kinds r minimised)
-    ∙ score_of-renumbered (number_in numbers) side (game minds seed width height kinds r).world
+    ∙ score_of-renumbered (new_number numbers) side (game minds seed width height kinds r).world
 
 -- the other side's states stay
 others-stay : (numbers : Numbers) (side own : Colour) (state : ℕ) → own ≢ side → side_states numbers side own state ≡ state
@@ -106,9 +106,9 @@ others-stay numbers Black Red state other = refl
 others-stay numbers Black Black state other = absurd (other refl)
 
 -- an ant is the same but for its state
-IsSameAnt-renumbered : (numbers : Numbers) (side : Colour) (o : Option Ant) → IsSameAnt side o (option_map (renumbered_ant (side_states numbers side)) o)
-IsSameAnt-renumbered numbers side None = tt
-IsSameAnt-renumbered numbers side (Some ant) = (refl, λ other. others-stay numbers side ant.colour ant.state other)
+IsMatchingAnt-renumbered : (numbers : Numbers) (side : Colour) (o : Option Ant) → IsMatchingAnt side o (option_map (renumbered_ant (side_states numbers side)) o)
+IsMatchingAnt-renumbered numbers side None = tt
+IsMatchingAnt-renumbered numbers side (Some ant) = (refl, λ other. others-stay numbers side ant.colour ant.state other)
 
 -- renumbering changes states alone
 DiffersInStates-renumbered : (numbers : Numbers) (side : Colour) (w : World) → DiffersInStates side w (renumbered numbers side w)
@@ -117,7 +117,7 @@ DiffersInStates-renumbered numbers side w = record {
   height = refl;
   ids = refl;
   cells = λ p. refl;
-  ants = λ p. IsSameAnt-renumbered numbers side (w.cells p).ant;
+  ants = λ p. IsMatchingAnt-renumbered numbers side (w.cells p).ant;
 }
 
 -- so what a dump shows differs in them alone
@@ -125,4 +125,4 @@ pub dump-minimised : (minds : Minds) (side : Colour) (brain : List Instr) (numbe
     DiffersInStates side (game minds seed width height kinds r).world (game (with_mind minds side brain) seed width height kinds r).world
 dump-minimised minds side brain numbers seed width height kinds r minimised =
     subst (λ (m : Moment). DiffersInStates side (game minds seed width height kinds r).world m.world) (sym (game-minimised minds side brain numbers seed width height kinds r minimised))
-    (DiffersInStates-renumbered (number_in numbers) side (game minds seed width height kinds r).world)
+    (DiffersInStates-renumbered (new_number numbers) side (game minds seed width height kinds r).world)

@@ -8,12 +8,12 @@ use Rattle.indexmap.proofs.IndexTableLemmas.Probe.{pigeonhole}
 use Rattle.brain_read.specs.declared.instr.Instr.{Instr}
 use Rattle.brain_read.specs.declared.instr.Instr.TheVariants.{Drop}
 use Rattle.brain_read.specs.Grammar.{states_of}
-use Rattle.ant_turn.specs.Renumber.{number_of, redirected}
+use Rattle.ant_turn.specs.Renumber.{state_number, redirected}
 use Rattle.ant_turn.specs.Turn.{instruction_at}
 use Rattle.brain_minimise.specs.Equivalence.{AreEquivalent}
 use Rattle.brain_minimise.specs.Inner.Numbering.{IsRising}
 use Rattle.brain_minimise.specs.Laws.{AreDifferent, KeepsText, Merges, kept_before, left_of}
-use Rattle.brain_minimise.specs.Minimised.{IsLeast, IsMinimised, number_in}
+use Rattle.brain_minimise.specs.Minimised.{IsLeast, IsMinimised, new_number}
 use Rattle.brain_minimise.specs.Reach.{IsReachable}
 use Rattle.brain_minimise.specs.Reach.IsReachable.{Start}
 use Rattle.brain_minimise.proofs.Merging.{successors-reached}
@@ -29,12 +29,12 @@ is_number (Some other) number = elim (cases_eq other number) [
 ]
 
 -- the least state of a number below n, if there is one
-least_below : (numbers : List (Option ℕ)) (number n : ℕ) → ((state : ℕ) → state < n → number_in numbers state ≡ Some number → ⊥) ⊎ ((state : ℕ) × (state < n) × IsLeast numbers number state)
+least_below : (numbers : List (Option ℕ)) (number n : ℕ) → ((state : ℕ) → state < n → new_number numbers state ≡ Some number → ⊥) ⊎ ((state : ℕ) × (state < n) × IsLeast numbers number state)
 least_below numbers number zero = inl (λ state below _. omega arith)
 least_below numbers number (suc n) =
     elim (least_below numbers number n) [
       | inr found ↦ inr (found.0, omega (arith, found.1), found.2)
-      | inl none ↦ elim (is_number (number_in numbers n) number) [
+      | inl none ↦ elim (is_number (new_number numbers n) number) [
         | inl here ↦ inr (
           n,
           omega arith,
@@ -48,13 +48,13 @@ least_below numbers number (suc n) =
         )
         | inr not_here ↦ inl (λ state below there. elim (cases_lt state n) [
           | inl early ↦ none state early there
-          | inr last ↦ let one : state ≡ n = omega arith in not_here (ap (number_in numbers) (sym one) ∙ there)
+          | inr last ↦ let one : state ≡ n = omega arith in not_here (ap (new_number numbers) (sym one) ∙ there)
         ])
       ]
     ]
 
 -- where a state has a number, some state is the least that has it
-least_of : (numbers : List (Option ℕ)) (number state : ℕ) → number_in numbers state ≡ Some number → (least : ℕ) × (least ≤ state) × IsLeast numbers number least
+least_of : (numbers : List (Option ℕ)) (number state : ℕ) → new_number numbers state ≡ Some number → (least : ℕ) × (least ≤ state) × IsLeast numbers number least
 least_of numbers number state has =
     elim (least_below numbers number (suc state)) [
       | inl none ↦ absurd (none state (omega arith) has)
@@ -62,9 +62,9 @@ least_of numbers number state has =
     ]
 
 -- the number of a state is one of the new brain's
-pub number-below : (old new : List Instr) (numbers : List (Option ℕ)) → IsMinimised old new numbers → (state number : ℕ) → number_in numbers state ≡ Some number → number < length new
+pub number-below : (old new : List Instr) (numbers : List (Option ℕ)) → IsMinimised old new numbers → (state number : ℕ) → new_number numbers state ≡ Some number → number < length new
 number-below old new numbers minimised state number has =
-    slice_get_within new number (redirected (number_of (number_in numbers)) (instruction_at old state)) (minimised.acts state number has)
+    slice_get_within new number (redirected (state_number (new_number numbers)) (instruction_at old state)) (minimised.acts state number has)
 
 -- before a state of a number there is one of each lower number
 pub IsRising-minimised : (old new : List Instr) (numbers : List (Option ℕ)) → IsMinimised old new numbers → IsRising numbers
@@ -76,9 +76,9 @@ IsRising-minimised old new numbers minimised state number lower has less =
     (a.0, omega (arith, b.1, minimised.rising lower number a.0 b.0 less a.2 b.2), a.2.has)
 
 -- state 0 has number 0
-pub zero-number : (old new : List Instr) (numbers : List (Option ℕ)) → IsMinimised old new numbers → number_in numbers 0 ≡ Some 0
+pub zero-number : (old new : List Instr) (numbers : List (Option ℕ)) → IsMinimised old new numbers → new_number numbers 0 ≡ Some 0
 zero-number old new numbers minimised =
-    let it = the_number (number_in numbers 0) (minimised.kept 0 Start) in
+    let it = the_number (new_number numbers 0) (minimised.kept 0 Start) in
     elim (cases_eq it.0 0) [
       | inl none ↦ it.1 ∙ ap Some none
       | inr some ↦
@@ -88,7 +88,7 @@ zero-number old new numbers minimised =
     ]
 
 -- one more state
-kept_before-some : (numbers : List (Option ℕ)) (state number : ℕ) → number_in numbers state ≡ Some number → kept_before numbers (suc state) ≡ suc (kept_before numbers state)
+kept_before-some : (numbers : List (Option ℕ)) (state number : ℕ) → new_number numbers state ≡ Some number → kept_before numbers (suc state) ≡ suc (kept_before numbers state)
 kept_before-some [] state number has = absurd (none-some number has)
 kept_before-some (None ∷ numbers) zero number has = absurd (none-some number has)
 kept_before-some (Some k ∷ []) zero number has = refl
@@ -96,7 +96,7 @@ kept_before-some (Some k ∷ (o ∷ numbers)) zero number has = refl
 kept_before-some (None ∷ numbers) (suc state) number has = kept_before-some numbers state number has
 kept_before-some (Some k ∷ numbers) (suc state) number has = ap suc (kept_before-some numbers state number has)
 
-kept_before-none : (numbers : List (Option ℕ)) (state : ℕ) → number_in numbers state ≡ None → kept_before numbers (suc state) ≡ kept_before numbers state
+kept_before-none : (numbers : List (Option ℕ)) (state : ℕ) → new_number numbers state ≡ None → kept_before numbers (suc state) ≡ kept_before numbers state
 kept_before-none [] state has = refl
 kept_before-none (None ∷ []) zero has = refl
 kept_before-none (None ∷ (o ∷ numbers)) zero has = refl
@@ -106,15 +106,15 @@ kept_before-none (Some k ∷ numbers) (suc state) has = ap suc (kept_before-none
 
 -- the numbers of the states below n are those below how many of them have one
 record AreRanked (numbers : List (Option ℕ)) (n : ℕ) : Type 0 where
-  pub low : (state number : ℕ) → state < n → number_in numbers state ≡ Some number → number < kept_before numbers n
-  pub all : (number : ℕ) → number < kept_before numbers n → (state : ℕ) × (state < n) × (number_in numbers state ≡ Some number)
+  pub low : (state number : ℕ) → state < n → new_number numbers state ≡ Some number → number < kept_before numbers n
+  pub all : (number : ℕ) → number < kept_before numbers n → (state : ℕ) × (state < n) × (new_number numbers state ≡ Some number)
 
 -- no two states have one number
 abbrev AreApart : List (Option ℕ) → Type 0
-AreApart numbers = (a b number : ℕ) → number_in numbers a ≡ Some number → number_in numbers b ≡ Some number → a ≡ b
+AreApart numbers = (a b number : ℕ) → new_number numbers a ≡ Some number → new_number numbers b ≡ Some number → a ≡ b
 
 -- then the number of a state is how many before it have one
-rank_of : (numbers : List (Option ℕ)) (state number : ℕ) → IsRising numbers → AreApart numbers → AreRanked numbers state → number_in numbers state ≡ Some number → number ≡ kept_before numbers state
+rank_of : (numbers : List (Option ℕ)) (state number : ℕ) → IsRising numbers → AreApart numbers → AreRanked numbers state → new_number numbers state ≡ Some number → number ≡ kept_before numbers state
 rank_of numbers state number rising apart ranked has =
     elim (cases_order number (kept_before numbers state)) [
       | inl same ↦ same
@@ -130,13 +130,13 @@ rank_of numbers state number rising apart ranked has =
     ]
 
 -- a state more, by what it has
-ranked_more : (numbers : List (Option ℕ)) (n : ℕ) (o : Option ℕ) → number_in numbers n ≡ o → IsRising numbers → AreApart numbers → AreRanked numbers n → AreRanked numbers (suc n)
+ranked_more : (numbers : List (Option ℕ)) (n : ℕ) (o : Option ℕ) → new_number numbers n ≡ o → IsRising numbers → AreApart numbers → AreRanked numbers n → AreRanked numbers (suc n)
 ranked_more numbers n None is rising apart ranked =
     let same : kept_before numbers (suc n) ≡ kept_before numbers n = kept_before-none numbers n is in
     record {
       low = λ state number below has. elim (cases_lt state n) [
         | inl early ↦ omega (arith, ranked.low state number early has)
-        | inr last ↦ let one : state ≡ n = omega arith in absurd (none-some number (sym is ∙ ap (number_in numbers) (sym one) ∙ has))
+        | inr last ↦ let one : state ≡ n = omega arith in absurd (none-some number (sym is ∙ ap (new_number numbers) (sym one) ∙ has))
       ];
       all = λ number less. let it = ranked.all number (omega arith) in (it.0, omega (arith, it.1), it.2);
     }
@@ -148,7 +148,7 @@ ranked_more numbers n (Some k) is rising apart ranked =
         | inl early ↦ omega (arith, ranked.low state number early has)
         | inr last ↦
             let one : state ≡ n = omega arith in
-            let same : k ≡ number = same_Some k number (sym is ∙ ap (number_in numbers) (sym one) ∙ has) in
+            let same : k ≡ number = same_Some k number (sym is ∙ ap (new_number numbers) (sym one) ∙ has) in
             omega arith
       ];
       all = λ number less. elim (cases_lt number (kept_before numbers n)) [
@@ -165,10 +165,10 @@ ranked numbers zero rising apart = record { low = λ state number below has. abs
     none_kept [] number less = omega arith
     none_kept (None ∷ numbers) number less = omega arith
     none_kept (Some k ∷ numbers) number less = omega arith
-ranked numbers (suc n) rising apart = ranked_more numbers n (number_in numbers n) refl rising apart (ranked numbers n rising apart)
+ranked numbers (suc n) rising apart = ranked_more numbers n (new_number numbers n) refl rising apart (ranked numbers n rising apart)
 
 -- the instruction of a state that has a number, among those that are left
-left_of-at : (numbers : List (Option ℕ)) (brain : List Instr) (state number : ℕ) → length numbers ≡ length brain → number_in numbers state ≡ Some number → slice_get (left_of numbers brain) (kept_before numbers state) ≡ slice_get brain state
+left_of-at : (numbers : List (Option ℕ)) (brain : List Instr) (state number : ℕ) → length numbers ≡ length brain → new_number numbers state ≡ Some number → slice_get (left_of numbers brain) (kept_before numbers state) ≡ slice_get brain state
 left_of-at [] brain state number each has = absurd (none-some number has)
 left_of-at (o ∷ numbers) [] state number each has = absurd (omega arith)
 left_of-at (None ∷ numbers) (x ∷ brain) zero number each has = absurd (none-some number has)
@@ -190,11 +190,11 @@ same_entries xs ys size same =
     get_or_from_slice_get xs k (slice_index_or ys k d) d (same k below ∙ slice_get-get_or ys k d (omega arith)))
 
 -- where each state has a number, as many as there are have one
-kept_before-all : (numbers : List (Option ℕ)) (n : ℕ) → ((state : ℕ) → state < n → IsSome (number_in numbers state)) → kept_before numbers n ≡ n
+kept_before-all : (numbers : List (Option ℕ)) (n : ℕ) → ((state : ℕ) → state < n → IsSome (new_number numbers state)) → kept_before numbers n ≡ n
 kept_before-all [] zero each = refl
 kept_before-all (o ∷ numbers) zero each = refl
 kept_before-all numbers (suc n) each =
-    let it = the_number (number_in numbers n) (each n (omega arith)) in
+    let it = the_number (new_number numbers n) (each n (omega arith)) in
     kept_before-some numbers n it.0 it.1 ∙ ap suc (kept_before-all numbers n (λ state below. each state (omega arith)))
 
 module _ (old new : List Instr) (numbers : List (Option ℕ)) (minimised : IsMinimised old new numbers) (different : AreDifferent old) where
@@ -203,7 +203,7 @@ module _ (old new : List Instr) (numbers : List (Option ℕ)) (minimised : IsMin
   numbers-apart a b number first second = different a b (minimised.dropped a number first) (minimised.dropped b number second) (minimised.merged a b number first second)
 
   -- each has its rank
-  number-rank : (state number : ℕ) → number_in numbers state ≡ Some number → number ≡ kept_before numbers state
+  number-rank : (state number : ℕ) → new_number numbers state ≡ Some number → number ≡ kept_before numbers state
   number-rank state number has =
       rank_of numbers state number (IsRising-minimised old new numbers minimised) numbers-apart (ranked numbers state (IsRising-minimised old new numbers minimised) numbers-apart) has
 
@@ -225,9 +225,9 @@ module _ (old new : List Instr) (numbers : List (Option ℕ)) (minimised : IsMin
       ]
 
   -- the instructions are those that are left, renumbered
-  new-text : new ≡ map (redirected (number_of (number_in numbers))) (left_of numbers old)
+  new-text : new ≡ map (redirected (state_number (new_number numbers))) (left_of numbers old)
   new-text =
-      let f : Instr → Instr = redirected (number_of (number_in numbers)) in
+      let f : Instr → Instr = redirected (state_number (new_number numbers)) in
       let left : List Instr = left_of numbers old in
       let each = minimised.each in
       let size : length new ≡ length (map f left) = new-length ∙ sym (left_of-length numbers old minimised.each) ∙ sym (length-map left f) in
@@ -240,9 +240,9 @@ module _ (old new : List Instr) (numbers : List (Option ℕ)) (minimised : IsMin
       minimised.acts it.0 k it.1 ∙ sym (slice_get-map f left k ∙ ap (λ o. option_map f o) there))
 
   -- where all can be reached, each state keeps its number
-  pub number-same : ((state : ℕ) → state < length old → IsReachable old state) → (state : ℕ) → state < length old → number_in numbers state ≡ Some state
+  pub number-same : ((state : ℕ) → state < length old → IsReachable old state) → (state : ℕ) → state < length old → new_number numbers state ≡ Some state
   number-same all state below =
-      let it = the_number (number_in numbers state) (minimised.kept state (all state below)) in
+      let it = the_number (new_number numbers state) (minimised.kept state (all state below)) in
       it.1 ∙ ap Some (number-rank state it.0 it.1 ∙ kept_before-all numbers state (λ other early. minimised.kept other (all other (omega arith))))
 
   -- and its instruction
@@ -252,10 +252,10 @@ module _ (old new : List Instr) (numbers : List (Option ℕ)) (minimised : IsMin
       let each = minimised.each in
       same_entries new old size (λ k below.
       let inside : k < length old = omega arith in
-      let f = number_of (number_in numbers) in
+      let f = state_number (new_number numbers) in
       let agree : redirected f (instruction_at old k) ≡ redirected (λ state. state) (instruction_at old k) =
       redirected-agree f (λ state. state) (instruction_at old k) (All-then (states_of (instruction_at old k)) (successors-reached old k (all k inside)) (λ next reached.
-      let some = the_number (number_in numbers next) (minimised.kept next reached) in
+      let some = the_number (new_number numbers next) (minimised.kept next reached) in
       let low : next < length old = omega (arith, number-inside numbers next some.0 some.1) in
       ap (λ o. unwrap_or o next) (number-same all next low))) in
       minimised.acts k k (number-same all k inside) ∙ ap Some (agree ∙ redirected-self (instruction_at old k)) ∙ sym (slice_get-get_or old k (Drop 0) inside))
@@ -265,7 +265,7 @@ module _ (old new : List Instr) (numbers : List (Option ℕ)) (minimised : IsMin
   KeepsText-minimised = record { order = number-rank; text = new-text; whole = new-same }
 
 -- minimising twice is minimising once
-pub twice : (old new again : List Instr) (numbers others : List (Option ℕ)) → IsMinimised old new numbers → IsMinimised new again others → (again ≡ new) × ((state : ℕ) → state < length new → number_in others state ≡ Some state)
+pub twice : (old new again : List Instr) (numbers others : List (Option ℕ)) → IsMinimised old new numbers → IsMinimised new again others → (again ≡ new) × ((state : ℕ) → state < length new → new_number others state ≡ Some state)
 twice old new again numbers others first second =
     let different : AreDifferent new = λ a b _ _ equivalent. first.apart a b equivalent in
     (new-same new again others second different first.reached, number-same new again others second different first.reached)
@@ -283,9 +283,9 @@ module _ (old new other : List Instr) (numbers others : List (Option ℕ)) (mini
   -- what is known of it
   record ComesTo (k j : ℕ) : Type 0 where
     pub state : ℕ
-    pub has : number_in numbers state ≡ Some k
+    pub has : new_number numbers state ≡ Some k
     pub low : j < length other
-    pub there : number_in others state ≡ Some j
+    pub there : new_number others state ≡ Some j
 
   come_to-is : (k : ℕ) (which : (k < length new) ⊎ (length new ≤ k)) → k < length new → ComesTo k (come_to k which)
   unfolding come_to

@@ -17,7 +17,7 @@ use Rattle.brain_read.specs.declared.instr.Instr.TheVariants.{Sense, Mark, Unmar
 use Rattle.brain_read.specs.Canonical.{brain_text, instruction_text}
 use Rattle.brain_minimise.specs.Equivalence.{AreEquivalent, shape_of}
 use Rattle.brain_minimise.specs.Laws.{kept_before, left_of}
-use Rattle.brain_minimise.specs.Match.{DiffersInStates, IsSameAnt}
+use Rattle.brain_minimise.specs.Match.{DiffersInStates, IsMatchingAnt}
 use Rattle.brain_minimise.specs.Text.{minimised_text}
 
 -- the brain
@@ -65,19 +65,19 @@ second_counts equivalent =
 abbrev ant : Colour → ℕ → Dir → Ant
 ant colour state facing = record { id = 4; colour = colour; state = state; resting = 2; facing = facing; laden = true }
 
-red_in_another_state : IsSameAnt Red (Some (ant Red 1 East)) (Some (ant Red 2 East))
+red_in_another_state : IsMatchingAnt Red (Some (ant Red 1 East)) (Some (ant Red 2 East))
 red_in_another_state = (refl, λ other. absurd (other refl))
 
 -- a black ant in another state is another ant
-black_stays : IsSameAnt Red (Some (ant Black 1 East)) (Some (ant Black 2 East)) → ⊥
+black_stays : IsMatchingAnt Red (Some (ant Black 1 East)) (Some (ant Black 2 East)) → ⊥
 black_stays same = let states = same.1 (λ is. cc) in omega (arith, states)
 
 -- and so is a red one with another direction
-red_turned : IsSameAnt Red (Some (ant Red 1 East)) (Some (ant Red 2 West)) → ⊥
+red_turned : IsMatchingAnt Red (Some (ant Red 1 East)) (Some (ant Red 2 West)) → ⊥
 red_turned same = let facing : West ≡ East = ap (λ (a : Ant). a.facing) same.0 in cc
 
 -- or one where there was none
-red_added : IsSameAnt Red None (Some (ant Red 1 East)) → ⊥
+red_added : IsMatchingAnt Red None (Some (ant Red 1 East)) → ⊥
 red_added same = same
 
 -- another particle of food is another world

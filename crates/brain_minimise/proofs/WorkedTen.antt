@@ -11,11 +11,11 @@ use Rattle.brain_read.specs.declared.instr.Instr.{Instr}
 use Rattle.brain_read.specs.declared.instr.Instr.TheVariants.{Sense, Mark, Unmark, PickUp, Drop, Turn, Move, Flip}
 use Rattle.brain_read.specs.Grammar.{states_of}
 use Rattle.brain_read.specs.Soundness.{IsBrain, IsSound}
-use Rattle.ant_turn.specs.Renumber.{number_of, redirected}
+use Rattle.ant_turn.specs.Renumber.{state_number, redirected}
 use Rattle.ant_turn.specs.Turn.{instruction_at}
 use Rattle.brain_minimise.specs.Equivalence.{shape_of}
 use Rattle.brain_minimise.specs.Inner.Classes.{AreStable, DoAlike}
-use Rattle.brain_minimise.specs.Minimised.{IsMinimised, number_in}
+use Rattle.brain_minimise.specs.Minimised.{IsMinimised, new_number}
 use Rattle.brain_minimise.specs.Reach.{IsReachable}
 use Rattle.brain_minimise.specs.Reach.IsReachable.{Start, Next}
 use Rattle.brain_minimise.proofs.Equivalences.{class-equivalent}
@@ -48,13 +48,13 @@ each-at P (suc n) k all below =
 
 -- what holds of all that have a number
 abbrev OfNumbered : (ℕ → ℕ → Type 0) → ℕ → Type 0
-OfNumbered P state = (number : ℕ) → number_in numbers state ≡ Some number → P state number
+OfNumbered P state = (number : ℕ) → new_number numbers state ≡ Some number → P state number
 
 -- is shown by that number, and needs nothing of state 9
 it : (P : ℕ → ℕ → Type 0) (state here : ℕ) → P state here → (number : ℕ) → Some here ≡ Some number → P state number
 it P state here holds number has = subst (P state) (same_Some here number has) holds
 
-numbered-at : (P : ℕ → ℕ → Type 0) → Each (OfNumbered P) 10 → (state number : ℕ) → number_in numbers state ≡ Some number → P state number
+numbered-at : (P : ℕ → ℕ → Type 0) → Each (OfNumbered P) 10 → (state number : ℕ) → new_number numbers state ≡ Some number → P state number
 numbered-at P all state number has = each-at (OfNumbered P) 10 state all (number-inside numbers state number has) number has
 
 -- the place of an instruction of the eight, by its shape
@@ -100,33 +100,33 @@ ten_reached =
 
 -- and no others: the successors of a state that has a number have numbers
 abbrev Onward : ℕ → Type 0
-Onward state = IsSome (number_in numbers state) → AllByRecursion (λ next. IsSome (number_in numbers next)) (states_of (instruction_at ten state))
+Onward state = IsSome (new_number numbers state) → AllByRecursion (λ next. IsSome (new_number numbers next)) (states_of (instruction_at ten state))
 
 ten_onward : Each Onward 10
 ten_onward =
     ((((((((((tt, λ _. (refl, (refl, tt))), λ _. (refl, (refl, tt))), λ _. (refl, (refl, tt))), λ _. (refl, tt)), λ _. (refl, (refl, tt))), λ _. (refl, tt)), λ _. (refl, tt)), λ _. (refl, tt)), λ _. (refl, tt)), λ none. absurd (false≢true none))
 
-inside : (state : ℕ) → IsSome (number_in numbers state) → state < 10
+inside : (state : ℕ) → IsSome (new_number numbers state) → state < 10
 inside state some =
     elim (cases_lt state 10) [
       | inl below ↦ below
       | inr above ↦ absurd (false≢true (subst IsSome (get_or_past numbers state None above) some))
     ]
 
-ten_kept : (state : ℕ) → IsReachable ten state → IsSome (number_in numbers state)
+ten_kept : (state : ℕ) → IsReachable ten state → IsSome (new_number numbers state)
 ten_kept _ Start = refl
 ten_kept _ (Next state next before there) =
     let some = ten_kept state before in
-    All-at (λ n. IsSome (number_in numbers n)) (states_of (instruction_at ten state)) next (each-at Onward 10 state ten_onward (inside state some) some) there
+    All-at (λ n. IsSome (new_number numbers n)) (states_of (instruction_at ten state)) next (each-at Onward 10 state ten_onward (inside state some) some) there
 
 -- the place of a reachable state's instruction is its number
 abbrev IsPlaced : ℕ → Type 0
-IsPlaced state = IsSome (number_in numbers state) → number_in numbers state ≡ place (shape_of (instruction_at ten state))
+IsPlaced state = IsSome (new_number numbers state) → new_number numbers state ≡ place (shape_of (instruction_at ten state))
 
 ten_placed : Each IsPlaced 10
 ten_placed = ((((((((((tt, λ _. refl), λ _. refl), λ _. refl), λ _. refl), λ _. refl), λ _. refl), λ _. refl), λ _. refl), λ _. refl), λ none. absurd (false≢true none))
 
-placed : (state : ℕ) → IsReachable ten state → number_in numbers state ≡ place (shape_of (instruction_at ten state))
+placed : (state : ℕ) → IsReachable ten state → new_number numbers state ≡ place (shape_of (instruction_at ten state))
 placed state reachable = let some = ten_kept state reachable in each-at IsPlaced 10 state ten_placed (inside state some) some
 
 eight_placed : Each (λ number. place (shape_of (instruction_at eight number)) ≡ Some number) 8
@@ -166,13 +166,13 @@ class_of =
 
 -- the instruction at each number
 abbrev Acts : ℕ → ℕ → Type 0
-Acts state number = slice_get eight number ≡ Some (redirected (number_of (number_in numbers)) (instruction_at ten state))
+Acts state number = slice_get eight number ≡ Some (redirected (state_number (new_number numbers)) (instruction_at ten state))
 
 ten_acts : Each (OfNumbered Acts) 10
 ten_acts =
     ((((((((((tt, it Acts 0 0 refl), it Acts 1 1 refl), it Acts 2 2 refl), it Acts 3 3 refl), it Acts 4 4 refl), it Acts 5 5 refl), it Acts 6 6 refl), it Acts 7 3 refl), it Acts 8 7 refl), λ number has. absurd (none-some number has))
 
-eight_onto : Each (λ number. (state : ℕ) × (number_in numbers state ≡ Some number)) 8
+eight_onto : Each (λ number. (state : ℕ) × (new_number numbers state ≡ Some number)) 8
 eight_onto = ((((((((tt, (0, refl)), (1, refl)), (2, refl)), (3, refl)), (4, refl)), (5, refl)), (6, refl)), (8, refl))
 
 -- all eight can be reached
@@ -198,7 +198,7 @@ not_above =
     let P : ℕ → ℕ → Type 0 = λ state number. (number < 8) × (number ≤ state) in
     ((((((((((tt, it P 0 0 (omega arith, omega arith)), it P 1 1 (omega arith, omega arith)), it P 2 2 (omega arith, omega arith)), it P 3 3 (omega arith, omega arith)), it P 4 4 (omega arith, omega arith)), it P 5 5 (omega arith, omega arith)), it P 6 6 (omega arith, omega arith)), it P 7 3 (omega arith, omega arith)), it P 8 7 (omega arith, omega arith)), λ number has. absurd (none-some number has))
 
-own : Each (λ number. number_in numbers number ≡ Some number) 7
+own : Each (λ number. new_number numbers number ≡ Some number) 7
 own = (((((((tt, refl), refl), refl), refl), refl), refl), refl)
 
 -- the ten states become these eight
@@ -213,7 +213,7 @@ ten_minimised = record {
       class-equivalent ten classes is_brain stable a b (number-inside numbers a number has) (number-inside numbers b number too)
       (numbered-at P class_of a number has ∙ sym (numbered-at P class_of b number too));
   acts = λ state number has. numbered-at Acts ten_acts state number has;
-  onto = λ number below. each-at (λ n. (state : ℕ) × (number_in numbers state ≡ Some n)) 8 number eight_onto below;
+  onto = λ number below. each-at (λ n. (state : ℕ) × (new_number numbers state ≡ Some n)) 8 number eight_onto below;
   reached = λ number below. each-at (IsReachable eight) 8 number eight_reached below;
   apart = λ a b equivalent.
       let within = equivalent.bisimulation.inside a b equivalent.holds in
@@ -222,6 +222,6 @@ ten_minimised = record {
   rising = λ lower upper a b less low high.
       let above = numbered-at (λ state number. (number < 8) × (number ≤ state)) not_above b upper high.has in
       let small : lower < 7 = omega (arith, above.0) in
-      let at : a ≤ lower = low.least lower (each-at (λ number. number_in numbers number ≡ Some number) 7 lower own small) in
+      let at : a ≤ lower = low.least lower (each-at (λ number. new_number numbers number ≡ Some number) 7 lower own small) in
       omega (arith, above.1, at);
 }

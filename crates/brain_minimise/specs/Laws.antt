@@ -1,9 +1,9 @@
 -- What minimising comes to, in its own words.
 use Rattle.std.specs.Prelude.{◌≡◌, ℕ, zero, suc, ◌<◌, ◌≤◌, List, [], ◌∷◌, length, map, Option, Some, None}
 use Rattle.brain_read.specs.declared.instr.Instr.{Instr}
-use Rattle.ant_turn.specs.Renumber.{number_of, redirected}
+use Rattle.ant_turn.specs.Renumber.{state_number, redirected}
 use Rattle.brain_minimise.specs.Equivalence.{AreEquivalent}
-use Rattle.brain_minimise.specs.Minimised.{IsMinimised, number_in}
+use Rattle.brain_minimise.specs.Minimised.{IsMinimised, new_number}
 use Rattle.brain_minimise.specs.Reach.{IsReachable}
 
 -- a brain is minimised to one brain, by one map
@@ -14,13 +14,13 @@ OneMinimised = (old new other : List Instr) (numbers others : List (Option ℕ))
 -- minimising a minimised brain changes nothing: the same brain comes out, and each state keeps its number
 abbrev pub TwiceIsOnce : Type 0
 TwiceIsOnce = (old new again : List Instr) (numbers others : List (Option ℕ)) → IsMinimised old new numbers → IsMinimised new again others →
-    (again ≡ new) × ((state : ℕ) → state < length new → number_in others state ≡ Some state)
+    (again ≡ new) × ((state : ℕ) → state < length new → new_number others state ≡ Some state)
 
 -- a brain follows another by merging equivalent reachable states alone: each reachable state has become one of its states, and states that
 -- became one are equivalent
 pub record Merges (old other : List Instr) (numbers : List (Option ℕ)) : Type 0 where
-  pub kept : (state : ℕ) → IsReachable old state → (number : ℕ) × (number < length other) × (number_in numbers state ≡ Some number)
-  pub merged : (a b number : ℕ) → number_in numbers a ≡ Some number → number_in numbers b ≡ Some number → AreEquivalent old a b
+  pub kept : (state : ℕ) → IsReachable old state → (number : ℕ) × (number < length other) × (new_number numbers state ≡ Some number)
+  pub merged : (a b number : ℕ) → new_number numbers a ≡ Some number → new_number numbers b ≡ Some number → AreEquivalent old a b
 
 -- no brain that follows so has fewer states than the minimised one
 abbrev pub FewestStates : Type 0
@@ -47,8 +47,8 @@ left_of (Some number ∷ numbers) (instruction ∷ brain) = instruction ∷ left
 -- a brain of which no two reachable states are equivalent keeps its instructions, in their order, but for the unreachable states: the
 -- number of each state is how many reachable ones stand before it, and where all can be reached nothing changes
 pub record KeepsText (old new : List Instr) (numbers : List (Option ℕ)) : Type 0 where
-  pub order : (state number : ℕ) → number_in numbers state ≡ Some number → number ≡ kept_before numbers state
-  pub text : new ≡ map (redirected (number_of (number_in numbers))) (left_of numbers old)
+  pub order : (state number : ℕ) → new_number numbers state ≡ Some number → number ≡ kept_before numbers state
+  pub text : new ≡ map (redirected (state_number (new_number numbers))) (left_of numbers old)
   pub whole : ((state : ℕ) → state < length old → IsReachable old state) → new ≡ old
 
 abbrev pub DifferentStay : Type 0

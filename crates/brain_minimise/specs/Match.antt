@@ -12,7 +12,7 @@ use Rattle.brain_read.specs.declared.instr.Instr.{Instr}
 use Rattle.ant_turn.specs.Minds.{Minds, mind_of}
 use Rattle.ant_turn.specs.Renumber.{renumbered_moment, with_mind}
 use Rattle.ant_turn.specs.Rounds.{Moment, after_rounds, start_of}
-use Rattle.brain_minimise.specs.Minimised.{IsMinimised, number_in}
+use Rattle.brain_minimise.specs.Minimised.{IsMinimised, new_number}
 
 -- the moment after r rounds of the game of these minds that starts in the opening world of these kinds
 abbrev pub game : Minds → ℕ → ℕ → ℕ → List Kind → ℕ → Moment
@@ -23,7 +23,7 @@ game minds seed width height kinds r = after_rounds minds seed (start_of (world_
 abbrev pub PlaysAlike : Type 0
 PlaysAlike = (minds : Minds) (side : Colour) (brain : List Instr) (numbers : List (Option ℕ)) (seed width height : ℕ) (kinds : List Kind) (r : ℕ)
     → IsMinimised (mind_of minds side) brain numbers →
-    game (with_mind minds side brain) seed width height kinds r ≡ renumbered_moment (number_in numbers) side (game minds seed width height kinds r)
+    game (with_mind minds side brain) seed width height kinds r ≡ renumbered_moment (new_number numbers) side (game minds seed width height kinds r)
 
 -- so the scores are equal
 abbrev pub ScoresAlike : Type 0
@@ -32,11 +32,11 @@ ScoresAlike = (minds : Minds) (side : Colour) (brain : List Instr) (numbers : Li
     score_of (game (with_mind minds side brain) seed width height kinds r).world ≡ score_of (game minds seed width height kinds r).world
 
 -- one ant as the other, but for its state where it is of this side
-abbrev pub IsSameAnt : Colour → Option Ant → Option Ant → Type 0
-IsSameAnt side None None = Unit {0}
-IsSameAnt side None (Some b) = ⊥
-IsSameAnt side (Some a) None = ⊥
-IsSameAnt side (Some a) (Some b) = (b ≡ record a { state = b.state }) × (a.colour ≢ side → b.state ≡ a.state)
+abbrev pub IsMatchingAnt : Colour → Option Ant → Option Ant → Type 0
+IsMatchingAnt side None None = Unit {0}
+IsMatchingAnt side None (Some b) = ⊥
+IsMatchingAnt side (Some a) None = ⊥
+IsMatchingAnt side (Some a) (Some b) = (b ≡ record a { state = b.state }) × (a.colour ≢ side → b.state ≡ a.state)
 
 -- one world as the other, but for the states of this side's ants: the sizes and the number of ids are equal, and each cell is the same but
 -- for such a state
@@ -45,7 +45,7 @@ pub record DiffersInStates (side : Colour) (old new : World) : Type 0 where
   pub height : new.height ≡ old.height
   pub ids : new.ids ≡ old.ids
   pub cells : (p : Pos) → new.cells p ≡ record (old.cells p) { ant = (new.cells p).ant }
-  pub ants : (p : Pos) → IsSameAnt side (old.cells p).ant (new.cells p).ant
+  pub ants : (p : Pos) → IsMatchingAnt side (old.cells p).ant (new.cells p).ant
 
 -- so what a dump shows after any round differs in that side's states alone
 abbrev pub DumpsAlike : Type 0

@@ -1,36 +1,36 @@
 -- A minimised brain and the map to its states.
 use Rattle.std.specs.Prelude.{◌≡◌, ℕ, ◌<◌, ◌≤◌, List, length, slice_index_or, slice_get, Option, Some, None, IsSome}
 use Rattle.brain_read.specs.declared.instr.Instr.{Instr}
-use Rattle.ant_turn.specs.Renumber.{number_of, redirected}
+use Rattle.ant_turn.specs.Renumber.{state_number, redirected}
 use Rattle.ant_turn.specs.Turn.{instruction_at}
 use Rattle.brain_minimise.specs.Equivalence.{AreEquivalent}
 use Rattle.brain_minimise.specs.Reach.{IsReachable}
 
 -- the new number of an old state by a map; beyond the map there is none
-abbrev pub number_in : List (Option ℕ) → ℕ → Option ℕ
-number_in numbers state = slice_index_or numbers state None
+abbrev pub new_number : List (Option ℕ) → ℕ → Option ℕ
+new_number numbers state = slice_index_or numbers state None
 
 -- this is the least state that has this number
 pub record IsLeast (numbers : List (Option ℕ)) (number state : ℕ) : Type 0 where
-  pub has : number_in numbers state ≡ Some number
-  pub least : (other : ℕ) → number_in numbers other ≡ Some number → state ≤ other
+  pub has : new_number numbers state ≡ Some number
+  pub least : (other : ℕ) → new_number numbers other ≡ Some number → state ≤ other
 
 -- a brain was minimised to another by this map
 pub record IsMinimised (old new : List Instr) (numbers : List (Option ℕ)) : Type 0 where
   -- the map has one entry for each old state
   pub each : length numbers ≡ length old
   -- the old states that can be reached are those that have a number, and no others
-  pub kept : (state : ℕ) → IsReachable old state → IsSome (number_in numbers state)
-  pub dropped : (state number : ℕ) → number_in numbers state ≡ Some number → IsReachable old state
+  pub kept : (state : ℕ) → IsReachable old state → IsSome (new_number numbers state)
+  pub dropped : (state number : ℕ) → new_number numbers state ≡ Some number → IsReachable old state
   -- states of which one can't be told from the other have one number
-  pub alike : (a b : ℕ) → IsReachable old a → IsReachable old b → AreEquivalent old a b → number_in numbers a ≡ number_in numbers b
+  pub alike : (a b : ℕ) → IsReachable old a → IsReachable old b → AreEquivalent old a b → new_number numbers a ≡ new_number numbers b
   -- and no others do
-  pub merged : (a b number : ℕ) → number_in numbers a ≡ Some number → number_in numbers b ≡ Some number → AreEquivalent old a b
+  pub merged : (a b number : ℕ) → new_number numbers a ≡ Some number → new_number numbers b ≡ Some number → AreEquivalent old a b
   -- the instruction at a number is that of each of its states, with its successors renumbered
-  pub acts : (state number : ℕ) → number_in numbers state ≡ Some number
-      → slice_get new number ≡ Some (redirected (number_of (number_in numbers)) (instruction_at old state))
+  pub acts : (state number : ℕ) → new_number numbers state ≡ Some number
+      → slice_get new number ≡ Some (redirected (state_number (new_number numbers)) (instruction_at old state))
   -- each new state is the number of an old one
-  pub onto : (number : ℕ) → number < length new → (state : ℕ) × (number_in numbers state ≡ Some number)
+  pub onto : (number : ℕ) → number < length new → (state : ℕ) × (new_number numbers state ≡ Some number)
   -- and can be reached
   pub reached : (number : ℕ) → number < length new → IsReachable new number
   -- no two new states are equivalent

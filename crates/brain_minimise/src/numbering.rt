@@ -3,7 +3,7 @@ ghost use Rattle.std.specs.Prelude.{◌≡◌, ◌<◌, ◌≤◌, ◌↔◌, Is
 ghost use Rattle.brain_read.specs.Soundness.{most_states};
 ghost use Rattle.brain_minimise.specs.Inner.Kept.{AreKept};
 ghost use Rattle.brain_minimise.specs.Inner.Numbering.{AreNumbers, IsRising, IsTable};
-ghost use Rattle.brain_minimise.specs.Minimised.{number_in};
+ghost use Rattle.brain_minimise.specs.Minimised.{new_number};
 
 use crate::redirect::redirected;
 use brain_read::{Brain, Instr};
@@ -72,7 +72,7 @@ pub(crate) fn kept(
 #[inline]
 fn has_number(numbers: &[Option<u16>], state: u16, number: u16) -> bool
     requires { state < length numbers.now }
-    ensures { IsTrue result ↔ (number_in numbers.now state ≡ Some number) }
+    ensures { IsTrue result ↔ (new_number numbers.now state ≡ Some number) }
 {
     match numbers[state as usize] {
         Some(own) => own == number,

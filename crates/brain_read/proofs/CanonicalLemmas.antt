@@ -12,7 +12,7 @@ use Rattle.hex_geometry.specs.declared.direction.Side.TheVariants.{Left, Right}
 use Rattle.hex_geometry.specs.declared.neighbourhood.Sight.{Sight}
 use Rattle.hex_geometry.specs.declared.neighbourhood.Sight.TheVariants.{Here, Ahead, LeftAhead, RightAhead}
 use Rattle.ant_base.specs.Lines.{is_lf, has_no_lf, lines_of}
-use Rattle.ant_base.proofs.Digits.{number_of-decimal}
+use Rattle.ant_base.proofs.Digits.{decimal_value-decimal}
 use Rattle.ant_base.proofs.Linewise.{lines_of-line, has_no_lf-append}
 use Rattle.brain_read.specs.declared.instr.Cond.{Cond}
 use Rattle.brain_read.specs.declared.instr.Cond.TheVariants.{Friend, Foe, FriendWithFood, FoeWithFood, Food, Rock, Marker, FoeMarker, Home, FoeHome}
@@ -21,8 +21,8 @@ use Rattle.brain_read.specs.declared.instr.Instr.TheVariants.{Sense, Mark, Unmar
 use Rattle.brain_read.specs.Soundness.{most_states, IsSoundCondition, IsSound, IsBrain}
 use Rattle.brain_read.specs.Tokens.{has_byte, tokens_of, has_token}
 use Rattle.brain_read.specs.Inner.Scan.{is_token_byte}
-use Rattle.brain_read.specs.Forms.{word_of_sight, word_of_side, Field, fields_of_condition, fields_of, SpellsAll, IsInRange, HasBound, InstrLine}
-use Rattle.brain_read.specs.Forms.Field.{Word, Number}
+use Rattle.brain_read.specs.Forms.{word_of_sight, word_of_side, LineField, fields_of_condition, fields_of, SpellsAll, IsInRange, HasBound, InstrLine}
+use Rattle.brain_read.specs.Forms.LineField.{Word, Number}
 use Rattle.brain_read.specs.Grammar.{TokenLine, with_line, token_lines, AreLines, states_of, StatesBelow, IsBrainText}
 use Rattle.brain_read.specs.Canonical.{field_text, further_text, line_text, instruction_text, brain_text}
 use Rattle.ant_base.proofs.Digits.{all_ascii_digits-IsNumeralModel}
@@ -38,7 +38,7 @@ pub record IsToken (text : List ℕ) : Type 0 where
   pub some : has_byte text ≡ true
 
 -- a field whose text is one token that spells it
-abbrev pub IsPrinted : Field → Type 0
+abbrev pub IsPrinted : LineField → Type 0
 IsPrinted (Word word) = IsToken word
 IsPrinted (Number n) = n < 10000000000
 
@@ -65,25 +65,25 @@ number_token n small = record {
   some = nonempty (decimal n) (decimal_nonempty n (omega arith));
 }
 
-field_token : (field : Field) → IsPrinted field → IsToken (field_text field)
+field_token : (field : LineField) → IsPrinted field → IsToken (field_text field)
 field_token (Word word) token = token
 field_token (Number n) small = number_token n small
 
 -- further tokens without the LF
-abbrev further_body : List Field → List ℕ
+abbrev further_body : List LineField → List ℕ
 further_body [] = []
 further_body (field ∷ fields) = 32 ∷ (field_text field ++ further_body fields)
 
 -- the tokens of a line without the LF
-abbrev body : List Field → List ℕ
+abbrev body : List LineField → List ℕ
 body [] = []
 body (field ∷ fields) = field_text field ++ further_body fields
 
-further_text-body : (fields : List Field) → further_text fields ≡ further_body fields ++ 10 ∷ []
+further_text-body : (fields : List LineField) → further_text fields ≡ further_body fields ++ 10 ∷ []
 further_text-body [] = refl
 further_text-body (field ∷ fields) = ap (λ t. 32 ∷ (field_text field ++ t)) (further_text-body fields) ∙ ap (λ t. 32 ∷ t) (sym (append_assoc (field_text field) (further_body fields) (10 ∷ [])))
 
-line_text-body : (fields : List Field) → line_text fields ≡ body fields ++ 10 ∷ []
+line_text-body : (fields : List LineField) → line_text fields ≡ body fields ++ 10 ∷ []
 line_text-body [] = refl
 line_text-body (field ∷ fields) = ap (λ t. field_text field ++ t) (further_text-body fields) ∙ sym (append_assoc (field_text field) (further_body fields) (10 ∷ []))
 
@@ -102,23 +102,23 @@ pieces-front (byte ∷ bytes) line all =
     let parts = and_parts (is_plain_byte byte) (list_all is_plain_byte bytes) all in
     pieces-cons byte (bytes ++ line) (plain byte (and_parts (is_token_byte byte) (not (is_lf byte)) parts.0).0) ∙ ap (onto_first byte) (pieces-front bytes line parts.1)
 
-pieces-further : (fields : List Field) → AllByRecursion IsPrinted fields → pieces (further_body fields) ≡ [] ∷ map field_text fields
+pieces-further : (fields : List LineField) → AllByRecursion IsPrinted fields → pieces (further_body fields) ≡ [] ∷ map field_text fields
 pieces-further [] all = refl
 pieces-further (field ∷ fields) all =
     ap (λ ps. [] ∷ ps) (pieces-front (field_text field) (further_body fields) (field_token field all.0).bytes ∙ ap (onto_front (field_text field)) (pieces-further fields all.1) ∙ onto_front-empty (field_text field) (map field_text fields))
 
-pieces-body : (field : Field) (fields : List Field) → AllByRecursion IsPrinted (field ∷ fields) → pieces (body (field ∷ fields)) ≡ map field_text (field ∷ fields)
+pieces-body : (field : LineField) (fields : List LineField) → AllByRecursion IsPrinted (field ∷ fields) → pieces (body (field ∷ fields)) ≡ map field_text (field ∷ fields)
 pieces-body field fields all =
     pieces-front (field_text field) (further_body fields) (field_token field all.0).bytes ∙ ap (onto_front (field_text field)) (pieces-further fields all.1) ∙ onto_front-empty (field_text field) (map field_text fields)
 
-keep_all : (fields : List Field) → AllByRecursion IsPrinted fields → filter has_byte (map field_text fields) ≡ map field_text fields
+keep_all : (fields : List LineField) → AllByRecursion IsPrinted fields → filter has_byte (map field_text fields) ≡ map field_text fields
 keep_all [] all = refl
 keep_all (field ∷ fields) all =
     ap (λ b. cond b (field_text field ∷ filter has_byte (map field_text fields)) (filter has_byte (map field_text fields))) (field_token field all.0).some
     ∙ ap (λ ts. field_text field ∷ ts) (keep_all fields all.1)
 
 -- the tokens of a line that was printed
-tokens_of-body : (field : Field) (fields : List Field) → AllByRecursion IsPrinted (field ∷ fields) → tokens_of (body (field ∷ fields)) ≡ map field_text (field ∷ fields)
+tokens_of-body : (field : LineField) (fields : List LineField) → AllByRecursion IsPrinted (field ∷ fields) → tokens_of (body (field ∷ fields)) ≡ map field_text (field ∷ fields)
 tokens_of-body field fields all = ap (filter has_byte) (pieces-body field fields all) ∙ keep_all (field ∷ fields) all
 
 no_lf : (bytes : List ℕ) → list_all is_plain_byte bytes ≡ true → has_no_lf bytes ≡ true
@@ -127,19 +127,19 @@ no_lf (byte ∷ bytes) all =
     let parts = and_parts (is_plain_byte byte) (list_all is_plain_byte bytes) all in
     and_from (not (is_lf byte)) (has_no_lf bytes) (and_parts (is_token_byte byte) (not (is_lf byte)) parts.0).1 (no_lf bytes parts.1)
 
-no_lf-further : (fields : List Field) → AllByRecursion IsPrinted fields → has_no_lf (further_body fields) ≡ true
+no_lf-further : (fields : List LineField) → AllByRecursion IsPrinted fields → has_no_lf (further_body fields) ≡ true
 no_lf-further [] all = refl
 no_lf-further (field ∷ fields) all = has_no_lf-append (field_text field) (further_body fields) (no_lf (field_text field) (field_token field all.0).bytes) (no_lf-further fields all.1)
 
-no_lf-body : (fields : List Field) → AllByRecursion IsPrinted fields → has_no_lf (body fields) ≡ true
+no_lf-body : (fields : List LineField) → AllByRecursion IsPrinted fields → has_no_lf (body fields) ≡ true
 no_lf-body [] all = refl
 no_lf-body (field ∷ fields) all = has_no_lf-append (field_text field) (further_body fields) (no_lf (field_text field) (field_token field all.0).bytes) (no_lf-further fields all.1)
 
 -- the texts of fields spell them
-spelled_again : (fields : List Field) → AllByRecursion IsPrinted fields → SpellsAll fields (map field_text fields)
+spelled_again : (fields : List LineField) → AllByRecursion IsPrinted fields → SpellsAll fields (map field_text fields)
 spelled_again [] all = tt
 spelled_again (Word word ∷ fields) all = (refl, spelled_again fields all.1)
-spelled_again (Number n ∷ fields) all = (number_of-decimal n all.0, spelled_again fields all.1)
+spelled_again (Number n ∷ fields) all = (decimal_value-decimal n all.0, spelled_again fields all.1)
 
 -- the words are tokens
 token : (word : List ℕ) → list_all is_plain_byte word ≡ true → has_byte word ≡ true → IsToken word

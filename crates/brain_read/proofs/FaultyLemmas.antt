@@ -1,5 +1,5 @@
 -- A text has exactly one brain or exactly one fault, and the reading answers it.
-use Rattle.std.proofs.Common.{◌≡◌, ◌+◌, ◌≤◌, ℕ, List, [], ◌∷◌, ◌++◌, length, map, Option, Some, None, Ok, Err, Result, option_map, ◌⊎◌, inl, inr, refl, sym, ap, ◌∙◌, subst, arith}
+use Rattle.std.proofs.Common.{◌≡◌, ◌+◌, ◌≤◌, ℕ, List, [], ◌∷◌, ◌++◌, length, map, Option, Some, None, Ok, Err, option_map, ◌⊎◌, inl, inr, refl, sym, ap, ◌∙◌, subst, arith}
 use Rattle.std.specs.Option.{option_or}
 use Rattle.std.proofs.lemmas.List.{length-map}
 use Rattle.brain_read.specs.declared.fault.BrainFault.{BrainFault}
@@ -13,7 +13,7 @@ use Rattle.brain_read.specs.Faulty.{line_fault, first_not_below, IsBrainFault}
 use Rattle.brain_read.specs.Inner.FirstFault.{first_state_fault}
 use Rattle.brain_read.specs.Inner.LineByLine.{put_before, read_lines, first_line_fault}
 use Rattle.brain_read.specs.Faulty.IsBrainFault.{OfLine, OfNothing, OfState}
-use Rattle.brain_read.specs.Inner.Verdict.{Placed, Judged, brain_reader, or_state, settled_then, settle_all, settle, settle_read, read_text}
+use Rattle.brain_read.specs.Inner.Verdict.{Placed, Judgement, brain_reader, or_state, settled_then, settle_all, settle, settle_read, read_text}
 use Rattle.brain_read.proofs.FormsLemmas.{line_again}
 use Rattle.brain_read.proofs.FirstFaults.{first_of_line, faithful, NamesNoState, first_state_fault-found, first_state_fault-first, none_not_below, not_below_none}
 use Rattle.brain_read.proofs.LineFaults.{first_line_fault-found, first_line_fault-first}
@@ -81,7 +81,7 @@ one_list (line ∷ lines) (i ∷ a) (j ∷ b) h k =
     let rest = one_list lines a b h.1 k.1 in
     ap (λ x. x ∷ a) same ∙ ap (λ xs. j ∷ xs) rest
 
-settled_fault : (n line : ℕ) (i : Instr) (o : Option ℕ) (later : Judged (List Instr)) → fault_of_judged (settled_then line (or_state o i) later) ≡ option_or (option_map (NoSuchState line) o) (fault_of_judged later)
+settled_fault : (n line : ℕ) (i : Instr) (o : Option ℕ) (later : Judgement (List Instr)) → fault_of_judged (settled_then line (or_state o i) later) ≡ option_or (option_map (NoSuchState line) o) (fault_of_judged later)
 settled_fault n line i None later = put_before_fault i later
 settled_fault n line i (Some state) later = refl
 
@@ -95,13 +95,13 @@ settle_faulted n (line ∷ lines) (placed ∷ list) are =
     ∙ ap (option_or (option_map (NoSuchState placed.line) (first_not_below n (states_of placed.instruction)))) (settle_faulted n lines list are.2)
     ∙ sym (settled_fault n placed.line placed.instruction (first_not_below n (states_of placed.instruction)) (settle_all n list))
 
-settled_then_ok : (n line : ℕ) (i : Instr) (o : Option ℕ) (later : Judged (List Instr)) (list : List Instr) → settled_then line (or_state o i) later ≡ Ok list → (rest : List Instr) × (o ≡ None) × (later ≡ Ok rest) × (list ≡ i ∷ rest)
+settled_then_ok : (n line : ℕ) (i : Instr) (o : Option ℕ) (later : Judgement (List Instr)) (list : List Instr) → settled_then line (or_state o i) later ≡ Ok list → (rest : List Instr) × (o ≡ None) × (later ≡ Ok rest) × (list ≡ i ∷ rest)
 settled_then_ok n line i None later list e = let p = put_before_ok i later list e in (p.0, refl, p.1, p.2)
-settled_then_ok n line i (Some state) later list e = (let never : ◌≡◌ {A = Judged (List Instr)} (Err (NoSuchState line state)) (Ok list) = e in absurd (cc))
+settled_then_ok n line i (Some state) later list e = (let never : ◌≡◌ {A = Judgement (List Instr)} (Err (NoSuchState line state)) (Ok list) = e in absurd (cc))
 
 pub settle_read_all : (n : ℕ) (placed : List Placed) (list : List Instr) → settle_all n placed ≡ Ok list → (list ≡ instructions placed) × StatesBelow n list
 settle_read_all n [] list e =
-    let none : list ≡ [] = (let same : ◌≡◌ {A = Judged (List Instr)} (Ok []) (Ok list) = e in cc) in
+    let none : list ≡ [] = (let same : ◌≡◌ {A = Judgement (List Instr)} (Ok []) (Ok list) = e in cc) in
     (none, subst (StatesBelow n) (sym none) tt)
 settle_read_all n (p ∷ placed) list e =
     let s = settled_then_ok n p.line p.instruction (first_not_below n (states_of p.instruction)) (settle_all n placed) list e in
@@ -125,9 +125,9 @@ module _ (text : List ℕ) where
   unfolding read_text
   brain_read_of list e = go (read_lines brain_reader 0 (lines_with_tokens text)) refl e
     where
-      go : (r : Judged (List Placed)) → read_lines brain_reader 0 (lines_with_tokens text) ≡ r → settle_read r ≡ Ok list → IsBrainText text list
-      go (Err fault) is q = (let never : ◌≡◌ {A = Judged (List Instr)} (Err fault) (Ok list) = q in absurd (cc))
-      go (Ok []) is q = (let never : ◌≡◌ {A = Judged (List Instr)} (Err Empty) (Ok list) = q in absurd (cc))
+      go : (r : Judgement (List Placed)) → read_lines brain_reader 0 (lines_with_tokens text) ≡ r → settle_read r ≡ Ok list → IsBrainText text list
+      go (Err fault) is q = (let never : ◌≡◌ {A = Judgement (List Instr)} (Err fault) (Ok list) = q in absurd (cc))
+      go (Ok []) is q = (let never : ◌≡◌ {A = Judgement (List Instr)} (Err Empty) (Ok list) = q in absurd (cc))
       go (Ok (p ∷ placed)) is q =
           let read = lines_read (lines_with_tokens text) 0 (p ∷ placed) is in
           let all = settle_read_all (length (p ∷ placed)) (p ∷ placed) list q in
@@ -161,9 +161,9 @@ module _ (text : List ℕ) where
       nothing [] are = refl
       nothing (line ∷ lines) are = absurd are
 
-      go : (r : Judged (List Placed)) → read_lines brain_reader 0 (lines_with_tokens text) ≡ r → settle_read r ≡ Err fault → IsBrainFault text fault
+      go : (r : Judgement (List Placed)) → read_lines brain_reader 0 (lines_with_tokens text) ≡ r → settle_read r ≡ Err fault → IsBrainFault text fault
       go (Err other) is q = OfLine (first_line_fault-first brain_reader InstrLine first_of_line faithful text fault (lines_faulted (lines_with_tokens text) ∙ ap fault_of_judged is ∙ ap fault_of_judged q))
-      go (Ok []) is q = OfNothing (nothing (lines_with_tokens text) (lines_read (lines_with_tokens text) 0 [] is).placed) (let same : ◌≡◌ {A = Judged (List Instr)} (Err Empty) (Err fault) = q in cc)
+      go (Ok []) is q = OfNothing (nothing (lines_with_tokens text) (lines_read (lines_with_tokens text) 0 [] is).placed) (let same : ◌≡◌ {A = Judgement (List Instr)} (Err Empty) (Err fault) = q in cc)
       go (Ok (p ∷ placed)) is q =
           let read = lines_read (lines_with_tokens text) 0 (p ∷ placed) is in
           let size : length (instructions (p ∷ placed)) ≡ length (p ∷ placed) = length-map (p ∷ placed) (λ k. k.instruction) in
@@ -203,15 +203,15 @@ module _ (text : List ℕ) where
   pub some_answer : ((brain : List Instr) × IsBrainText text brain) ⊎ ((fault : BrainFault) × IsBrainFault text fault)
   some_answer = go (read_text text) refl
     where
-      go : (r : Judged (List Instr)) → read_text text ≡ r → ((brain : List Instr) × IsBrainText text brain) ⊎ ((fault : BrainFault) × IsBrainFault text fault)
+      go : (r : Judgement (List Instr)) → read_text text ≡ r → ((brain : List Instr) × IsBrainText text brain) ⊎ ((fault : BrainFault) × IsBrainFault text fault)
       go (Ok list) e = inl (list, brain_read_of list e)
       go (Err fault) e = inr (fault, fault_read_of fault e)
 
   pub one_brain : (a b : List Instr) → IsBrainText text a → IsBrainText text b → a ≡ b
-  one_brain a b h k = let e : ◌≡◌ {A = Judged (List Instr)} (Ok a) (Ok b) = sym (brain_read_again a h) ∙ brain_read_again b k in cc
+  one_brain a b h k = let e : ◌≡◌ {A = Judgement (List Instr)} (Ok a) (Ok b) = sym (brain_read_again a h) ∙ brain_read_again b k in cc
 
   pub one_fault : (a b : BrainFault) → IsBrainFault text a → IsBrainFault text b → a ≡ b
-  one_fault a b h k = let e : ◌≡◌ {A = Judged (List Instr)} (Err a) (Err b) = sym (fault_read_again a h) ∙ fault_read_again b k in cc
+  one_fault a b h k = let e : ◌≡◌ {A = Judgement (List Instr)} (Err a) (Err b) = sym (fault_read_again a h) ∙ fault_read_again b k in cc
 
   pub never_both : (brain : List Instr) (fault : BrainFault) → IsBrainText text brain → IsBrainFault text fault → ⊥
-  never_both brain fault h k = let e : ◌≡◌ {A = Judged (List Instr)} (Ok brain) (Err fault) = sym (brain_read_again brain h) ∙ fault_read_again fault k in cc
+  never_both brain fault h k = let e : ◌≡◌ {A = Judgement (List Instr)} (Ok brain) (Err fault) = sym (brain_read_again brain h) ∙ fault_read_again fault k in cc

@@ -5,7 +5,7 @@ use Rattle.hex_geometry.specs.declared.direction.Side.{Side}
 use Rattle.hex_geometry.specs.declared.direction.Side.TheVariants.{Left, Right}
 use Rattle.hex_geometry.specs.declared.neighbourhood.Sight.{Sight}
 use Rattle.hex_geometry.specs.declared.neighbourhood.Sight.TheVariants.{Here, Ahead, LeftAhead, RightAhead}
-use Rattle.ant_base.specs.Number.{number_of, within}
+use Rattle.ant_base.specs.Number.{decimal_value, within}
 use Rattle.word_table.specs.Words.{IsSameWord, word_place}
 use Rattle.brain_read.specs.declared.instr.Cond.{Cond}
 use Rattle.brain_read.specs.declared.instr.Cond.TheVariants.{Friend, Foe, FriendWithFood, FoeWithFood, Food, Rock, Marker, FoeMarker, Home, FoeHome}
@@ -17,12 +17,12 @@ use Rattle.brain_read.specs.declared.fault.LineFault.{LineFault}
 use Rattle.brain_read.specs.declared.fault.LineFault.TheVariants.{UnknownWord, BadNumber, ExtraToken}
 use Rattle.brain_read.specs.Soundness.{IsSoundCondition}
 use Rattle.brain_read.specs.Steps.{Read, Step, ◌>>=◌, missing, refused, or_refused, take_word, take_number, take_end, take_sight, take_side, take_state, take_marker, take_bound, condition_from, take_condition}
-use Rattle.brain_read.specs.Forms.{most_bound, form_words, sight_words, side_words, condition_words, word_of_form, word_of_sight, word_of_side, word_of_condition, Field, fields_of_condition, fields_of, Spells, SpellsAll, IsInRange, InstrLine}
-use Rattle.brain_read.specs.Forms.Field.{Word, Number}
+use Rattle.brain_read.specs.Forms.{most_bound, form_words, sight_words, side_words, condition_words, word_of_form, word_of_sight, word_of_side, word_of_condition, LineField, fields_of_condition, fields_of, Spells, SpellsAll, IsInRange, InstrLine}
+use Rattle.brain_read.specs.Forms.LineField.{Word, Number}
 use Rattle.brain_read.specs.Inner.Places.{form_at, place_of_form, place_of_sight, place_of_side, place_of_condition}
 use Rattle.brain_read.specs.Places.{sight_at, side_at, condition_word_at}
 use Rattle.brain_read.specs.Inner.Reading.{read_sense, read_marked, read_branches, read_drop, read_turn, read_flip, read_form, read_line}
-use Rattle.brain_read.proofs.PlacesLemmas.{Names, word-found, word-again, number_of-small}
+use Rattle.brain_read.proofs.PlacesLemmas.{Names, word-found, word-again, decimal_value-small}
 
 pub form_names : Names form_words 8 (λ i. word_of_form (form_at i))
 unfolding form_words
@@ -83,11 +83,11 @@ word_takes {words} names (token ∷ tokens) i rest e =
 
 -- a number within its bounds
 pub record IsWithin (least most n : ℕ) (token : List ℕ) : Type 0 where
-  pub value : number_of token ≡ Some n
+  pub value : decimal_value token ≡ Some n
   pub low : least ≤ n
   pub high : n ≤ most
 
-pub within-some : (least most n : ℕ) (token : List ℕ) (o : Option ℕ) → number_of token ≡ o → within least most o ≡ Some n → IsWithin least most n token
+pub within-some : (least most n : ℕ) (token : List ℕ) (o : Option ℕ) → decimal_value token ≡ o → within least most o ≡ Some n → IsWithin least most n token
 within-some least most n token None e k = (let never : None ≡ Some n = k in absurd (cc))
 within-some least most n token (Some m) e k = go (nat_le least m && nat_le m most) refl k
   where
@@ -96,7 +96,7 @@ within-some least most n token (Some m) e k = go (nat_le least m && nat_le m mos
         subst (λ v. IsWithin least most v token) same (record { value = e; low = leb-true least m parts.0; high = leb-true m most parts.1 })
     go false t q = (let never : None ≡ Some n = q in absurd (cc))
 
-pub within-again : (least most n : ℕ) (token : List ℕ) → IsWithin least most n token → within least most (number_of token) ≡ Some n
+pub within-again : (least most n : ℕ) (token : List ℕ) → IsWithin least most n token → within least most (decimal_value token) ≡ Some n
 within-again least most n token w =
     ap (within least most) w.value ∙ ap (λ b. cond b (Some n) None) (and_from (nat_le least n) (nat_le n most) (le-leb least n w.low) (le-leb n most w.high))
 
@@ -109,8 +109,8 @@ number_takes least most = record {
     taken : (tokens : List (List ℕ)) (n : ℕ) (rest : List (List ℕ)) → take_number least most tokens ≡ Ok (n, rest) → IsTaken (IsWithin least most) tokens n rest
     taken [] n rest e = (let never : ◌≡◌ {A = Step ℕ} (Err missing) (Ok (n, rest)) = e in absurd (cc))
     taken (token ∷ tokens) n rest e =
-        let found = taken_some (within least most (number_of token)) token tokens BadNumber n rest e in
-        record { token = token; front = ap (λ r. token ∷ r) found.1; spelled = within-some least most n token (number_of token) refl found.0 }
+        let found = taken_some (within least most (decimal_value token)) token tokens BadNumber n rest e in
+        record { token = token; front = ap (λ r. token ∷ r) found.1; spelled = within-some least most n token (decimal_value token) refl found.0 }
 
 pub marker_takes : Takes take_marker (IsWithin 0 5)
 unfolding take_marker
@@ -120,11 +120,11 @@ pub bound_takes : Takes take_bound (IsWithin 1 most_bound)
 unfolding take_bound
 bound_takes = number_takes 1 most_bound
 
-pub state_takes : Takes take_state (λ n token. number_of token ≡ Some n)
+pub state_takes : Takes take_state (λ n token. decimal_value token ≡ Some n)
 unfolding take_state
 state_takes = record {
   taken = λ tokens n rest e. let t = (number_takes 0 9999999999).taken tokens n rest e in record { token = t.token; front = t.front; spelled = t.spelled.value };
-  again = λ n token rest is. (number_takes 0 9999999999).again n token rest (record { value = is; low = omega arith; high = number_of-small token n is });
+  again = λ n token rest is. (number_takes 0 9999999999).again n token rest (record { value = is; low = omega arith; high = decimal_value-small token n is });
 }
 
 -- what the word that was taken stands for
@@ -249,14 +249,14 @@ sense_spelled tokens i e =
 below_six : (m : ℕ) (token : List ℕ) → IsWithin 0 5 m token → m < 6
 below_six m token w = let high = w.high in omega arith
 
-marked_spelled : (word : List ℕ) (make : ℕ → ℕ → Instr) → ((m n : ℕ) (t1 t2 : List ℕ) → IsWithin 0 5 m t1 → number_of t2 ≡ Some n → IsRest word (make m n) (t1 ∷ t2 ∷ [])) → (tokens : List (List ℕ)) (i : Instr) → read_marked make tokens ≡ Ok i → IsRest word i tokens
+marked_spelled : (word : List ℕ) (make : ℕ → ℕ → Instr) → ((m n : ℕ) (t1 t2 : List ℕ) → IsWithin 0 5 m t1 → decimal_value t2 ≡ Some n → IsRest word (make m n) (t1 ∷ t2 ∷ [])) → (tokens : List (List ℕ)) (i : Instr) → read_marked make tokens ≡ Ok i → IsRest word i tokens
 unfolding read_marked
 marked_spelled word make made tokens i e =
     then_taken marker_takes tokens _ i (IsRest word i) e (λ m t1 r1 h1 e1.
     then_taken state_takes r1 _ i (λ r. IsRest word i (t1 ∷ r)) e1 (λ n t2 r2 h2 e2.
     then_end r2 (make m n) i (λ r. IsRest word i (t1 ∷ t2 ∷ r)) e2 (λ q. subst (λ j. IsRest word j (t1 ∷ t2 ∷ [])) q (made m n t1 t2 h1 h2))))
 
-branches_spelled : (word : List ℕ) (make : ℕ → ℕ → Instr) → ((m u : ℕ) (t1 t2 : List ℕ) → number_of t1 ≡ Some m → number_of t2 ≡ Some u → IsRest word (make m u) (t1 ∷ t2 ∷ [])) → (tokens : List (List ℕ)) (i : Instr) → read_branches make tokens ≡ Ok i → IsRest word i tokens
+branches_spelled : (word : List ℕ) (make : ℕ → ℕ → Instr) → ((m u : ℕ) (t1 t2 : List ℕ) → decimal_value t1 ≡ Some m → decimal_value t2 ≡ Some u → IsRest word (make m u) (t1 ∷ t2 ∷ [])) → (tokens : List (List ℕ)) (i : Instr) → read_branches make tokens ≡ Ok i → IsRest word i tokens
 unfolding read_branches
 branches_spelled word make made tokens i e =
     then_taken state_takes tokens _ i (IsRest word i) e (λ m t1 r1 h1 e1.
@@ -306,7 +306,7 @@ unfolding read_line
 line_spelled tokens i e = then_word form_names tokens (λ w. read_form (form_at w.0) w.1) i (λ ts. InstrLine ts i) e (λ p first rest h q. form_spelled (form_at p) first rest i h q)
 
 -- the first of several fields, and the last
-pub given : (field : Field) (fields : List Field) (tokens : List (List ℕ)) (P : List (List ℕ) → Type 0) → SpellsAll (field ∷ fields) tokens → ((token : List ℕ) (rest : List (List ℕ)) → Spells field token → SpellsAll fields rest → P (token ∷ rest)) → P tokens
+pub given : (field : LineField) (fields : List LineField) (tokens : List (List ℕ)) (P : List (List ℕ) → Type 0) → SpellsAll (field ∷ fields) tokens → ((token : List ℕ) (rest : List (List ℕ)) → Spells field token → SpellsAll fields rest → P (token ∷ rest)) → P tokens
 given field fields [] P h k = absurd h
 given field fields (token ∷ rest) P h k = k token rest h.0 h.1
 
@@ -346,7 +346,7 @@ unfolding read_line
 form_step p word first rest i stands same next = bind_step (take_word form_words (first ∷ rest)) (λ w. read_form (form_at w.0) w.1) (p, rest) (Ok i) (word_step form_names p word first rest stands same) next
 
 -- the marker of an instruction, as it is read
-marker_within : (m : ℕ) (token : List ℕ) → number_of token ≡ Some m → m < 6 → IsWithin 0 5 m token
+marker_within : (m : ℕ) (token : List ℕ) → decimal_value token ≡ Some m → m < 6 → IsWithin 0 5 m token
 marker_within m token is below = record { value = is; low = omega arith; high = omega arith }
 
 sense_again : (s : Sight) (m u : ℕ) (c : Cond) (tokens : List (List ℕ)) → SpellsAll (Word (word_of_sight s) ∷ Number m ∷ Number u ∷ fields_of_condition c) tokens → IsSoundCondition c → read_sense tokens ≡ Ok (Sense s m u c)

@@ -1,6 +1,6 @@
 -- The reading of a line stops at the first position at fault.
-use Rattle.std.proofs.Common.{◌≡◌, ℕ, Bool, true, false, List, [], ◌∷◌, ◌++◌, Option, Some, None, Ok, Err, option_map, cond, refl, sym, ap, ◌∙◌}
-use Rattle.ant_base.specs.Number.{number_of, number_within}
+use Rattle.std.proofs.Common.{◌≡◌, ℕ, Bool, true, false, List, [], ◌∷◌, ◌++◌, Option, Some, None, Ok, option_map, cond, refl, sym, ap, ◌∙◌}
+use Rattle.ant_base.specs.Number.{decimal_value, number_within}
 use Rattle.word_table.specs.Words.{word_place}
 use Rattle.brain_read.specs.declared.fault.BrainFault.{BrainFault}
 use Rattle.brain_read.specs.declared.fault.BrainFault.TheVariants.{BadByte, UnknownWord, BadNumber}
@@ -20,7 +20,7 @@ use Rattle.brain_read.specs.Inner.Reading.{read_sense, read_marked, read_branche
 use Rattle.brain_read.specs.Refusals.{fault_at, refusal_at}
 use Rattle.brain_read.specs.Judging.{Position, positions_of, positions_of_condition, nothing_more, accepted, fault_of, judged, first_fault}
 use Rattle.brain_read.specs.Judging.Position.{FormToken, SightToken, SideToken, ConditionToken, MarkerToken, StateToken, BoundToken}
-use Rattle.brain_read.proofs.PlacesLemmas.{Names, word-good, named-place, number_of-good, number_within-any}
+use Rattle.brain_read.proofs.PlacesLemmas.{Names, word-good, named-place, decimal_value-good, number_within-any}
 use Rattle.brain_read.proofs.LineFaults.{fault_of_read}
 use Rattle.brain_read.proofs.FormsLemmas.{form_names, sight_names, side_names, condition_names, within-some, bind_assoc, as_named, ending}
 
@@ -65,7 +65,7 @@ number_judges least most position accepts faults = record { steps = steps }
         ap (λ a. cond (has_bad_byte token) (Some (BadByte line)) (judged a (fault_of position line) (λ more. first_fault line rest (more ++ positions)))) (accepts token)
         ∙ ap (λ b. cond (has_bad_byte token) (Some (BadByte line)) (judged (option_map (λ n. []) (number_within least most token)) b (λ more. first_fault line rest (more ++ positions)))) (faults line)
         ∙ judge_token line token rest positions (number_within least most token) (λ n. []) LineFault.BadNumber f
-        (λ n found. number_of-good token n (within-some least most n token (number_of token) refl found).value) (λ n. next n rest)
+        (λ n found. decimal_value-good token n (within-some least most n token (decimal_value token) refl found).value) (λ n. next n rest)
 
 -- a step that names what its word stands for
 named_judges : {A : Type 0} (words : List (List ℕ)) (position : Position) → Judges position (take_word words) (λ i. []) → (at : ℕ → A) → Judges position (λ tokens. take_word words tokens >>= as_named at) (λ x. [])

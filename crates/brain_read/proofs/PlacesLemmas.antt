@@ -9,7 +9,7 @@ use Rattle.std.proofs.lemmas.Option.{slice_get_within, get_or_from_slice_get}
 use Rattle.std.proofs.lemmas.Slice.Eq.{bytes_eq-Decides}
 use Rattle.std.proofs.lemmas.Str.Parse.{digits_value_short}
 use Rattle.ant_base.proofs.Digits.{all_ascii_digits-IsNumeralModel}
-use Rattle.ant_base.specs.Number.{is_number, number_of, within, number_within}
+use Rattle.ant_base.specs.Number.{is_number, decimal_value, within, number_within}
 use Rattle.std.specs.Str.{str_to_ascii_lowercase, str_eq_ignore_ascii_case}
 use Rattle.word_table.specs.Words.{IsSameWord, are_distinct, word_place}
 use Rattle.word_table.proofs.Places.{word_place-found, word_place-only}
@@ -102,8 +102,8 @@ record IsDigits (token : List ℕ) (n : ℕ) : Type 0 where
   digits : all_ascii_digits token ≡ true
   value : digits_value 10 token ≡ n
 
-digits_of : (token : List ℕ) (n : ℕ) → number_of token ≡ Some n → IsDigits token n
-unfolding number_of
+digits_of : (token : List ℕ) (n : ℕ) → decimal_value token ≡ Some n → IsDigits token n
+unfolding decimal_value
 digits_of token n is = go (is_number token) refl is
   where
     go : (b : Bool) → is_number token ≡ b → cond b (Some (digits_value 10 token)) None ≡ Some n → IsDigits token n
@@ -114,8 +114,8 @@ digits_of token n is = go (is_number token) refl is
     go false e k = (let never : None ≡ Some n = k in cc)
 
 -- a number of at most ten digits is below 10 ^ 10
-pub number_of-small : (token : List ℕ) (n : ℕ) → number_of token ≡ Some n → n ≤ 9999999999
-number_of-small token n is =
+pub decimal_value-small : (token : List ℕ) (n : ℕ) → decimal_value token ≡ Some n → n ≤ 9999999999
+decimal_value-small token n is =
     let d = digits_of token n is in
     let small = digits_value_short all_ascii_digits-IsNumeralModel token 10 d.digits d.short in
     omega (arith, small, d.value)
@@ -130,13 +130,13 @@ digits-good (byte ∷ token) all =
     rw (good_byte byte (omega arith) (omega arith)) (digits-good token parts.1)
 
 -- a number has no bad byte
-pub number_of-good : (token : List ℕ) (n : ℕ) → number_of token ≡ Some n → has_bad_byte token ≡ false
-number_of-good token n is = digits-good token (digits_of token n is).digits
+pub decimal_value-good : (token : List ℕ) (n : ℕ) → decimal_value token ≡ Some n → has_bad_byte token ≡ false
+decimal_value-good token n is = digits-good token (digits_of token n is).digits
 
 -- every number lies between 0 and the largest of ten digits
-pub number_within-any : (token : List ℕ) → number_within 0 9999999999 token ≡ number_of token
-number_within-any token = go (number_of token) refl
+pub number_within-any : (token : List ℕ) → number_within 0 9999999999 token ≡ decimal_value token
+number_within-any token = go (decimal_value token) refl
   where
-    go : (o : Option ℕ) → number_of token ≡ o → within 0 9999999999 o ≡ o
+    go : (o : Option ℕ) → decimal_value token ≡ o → within 0 9999999999 o ≡ o
     go None e = refl
-    go (Some n) e = ap (λ b. cond b (Some n) None) (and_from (nat_le 0 n) (nat_le n 9999999999) (le-leb 0 n (omega arith)) (le-leb n 9999999999 (number_of-small token n e)))
+    go (Some n) e = ap (λ b. cond b (Some n) None) (and_from (nat_le 0 n) (nat_le n 9999999999) (le-leb 0 n (omega arith)) (le-leb n 9999999999 (decimal_value-small token n e)))

@@ -12,7 +12,7 @@ use Rattle.brain_read.specs.Grammar.{IsBrainText}
 use Rattle.brain_read.specs.Faulty.{IsBrainFault}
 use Rattle.brain_read.specs.Answers.{IsFaultOf}
 use Rattle.brain_read.specs.Inner.LineByLine.{judged_line, reading_from}
-use Rattle.brain_read.specs.Inner.Verdict.{Judged, brain_reader, settle_all, settle, read_text}
+use Rattle.brain_read.specs.Inner.Verdict.{Judgement, brain_reader, settle_all, settle, read_text}
 use Rattle.brain_read.specs.Inner.Answered.{placed_of, FailsAs}
 use Rattle.brain_read.proofs.FaultyLemmas.{brain_read_again, fault_read_of, fault_read_again}
 use Rattle.brain_read.proofs.LineLemmas as generic
@@ -34,7 +34,7 @@ reading_from-fault drafts number line fault lines has failed =
     generic.reading_from-fault brain_reader (map placed_of drafts) number line fault lines has (ap (λ n. judged_line brain_reader n number (tokens_of line)) size ∙ failed)
 
 -- a fault that was judged is the one that is answered
-pub fails : {A : Type 0} (fault : BrainFault) (judged : Judged A) → judged ≡ Err fault → FailsAs fault judged
+pub fails : {A : Type 0} (fault : BrainFault) (judged : Judgement A) → judged ≡ Err fault → FailsAs fault judged
 fails (BadByte line) judged e = e
 fails (UnknownWord line) judged e = e
 fails (MissingToken line) judged e = e
@@ -67,7 +67,7 @@ pub failed_brain : (text : List ℕ) (brain : List Instr) → IsBrainText text b
 failed_brain text brain b fault e = go fault e
   where
     never : (f : BrainFault) → read_text text ≡ Err f → ⊥
-    never f k = let differ : ◌≡◌ {A = Judged (List Instr)} (Ok brain) (Err f) = sym (brain_read_again text brain b) ∙ k in cc
+    never f k = let differ : ◌≡◌ {A = Judgement (List Instr)} (Ok brain) (Err f) = sym (brain_read_again text brain b) ∙ k in cc
 
     go : (f : BrainFault) → FailsAs f (read_text text) → f ≡ OutOfMemory
     go (BadByte line) k = absurd (never (BadByte line) k)
@@ -85,7 +85,7 @@ pub failed_fault : (text : List ℕ) (fault : BrainFault) → IsBrainFault text 
 failed_fault text fault b answered e = go answered e
   where
     same : (f : BrainFault) → read_text text ≡ Err f → (f ≡ fault) ⊎ (f ≡ OutOfMemory)
-    same f k = let both : ◌≡◌ {A = Judged (List Instr)} (Err f) (Err fault) = sym k ∙ fault_read_again text fault b in inl (cc)
+    same f k = let both : ◌≡◌ {A = Judgement (List Instr)} (Err f) (Err fault) = sym k ∙ fault_read_again text fault b in inl (cc)
 
     go : (f : BrainFault) → FailsAs f (read_text text) → (f ≡ fault) ⊎ (f ≡ OutOfMemory)
     go (BadByte line) k = same (BadByte line) k

@@ -1,6 +1,6 @@
 -- Small texts of brains, worked out: comments, blank lines, and the first fault of each.
 use Rattle.std.proofs.Common.{◌≡◌, [], ◌∷◌, ◌++◌, map, Some, None, codes, refl}
-use Rattle.ant_base.specs.Number.{number_of}
+use Rattle.ant_base.specs.Number.{decimal_value}
 use Rattle.brain_read.specs.declared.fault.BrainFault.TheVariants.{BadByte, UnknownWord, MissingToken, BadNumber, ExtraToken}
 use Rattle.brain_read.specs.Faulty.{line_fault}
 use Rattle.brain_read.specs.Inner.LineByLine.{first_line_fault}
@@ -20,24 +20,24 @@ tokens_parted = refl
 faultless_lines : map (λ text. first_line_fault line_fault 0 (lines_with_tokens text))
     (codes "MARK 5 0" ∷ codes "unmark 0 0" ∷ codes "Flip 4294967295 0 0" ∷ codes "flip 1 0 0" ∷ codes "sense LEFTAHEAD 0 0 marker 5" ∷ codes "Sense Here 0 0 FoeMarker" ∷ codes "turn left 0" ∷ [])
     ≡ None ∷ None ∷ None ∷ None ∷ None ∷ None ∷ None ∷ []
-unfolding number_of
+unfolding decimal_value
 faultless_lines = refl
 
 -- numbers out of range, tokens too few and too many, and words that are none
 faults_of_lines : map (λ text. first_line_fault line_fault 0 (lines_with_tokens text))
     (codes "Mark 6 0" ∷ codes "Flip 0 0 0" ∷ codes "Flip 4294967296 0 0" ∷ codes "Drop 00000000000" ∷ codes "Sense Here 0 0 Marker 6" ∷ codes "Sense Here 0 0 Marker" ∷ codes "Move 0" ∷ codes "Drop 0 0" ∷ codes "Sense Here 0 0 Rock 1" ∷ codes "Mov" ∷ codes "Turn Ahead 0" ∷ codes "Sense Here 0 0 Rocky" ∷ codes "Sense Left 0 0 Rock" ∷ [])
     ≡ Some (BadNumber 1) ∷ Some (BadNumber 1) ∷ Some (BadNumber 1) ∷ Some (BadNumber 1) ∷ Some (BadNumber 1) ∷ Some (MissingToken 1) ∷ Some (MissingToken 1) ∷ Some (ExtraToken 1) ∷ Some (ExtraToken 1) ∷ Some (UnknownWord 1) ∷ Some (UnknownWord 1) ∷ Some (UnknownWord 1) ∷ Some (UnknownWord 1) ∷ []
-unfolding number_of
+unfolding decimal_value
 faults_of_lines = refl
 
 -- of a line the first position at fault counts, and there a bad byte before the word or the number
 bad_bytes : map (λ text. first_line_fault line_fault 0 (lines_with_tokens text))
     ((codes "Drop 0" ++ 127 ∷ []) ∷ (codes "Drop x " ++ 228 ∷ []) ∷ (codes "Drop 0 " ++ 228 ∷ []) ∷ (codes "Drop 0 0 " ++ 228 ∷ []) ∷ (codes "Drop" ++ 11 ∷ codes "0") ∷ (228 ∷ codes " x") ∷ [])
     ≡ Some (BadByte 1) ∷ Some (BadNumber 1) ∷ Some (BadByte 1) ∷ Some (ExtraToken 1) ∷ Some (BadByte 1) ∷ Some (BadByte 1) ∷ []
-unfolding number_of
+unfolding decimal_value
 bad_bytes = refl
 
 -- of a text the first line at fault
 first_of_two_faults : first_line_fault line_fault 0 (lines_with_tokens (codes "Drop 5\n\nJump\nDrop")) ≡ Some (UnknownWord 3)
-unfolding number_of
+unfolding decimal_value
 first_of_two_faults = refl

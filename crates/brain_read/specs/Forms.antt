@@ -4,7 +4,7 @@ use Rattle.hex_geometry.specs.declared.direction.Side.{Side}
 use Rattle.hex_geometry.specs.declared.direction.Side.TheVariants.{Left, Right}
 use Rattle.hex_geometry.specs.declared.neighbourhood.Sight.{Sight}
 use Rattle.hex_geometry.specs.declared.neighbourhood.Sight.TheVariants.{Here, Ahead, LeftAhead, RightAhead}
-use Rattle.ant_base.specs.Number.{number_of}
+use Rattle.ant_base.specs.Number.{decimal_value}
 use Rattle.std.specs.Str.{str_eq_ignore_ascii_case}
 use Rattle.word_table.specs.Words.{IsSameWord}
 use Rattle.brain_read.specs.declared.instr.Cond.{Cond}
@@ -89,12 +89,12 @@ abbrev pub named : {A : Type 0} → (A → List ℕ) → List A → List ℕ →
 named word things token = find (λ thing. str_eq_ignore_ascii_case (word thing) token) things
 
 -- one token of an instruction's line: a word, in any ASCII case, or a number
-pub data Field : Type 0 where
-  Word : List ℕ → Field
-  Number : ℕ → Field
+pub data LineField : Type 0 where
+  Word : List ℕ → LineField
+  Number : ℕ → LineField
 
 -- how a condition is spelled
-abbrev pub fields_of_condition : Cond → List Field
+abbrev pub fields_of_condition : Cond → List LineField
 fields_of_condition Friend = Word (word_of_condition ConditionWord.Friend) ∷ []
 fields_of_condition Foe = Word (word_of_condition ConditionWord.Foe) ∷ []
 fields_of_condition FriendWithFood = Word (word_of_condition ConditionWord.FriendWithFood) ∷ []
@@ -107,7 +107,7 @@ fields_of_condition Home = Word (word_of_condition ConditionWord.Home) ∷ []
 fields_of_condition FoeHome = Word (word_of_condition ConditionWord.FoeHome) ∷ []
 
 -- how an instruction is spelled: the table of forms
-abbrev pub fields_of : Instr → List Field
+abbrev pub fields_of : Instr → List LineField
 fields_of (Sense sight met unmet condition) = Word (word_of_form Form.Sense) ∷ Word (word_of_sight sight) ∷ Number met ∷ Number unmet ∷ fields_of_condition condition
 fields_of (Mark i next) = Word (word_of_form Form.Mark) ∷ Number i ∷ Number next ∷ []
 fields_of (Unmark i next) = Word (word_of_form Form.Unmark) ∷ Number i ∷ Number next ∷ []
@@ -118,12 +118,12 @@ fields_of (Move met unmet) = Word (word_of_form Form.Move) ∷ Number met ∷ Nu
 fields_of (Flip bound met unmet) = Word (word_of_form Form.Flip) ∷ Number bound ∷ Number met ∷ Number unmet ∷ []
 
 -- a token spells a field
-abbrev pub Spells : Field → List ℕ → Type 0
+abbrev pub Spells : LineField → List ℕ → Type 0
 Spells (Word word) token = IsSameWord word token
-Spells (Number n) token = number_of token ≡ Some n
+Spells (Number n) token = decimal_value token ≡ Some n
 
 -- the tokens spell the fields, one by one
-abbrev pub SpellsAll : List Field → List (List ℕ) → Type 0
+abbrev pub SpellsAll : List LineField → List (List ℕ) → Type 0
 SpellsAll [] [] = Unit {0}
 SpellsAll [] (token ∷ tokens) = ⊥
 SpellsAll (field ∷ fields) [] = ⊥

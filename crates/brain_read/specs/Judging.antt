@@ -1,6 +1,6 @@
 -- Which position of a line is at fault; the clauses of `read_brain` rest on it (this project's own: the rule of faults).
 use Rattle.std.specs.Prelude.{ℕ, List, [], ◌∷◌, ◌++◌, Option, Some, None, option_map, if◌then◌else◌}
-use Rattle.ant_base.specs.Number.{number_of, number_within}
+use Rattle.ant_base.specs.Number.{decimal_value, number_within}
 use Rattle.brain_read.specs.declared.fault.BrainFault.{BrainFault}
 use Rattle.brain_read.specs.declared.fault.BrainFault.TheVariants.{BadByte, UnknownWord, MissingToken, BadNumber, ExtraToken}
 use Rattle.brain_read.specs.declared.form.Form.{Form}
@@ -39,7 +39,7 @@ accepted SightToken token = option_map nothing_more (named word_of_sight sights 
 accepted SideToken token = option_map nothing_more (named word_of_side sides token)
 accepted ConditionToken token = option_map positions_of_condition (named word_of_condition conditions token)
 accepted MarkerToken token = option_map nothing_more (number_within 0 5 token)
-accepted StateToken token = option_map nothing_more (number_of token)
+accepted StateToken token = option_map nothing_more (decimal_value token)
 accepted BoundToken token = option_map nothing_more (number_within 1 most_bound token)
 
 -- the fault of a token without a bad byte that its position doesn't accept

@@ -45,12 +45,12 @@ pub enum Draft {
 
 impl Draft {
     ghost use Rattle.brain_read.specs.Inner.Draft.{drafted};
-    ghost use Rattle.brain_read.specs.Inner.Verdict.{settled};
+    ghost use Rattle.brain_read.specs.Inner.Verdict.{draft_settled};
 
     /// The instruction of a brain of so many states, at most 65,536; or the first of its states that isn't below their number.
     pub fn settled(self, states: u64) -> Result<Instr, u64>
         requires { states ≤ 65536 }
-        ensures { result ≡ settled states (drafted self) }
+        ensures { result ≡ draft_settled states (drafted self) }
     {
         match self {
             Draft::Sense {

@@ -3,7 +3,7 @@ ghost use Rattle.std.specs.Prelude.{◌≡◌, [], ◌∷◌, OnOk};
 ghost use Rattle.std.specs.List.{AllByRecursion};
 ghost use Rattle.ant_base.specs.Sink.{Pushed};
 ghost use Rattle.brain_read.specs.Forms.{word_of_form, word_of_sight, word_of_side, word_of_condition, fields_of_condition, HasBound};
-ghost use Rattle.brain_read.specs.Forms.Field.{Word, Number};
+ghost use Rattle.brain_read.specs.Forms.LineField.{Word, Number};
 ghost use Rattle.brain_read.specs.declared.instr.Cond.TheVariants.{Marker};
 ghost use Rattle.brain_read.specs.declared.instr.Instr.TheVariants.{Sense, Drop, Turn, Flip};
 ghost use Rattle.brain_read.specs.Inner.Places.{place_of_form, place_of_sight, place_of_side, place_of_condition};

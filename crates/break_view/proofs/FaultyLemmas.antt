@@ -11,7 +11,7 @@ use Rattle.break_view.specs.Judging.{first_fault}
 use Rattle.break_view.specs.Judging.Position.{BreakToken}
 use Rattle.break_view.specs.Grammar.{most_breaks, AreBreaks, IsBreakText}
 use Rattle.break_view.specs.Faulty.{line_fault, IsBreakFault}
-use Rattle.break_view.specs.Inner.Verdict.{Judged, break_reader, read_text}
+use Rattle.break_view.specs.Inner.Verdict.{Judgement, break_reader, read_text}
 use Rattle.break_view.proofs.FormsLemmas.{line_spelled, line_again}
 use Rattle.break_view.proofs.JudgingLemmas.{line_faulted}
 
@@ -66,15 +66,15 @@ module _ (text : List ℕ) where
   pub some_answer : ((list : List Break) × IsBreakText text list) ⊎ ((fault : BreakFault) × IsBreakFault text fault)
   some_answer = go (read_text text) refl
     where
-      go : (r : Judged (List Break)) → read_text text ≡ r → ((list : List Break) × IsBreakText text list) ⊎ ((fault : BreakFault) × IsBreakFault text fault)
+      go : (r : Judgement (List Break)) → read_text text ≡ r → ((list : List Break) × IsBreakText text list) ⊎ ((fault : BreakFault) × IsBreakFault text fault)
       go (Ok list) e = inl (list, list_read_of list e)
       go (Err fault) e = inr (fault, fault_read_of fault e)
 
   pub one_list : (a b : List Break) → IsBreakText text a → IsBreakText text b → a ≡ b
-  one_list a b h k = let e : ◌≡◌ {A = Judged (List Break)} (Ok a) (Ok b) = sym (list_read_again a h) ∙ list_read_again b k in cc
+  one_list a b h k = let e : ◌≡◌ {A = Judgement (List Break)} (Ok a) (Ok b) = sym (list_read_again a h) ∙ list_read_again b k in cc
 
   pub one_fault : (a b : BreakFault) → IsBreakFault text a → IsBreakFault text b → a ≡ b
-  one_fault a b h k = let e : ◌≡◌ {A = Judged (List Break)} (Err a) (Err b) = sym (fault_read_again a h) ∙ fault_read_again b k in cc
+  one_fault a b h k = let e : ◌≡◌ {A = Judgement (List Break)} (Err a) (Err b) = sym (fault_read_again a h) ∙ fault_read_again b k in cc
 
   pub never_both : (list : List Break) (fault : BreakFault) → IsBreakText text list → IsBreakFault text fault → ⊥
-  never_both list fault h k = let e : ◌≡◌ {A = Judged (List Break)} (Ok list) (Err fault) = sym (list_read_again list h) ∙ fault_read_again fault k in cc
+  never_both list fault h k = let e : ◌≡◌ {A = Judgement (List Break)} (Ok list) (Err fault) = sym (list_read_again list h) ∙ fault_read_again fault k in cc

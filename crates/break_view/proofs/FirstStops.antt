@@ -5,7 +5,7 @@ use Rattle.cell_world.specs.World.{World}
 use Rattle.ant_turn.specs.Minds.{Minds}
 use Rattle.break_view.specs.declared.breaks.Break.{Break}
 use Rattle.break_view.specs.declared.stop.Stop.{Stop}
-use Rattle.break_view.specs.Stops.{met_at, IsTurn, IsBefore, IsFirstStop, HasNoStop, EndsAt, first_in_round, first_stop, end_of}
+use Rattle.break_view.specs.Stops.{met_at, IsTurn, IsEarlier, IsFirstStop, HasNoStop, EndsAt, first_in_round, first_stop, end_of}
 use Rattle.break_view.specs.Texts.{view_of, view_text}
 use Rattle.break_view.specs.Laws.{EndsAreFound}
 use Rattle.break_view.proofs.ViewLaws.{later_rounds_add_nothing, one_first_stop}
@@ -49,7 +49,7 @@ module _ (minds : Minds) (seed : ℕ) (w : World) (items : List Break) where
     none_before = λ r t turn before. earlier r t turn before;
   }
     where
-      earlier : (r t : ℕ) → IsTurn w (suc n) r t → IsBefore r t stop.round stop.id → met_at minds seed w items r t ≡ None
+      earlier : (r t : ℕ) → IsTurn w (suc n) r t → IsEarlier r t stop.round stop.id → met_at minds seed w items r t ≡ None
       earlier r t turn (inl before) = here r t (record { begun = turn.begun; played = (let now = there.round in omega (arith, now, before)); made = turn.made })
       earlier r t turn (inr before) = subst (λ (k : ℕ). met_at minds seed w items k t ≡ None) (sym (before.0 ∙ there.round)) (there.quiet t before.1)
   in_game_more n None here None there = λ r t turn. go r t turn (nat_lt r (suc n)) refl

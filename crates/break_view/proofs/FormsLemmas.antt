@@ -2,11 +2,11 @@
 use Rattle.std.proofs.Common.{◌≡◌, ◌≤◌, ℕ, List, [], ◌∷◌, codes, Some, Ok, slice_get, refl, subst, arith}
 use Rattle.cell_world.specs.declared.ant.Colour.{Colour}
 use Rattle.cell_world.specs.declared.ant.Colour.TheVariants.{Red, Black}
-use Rattle.ant_base.specs.Number.{number_of}
+use Rattle.ant_base.specs.Number.{decimal_value}
 use Rattle.word_table.specs.Words.{IsSameWord}
 use Rattle.brain_read.specs.Steps.{take_word}
 use Rattle.brain_read.specs.Forms.{SpellsAll}
-use Rattle.brain_read.specs.Forms.Field.{Word, Number}
+use Rattle.brain_read.specs.Forms.LineField.{Word, Number}
 use Rattle.brain_read.proofs.PlacesLemmas.{Names}
 use Rattle.brain_read.proofs.FormsLemmas.{Takes, then_taken, then_again, bind_step, word_step, then_word, then_end, number_takes, named_takes, IsWithin, given, given_end}
 use Rattle.break_view.specs.declared.breaks.Break.{Break}
@@ -99,7 +99,7 @@ unfolding read_line
 line_spelled tokens item e = then_word break_names tokens (λ w. read_form (break_at w.0) w.1) item (λ ts. BreakLine ts item) e (λ p first rest h q. form_spelled (break_at p) first rest item h q)
 
 -- a number of a break
-any : (n : ℕ) (token : List ℕ) → number_of token ≡ Some n → n ≤ most_number → IsAny n token
+any : (n : ℕ) (token : List ℕ) → decimal_value token ≡ Some n → n ≤ most_number → IsAny n token
 any n token is high = record { value = is; low = omega arith; high = high }
 
 number_again : (make : ℕ → Break) (n : ℕ) (tokens : List (List ℕ)) → SpellsAll (Number n ∷ []) tokens → n ≤ most_number → read_number make tokens ≡ Ok (make n)

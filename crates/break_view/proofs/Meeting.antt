@@ -5,7 +5,7 @@ use Rattle.cell_world.specs.Valid.{Valid}
 use Rattle.cell_world.specs.World.{World}
 use Rattle.cell_world.proofs.Places.{clear_inside}
 use Rattle.break_view.specs.declared.breaks.Break.{Break}
-use Rattle.break_view.specs.Met.{meets, first_met, clear_cell}
+use Rattle.break_view.specs.Met.{is_met, first_met, clear_cell}
 
 -- outside a world there is no clear cell
 pub clear_cell-outside : (w : World) (x y : ℕ) → Valid w → (x < w.width → y < w.height → ⊥) → clear_cell w x y ≡ None
@@ -16,10 +16,10 @@ clear_cell-outside w x y valid outside = go (w.cells (record { x = x; y = y })).
     go false e = let inside = clear_inside w (record { x = x; y = y }) valid e in absurd (outside inside.column inside.row)
 
 -- the break in front holds, or the next ones are looked at
-pub first_met-here : (number : ℕ) (item : Break) (items : List Break) (w : World) (r t : ℕ) → meets item w r t ≡ true → first_met number (item ∷ items) w r t ≡ Some number
+pub first_met-here : (number : ℕ) (item : Break) (items : List Break) (w : World) (r t : ℕ) → is_met item w r t ≡ true → first_met number (item ∷ items) w r t ≡ Some number
 first_met-here number item items w r t holds = ap (λ b. cond b (Some number) (first_met (number + 1) items w r t)) holds
 
-pub first_met-later : (number : ℕ) (item : Break) (items : List Break) (w : World) (r t : ℕ) → meets item w r t ≡ false → first_met number (item ∷ items) w r t ≡ first_met (number + 1) items w r t
+pub first_met-later : (number : ℕ) (item : Break) (items : List Break) (w : World) (r t : ℕ) → is_met item w r t ≡ false → first_met number (item ∷ items) w r t ≡ first_met (number + 1) items w r t
 first_met-later number item items w r t fails = ap (λ b. cond b (Some number) (first_met (number + 1) items w r t)) fails
 
 module _ (items : List Break) (i number : ℕ) (d : Break) (w : World) (r t : ℕ) (below : i < length items) where
@@ -27,10 +27,10 @@ module _ (items : List Break) (i number : ℕ) (d : Break) (w : World) (r t : �
   front = ap (λ (ls : List Break). first_met number ls w r t) (drop_more items i d below)
 
   -- the break at this place holds, or the next ones are looked at
-  pub met-here : meets (get_or items i d) w r t ≡ true → first_met number (drop i items) w r t ≡ Some number
+  pub met-here : is_met (get_or items i d) w r t ≡ true → first_met number (drop i items) w r t ≡ Some number
   met-here holds = front ∙ first_met-here number (get_or items i d) (drop (i + 1) items) w r t holds
 
-  pub met-later : meets (get_or items i d) w r t ≡ false → first_met number (drop i items) w r t ≡ first_met (number + 1) (drop (i + 1) items) w r t
+  pub met-later : is_met (get_or items i d) w r t ≡ false → first_met number (drop i items) w r t ≡ first_met (number + 1) (drop (i + 1) items) w r t
   met-later fails = front ∙ first_met-later number (get_or items i d) (drop (i + 1) items) w r t fails
 
 -- how far a list has been looked at: no break before this place holds, and its number is one more

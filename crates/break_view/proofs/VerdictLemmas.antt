@@ -9,7 +9,7 @@ use Rattle.break_view.specs.declared.fault.BreakFault.TheVariants.{UnknownWord, 
 use Rattle.break_view.specs.Grammar.{IsBreakText}
 use Rattle.break_view.specs.Faulty.{IsBreakFault}
 use Rattle.break_view.specs.Answers.{IsFaultOf}
-use Rattle.break_view.specs.Inner.Verdict.{Judged, break_reader, read_text}
+use Rattle.break_view.specs.Inner.Verdict.{Judgement, break_reader, read_text}
 use Rattle.break_view.specs.Inner.Answered.{FailsAs}
 use Rattle.break_view.proofs.FaultyLemmas.{list_read_again, fault_read_of, fault_read_again}
 
@@ -19,7 +19,7 @@ unfolding read_text
 reading_from-start text = lines.reading_from-start break_reader text
 
 -- a fault that was judged is the one that is answered
-pub fails : (fault : BreakFault) (judged : Judged (List Break)) → judged ≡ Err fault → FailsAs fault judged
+pub fails : (fault : BreakFault) (judged : Judgement (List Break)) → judged ≡ Err fault → FailsAs fault judged
 fails (UnknownWord line) judged e = e
 fails (MissingToken line) judged e = e
 fails (BadNumber line) judged e = e
@@ -41,7 +41,7 @@ pub failed_list : (text : List ℕ) (list : List Break) → IsBreakText text lis
 failed_list text list b fault e = go fault e
   where
     never : (f : BreakFault) → read_text text ≡ Err f → ⊥
-    never f k = let differ : ◌≡◌ {A = Judged (List Break)} (Ok list) (Err f) = sym (list_read_again text list b) ∙ k in cc
+    never f k = let differ : ◌≡◌ {A = Judgement (List Break)} (Ok list) (Err f) = sym (list_read_again text list b) ∙ k in cc
 
     go : (f : BreakFault) → FailsAs f (read_text text) → f ≡ OutOfMemory
     go (UnknownWord line) k = absurd (never (UnknownWord line) k)
@@ -56,7 +56,7 @@ pub failed_fault : (text : List ℕ) (fault : BreakFault) → IsBreakFault text 
 failed_fault text fault b answered e = go answered e
   where
     same : (f : BreakFault) → read_text text ≡ Err f → (f ≡ fault) ⊎ (f ≡ OutOfMemory)
-    same f k = let both : ◌≡◌ {A = Judged (List Break)} (Err f) (Err fault) = sym k ∙ fault_read_again text fault b in inl (cc)
+    same f k = let both : ◌≡◌ {A = Judgement (List Break)} (Err f) (Err fault) = sym k ∙ fault_read_again text fault b in inl (cc)
 
     go : (f : BreakFault) → FailsAs f (read_text text) → (f ≡ fault) ⊎ (f ≡ OutOfMemory)
     go (UnknownWord line) k = same (UnknownWord line) k

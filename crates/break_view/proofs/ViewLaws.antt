@@ -6,8 +6,8 @@ use Rattle.cell_world.specs.World.{World}
 use Rattle.ant_turn.specs.Minds.{Minds}
 use Rattle.break_view.specs.declared.breaks.Break.{Break}
 use Rattle.break_view.specs.declared.stop.Stop.{Stop}
-use Rattle.break_view.specs.Met.{meets, first_met}
-use Rattle.break_view.specs.Stops.{world_at, met_at, IsBefore, IsFirstStop, HasNoStop, EndsAt}
+use Rattle.break_view.specs.Met.{is_met, first_met}
+use Rattle.break_view.specs.Stops.{world_at, met_at, IsEarlier, IsFirstStop, HasNoStop, EndsAt}
 use Rattle.break_view.specs.Texts.{IsViewText, view_text}
 use Rattle.break_view.specs.Laws.{StandIn, FewerStopLater, StopsFollowTurns, LaterRoundsAddNothing, OneFirstStop}
 
@@ -15,10 +15,10 @@ use Rattle.break_view.specs.Laws.{StandIn, FewerStopLater, StopsFollowTurns, Lat
 record IsFound (items : List Break) (w : World) (r t : ℕ) : Type 0 where
   item : Break
   stands : Contains items item
-  holds : meets item w r t ≡ true
+  holds : is_met item w r t ≡ true
 
 -- what holds in front of a list, or behind its first break
-found_first : (item : Break) (items : List Break) (w : World) (r t : ℕ) → meets item w r t ≡ true → IsFound (item ∷ items) w r t
+found_first : (item : Break) (items : List Break) (w : World) (r t : ℕ) → is_met item w r t ≡ true → IsFound (item ∷ items) w r t
 found_first item items w r t holds = record { item = item; stands = (0, omega arith, refl); holds = holds }
 
 found_later : (item : Break) (items : List Break) (w : World) (r t : ℕ) → IsFound items w r t → IsFound (item ∷ items) w r t
@@ -27,22 +27,22 @@ found_later item items w r t found = let there = found.stands in record { item =
 -- where a number is given, a break holds
 found : (items : List Break) (number : ℕ) (w : World) (r t which : ℕ) → first_met number items w r t ≡ Some which → IsFound items w r t
 found [] number w r t which e = (let never : None ≡ Some which = e in absurd (cc))
-found (item ∷ items) number w r t which e = go (meets item w r t) refl (found items (number + 1) w r t which) e
+found (item ∷ items) number w r t which e = go (is_met item w r t) refl (found items (number + 1) w r t which) e
   where
-    go : (b : Bool) → meets item w r t ≡ b → (first_met (number + 1) items w r t ≡ Some which → IsFound items w r t) → cond b (Some number) (first_met (number + 1) items w r t) ≡ Some which → IsFound (item ∷ items) w r t
+    go : (b : Bool) → is_met item w r t ≡ b → (first_met (number + 1) items w r t ≡ Some which → IsFound items w r t) → cond b (Some number) (first_met (number + 1) items w r t) ≡ Some which → IsFound (item ∷ items) w r t
     go true is later q = found_first item items w r t is
     go false is later q = found_later item items w r t (later q)
 
 -- where none is given, no break holds
-absent : (items : List Break) (number : ℕ) (w : World) (r t : ℕ) → first_met number items w r t ≡ None → (item : Break) → Contains items item → meets item w r t ≡ false
+absent : (items : List Break) (number : ℕ) (w : World) (r t : ℕ) → first_met number items w r t ≡ None → (item : Break) → Contains items item → is_met item w r t ≡ false
 absent [] number w r t none item there = absurd (omega (arith, there.1))
-absent (first ∷ items) number w r t none item there = go (meets first w r t) refl (absent items (number + 1) w r t) none
+absent (first ∷ items) number w r t none item there = go (is_met first w r t) refl (absent items (number + 1) w r t) none
   where
-    pick : (k : ℕ) → k < length (first ∷ items) → slice_index_or (first ∷ items) k item ≡ item → meets first w r t ≡ false → ((other : Break) → Contains items other → meets other w r t ≡ false) → meets item w r t ≡ false
-    pick zero below same here later = subst (λ i. meets i w r t ≡ false) same here
+    pick : (k : ℕ) → k < length (first ∷ items) → slice_index_or (first ∷ items) k item ≡ item → is_met first w r t ≡ false → ((other : Break) → Contains items other → is_met other w r t ≡ false) → is_met item w r t ≡ false
+    pick zero below same here later = subst (λ i. is_met i w r t ≡ false) same here
     pick (suc k) below same here later = later item (k, omega (arith, below), same)
 
-    go : (b : Bool) → meets first w r t ≡ b → (first_met (number + 1) items w r t ≡ None → (other : Break) → Contains items other → meets other w r t ≡ false) → cond b (Some number) (first_met (number + 1) items w r t) ≡ None → meets item w r t ≡ false
+    go : (b : Bool) → is_met first w r t ≡ b → (first_met (number + 1) items w r t ≡ None → (other : Break) → Contains items other → is_met other w r t ≡ false) → cond b (Some number) (first_met (number + 1) items w r t) ≡ None → is_met item w r t ≡ false
     go true is later q = (let never : Some number ≡ None = q in absurd (cc))
     go false is later q = pick there.0 there.1 there.2 is (later q)
 
@@ -74,7 +74,7 @@ stops_follow_turns = record {
 }
 
 -- a turn before another is played where the other is
-within : (r t round id rounds : ℕ) → IsBefore r t round id → round ≤ rounds → r ≤ rounds
+within : (r t round id rounds : ℕ) → IsEarlier r t round id → round ≤ rounds → r ≤ rounds
 within r t round id rounds (inl before) played = omega (arith, before, played)
 within r t round id rounds (inr before) played = let same = before.0 in omega (arith, same, played)
 
@@ -88,7 +88,7 @@ later_rounds_add_nothing minds seed rounds more w items stop le first =
 
 module _ (minds : Minds) (seed rounds : ℕ) (w : World) (items : List Break) where
   -- no first stop is before another
-  not_before : (a b : Stop) → IsFirstStop minds seed rounds w items a → IsFirstStop minds seed rounds w items b → IsBefore a.round a.id b.round b.id → ⊥
+  not_before : (a b : Stop) → IsFirstStop minds seed rounds w items a → IsFirstStop minds seed rounds w items b → IsEarlier a.round a.id b.round b.id → ⊥
   not_before a b here there before =
       let e : ◌≡◌ {A = Option ℕ} None (Some a.which) = sym (there.none_before a.round a.id here.turn before) ∙ here.met in cc
 

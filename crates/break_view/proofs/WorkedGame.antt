@@ -18,7 +18,7 @@ use Rattle.ant_turn.specs.Minds.{Minds, contest_minds}
 use Rattle.ant_turn.specs.Rounds.{after_turn}
 use Rattle.ant_turn.specs.Turn.{stepped, turn}
 use Rattle.break_view.specs.declared.breaks.Break.TheVariants.{Stand, Killed, Score}
-use Rattle.break_view.specs.Stops.{IsTurn, IsBefore, IsFirstStop, met_at, world_in_round}
+use Rattle.break_view.specs.Stops.{IsTurn, IsEarlier, IsFirstStop, met_at, world_in_round}
 
 -- seven by six cells, without ids the ants are
 --      . . . . .
@@ -58,7 +58,7 @@ killed_first = record {
     at_first : (r t : ℕ) → r ≡ 1 → t ≡ 0 → met_at minds 12345 start (Killed 2 ∷ []) r t ≡ None
     at_first r t round id = subst (λ (k : ℕ). met_at minds 12345 start (Killed 2 ∷ []) k t ≡ None) (sym round) (subst (λ (k : ℕ). met_at minds 12345 start (Killed 2 ∷ []) 1 k ≡ None) (sym id) killed_then.1)
 
-    before_it : (r t : ℕ) → IsTurn start 5 r t → IsBefore r t 1 1 → met_at minds 12345 start (Killed 2 ∷ []) r t ≡ None
+    before_it : (r t : ℕ) → IsTurn start 5 r t → IsEarlier r t 1 1 → met_at minds 12345 start (Killed 2 ∷ []) r t ≡ None
     before_it r t turn (inl before) = absurd (let begun = turn.begun in omega (arith, begun, before))
     before_it r t turn (inr before) = at_first r t before.0 (let below = before.1 in omega (arith, below))
 

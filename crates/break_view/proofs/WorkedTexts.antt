@@ -1,7 +1,7 @@
 -- Texts of breaks, worked out.
 use Rattle.std.proofs.Common.{◌≡◌, ℕ, zero, suc, List, [], ◌∷◌, ◌++◌, Some, None, codes, refl, arith}
 use Rattle.cell_world.specs.declared.ant.Colour.TheVariants.{Red, Black}
-use Rattle.ant_base.specs.Number.{number_of}
+use Rattle.ant_base.specs.Number.{decimal_value}
 use Rattle.brain_read.specs.Grammar.{lines_with_tokens}
 use Rattle.break_view.specs.declared.breaks.Break.TheVariants.{Round, State, Stand, Food, Killed, Score}
 use Rattle.break_view.specs.declared.fault.BreakFault.TheVariants.{UnknownWord, MissingToken, BadNumber, ExtraToken, TooMany}
@@ -26,12 +26,12 @@ comments_alone = record { lines = tt; few = omega arith }
 
 -- an id
 one_break : IsBreakText (codes "Killed 2") (Killed 2 ∷ [])
-unfolding number_of
+unfolding decimal_value
 one_break = record { lines = (record { spelled = (refl, (refl, tt)); in_range = (tt, (omega arith, tt)) }, tt); few = omega arith }
 
 -- words are read in any ASCII case, numbers with leading zeros and up to the largest, and a comment is no part of a line
 two_breaks : IsBreakText (codes "sCORE red 03 ; food at home\n\nStand BLACK 2 4294967295") (Score Red 3 ∷ Stand Black 2 4294967295 ∷ [])
-unfolding number_of
+unfolding decimal_value
 two_breaks = record {
   lines = (
     record { spelled = (refl, (refl, (refl, tt))); in_range = (tt, (tt, (omega arith, tt))) },
@@ -47,64 +47,64 @@ first_line_fault-first = faults.first_line_fault-first break_reader BreakLine fi
 every_form :
     IsBreakText (codes "Round 0\nState Red 4294967295\nState Black 0\nStand Red 4294967295 0\nFood 4294967295 0 4294967295\nFood 0 4294967295 0\nKilled 4294967295\nScore Black 4294967295\nScore Red 0")
     (Round 0 ∷ State Red 4294967295 ∷ State Black 0 ∷ Stand Red 4294967295 0 ∷ Food 4294967295 0 4294967295 ∷ Food 0 4294967295 0 ∷ Killed 4294967295 ∷ Score Black 4294967295 ∷ Score Red 0 ∷ [])
-unfolding number_of read_text read_line read_number read_coloured read_stand read_food take_colour take_any break_words colour_words judged_line
+unfolding decimal_value read_text read_line read_number read_coloured read_stand read_food take_colour take_any break_words colour_words judged_line
 every_form = list_read_of _ _ refl
 
 -- one fault of each kind, and the line that has it
 no_such_word : IsBreakFault (codes "Jump 1") (UnknownWord 1)
-unfolding number_of
+unfolding decimal_value
 no_such_word = first_line_fault-first (codes "Jump 1") (UnknownWord 1) refl
 
 short_food : IsBreakFault (codes "Food 1 2") (MissingToken 1)
-unfolding number_of
+unfolding decimal_value
 short_food = first_line_fault-first (codes "Food 1 2") (MissingToken 1) refl
 
 round_x : IsBreakFault (codes "Round x") (BadNumber 1)
-unfolding number_of
+unfolding decimal_value
 round_x = first_line_fault-first (codes "Round x") (BadNumber 1) refl
 
 -- of two faults of a line the first position's, whatever stands behind it
 faults_of_a_line : (IsBreakFault (codes "Round x 2") (BadNumber 1)) × (IsBreakFault (codes "State Green") (UnknownWord 1)) × (IsBreakFault (codes "Food x") (BadNumber 1)) × (IsBreakFault (codes "Score Red") (MissingToken 1))
-unfolding number_of
+unfolding decimal_value
 faults_of_a_line = (first_line_fault-first (codes "Round x 2") (BadNumber 1) refl, first_line_fault-first (codes "State Green") (UnknownWord 1) refl, first_line_fault-first (codes "Food x") (BadNumber 1) refl, first_line_fault-first (codes "Score Red") (MissingToken 1) refl)
 
 -- of two lines at fault the first
 faults_of_lines : IsBreakFault (codes "Round 1\nFood 1\nJump") (MissingToken 2)
-unfolding number_of
+unfolding decimal_value
 faults_of_lines = first_line_fault-first (codes "Round 1\nFood 1\nJump") (MissingToken 2) refl
 
 long_round : IsBreakFault (codes "Round 1 2") (ExtraToken 1)
-unfolding number_of
+unfolding decimal_value
 long_round = first_line_fault-first (codes "Round 1 2") (ExtraToken 1) refl
 
 no_such_colour : IsBreakFault (codes "; note\nState Green 1") (UnknownWord 2)
-unfolding number_of
+unfolding decimal_value
 no_such_colour = first_line_fault-first (codes "; note\nState Green 1") (UnknownWord 2) refl
 
 -- a front of a word is no word, and a word alone lacks its number
 killed_cut :
     (IsBreakFault (codes "K") (UnknownWord 1)) × (IsBreakFault (codes "Ki") (UnknownWord 1)) × (IsBreakFault (codes "Kil") (UnknownWord 1))
     × (IsBreakFault (codes "Kill") (UnknownWord 1)) × (IsBreakFault (codes "Kille") (UnknownWord 1)) × (IsBreakFault (codes "Killed") (MissingToken 1))
-unfolding number_of
+unfolding decimal_value
 killed_cut = (first_line_fault-first (codes "K") (UnknownWord 1) refl, first_line_fault-first (codes "Ki") (UnknownWord 1) refl, first_line_fault-first (codes "Kil") (UnknownWord 1) refl, first_line_fault-first (codes "Kill") (UnknownWord 1) refl, first_line_fault-first (codes "Kille") (UnknownWord 1) refl, first_line_fault-first (codes "Killed") (MissingToken 1) refl)
 
 -- a number above the largest
 too_large : IsBreakFault (codes "Food 4294967296 0 0") (BadNumber 1)
-unfolding number_of
+unfolding decimal_value
 too_large = first_line_fault-first (codes "Food 4294967296 0 0") (BadNumber 1) refl
 
 -- a byte outside 33 to 126 is no fault of its own: a token with it is no word and no number
 strange_bytes : (IsBreakFault (codes "Round 1" ++ 200 ∷ []) (BadNumber 1)) × (IsBreakFault (1 ∷ codes "Round 1") (UnknownWord 1)) × (IsBreakFault (codes "Round 1 " ++ 200 ∷ []) (ExtraToken 1))
-unfolding number_of
+unfolding decimal_value
 strange_bytes = (first_line_fault-first (codes "Round 1" ++ 200 ∷ []) (BadNumber 1) refl, first_line_fault-first (1 ∷ codes "Round 1") (UnknownWord 1) refl, first_line_fault-first (codes "Round 1 " ++ 200 ∷ []) (ExtraToken 1) refl)
 
 -- the 256th break has its place, the next one has none, whatever its line says
 last_break : line_fault 255 (record { number = 300; tokens = codes "Round" ∷ codes "1" ∷ [] }) ≡ None
-unfolding number_of
+unfolding decimal_value
 last_break = refl
 
 one_break_more : line_fault 256 (record { number = 257; tokens = codes "Jump" ∷ [] }) ≡ Some (TooMany 257)
-unfolding number_of
+unfolding decimal_value
 one_break_more = refl
 
 -- so many lines of one break
@@ -114,5 +114,5 @@ rounds (suc n) = codes "Round 1\n" ++ rounds n
 
 -- a text of 257 breaks is refused at the last of them, and one of 256 has no line at fault
 line_257 : (IsBreakFault (rounds 257) (TooMany 257)) × (first_line_fault line_fault 0 (lines_with_tokens (rounds 256)) ≡ None)
-unfolding number_of
+unfolding decimal_value
 line_257 = (first_line_fault-first (rounds 257) (TooMany 257) refl, refl)

@@ -3,8 +3,8 @@ use Rattle.std.specs.Prelude.{ℕ, ◌≤◌, List, [], ◌∷◌, codes}
 use Rattle.std.specs.List.{AllByRecursion}
 use Rattle.cell_world.specs.declared.ant.Colour.{Colour}
 use Rattle.cell_world.specs.declared.ant.Colour.TheVariants.{Red, Black}
-use Rattle.brain_read.specs.Forms.{Field, SpellsAll}
-use Rattle.brain_read.specs.Forms.Field.{Word, Number}
+use Rattle.brain_read.specs.Forms.{LineField, SpellsAll}
+use Rattle.brain_read.specs.Forms.LineField.{Word, Number}
 use Rattle.break_view.specs.declared.words.BreakWord.{BreakWord}
 use Rattle.break_view.specs.declared.breaks.Break.{Break}
 use Rattle.break_view.specs.declared.breaks.Break.TheVariants.{Round, State, Stand, Food, Killed, Score}
@@ -32,7 +32,7 @@ abbrev pub colours : List Colour
 colours = Red ∷ Black ∷ []
 
 -- how a break is spelled: the table of forms
-abbrev pub fields_of : Break → List Field
+abbrev pub fields_of : Break → List LineField
 fields_of (Round round) = Word (word_of_break BreakWord.Round) ∷ Number round ∷ []
 fields_of (State colour state) = Word (word_of_break BreakWord.State) ∷ Word (word_of_colour colour) ∷ Number state ∷ []
 fields_of (Stand colour x y) = Word (word_of_break BreakWord.Stand) ∷ Word (word_of_colour colour) ∷ Number x ∷ Number y ∷ []
@@ -45,7 +45,7 @@ abbrev pub most_number : ℕ
 most_number = 4294967295
 
 -- a number is at most the largest
-abbrev pub IsInRange : Field → Type 0
+abbrev pub IsInRange : LineField → Type 0
 IsInRange (Word word) = Unit {0}
 IsInRange (Number n) = n ≤ most_number
 

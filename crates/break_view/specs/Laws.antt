@@ -8,7 +8,7 @@ use Rattle.break_view.specs.declared.fault.BreakFault.{BreakFault}
 use Rattle.break_view.specs.declared.stop.Stop.{Stop}
 use Rattle.break_view.specs.Faulty.{IsBreakFault}
 use Rattle.break_view.specs.Grammar.{IsBreakText}
-use Rattle.break_view.specs.Stops.{IsBefore, IsFirstStop, HasNoStop, EndsAt, end_of, first_stop}
+use Rattle.break_view.specs.Stops.{IsEarlier, IsFirstStop, HasNoStop, EndsAt, end_of, first_stop}
 use Rattle.break_view.specs.Texts.{IsViewText, view_of, view_text}
 
 -- every text has one list of breaks or one fault, and never both
@@ -25,7 +25,7 @@ StandIn few more = (item : Break) → Contains few item → Contains more item
 -- with fewer breaks a game doesn't stop earlier, and where it doesn't stop with more it doesn't with fewer
 pub record FewerStopLater : Type 0 where
   pub later : (minds : Minds) (seed rounds : ℕ) (w : World) (few more : List Break) (stop earlier : Stop) → StandIn few more
-      → IsFirstStop minds seed rounds w few stop → IsFirstStop minds seed rounds w more earlier → IsBefore stop.round stop.id earlier.round earlier.id → ⊥
+      → IsFirstStop minds seed rounds w few stop → IsFirstStop minds seed rounds w more earlier → IsEarlier stop.round stop.id earlier.round earlier.id → ⊥
   pub never : (minds : Minds) (seed rounds : ℕ) (w : World) (few more : List Break) → StandIn few more
       → HasNoStop minds seed rounds w more → HasNoStop minds seed rounds w few
 

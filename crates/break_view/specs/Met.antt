@@ -31,9 +31,9 @@ abbrev pub clear_cell : World → ℕ → ℕ → Option Cell
 clear_cell w x y = if_clear (w.cells (record { x = x; y = y }))
 
 -- whether there is a clear cell on which an ant of this colour stands
-abbrev pub is_manned : Colour → Option Cell → Bool
-is_manned colour None = false
-is_manned colour (Some cell) = is_ant_of colour cell.ant
+abbrev pub has_ant_of : Colour → Option Cell → Bool
+has_ant_of colour None = false
+has_ant_of colour (Some cell) = is_ant_of colour cell.ant
 
 -- whether there is a clear cell with at least so many food particles
 abbrev pub is_fed : ℕ → Option Cell → Bool
@@ -41,21 +41,21 @@ is_fed least None = false
 is_fed least (Some cell) = nat_le least cell.food
 
 -- whether the break holds in a world after the turn of id t in round r
-abbrev pub meets : Break → World → ℕ → ℕ → Bool
+abbrev pub is_met : Break → World → ℕ → ℕ → Bool
 -- it is this round
-meets (Round round) w r t = round == r
+is_met (Round round) w r t = round == r
 -- the ant whose turn it was is alive, of this colour and in this state
-meets (State colour state) w r t = is_in_state colour state (ant_at w (place_in w t))
+is_met (State colour state) w r t = is_in_state colour state (ant_at w (place_in w t))
 -- an ant of this colour stands on the cell
-meets (Stand colour x y) w r t = is_manned colour (clear_cell w x y)
+is_met (Stand colour x y) w r t = has_ant_of colour (clear_cell w x y)
 -- the cell has at least so much food
-meets (Food x y least) w r t = is_fed least (clear_cell w x y)
+is_met (Food x y least) w r t = is_fed least (clear_cell w x y)
 -- the id was made, and no cell holds its ant
-meets (Killed id) w r t = nat_lt id w.ids && not (is_some (place_in w id))
+is_met (Killed id) w r t = nat_lt id w.ids && not (is_some (place_in w id))
 -- the food on the colour's hill is at least so much
-meets (Score colour least) w r t = nat_le least (hill_food_of w colour)
+is_met (Score colour least) w r t = nat_le least (hill_food_of w colour)
 
 -- the number of the first break of a list that holds then, where the first of the list has this number
 abbrev pub first_met : ℕ → List Break → World → ℕ → ℕ → Option ℕ
 first_met number [] w r t = None
-first_met number (item ∷ items) w r t = if meets item w r t then Some number else first_met (number + 1) items w r t
+first_met number (item ∷ items) w r t = if is_met item w r t then Some number else first_met (number + 1) items w r t

@@ -36,14 +36,14 @@ pub record IsTurn (w : World) (rounds r t : ℕ) : Type 0 where
   pub made : t < w.ids
 
 -- one turn is before another: in an earlier round, or in the same round and of a lower id
-abbrev pub IsBefore : ℕ → ℕ → ℕ → ℕ → Type 0
-IsBefore r t round id = (r < round) ⊎ ((r ≡ round) × (t < id))
+abbrev pub IsEarlier : ℕ → ℕ → ℕ → ℕ → Type 0
+IsEarlier r t round id = (r < round) ⊎ ((r ≡ round) × (t < id))
 
 -- the stop is the first turn after which a break holds, and names the first break that holds then
 pub record IsFirstStop (minds : Minds) (seed rounds : ℕ) (w : World) (items : List Break) (stop : Stop) : Type 0 where
   pub turn : IsTurn w rounds stop.round stop.id
   pub met : met_at minds seed w items stop.round stop.id ≡ Some stop.which
-  pub none_before : (r t : ℕ) → IsTurn w rounds r t → IsBefore r t stop.round stop.id → met_at minds seed w items r t ≡ None
+  pub none_before : (r t : ℕ) → IsTurn w rounds r t → IsEarlier r t stop.round stop.id → met_at minds seed w items r t ≡ None
 
 -- no break holds after any turn of the game
 abbrev pub HasNoStop : Minds → ℕ → ℕ → World → List Break → Type 0

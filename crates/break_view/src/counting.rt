@@ -3,9 +3,9 @@ ghost use Rattle.std.specs.Prelude.{◌≡◌, ◌+◌, ◌-◌, ◌<◌, ◌^�
 ghost use Rattle.ant_turn.specs.Minds.{Fits, minds_of};
 ghost use Rattle.ant_turn.specs.Turn.{turn};
 ghost use Rattle.cell_world.specs.Cell.{one_if};
-ghost use Rattle.cell_world.specs.Grid.{world_of};
+ghost use Rattle.cell_world.specs.Grid.{IsWorld, world_of};
 ghost use Rattle.cell_world.specs.Score.{score_of};
-ghost use Rattle.cell_world.specs.World.{with_cells};
+ghost use Rattle.cell_world.specs.World.{place_in, with_cells};
 ghost use Rattle.hex_geometry.specs.Position.{IsInside};
 ghost use Rattle.hex_geometry.specs.declared.position.Pos.{Pos};
 ghost use Rattle.break_view.specs.Inner.Counting as counting;
@@ -15,7 +15,8 @@ use ant_turn::{Brains, take_turn};
 use cell_world::{Cell, Colour, Score, World};
 use hex_geometry::Pos;
 
-// Takes the turn of an id, and keeps the score: where nobody was killed, the food changed on the ant's own cell alone, if at all.
+// Takes the turn of an id, and keeps the score: where nobody was killed, the food changed on the ant's own cell alone, if at all. So off the
+// hills nothing is counted.
 pub(crate) fn take_counted(
     world: &mut World,
     brains: Brains<'_>,
@@ -34,7 +35,7 @@ pub(crate) fn take_counted(
     ensures fit { Fits (world_of world.new) (minds_of brains.entry) }
     ensures score { score.new ≡ score_of (world_of world.new) }
 {
-    let place = world.ant_place(id);
+    let place = hill_place(world, id);
     let before = score_at(world, place);
     let deed = take_turn(world, brains, stream, id);
     if deed.killed.is_empty() {
@@ -44,7 +45,22 @@ pub(crate) fn take_counted(
     }
 }
 
+// Where the ant of this id stands, if that is on a hill.
+#[inline]
+fn hill_place(world: &World, id: u32) -> Option<Pos>
+    ensures place { result ≡ counting.on_hill (world_of world.now) (place_in (world_of world.now) id) }
+    ensures world { IsWorld world.now }
+{
+    let place = world.ant_place(id)?;
+    if world.cell(place).hill.is_some() {
+        Some(place)
+    } else {
+        None
+    }
+}
+
 // The food that the cell at a place gives to the hills: none where there is no place.
+#[inline]
 fn score_at(world: &World, place: Option<Pos>) -> Score
     requires { (p : Pos) → place ≡ Some p → IsInside world.now.width world.now.height p }
     ensures { result ≡ counting.score_at (world_of world.now) place }
@@ -55,6 +71,8 @@ fn score_at(world: &World, place: Option<Pos>) -> Score
     }
 }
 
+// The food that a cell gives to the hills: all that lies on it, to the hill to which it belongs.
+#[inline]
 fn score_in(cell: Cell) -> Score
     ensures { result ≡ counting.score_in cell }
 {
@@ -72,6 +90,7 @@ fn score_in(cell: Cell) -> Score
 }
 
 // The score where a cell gives this now, in place of what it gave before.
+#[inline]
 fn recounted(score: Score, before: Score, now: Score) -> Score
     requires { counting.CanCount score before now }
     ensures red { result.red ≡ score.red + now.red - before.red }

@@ -49,7 +49,7 @@ fn ant_of(world: &World, id: u32) -> Option<Ant>
 fn meets(item: Break, world: &World, score: Score, ant: Option<Ant>, round: u32) -> bool
     requires { score ≡ score_of (world_of world.now) }
     ensures { (t : ℕ) → ant ≡ met.ant_at (world_of world.now) (place_in (world_of world.now) t)
-        → result ≡ met.meets item (world_of world.now) round t }
+        → result ≡ met.is_met item (world_of world.now) round t }
 {
     match item {
         Break::Round(wanted) => wanted == round,
@@ -84,7 +84,7 @@ fn is_in_state(colour: Colour, state: u32, ant: Option<Ant>) -> bool
 
 // Whether an ant of this colour stands on the cell in column `x` of row `y`.
 fn is_manned(world: &World, colour: Colour, x: u32, y: u32) -> bool
-    ensures { result ≡ met.is_manned colour (met.clear_cell (world_of world.now) x y) }
+    ensures { result ≡ met.has_ant_of colour (met.clear_cell (world_of world.now) x y) }
 {
     match clear_cell(world, x, y) {
         Some(cell) => cell.has_ant_of(colour),

@@ -6,11 +6,11 @@ use Rattle.hex_geometry.specs.declared.position.Pos.{Pos}
 use Rattle.cell_world.specs.declared.ant.Ant.{Ant}
 use Rattle.cell_world.specs.declared.body.Body.{Body}
 use Rattle.cell_world.specs.Cell.{is_ant}
-use Rattle.cell_world.specs.Inner.Bodies.{IsKnown, IsMade, Moved, came, gone}
-use Rattle.cell_world.specs.Inner.Stored.{ant_from, ant_named, body_at, id_of, no_body, nobody, occupant_id, occupant_of, places_of}
+use Rattle.cell_world.specs.Inner.Bodies.{IsKnown, IsMadeBody, Moved, came, gone}
+use Rattle.cell_world.specs.Inner.Stored.{ant_from, ant_named, body_at, stored_id, no_body, nobody, occupant_id, occupant_of, stored_places}
 
 -- the number that stands for nobody is no id
-pub occupant_id-of : (o : Option Ant) → IsKnown nobody o → occupant_id (occupant_of o) ≡ id_of o
+pub occupant_id-of : (o : Option Ant) → IsKnown nobody o → occupant_id (occupant_of o) ≡ stored_id o
 occupant_id-of None known = refl
 occupant_id-of (Some ant) known = cond-false _ _ _ (ne_eqb ant.id nobody (λ e. omega arith))
 
@@ -41,10 +41,10 @@ is_ant-named t bodies None = refl
 is_ant-named t bodies (Some u) = refl
 
 -- an id was made where the ant that is read is known
-pub IsMade-named : (ids : ℕ) (bodies : List Body) (o : Option ℕ) → ((ant : Ant) → ant_named bodies o ≡ Some ant → ant.id < ids) → IsMade ids o
+pub IsMadeBody-named : (ids : ℕ) (bodies : List Body) (o : Option ℕ) → ((ant : Ant) → ant_named bodies o ≡ Some ant → ant.id < ids) → IsMadeBody ids o
 unfolding ant_named
-IsMade-named ids bodies None known = tt
-IsMade-named ids bodies (Some t) known = known (ant_from t (get_or bodies t no_body)) refl
+IsMadeBody-named ids bodies None known = tt
+IsMadeBody-named ids bodies (Some t) known = known (ant_from t (get_or bodies t no_body)) refl
 
 -- the place of a body whose ant was on the cell
 gone-place : (t : ℕ) (before : Option ℕ) (body : Body) → (gone t before body).place ≡ cond (is_id t before) None body.place
@@ -83,7 +83,7 @@ module _ {old new : List Body} {p : Pos} {before : Option ℕ} {after : Option A
   still_made t made = subst (λ n. t < n) (sym moved.all_ids) made
 
   -- the places of all ants after the change
-  pub places_of-moved : (t : ℕ) (none : Option Pos) → t < length old → get_or (places_of new) t none ≡ cond (is_ant t after) (Some p) (cond (is_id t before) None (get_or (places_of old) t none))
+  pub places_of-moved : (t : ℕ) (none : Option Pos) → t < length old → get_or (stored_places new) t none ≡ cond (is_ant t after) (Some p) (cond (is_id t before) None (get_or (stored_places old) t none))
   places_of-moved t none made =
       get_or-map (λ (b : Body). b.place) new t no_body none (still_made t made)
       ∙ ap (λ (b : Body). b.place) (moved.each t no_body made)
@@ -91,7 +91,7 @@ module _ {old new : List Body} {p : Pos} {before : Option ℕ} {after : Option A
       ∙ ap (cond (is_ant t after) (Some p)) (gone-place t before (get_or old t no_body) ∙ ap (cond (is_id t before) None) (sym (get_or-map (λ (b : Body). b.place) old t no_body none made)))
 
   -- the ant that is on the cell is read as it is
-  pub ant_named-came : (o : Option Ant) → after ≡ o → ((ant : Ant) → o ≡ Some ant → ant.id < length old) → ant_named new (id_of o) ≡ o
+  pub ant_named-came : (o : Option Ant) → after ≡ o → ((ant : Ant) → o ≡ Some ant → ant.id < length old) → ant_named new (stored_id o) ≡ o
   unfolding ant_named
   ant_named-came None is known = refl
   ant_named-came (Some ant) is known =
@@ -100,7 +100,7 @@ module _ {old new : List Body} {p : Pos} {before : Option ℕ} {after : Option A
       ∙ ap (λ b. Some (ant_from ant.id b)) (moved.each ant.id no_body made ∙ ap (λ a. came ant.id p a (gone ant.id before (get_or old ant.id no_body))) is ∙ came-same p ant (gone ant.id before (get_or old ant.id no_body)))
 
   -- every other is read as before
-  pub ant_named-stays : (o : Option ℕ) → IsMade (length old) o → ((ant : Ant) → after ≡ Some ant → is_id ant.id o ≡ false) → ant_named new o ≡ ant_named old o
+  pub ant_named-stays : (o : Option ℕ) → IsMadeBody (length old) o → ((ant : Ant) → after ≡ Some ant → is_id ant.id o ≡ false) → ant_named new o ≡ ant_named old o
   unfolding ant_named
   ant_named-stays None made other = refl
   ant_named-stays (Some t) made other =

@@ -19,9 +19,9 @@ use Rattle.cell_world.specs.Inner.Catching.{Catching, Followed, IsCaught, Names,
 use Rattle.cell_world.specs.Cell.{holds_id, is_ant, rock}
 use Rattle.cell_world.specs.Grid.{Grid, IsWorld, cell_in, index_of, world_of}
 use Rattle.cell_world.specs.Inner.Index.{IsIndex}
-use Rattle.cell_world.specs.Inner.Inside.{IsKept, grid_of}
-use Rattle.cell_world.specs.Inner.Bodies.{IsMade}
-use Rattle.cell_world.specs.Inner.Stored.{ant_from, ant_named, cell_from, grid_from, no_body, nobody, occupant_id, places_of}
+use Rattle.cell_world.specs.Inner.Inside.{IsWellStored, grid_of}
+use Rattle.cell_world.specs.Inner.Bodies.{IsMadeBody}
+use Rattle.cell_world.specs.Inner.Stored.{ant_from, ant_named, cell_from, grid_from, no_body, nobody, occupant_id, stored_places}
 use Rattle.cell_world.specs.World.{place_in, pos_at}
 use Rattle.cell_world.proofs.GridLemmas.{index_of-inside, index_of-pos_at}
 use Rattle.cell_world.proofs.Patches.{some_one}
@@ -158,7 +158,7 @@ body-same t one other same place =
     ∙ ap (λ l. made other.place other.state other.resting other.facing other.colour l) (ap (λ (a : Ant). a.laden) same)
 
 -- a body has its ant's place
-body-place : (width height : ℕ) (tiles : List Tile) (bodies : List Body) (t : ℕ) → IsIndex (grid_from width height tiles bodies) (places_of bodies) → t < length bodies →
+body-place : (width height : ℕ) (tiles : List Tile) (bodies : List Body) (t : ℕ) → IsIndex (grid_from width height tiles bodies) (stored_places bodies) → t < length bodies →
     (body_of bodies t).place ≡ place_in (world_of (grid_from width height tiles bodies)) t
 body-place width height tiles bodies t index made =
     sym (get_or-map (λ (b : Body). b.place) bodies t no_body None made) ∙ index.agrees t None made
@@ -179,8 +179,8 @@ some_tile = record { food = 0; ant = record { number = nobody }; rocky = true; h
 
 -- what is kept of two worlds of one size and number of ids
 module _ (width height : ℕ) (was others : List Tile) (old other_bodies : List Body)
-    (world : IsWorld (grid_from width height was old)) (index : IsIndex (grid_from width height was old) (places_of old))
-    (other_world : IsWorld (grid_from width height others other_bodies)) (other_index : IsIndex (grid_from width height others other_bodies) (places_of other_bodies))
+    (world : IsWorld (grid_from width height was old)) (index : IsIndex (grid_from width height was old) (stored_places old))
+    (other_world : IsWorld (grid_from width height others other_bodies)) (other_index : IsIndex (grid_from width height others other_bodies) (stored_places other_bodies))
     (same_ids : length old ≡ length other_bodies) where
   full : length was ≡ width * height
   full = sym (length-map was (cell_from old)) ∙ world.full
@@ -241,7 +241,7 @@ module _ (width height : ℕ) (was others : List Tile) (old other_bodies : List 
     ids_equal = catching.all_ids ∙ same_ids
 
     -- the ant of a tile
-    ant_equal : (i : ℕ) → i < length was → (o : Option ℕ) → occupant_id (get_or others i some_tile).ant ≡ o → IsMade (length other_bodies) o → ant_named bodies o ≡ ant_named other_bodies o
+    ant_equal : (i : ℕ) → i < length was → (o : Option ℕ) → occupant_id (get_or others i some_tile).ant ≡ o → IsMadeBody (length other_bodies) o → ant_named bodies o ≡ ant_named other_bodies o
     unfolding ant_named
     ant_equal i within None is made = refl
     ant_equal i within (Some t) is made =
@@ -255,7 +255,7 @@ module _ (width height : ℕ) (was others : List Tile) (old other_bodies : List 
         let p : Pos = pos_at width i in
         let inside : IsInside width height p = pos_at-inside (world_of (grid_from width height was old)) i (subst (λ n. i < n) full within) in
         let back : i ≡ index_of width p = sym (index_of-pos_at width i) in
-        let made : IsMade (length other_bodies) (occupant_id tile.ant) = tile-made width height others other_bodies p tile other_world inside
+        let made : IsMadeBody (length other_bodies) (occupant_id tile.ant) = tile-made width height others other_bodies p tile other_world inside
         (ap (λ k. get_or others k some_tile) back ∙ get_or_default others (index_of width p) some_tile tile (subst (λ n. index_of width p < n) (sym other_full) (index_of-inside width height p.x p.y inside.column inside.row))) in
         ap with (ant_equal i within (occupant_id tile.ant) refl made)
 
@@ -301,7 +301,7 @@ module _ (width height : ℕ) (was others : List Tile) (old other_bodies : List 
           (λ same. followed same)
           (catching.either t made)
 
-    pub index_equal : IsIndex (grid_from width height others other_bodies) (places_of bodies)
+    pub index_equal : IsIndex (grid_from width height others other_bodies) (stored_places bodies)
     index_equal = record {
       all_ids = length-map bodies (λ (b : Body). b.place) ∙ ids_equal;
       agrees = λ t none made.
@@ -328,13 +328,13 @@ Catching-go width was tiles others old bodies middle new other_bodies places i d
 -- what two worlds keep, of which the one is brought up to the other
 pub record Pair (fields others : Inside) : Type 0 where
   pub world : IsWorld (grid_from fields.width fields.height fields.tiles.items fields.bodies.items)
-  pub index : IsIndex (grid_from fields.width fields.height fields.tiles.items fields.bodies.items) (places_of fields.bodies.items)
+  pub index : IsIndex (grid_from fields.width fields.height fields.tiles.items fields.bodies.items) (stored_places fields.bodies.items)
   pub other_world : IsWorld (grid_from fields.width fields.height others.tiles.items others.bodies.items)
-  pub other_index : IsIndex (grid_from fields.width fields.height others.tiles.items others.bodies.items) (places_of others.bodies.items)
+  pub other_index : IsIndex (grid_from fields.width fields.height others.tiles.items others.bodies.items) (stored_places others.bodies.items)
   pub same_ids : length fields.bodies.items ≡ length others.bodies.items
   pub same_grid : grid_from fields.width fields.height others.tiles.items others.bodies.items ≡ grid_of others
 
-pub Pair-of : (fields others : Inside) (now other : Grid) → IsKept fields → IsKept others → grid_of fields ≡ now → grid_of others ≡ other → now.width ≡ other.width → now.height ≡ other.height → now.ids ≡ other.ids → Pair fields others
+pub Pair-of : (fields others : Inside) (now other : Grid) → IsWellStored fields → IsWellStored others → grid_of fields ≡ now → grid_of others ≡ other → now.width ≡ other.width → now.height ≡ other.height → now.ids ≡ other.ids → Pair fields others
 Pair-of fields others now other kept other_kept is other_is width height ids =
     let same : grid_from fields.width fields.height others.tiles.items others.bodies.items ≡ grid_of others =
     ap₂ (λ (x y : ℕ). grid_from x y others.tiles.items others.bodies.items)
@@ -344,7 +344,7 @@ Pair-of fields others now other kept other_kept is other_is width height ids =
       world = kept.world;
       index = kept.index;
       other_world = subst IsWorld (sym same) other_kept.world;
-      other_index = subst (λ (g : Grid). IsIndex g (places_of others.bodies.items)) (sym same) other_kept.index;
+      other_index = subst (λ (g : Grid). IsIndex g (stored_places others.bodies.items)) (sym same) other_kept.index;
       same_ids = ap (λ (g : Grid). g.ids) is ∙ ids ∙ sym (ap (λ (g : Grid). g.ids) other_is);
       same_grid = same;
     }
@@ -375,10 +375,10 @@ module _ (fields others : Inside) (pair : Pair fields others) where
         ∙ grid_equal fields.width fields.height fields.tiles.items others.tiles.items fields.bodies.items others.bodies.items pair.world pair.index pair.other_world pair.other_index pair.same_ids after.tiles.items after.bodies.items catching
         ∙ pair.same_grid
 
-    pub pair-kept : IsKept others → IsKept after
+    pub pair-kept : IsWellStored others → IsWellStored after
     pair-kept other_kept = record {
       world = subst IsWorld (sym pair-grid) other_kept.world;
-      index = subst (λ (g : Grid). IsIndex g (places_of after.bodies.items)) (pair.same_grid ∙ sym pair-grid)
+      index = subst (λ (g : Grid). IsIndex g (stored_places after.bodies.items)) (pair.same_grid ∙ sym pair-grid)
           (index_equal fields.width fields.height fields.tiles.items others.tiles.items fields.bodies.items others.bodies.items pair.world pair.index pair.other_world pair.other_index pair.same_ids after.tiles.items after.bodies.items catching);
     }
 

@@ -15,9 +15,9 @@ use Rattle.cell_world.specs.declared.world.World.TheInside.{Inside}
 use Rattle.cell_world.specs.Cell.{holds_id, rock}
 use Rattle.cell_world.specs.Grid.{Grid, IsWorld, cell_in, index_of, world_of}
 use Rattle.cell_world.specs.Inner.Index.{IsIndex}
-use Rattle.cell_world.specs.Inner.Inside.{IsKept, grid_of}
+use Rattle.cell_world.specs.Inner.Inside.{IsWellStored, grid_of}
 use Rattle.cell_world.specs.Inner.Bodies.{IsKnown, Moved, came, gone}
-use Rattle.cell_world.specs.Inner.Stored.{ant_from, ant_named, body_at, cell_from, grid_from, nobody, occupant_id, occupant_of, places_of, tile_of}
+use Rattle.cell_world.specs.Inner.Stored.{ant_from, ant_named, body_at, cell_from, grid_from, nobody, occupant_id, occupant_of, stored_places, tile_of}
 use Rattle.cell_world.specs.Valid.{CanSet, CanThink}
 use Rattle.cell_world.specs.World.{place_in, put}
 use Rattle.cell_world.proofs.Bodies.{IsKnown-from, occupant_id-of, ant_named-body, ant_named-came, came-other, came-same}
@@ -53,10 +53,10 @@ fields_set fields p tile new = record {
 -- what a change of fields comes to
 pub record FieldsChanged (fields after : Inside) (p : Pos) (cell : Cell) : Type 0 where
   pub grid : grid_of after ≡ grid_set (grid_of fields) p cell
-  pub kept : IsKept after
+  pub kept : IsWellStored after
 
 -- the fields after a change that may be made, and after which the bodies were moved, are a world's
-pub fields_set-changed : (fields : Inside) (p : Pos) (old : Tile) (cell : Cell) (occupant : Occupant) (before : Option ℕ) (room : ℕ) (known new : List Body) → IsKept fields → CanSet (world_of (grid_of fields)) room p cell → old ≡ get_or fields.tiles.items (index_of fields.width p) old → occupant ≡ occupant_of cell.ant → before ≡ occupant_id old.ant → known ≡ fields.bodies.items → Moved known new p before cell.ant →
+pub fields_set-changed : (fields : Inside) (p : Pos) (old : Tile) (cell : Cell) (occupant : Occupant) (before : Option ℕ) (room : ℕ) (known new : List Body) → IsWellStored fields → CanSet (world_of (grid_of fields)) room p cell → old ≡ get_or fields.tiles.items (index_of fields.width p) old → occupant ≡ occupant_of cell.ant → before ≡ occupant_id old.ant → known ≡ fields.bodies.items → Moved known new p before cell.ant →
     FieldsChanged fields (fields_set fields p (merged_tile old cell occupant) new) p cell
 fields_set-changed fields p old cell occupant before room known new kept can item named was is moved =
     let width : ℕ = fields.width in
@@ -79,19 +79,19 @@ fields_set-changed fields p old cell occupant before room known new kept can ite
       grid = ap (grid_from width height after) whole ∙ changed.grid;
       kept = record {
         world = subst (λ b. IsWorld (grid_from width height after b)) (sym whole) changed.world;
-        index = subst (λ b. IsIndex (grid_from width height after b) (places_of b)) (sym whole) changed.index;
+        index = subst (λ b. IsIndex (grid_from width height after b) (stored_places b)) (sym whole) changed.index;
       };
     }
 
 -- a body has its ant's place
-pub body-place : (fields : Inside) (t : ℕ) (body : Body) → IsKept fields → t < length fields.bodies.items → body ≡ get_or fields.bodies.items t body → body.place ≡ place_in (world_of (grid_of fields)) t
+pub body-place : (fields : Inside) (t : ℕ) (body : Body) → IsWellStored fields → t < length fields.bodies.items → body ≡ get_or fields.bodies.items t body → body.place ≡ place_in (world_of (grid_of fields)) t
 body-place fields t body kept made item =
     ap (λ (b : Body). b.place) item
     ∙ sym (get_or-map (λ (b : Body). b.place) fields.bodies.items t body None made)
     ∙ kept.index.agrees t None made
 
 -- an ant that a cell holds is that of its body
-pub body-ant : (fields : Inside) (t : ℕ) (p : Pos) (body : Body) → IsKept fields → t < length fields.bodies.items → body ≡ get_or fields.bodies.items t body → holds_id t (cell_in (grid_of fields) p) ≡ true → (cell_in (grid_of fields) p).ant ≡ Some (ant_from t body)
+pub body-ant : (fields : Inside) (t : ℕ) (p : Pos) (body : Body) → IsWellStored fields → t < length fields.bodies.items → body ≡ get_or fields.bodies.items t body → holds_id t (cell_in (grid_of fields) p) ≡ true → (cell_in (grid_of fields) p).ant ≡ Some (ant_from t body)
 body-ant fields t p body kept made item holds =
     (ant-read fields.width fields.height fields.tiles.items fields.bodies.items t p (tile_of rock) kept.world holds).1
     ∙ ant_named-body fields.bodies.items t body made
@@ -129,7 +129,7 @@ Moved-own bodies p ant body made own = record {
 }
 
 -- the fields after a state, a rest and a direction that may be set were set are those of the world with that ant
-pub fields_minded-changed : (fields : Inside) (p : Pos) (body : Body) (ant : Ant) (room : ℕ) → IsKept fields → CanThink (world_of (grid_of fields)) room p ant → body ≡ get_or fields.bodies.items ant.id body → FieldsChanged fields (fields_minded fields body ant) p (record (cell_in (grid_of fields) p) { ant = Some ant })
+pub fields_minded-changed : (fields : Inside) (p : Pos) (body : Body) (ant : Ant) (room : ℕ) → IsWellStored fields → CanThink (world_of (grid_of fields)) room p ant → body ≡ get_or fields.bodies.items ant.id body → FieldsChanged fields (fields_minded fields body ant) p (record (cell_in (grid_of fields) p) { ant = Some ant })
 fields_minded-changed fields p body ant room kept can item =
     let width : ℕ = fields.width in
     let height : ℕ = fields.height in
@@ -158,16 +158,16 @@ fields_minded-changed fields p body ant room kept can item =
       grid = ap (λ k. grid_from width height k new) (sym same) ∙ changed.grid;
       kept = record {
         world = subst (λ k. IsWorld (grid_from width height k new)) same changed.world;
-        index = subst (λ k. IsIndex (grid_from width height k new) (places_of new)) same changed.index;
+        index = subst (λ k. IsIndex (grid_from width height k new) (stored_places new)) same changed.index;
       };
     }
 
 -- what a change of a state, a rest and a direction comes to, of a world that the fields stand for
 pub record MindPut (fields : Inside) (now : Grid) (p : Pos) (body : Body) (ant : Ant) : Type 0 where
-  pub kept : IsKept (fields_minded fields body ant)
+  pub kept : IsWellStored (fields_minded fields body ant)
   pub made : world_of (grid_of (fields_minded fields body ant)) ≡ put (world_of now) p (record (cell_in now p) { ant = Some ant })
 
-pub fields_minded-put : (fields : Inside) (now : Grid) (p : Pos) (body : Body) (ant : Ant) (room : ℕ) → grid_of fields ≡ now → IsKept fields → CanThink (world_of now) room p ant → body ≡ get_or fields.bodies.items ant.id body → MindPut fields now p body ant
+pub fields_minded-put : (fields : Inside) (now : Grid) (p : Pos) (body : Body) (ant : Ant) (room : ℕ) → grid_of fields ≡ now → IsWellStored fields → CanThink (world_of now) room p ant → body ≡ get_or fields.bodies.items ant.id body → MindPut fields now p body ant
 fields_minded-put fields now p body ant room same kept can item =
     subst (λ (g : Grid). CanThink (world_of g) room p ant → MindPut fields g p body ant) same
     (λ may.

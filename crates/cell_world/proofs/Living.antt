@@ -16,7 +16,7 @@ use Rattle.cell_world.specs.Colour.{same_colour}
 use Rattle.cell_world.specs.Inner.Index.{IsIndex}
 use Rattle.cell_world.specs.Grid.{IsWorld, cell_in, world_of}
 use Rattle.cell_world.specs.Score.{alive_in, alive_of}
-use Rattle.cell_world.specs.Inner.Stored.{grid_from, is_living, no_body, places_of}
+use Rattle.cell_world.specs.Inner.Stored.{grid_from, is_living, no_body, stored_places}
 use Rattle.cell_world.specs.World.{place_in, pos_at, sum_over}
 use Rattle.cell_world.proofs.Bodies.{ant_named-body}
 use Rattle.cell_world.proofs.GridSums.{one_if-cond}
@@ -36,7 +36,7 @@ all_below : (colour : Colour) (ids : ℕ) (o : Option Ant) → ((ant : Ant) → 
 all_below colour ids None known = refl
 all_below colour ids (Some ant) known = sym (ap (λ b. one_if (b && same_colour colour ant.colour)) (lt-ltb ant.id ids (known ant refl)))
 
-module _ (width height : ℕ) (tiles : List Tile) (bodies : List Body) (fallback : Tile) (colour : Colour) (world : IsWorld (grid_from width height tiles bodies)) (index : IsIndex (grid_from width height tiles bodies) (places_of bodies)) where
+module _ (width height : ℕ) (tiles : List Tile) (bodies : List Body) (fallback : Tile) (colour : Colour) (world : IsWorld (grid_from width height tiles bodies)) (index : IsIndex (grid_from width height tiles bodies) (stored_places bodies)) where
   -- the cell at a position
   abbrev cell_at : Pos → Cell
   cell_at = cell_in (grid_from width height tiles bodies)

@@ -16,7 +16,7 @@ use Rattle.cell_world.specs.Limits.{most_ants}
 use Rattle.cell_world.specs.Opening.{floor, hill_count, is_hill, opening, opening_cell, opening_cells}
 use Rattle.cell_world.specs.Inner.OpeningPlaces.{hill_places, opening_places}
 use Rattle.cell_world.specs.Inner.Bodies.{IsKnown}
-use Rattle.cell_world.specs.Inner.Stored.{ant_from, ant_named, cell_from, grid_from, hill_of, id_of, nobody, new_bodies, new_body, no_body, opening_bodies, opening_tiles, places_of}
+use Rattle.cell_world.specs.Inner.Stored.{ant_from, ant_named, cell_from, grid_from, hill_of, stored_id, nobody, new_bodies, new_body, no_body, opening_bodies, opening_tiles, stored_places}
 use Rattle.cell_world.specs.World.{pos_at}
 use Rattle.cell_world.proofs.Bodies.{occupant_id-of}
 use Rattle.cell_world.proofs.OpeningPlaces.{length-opening_places}
@@ -39,22 +39,22 @@ length-new_bodies BlackHill p = refl
 length-new_bodies (Food n) p = refl
 
 -- and it is where the hill is
-places_of-new_bodies : (kind : Kind) (p : Pos) → places_of (new_bodies (hill_of kind) p) ≡ hill_places kind p
-places_of-new_bodies Rock p = refl
-places_of-new_bodies Clear p = refl
-places_of-new_bodies RedHill p = refl
-places_of-new_bodies BlackHill p = refl
-places_of-new_bodies (Food n) p = refl
+stored_places-new_bodies : (kind : Kind) (p : Pos) → stored_places (new_bodies (hill_of kind) p) ≡ hill_places kind p
+stored_places-new_bodies Rock p = refl
+stored_places-new_bodies Clear p = refl
+stored_places-new_bodies RedHill p = refl
+stored_places-new_bodies BlackHill p = refl
+stored_places-new_bodies (Food n) p = refl
 
 -- the bodies are where the ants begin
-pub places_of-opening : (width i : ℕ) (kinds : List Kind) → places_of (opening_bodies width i kinds) ≡ opening_places width i kinds
-places_of-opening width i [] = refl
-places_of-opening width i (kind ∷ kinds) =
+pub stored_places-opening : (width i : ℕ) (kinds : List Kind) → stored_places (opening_bodies width i kinds) ≡ opening_places width i kinds
+stored_places-opening width i [] = refl
+stored_places-opening width i (kind ∷ kinds) =
     map-append (λ (body : Body). body.place) (new_bodies (hill_of kind) (pos_at width i)) (opening_bodies width (i + 1) kinds)
-    ∙ ap₂ ◌++◌ (places_of-new_bodies kind (pos_at width i)) (places_of-opening width (i + 1) kinds)
+    ∙ ap₂ ◌++◌ (stored_places-new_bodies kind (pos_at width i)) (stored_places-opening width (i + 1) kinds)
 
 -- the ant of a cell is read from its body, which follows those of the ants before it
-ant_named-opening_cell : (front rest : List Body) (kind : Kind) (p : Pos) → ant_named (front ++ (new_bodies (hill_of kind) p ++ rest)) (id_of (opening_cell (length front) kind).ant) ≡ (opening_cell (length front) kind).ant
+ant_named-opening_cell : (front rest : List Body) (kind : Kind) (p : Pos) → ant_named (front ++ (new_bodies (hill_of kind) p ++ rest)) (stored_id (opening_cell (length front) kind).ant) ≡ (opening_cell (length front) kind).ant
 unfolding rock floor ant_named
 ant_named-opening_cell front rest Rock p = refl
 ant_named-opening_cell front rest Clear p = refl
@@ -91,5 +91,5 @@ same_opening width height kinds tiles bodies few is_tiles is_bodies =
     let join : ℕ → List Cell → Grid = λ ids cells. record { width = width; height = height; ids = ids; cells = cells } in
     ap₂ (grid_from width height) is_tiles is_bodies
     ∙ ap₂ join
-    (sym (length-map (opening_bodies width 0 kinds) (λ (body : Body). body.place)) ∙ ap length (places_of-opening width 0 kinds) ∙ length-opening_places width 0 kinds)
+    (sym (length-map (opening_bodies width 0 kinds) (λ (body : Body). body.place)) ∙ ap length (stored_places-opening width 0 kinds) ∙ length-opening_places width 0 kinds)
     (cells-read width 0 kinds [] (omega arith))

@@ -9,7 +9,7 @@ use Rattle.cell_world.specs.declared.part.Part.{Part}
 use Rattle.cell_world.specs.declared.part.Part.TheVariants.{Who, Mind, Load, Food, RedMarks, BlackMarks}
 use Rattle.cell_world.specs.declared.part.Parts.{Parts}
 use Rattle.cell_world.specs.Parts.{Agree, Alike, CanPatch, Identity, IsSameAnt, Posture, has_part, identity_of, patched, patched_ant, posture_of}
-use Rattle.cell_world.specs.PartLaws.{AreApart, HasParts}
+use Rattle.cell_world.specs.PartLaws.{AreDisjoint, HasParts}
 
 -- ants of one identity, posture and load are one
 pub same_parts_ant : (a b : Ant) → identity_of a ≡ identity_of b → posture_of a ≡ posture_of b → a.laden ≡ b.laden → a ≡ b
@@ -174,7 +174,7 @@ or_one {A} true b either first second = first refl
 or_one {A} false b either first second = second either
 
 -- patches that have no part in common
-module _ (cell one other : Cell) (a b : Parts) (apart : AreApart a b) (can_one : CanPatch cell one a) (can_other : CanPatch cell other b) where
+module _ (cell one other : Cell) (a b : Parts) (apart : AreDisjoint a b) (can_one : CanPatch cell one a) (can_other : CanPatch cell other b) where
   -- the second can be made after the first
   CanPatch-after : CanPatch (patched cell one a) other b
   CanPatch-after = record {
@@ -189,9 +189,9 @@ module _ (cell one other : Cell) (a b : Parts) (apart : AreApart a b) (can_one :
   }
 
 -- settle in any order
-pub patched-swap : (cell one other : Cell) (a b : Parts) → AreApart a b → CanPatch cell one a → CanPatch cell other b → patched (patched cell one a) other b ≡ patched (patched cell other b) one a
+pub patched-swap : (cell one other : Cell) (a b : Parts) → AreDisjoint a b → CanPatch cell one a → CanPatch cell other b → patched (patched cell one a) other b ≡ patched (patched cell other b) one a
 patched-swap cell one other a b apart can_one can_other =
-    let back : AreApart b a = λ k in_b. elim (cases_Bool (has_part a k)) [
+    let back : AreDisjoint b a = λ k in_b. elim (cases_Bool (has_part a k)) [
       | inl in_a ↦ absurd (false≢true (sym (apart k in_a) ∙ in_b))
       | inr not ↦ not
     ] in

@@ -11,11 +11,11 @@ use Rattle.cell_world.specs.declared.tile.Tile.{Tile}
 use Rattle.cell_world.specs.Cell.{rock, holds_id, is_ant}
 use Rattle.cell_world.specs.Grid.{Grid, IsWorld, cell_in, index_of, world_of}
 use Rattle.cell_world.specs.Inner.Index.{IsIndex}
-use Rattle.cell_world.specs.Inner.Bodies.{IsMade, Moved}
-use Rattle.cell_world.specs.Inner.Stored.{ant_named, cell_from, grid_from, occupant_id, places_of}
+use Rattle.cell_world.specs.Inner.Bodies.{IsMadeBody, Moved}
+use Rattle.cell_world.specs.Inner.Stored.{ant_named, cell_from, grid_from, occupant_id, stored_places}
 use Rattle.cell_world.specs.Valid.{CanSet}
 use Rattle.cell_world.specs.World.{pos_at}
-use Rattle.cell_world.proofs.Bodies.{IsMade-named, ant_named-stays, is_ant-named, is_id, is_id-true, places_of-moved}
+use Rattle.cell_world.proofs.Bodies.{IsMadeBody-named, ant_named-stays, is_ant-named, is_id, is_id-true, places_of-moved}
 use Rattle.cell_world.proofs.GridSums.{cell_in-pos_at}
 use Rattle.cell_world.proofs.GridLemmas.{cell_in-inside, index_of-early, index_of-pos_at}
 use Rattle.cell_world.proofs.Places.{holds_id-inside}
@@ -38,9 +38,9 @@ module _ (width height : ℕ) (tiles : List Tile) (bodies : List Body) where
   cell_in-tile_is p tile world inside is = cell_in-tile_at p tile world inside ∙ ap (cell_from bodies) (sym is)
 
   -- its id was made
-  pub tile-made : (p : Pos) (tile : Tile) → IsWorld (grid_from width height tiles bodies) → IsInside width height p → tile ≡ get_or tiles (index_of width p) tile → IsMade (length bodies) (occupant_id tile.ant)
+  pub tile-made : (p : Pos) (tile : Tile) → IsWorld (grid_from width height tiles bodies) → IsInside width height p → tile ≡ get_or tiles (index_of width p) tile → IsMadeBody (length bodies) (occupant_id tile.ant)
   tile-made p tile world inside is =
-      IsMade-named (length bodies) bodies (occupant_id tile.ant) (λ ant has. world.valid.known p ant (ap (λ (c : Cell). c.ant) (cell_in-tile_is p tile world inside is) ∙ has))
+      IsMadeBody-named (length bodies) bodies (occupant_id tile.ant) (λ ant has. world.valid.known p ant (ap (λ (c : Cell). c.ant) (cell_in-tile_is p tile world inside is) ∙ has))
 
   -- an ant that a cell holds is read from its body
   pub ant-read : (t : ℕ) (p : Pos) (d : Tile) → IsWorld (grid_from width height tiles bodies) → holds_id t (cell_in (grid_from width height tiles bodies) p) ≡ true →
@@ -56,7 +56,7 @@ module _ (width height : ℕ) (tiles : List Tile) (bodies : List Body) where
   pub record Changed (p : Pos) (tile : Tile) (new : List Body) (cell : Cell) : Type 0 where
     pub grid : grid_from width height (set tiles (index_of width p) tile) new ≡ grid_set (grid_from width height tiles bodies) p cell
     pub world : IsWorld (grid_from width height (set tiles (index_of width p) tile) new)
-    pub index : IsIndex (grid_from width height (set tiles (index_of width p) tile) new) (places_of new)
+    pub index : IsIndex (grid_from width height (set tiles (index_of width p) tile) new) (stored_places new)
 
   module _ {p : Pos} {before : Option ℕ} {cell : Cell} {room : ℕ} {new : List Body}
       (world : IsWorld (grid_from width height tiles bodies))
@@ -70,8 +70,8 @@ module _ (width height : ℕ) (tiles : List Tile) (bodies : List Body) where
     tile-stays : (k : ℕ) (d : Tile) → k < length tiles → k ≢ index_of width p → cell_from new (get_or tiles k d) ≡ cell_from bodies (get_or tiles k d)
     tile-stays k d early apart =
         let content = cell_in-tile k d full early in
-        let made : IsMade (length bodies) (occupant_id (get_or tiles k d).ant) =
-        IsMade-named (length bodies) bodies (occupant_id (get_or tiles k d).ant) (λ ant is. world.valid.known (pos_at width k) ant (ap (λ (c : Cell). c.ant) content ∙ is)) in
+        let made : IsMadeBody (length bodies) (occupant_id (get_or tiles k d).ant) =
+        IsMadeBody-named (length bodies) bodies (occupant_id (get_or tiles k d).ant) (λ ant is. world.valid.known (pos_at width k) ant (ap (λ (c : Cell). c.ant) content ∙ is)) in
         let other : (ant : Ant) → cell.ant ≡ Some ant → is_id ant.id (occupant_id (get_or tiles k d).ant) ≡ false = λ ant is.
         sym (is_ant-named ant.id bodies (occupant_id (get_or tiles k d).ant))
         ∙ ap (holds_id ant.id) (sym content)
@@ -105,18 +105,18 @@ module _ (width height : ℕ) (tiles : List Tile) (bodies : List Body) where
         ]
 
     -- a tile that reads as the new cell, among the bodies after its ant moved, makes the changed world
-    pub stored-set : (tile : Tile) → IsIndex (grid_from width height tiles bodies) (places_of bodies) → (cell_in (grid_from width height tiles bodies) p).ant ≡ ant_named bodies before → cell_from new tile ≡ cell → Changed p tile new cell
+    pub stored-set : (tile : Tile) → IsIndex (grid_from width height tiles bodies) (stored_places bodies) → (cell_in (grid_from width height tiles bodies) p).ant ≡ ant_named bodies before → cell_from new tile ≡ cell → Changed p tile new cell
     stored-set tile index was reads =
         let g : Grid = grid_from width height tiles bodies in
         let with : ℕ → List Cell → Grid = λ n cells. record { width = width; height = height; ids = n; cells = cells } in
         let same : grid_from width height (set tiles (index_of width p) tile) new ≡ grid_set g p cell = ap₂ with moved.all_ids (cells-set tile reads) in
-        let long : length (places_of new) ≡ length (places_of bodies) = length-map new (λ (b : Body). b.place) ∙ moved.all_ids ∙ sym (length-map bodies (λ (b : Body). b.place)) in
+        let long : length (stored_places new) ≡ length (stored_places bodies) = length-map new (λ (b : Body). b.place) ∙ moved.all_ids ∙ sym (length-map bodies (λ (b : Body). b.place)) in
         let names : (t : ℕ) → is_id t before ≡ holds_id t (cell_in g p) = λ t. sym (is_ant-named t bodies before) ∙ ap (is_ant t) (sym was) in
         record {
           grid = same;
           world = subst IsWorld (sym same) (IsWorld-set g p cell room world can);
-          index = subst (λ h. IsIndex h (places_of new)) (sym same)
-              (IsIndex-set g p cell room (places_of bodies) (places_of new) world index can long λ t none made.
+          index = subst (λ h. IsIndex h (stored_places new)) (sym same)
+              (IsIndex-set g p cell room (stored_places bodies) (stored_places new) world index can long λ t none made.
               places_of-moved moved t none (subst (λ n. t < n) (length-map bodies (λ (b : Body). b.place)) made)
-              ∙ ap (λ b. cond (is_ant t cell.ant) (Some p) (cond b None (get_or (places_of bodies) t none))) (names t));
+              ∙ ap (λ b. cond (is_ant t cell.ant) (Some p) (cond b None (get_or (stored_places bodies) t none))) (names t));
         }

@@ -28,10 +28,10 @@ abbrev pub PatchesChangeNothing : Type 0
 PatchesChangeNothing = (cell source : Cell) (parts : Parts) → CanPatch cell source parts → Agree parts cell source → patched cell source parts ≡ cell
 
 -- two sets have no part in common
-abbrev pub AreApart : Parts → Parts → Type 0
-AreApart a b = (k : Part) → has_part a k ≡ true → has_part b k ≡ false
+abbrev pub AreDisjoint : Parts → Parts → Type 0
+AreDisjoint a b = (k : Part) → has_part a k ≡ true → has_part b k ≡ false
 
 -- two patches that have no part in common settle in any order
 abbrev pub PatchesSettle : Type 0
-PatchesSettle = (cell one other : Cell) (a b : Parts) → AreApart a b → CanPatch cell one a → CanPatch cell other b →
+PatchesSettle = (cell one other : Cell) (a b : Parts) → AreDisjoint a b → CanPatch cell one a → CanPatch cell other b →
     patched (patched cell one a) other b ≡ patched (patched cell other b) one a

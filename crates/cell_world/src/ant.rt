@@ -45,7 +45,7 @@ pub struct Ant {
 
 /// An ant that is alive, and where (the task's biology).
 #[derive(Clone, Copy, Debug, PartialEq, Eq)]
-pub struct Standing {
+pub struct PlacedAnt {
     /// The position of the cell on which it stands.
     pub place: Pos,
     /// The ant.

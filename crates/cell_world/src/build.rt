@@ -16,21 +16,21 @@ use std::alloc::Global;
 
 // What a world is made of: its tiles in row order, and the bodies of its ants, by id.
 #[derive(Drop)]
-pub struct Parts {
+pub struct WorldParts {
     pub tiles: Vec<Tile>,
     pub bodies: Vec<Body>,
 }
 
-impl Parts {
+impl WorldParts {
     // The tiles and the ants' bodies of these kinds, in row order.
-    pub fn of_kinds(alloc: Global, width: u16, kinds: &[Kind]) -> Result<Parts, OutOfMemory>
+    pub fn of_kinds(alloc: Global, width: u16, kinds: &[Kind]) -> Result<WorldParts, OutOfMemory>
         requires wide { 1 ≤ width }
         requires low { length kinds.now ≤ width * 65536 }
         requires few { hill_count kinds.now ≤ most_ants }
         ensures tiles { IfOk result (λ parts. parts.tiles.items ≡ opening_tiles 0 kinds.now) }
         ensures bodies { IfOk result (λ parts. parts.bodies.items ≡ opening_bodies width 0 kinds.now) }
     {
-        let mut parts = Parts {
+        let mut parts = WorldParts {
             tiles: Vec::with_capacity(alloc, kinds.len())?,
             bodies: Vec::new(alloc),
         };

@@ -4,7 +4,7 @@ ghost use Rattle.hex_geometry.specs.Position.{IsInside};
 ghost use Rattle.cell_world.specs.World.{World, place_in, put};
 ghost use Rattle.cell_world.specs.Valid.{Valid, CanSet, CanThink};
 
-use crate::ant::{Ant, Standing};
+use crate::ant::{Ant, PlacedAnt};
 use crate::cell::Cell;
 use hex_geometry::Pos;
 
@@ -45,7 +45,7 @@ pub trait Ground {
         ensures valid { Valid (world self.new) };
 
     /// The ant of this id, which was made, and where it stands; `None` exactly where no cell holds it (the task's biology).
-    fn ant_of(&mut self, id: u32) -> Option<Standing>
+    fn ant_of(&mut self, id: u32) -> Option<PlacedAnt>
         requires { id < (world self.old).ids }
         ensures place { option_map (λ it. it.place) result ≡ place_in (world self.old) id }
         ensures ant { IfSome result (λ it. ((world self.old).cells it.place).ant ≡ Some it.ant) }
@@ -55,7 +55,7 @@ pub trait Ground {
     {
         let place = self.place_of(id)?;
         let ant = self.cell_at(place).ant?;
-        Some(Standing { place, ant })
+        Some(PlacedAnt { place, ant })
     }
 
     /// Puts the state, the rest and the direction of this ant in place of those of the ant at `p`, and leaves all else as it is. The two

@@ -27,7 +27,7 @@ mod score;
 mod tile;
 mod world;
 
-pub use ant::{Ant, Colour, Standing};
+pub use ant::{Ant, Colour, PlacedAnt};
 pub use cell::Cell;
 pub use count_laws::{alive_are_placed, set_counts};
 pub use ground::Ground;

@@ -1,6 +1,6 @@
 // What a world keeps of a cell.
 ghost use Rattle.std.specs.Prelude.{◌≡◌, ◌<◌, length};
-ghost use Rattle.cell_world.specs.Inner.Bodies.{IsKnown, IsMade};
+ghost use Rattle.cell_world.specs.Inner.Bodies.{IsKnown, IsMadeBody};
 ghost use Rattle.cell_world.specs.Inner.Stored.{ant_named, tile_food, tile_of};
 
 use crate::ant::{Ant, Colour};
@@ -52,7 +52,7 @@ impl Tile {
 #[inline]
 #[tactic(auto, unfolding(crate::specs::Inner::Stored::ant_named))]
 pub fn ant_named(bodies: &[Body], id: Option<u16>) -> Option<Ant>
-    requires { IsMade (length bodies.now) id }
+    requires { IsMadeBody (length bodies.now) id }
     ensures { result ≡ ant_named bodies.now id }
 {
     match id {

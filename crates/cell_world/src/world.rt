@@ -6,7 +6,7 @@ ghost use Rattle.hex_geometry.specs.Position.{IsInside};
 ghost use Rattle.cell_world.specs.World.{place_in};
 
 use crate::body::Body;
-use crate::build::Parts;
+use crate::build::WorldParts;
 use crate::cell::Cell;
 use crate::kind::Kind;
 use crate::tile::{Tile, ant_named};
@@ -40,11 +40,11 @@ impl Model for World {
 
     ghost Value = { Grid };
 
-    ghost use Rattle.cell_world.specs.Inner.Inside.{grid_of, IsKept};
+    ghost use Rattle.cell_world.specs.Inner.Inside.{grid_of, IsWellStored};
 
     ghost view = { grid_of };
 
-    ghost invariant = { IsKept };
+    ghost invariant = { IsWellStored };
 }
 
 impl World {
@@ -60,7 +60,7 @@ impl World {
         requires { IsPlan width height kinds.now }
         ensures { IfOk result (λ w. w ≡ opening width height kinds.now) }
     {
-        let parts = Parts::of_kinds(alloc, width, kinds)?;
+        let parts = WorldParts::of_kinds(alloc, width, kinds)?;
         Ok(World {
             width,
             height,

@@ -10,9 +10,9 @@ use Rattle.command_words.specs.declared.command.Command.{Command}
 use Rattle.command_words.specs.declared.command.Refused.{Refused}
 use Rattle.command_words.specs.Table.{kinds, word_of, places_of}
 use Rattle.command_words.specs.Command.{Given, given_words, joined, IsCommandOf, PlainCommand, kind_in, IsCommand, IsBeginning, IsRefusedAt}
-use Rattle.command_words.specs.Inner.Walk.{kind_of, walk, has_needed, is_finished, command_in, finish, read_kind, read_of, plain_result}
+use Rattle.command_words.specs.Inner.Walk.{command_kind_of, walk, has_needed, is_finished, command_in, finish, read_kind, read_of, plain_result}
 use Rattle.command_words.specs.Words.{plain}
-use Rattle.command_words.proofs.TableLemmas.{kind_of-word, kind_of-found, kind_of-known}
+use Rattle.command_words.proofs.TableLemmas.{command_kind_of-word, command_kind_of-found, command_kind_of-known}
 use Rattle.command_words.proofs.WalkNames.{open-none, all-from_rest, places-end}
 use Rattle.command_words.proofs.WalkShapes.{walk-accepts, walk-front, walk-stops}
 use Rattle.command_words.proofs.WalkCompletions.{Extends, walk-extends, command-walks}
@@ -25,7 +25,7 @@ read-command words command is =
     let rest = joined is.front ++ flat_map given_words is.given in
     let all = word_of kind ∷ rest in
     ap read_of is.form.whole
-    ∙ ap (read_kind all) (kind_of-word kind is.form.known)
+    ∙ ap (read_kind all) (command_kind_of-word kind is.form.known)
     ∙ ap (finish kind all) (command-walks kind is.front is.given words is.form)
     ∙ ap (λ b. cond b (ok_or (command_in kind all) (length all + 1)) (Err (length all + 1))) (has_needed-command kind is.front is.given words is.form)
     ∙ ap (λ o. ok_or o (length all + 1)) (command_in-says command is.front is.given is.form.places is.form.options is.says)
@@ -92,11 +92,11 @@ finish-read kind words (Ok (place ∷ places)) command e = (let no : ⊥ = cc in
 pub read-accepts : (words : List (List ℕ)) (command : PlainCommand) → read_of words ≡ Ok command → IsCommand words command
 read-accepts [] command e = (let no : ⊥ = cc in absurd no)
 read-accepts (word ∷ rest) command e =
-    let o = kind-read (word ∷ rest) (kind_of word) command e in
+    let o = kind-read (word ∷ rest) (command_kind_of word) command e in
     let f = finish-read o.0 (word ∷ rest) (walk o.0 rest (places_of o.0) [] (word ∷ [])) command o.2 in
-    let here = kind_of-found word o.0 o.1 in
+    let here = command_kind_of-found word o.0 o.1 in
     let some = subst (λ w. SomeCommand (w ∷ rest)) (sym here)
-    (accepted o.0 (kind_of-known word o.0 o.1) rest
+    (accepted o.0 (command_kind_of-known word o.0 o.1) rest
     (sym (ap (λ w. walk o.0 rest (places_of o.0) [] (w ∷ [])) here) ∙ f.0)
     (sym (ap (λ w. has_needed o.0 (w ∷ rest)) here) ∙ f.1)) in
     let both : Ok some.command ≡ Ok command = sym (read-command (word ∷ rest) some.command some.is) ∙ e in
@@ -161,10 +161,10 @@ refused-first words none no_word = record {
   unfinished = λ last. none;
 }
 
-no_kind : (word : List ℕ) → kind_of word ≡ None → ¬ IsBeginning (word ∷ [])
+no_kind : (word : List ℕ) → command_kind_of word ≡ None → ¬ IsBeginning (word ∷ [])
 no_kind word e is =
     let begins = begins-walks word [] is in
-    let both : None ≡ Some begins.kind = sym e ∙ ap kind_of begins.first ∙ kind_of-word begins.kind begins.known in
+    let both : None ≡ Some begins.kind = sym e ∙ ap command_kind_of begins.first ∙ command_kind_of-word begins.kind begins.known in
     let no : ⊥ = cc in no
 
 -- the walk stops at the word
@@ -190,7 +190,7 @@ refused-within kind known rest number none e =
         → ¬ IsBeginning (word_of kind ∷ take (suc taken) rest)
     no_walk taken refused is =
         let begins = begins-walks (word_of kind) (take (suc taken) rest) is in
-        let same : Some begins.kind ≡ Some kind = sym (kind_of-word begins.kind begins.known) ∙ ap kind_of (sym begins.first) ∙ kind_of-word kind known in
+        let same : Some begins.kind ≡ Some kind = sym (command_kind_of-word begins.kind begins.known) ∙ ap command_kind_of (sym begins.first) ∙ command_kind_of-word kind known in
         let one_kind : begins.kind ≡ kind = cc in
         let both : Ok begins.later ≡ Err number =
         sym (subst (λ k. walk k (take (suc taken) rest) (places_of k) [] (word_of k ∷ []) ≡ Ok begins.later) one_kind begins.walked) ∙ refused in
@@ -229,9 +229,9 @@ read-refuses [] number e =
     let one : 1 ≡ number = cc in
     subst (IsRefusedAt []) one (refused-first [] (read-none [] number e) (λ within. absurd (omega arith)))
 read-refuses (word ∷ rest) number e =
-    elim (kind-refused (word ∷ rest) (kind_of word) number e) [
+    elim (kind-refused (word ∷ rest) (command_kind_of word) number e) [
       | inl none ↦ subst (IsRefusedAt (word ∷ rest)) none.1 (refused-first (word ∷ rest) (read-none (word ∷ rest) number e) (λ within. no_kind word none.0))
-      | inr some ↦ of_kind some.0 (kind_of-known word some.0 some.1) (kind_of-found word some.0 some.1) (read-none (word ∷ rest) number e) some.2
+      | inr some ↦ of_kind some.0 (command_kind_of-known word some.0 some.1) (command_kind_of-found word some.0 some.1) (read-none (word ∷ rest) number e) some.2
     ]
   where
     of_kind : (kind : CommandKind) → Contains kinds kind → word ≡ word_of kind → ((command : PlainCommand) → ¬ IsCommand (word ∷ rest) command)

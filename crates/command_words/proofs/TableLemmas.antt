@@ -3,7 +3,7 @@ use Rattle.std.proofs.Common.{◌≡◌, ◌≢◌, ℕ, Bool, true, false, not,
 use Rattle.std.specs.List.{Contains, list_all}
 use Rattle.std.proofs.lemmas.Bool.{not-true, false≢true, false_from_ne_true}
 use Rattle.std.proofs.lemmas.Slice.Eq.{bytes_eq-Decides}
-use Rattle.ant_base.specs.Number.{number_of}
+use Rattle.ant_base.specs.Number.{decimal_value}
 use Rattle.command_words.specs.declared.limits.NumberKind.TheVariants.{SeedNumber, RoundCount, WorkerCount, WindowSize, FoeCount, CorpseFood, RestRounds, SideLength}
 use Rattle.command_words.specs.declared.limits.NumberKind.TheVariants.{ElementCount}
 use Rattle.command_words.specs.declared.table.NameList.{NameList}
@@ -16,7 +16,7 @@ use Rattle.command_words.specs.declared.table.Choice.{Choice}
 use Rattle.command_words.specs.declared.table.Choice.TheVariants.{Seed, Rounds, Dump, Workers, Window, Surround, Corpse, Rest, Stats, Width, Height, Rocks, Blobs}
 use Rattle.command_words.specs.Slots.{fits, is_file_name, is_dumps, dumps_of}
 use Rattle.command_words.specs.Table.{kinds, word_of, choices_of, option_of, keyword_of}
-use Rattle.command_words.specs.Inner.Walk.{kind_of, choice_of}
+use Rattle.command_words.specs.Inner.Walk.{command_kind_of, choice_of}
 use Rattle.command_words.proofs.ListLemmas.{Contains-none, Contains-cases, list_all-at, find-passes, find-Contains}
 
 pub bytes_eq-same : (word : List ℕ) → bytes_eq word word ≡ true
@@ -115,7 +115,7 @@ sample Dumps = codes "all"
 sample (Keyword list) = keyword_of list
 
 pub sample-fits : (slot : Slot) → fits slot (sample slot) ≡ true
-unfolding sample is_file_name is_dumps dumps_of number_of
+unfolding sample is_file_name is_dumps dumps_of decimal_value
 sample-fits FileName = refl
 sample-fits (Number SeedNumber) = refl
 sample-fits (Number RoundCount) = refl
@@ -130,7 +130,7 @@ sample-fits Dumps = refl
 sample-fits (Keyword list) = bytes_eq-same (keyword_of list)
 
 no_option_fits : (slot : Slot) → list_all (λ choice. not (fits slot (option_of choice))) choices ≡ true
-unfolding choices is_file_name is_dumps dumps_of number_of
+unfolding choices is_file_name is_dumps dumps_of decimal_value
 no_option_fits FileName = refl
 no_option_fits (Number kind) = refl
 no_option_fits Dumps = refl
@@ -166,17 +166,17 @@ option-not_first kind choice =
     (list_all-at (λ choice. not (bytes_eq (word_of kind) (option_of choice))) choices choice (no_option_first kind) (choices-all choice))
 
 -- each known command is found by its first word
-pub kind_of-word : (kind : CommandKind) → Contains kinds kind → kind_of (word_of kind) ≡ Some kind
-unfolding kind_of
-kind_of-word kind has = find-word word_of same_kind kinds kind has
+pub command_kind_of-word : (kind : CommandKind) → Contains kinds kind → command_kind_of (word_of kind) ≡ Some kind
+unfolding command_kind_of
+command_kind_of-word kind has = find-word word_of same_kind kinds kind has
 
-pub kind_of-found : (word : List ℕ) (kind : CommandKind) → kind_of word ≡ Some kind → word ≡ word_of kind
-unfolding kind_of
-kind_of-found word kind e = sym ((bytes_eq-Decides (word_of kind) word).0 (find-passes (λ kind. bytes_eq (word_of kind) word) kinds kind e))
+pub command_kind_of-found : (word : List ℕ) (kind : CommandKind) → command_kind_of word ≡ Some kind → word ≡ word_of kind
+unfolding command_kind_of
+command_kind_of-found word kind e = sym ((bytes_eq-Decides (word_of kind) word).0 (find-passes (λ kind. bytes_eq (word_of kind) word) kinds kind e))
 
-pub kind_of-known : (word : List ℕ) (kind : CommandKind) → kind_of word ≡ Some kind → Contains kinds kind
-unfolding kind_of
-kind_of-known word kind e = find-Contains (λ kind. bytes_eq (word_of kind) word) kinds kind e
+pub command_kind_of-known : (word : List ℕ) (kind : CommandKind) → command_kind_of word ≡ Some kind → Contains kinds kind
+unfolding command_kind_of
+command_kind_of-known word kind e = find-Contains (λ kind. bytes_eq (word_of kind) word) kinds kind e
 
 pub choice_of-found : (kind : CommandKind) (word : List ℕ) (choice : Choice) → choice_of kind word ≡ Some choice → word ≡ option_of choice
 unfolding choice_of

@@ -4,7 +4,7 @@ use Rattle.std.proofs.Common.{Ok, Err, bytes_eq, refl, sym, ap, ◌∙◌, subst
 use Rattle.std.specs.List.{Contains, AllByRecursion}
 use Rattle.std.proofs.lemmas.Bool.{cases_order, and_parts, leb-true, false≢true}
 use Rattle.std.proofs.lemmas.List.{append-nil}
-use Rattle.ant_base.specs.Number.{number_of, within}
+use Rattle.ant_base.specs.Number.{decimal_value, within}
 use Rattle.command_words.specs.declared.command.GenShape.{GenShape}
 use Rattle.command_words.specs.declared.limits.NumberKind.{NumberKind}
 use Rattle.command_words.specs.declared.limits.NumberKind.TheVariants.{SeedNumber, RoundCount, WorkerCount, WindowSize, FoeCount, CorpseFood, RestRounds, SideLength}
@@ -225,7 +225,7 @@ within-both least most n (Some m) e = go (nat_le least m && nat_le m most) refl 
 
 -- what a word says is within the limits
 said-within : (kind : NumberKind) (word : List ℕ) (n : ℕ) → number_in kind word ≡ Some n → IsWithin kind n
-said-within kind word n e = within-both (least_of kind) (most_of kind) n (number_of word) e
+said-within kind word n e = within-both (least_of kind) (most_of kind) n (decimal_value word) e
 
 needed-within : (kind : NumberKind) (o : Option (List ℕ)) (n : ℕ) → number_needed kind o ≡ Some n → IsWithin kind n
 needed-within kind None n e = (let no : ⊥ = cc in absurd no)

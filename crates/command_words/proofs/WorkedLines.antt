@@ -1,13 +1,13 @@
 -- Words that are a command, and words that are refused, each at its word.
 use Rattle.std.proofs.Common.{ℕ, Bool, true, false, List, [], ◌∷◌, codes, ◌==◌, refl}
 use Rattle.std.specs.List.{slice_split}
-use Rattle.ant_base.specs.Number.{number_of}
+use Rattle.ant_base.specs.Number.{decimal_value}
 use Rattle.command_words.specs.declared.command.GenShape.{GenShape}
 use Rattle.command_words.specs.Slots.{is_file_name, is_dumps, dumps_of, DumpChoice}
 use Rattle.command_words.specs.Slots.DumpChoice.{NoDump, EveryDump, ChosenDumps}
 use Rattle.command_words.specs.Command.{RunSetup, IsCommand, IsRefusedAt}
 use Rattle.command_words.specs.Command.PlainCommand.{ShowCommand, BrainCommand, MinimiseCommand, RunCommand, GenCommand, CupCommand, ViewCommand, WorkloadCommand}
-use Rattle.command_words.specs.Inner.Walk.{kind_of, choice_of, is_among, rest_after}
+use Rattle.command_words.specs.Inner.Walk.{command_kind_of, choice_of, is_among, rest_after}
 use Rattle.command_words.proofs.ReadLemmas.{read-accepts, read-refuses}
 
 -- the words of a line with one space between each two
@@ -33,72 +33,72 @@ shape_of width height rocks blobs = record { width = width; height = height; roc
 
 -- the greatest seed, and `-` as a file name
 pub greatest_seed : IsCommand (words_of (codes "show - 4294967295")) (ShowCommand (codes "-") 4294967295)
-unfolding kind_of choice_of is_among rest_after is_file_name is_dumps dumps_of number_of
+unfolding command_kind_of choice_of is_among rest_after is_file_name is_dumps dumps_of decimal_value
 greatest_seed = read-accepts (words_of (codes "show - 4294967295")) (ShowCommand (codes "-") 4294967295) refl
 
 -- a name that begins with one `-`
 pub brain_command : IsCommand (words_of (codes "brain -b")) (BrainCommand (codes "-b"))
-unfolding kind_of choice_of is_among rest_after is_file_name is_dumps dumps_of number_of
+unfolding command_kind_of choice_of is_among rest_after is_file_name is_dumps dumps_of decimal_value
 brain_command = read-accepts (words_of (codes "brain -b")) (BrainCommand (codes "-b")) refl
 
 -- `minimise`
 pub minimise_command : IsCommand (words_of (codes "minimise b")) (MinimiseCommand (codes "b"))
-unfolding kind_of choice_of is_among rest_after is_file_name is_dumps dumps_of number_of
+unfolding command_kind_of choice_of is_among rest_after is_file_name is_dumps dumps_of decimal_value
 minimise_command = read-accepts (words_of (codes "minimise b")) (MinimiseCommand (codes "b")) refl
 
 -- without its free options a game has no dump, one worker, a whole round a window, the contest's rules and no stats
 pub run_defaults : IsCommand (words_of (codes "run w r b --seed 1 --rounds 1000000"))
     (RunCommand (codes "w") (codes "r") (codes "b") (game 1 1000000 NoDump 1 16384 5 3 14 false))
-unfolding kind_of choice_of is_among rest_after is_file_name is_dumps dumps_of number_of
+unfolding command_kind_of choice_of is_among rest_after is_file_name is_dumps dumps_of decimal_value
 run_defaults = read-accepts (words_of (codes "run w r b --seed 1 --rounds 1000000"))
     (RunCommand (codes "w") (codes "r") (codes "b") (game 1 1000000 NoDump 1 16384 5 3 14 false)) refl
 
 -- each option of `run`, at its greatest number
 pub run_all_greatest : IsCommand (words_of (codes "run w r b --stats --rest 255 --corpse 9 --surround 6 --window 16384 --workers 16 --dump all --rounds 0 --seed 0"))
     (RunCommand (codes "w") (codes "r") (codes "b") (game 0 0 EveryDump 16 16384 6 9 255 true))
-unfolding kind_of choice_of is_among rest_after is_file_name is_dumps dumps_of number_of
+unfolding command_kind_of choice_of is_among rest_after is_file_name is_dumps dumps_of decimal_value
 run_all_greatest = read-accepts (words_of (codes "run w r b --stats --rest 255 --corpse 9 --surround 6 --window 16384 --workers 16 --dump all --rounds 0 --seed 0"))
     (RunCommand (codes "w") (codes "r") (codes "b") (game 0 0 EveryDump 16 16384 6 9 255 true)) refl
 
 -- each number of `run` at its least
 pub run_all_least : IsCommand (words_of (codes "run w r b --seed 2 --rounds 3 --dump none --workers 1 --window 1 --surround 4 --corpse 0 --rest 0"))
     (RunCommand (codes "w") (codes "r") (codes "b") (game 2 3 NoDump 1 1 4 0 0 false))
-unfolding kind_of choice_of is_among rest_after is_file_name is_dumps dumps_of number_of
+unfolding command_kind_of choice_of is_among rest_after is_file_name is_dumps dumps_of decimal_value
 run_all_least = read-accepts (words_of (codes "run w r b --seed 2 --rounds 3 --dump none --workers 1 --window 1 --surround 4 --corpse 0 --rest 0"))
     (RunCommand (codes "w") (codes "r") (codes "b") (game 2 3 NoDump 1 1 4 0 0 false)) refl
 
 -- options in another order, a list in its own order with a repeat, and a leading zero
 pub run_other_order : IsCommand (words_of (codes "run w r b --dump 7,0,7 --rounds 02 --seed 5"))
     (RunCommand (codes "w") (codes "r") (codes "b") (game 5 2 (ChosenDumps (7 ∷ 0 ∷ 7 ∷ [])) 1 16384 5 3 14 false))
-unfolding kind_of choice_of is_among rest_after is_file_name is_dumps dumps_of number_of
+unfolding command_kind_of choice_of is_among rest_after is_file_name is_dumps dumps_of decimal_value
 run_other_order = read-accepts (words_of (codes "run w r b --dump 7,0,7 --rounds 02 --seed 5"))
     (RunCommand (codes "w") (codes "r") (codes "b") (game 5 2 (ChosenDumps (7 ∷ 0 ∷ 7 ∷ [])) 1 16384 5 3 14 false)) refl
 
 -- without options a world has the contest's shape
 pub gen_defaults : IsCommand (words_of (codes "gen 7")) (GenCommand 7 (shape_of 150 150 14 11))
-unfolding kind_of choice_of is_among rest_after is_file_name is_dumps dumps_of number_of
+unfolding command_kind_of choice_of is_among rest_after is_file_name is_dumps dumps_of decimal_value
 gen_defaults = read-accepts (words_of (codes "gen 7")) (GenCommand 7 (shape_of 150 150 14 11)) refl
 
 -- each option of `gen` at its greatest number
 pub gen_greatest : IsCommand (words_of (codes "gen 7 --blobs 255 --rocks 254 --height 512 --width 511")) (GenCommand 7 (shape_of 511 512 254 255))
-unfolding kind_of choice_of is_among rest_after is_file_name is_dumps dumps_of number_of
+unfolding command_kind_of choice_of is_among rest_after is_file_name is_dumps dumps_of decimal_value
 gen_greatest = read-accepts (words_of (codes "gen 7 --blobs 255 --rocks 254 --height 512 --width 511")) (GenCommand 7 (shape_of 511 512 254 255)) refl
 
 -- each option of `gen` at its least number
 pub gen_least : IsCommand (words_of (codes "gen 7 --width 3 --height 4 --rocks 0 --blobs 1")) (GenCommand 7 (shape_of 3 4 0 1))
-unfolding kind_of choice_of is_among rest_after is_file_name is_dumps dumps_of number_of
+unfolding command_kind_of choice_of is_among rest_after is_file_name is_dumps dumps_of decimal_value
 gen_least = read-accepts (words_of (codes "gen 7 --width 3 --height 4 --rocks 0 --blobs 1")) (GenCommand 7 (shape_of 3 4 0 1)) refl
 
 -- one world and two brains, and one worker
 pub cup_command : IsCommand (words_of (codes "cup --worlds w --brains a b --seed 1 --rounds 2")) (CupCommand ((codes "w") ∷ []) ((codes "a") ∷ (codes "b") ∷ []) 1 2 1)
-unfolding kind_of choice_of is_among rest_after is_file_name is_dumps dumps_of number_of
+unfolding command_kind_of choice_of is_among rest_after is_file_name is_dumps dumps_of decimal_value
 cup_command = read-accepts (words_of (codes "cup --worlds w --brains a b --seed 1 --rounds 2"))
     (CupCommand ((codes "w") ∷ []) ((codes "a") ∷ (codes "b") ∷ []) 1 2 1) refl
 
 -- the same world twice, a name among both lists, names that are `-` or begin with one, and options in another order
 pub cup_same_world : IsCommand (words_of (codes "cup --worlds w w a --brains a - -b --workers 16 --rounds 0 --seed 3"))
     (CupCommand ((codes "w") ∷ (codes "w") ∷ (codes "a") ∷ []) ((codes "a") ∷ (codes "-") ∷ (codes "-b") ∷ []) 3 0 16)
-unfolding kind_of choice_of is_among rest_after is_file_name is_dumps dumps_of number_of
+unfolding command_kind_of choice_of is_among rest_after is_file_name is_dumps dumps_of decimal_value
 cup_same_world = read-accepts (words_of (codes "cup --worlds w w a --brains a - -b --workers 16 --rounds 0 --seed 3"))
     (CupCommand ((codes "w") ∷ (codes "w") ∷ (codes "a") ∷ []) ((codes "a") ∷ (codes "-") ∷ (codes "-b") ∷ []) 3 0 16) refl
 
@@ -108,7 +108,7 @@ pub cup_sixteen : IsCommand (words_of (codes "cup --worlds a b c d e f g h i j k
     (codes "k") ∷ (codes "l") ∷ (codes "m") ∷ (codes "n") ∷ (codes "o") ∷ (codes "p") ∷ [])
     ((codes "a") ∷ (codes "b") ∷ (codes "c") ∷ (codes "d") ∷ (codes "e") ∷ (codes "f") ∷ (codes "g") ∷ (codes "h") ∷ (codes "i") ∷ (codes "j") ∷ (codes "k") ∷
     (codes "l") ∷ (codes "m") ∷ (codes "n") ∷ (codes "o") ∷ (codes "p") ∷ []) 1 1 1)
-unfolding kind_of choice_of is_among rest_after is_file_name is_dumps dumps_of number_of
+unfolding command_kind_of choice_of is_among rest_after is_file_name is_dumps dumps_of decimal_value
 cup_sixteen = read-accepts (words_of (codes "cup --worlds a b c d e f g h i j k l m n o p --brains a b c d e f g h i j k l m n o p --seed 1 --rounds 1"))
     (CupCommand ((codes "a") ∷ (codes "b") ∷ (codes "c") ∷ (codes "d") ∷ (codes "e") ∷ (codes "f") ∷ (codes "g") ∷ (codes "h") ∷ (codes "i") ∷ (codes "j") ∷
     (codes "k") ∷ (codes "l") ∷ (codes "m") ∷ (codes "n") ∷ (codes "o") ∷ (codes "p") ∷ [])
@@ -117,12 +117,12 @@ cup_sixteen = read-accepts (words_of (codes "cup --worlds a b c d e f g h i j k 
 
 -- `view`
 pub view_command : IsCommand (words_of (codes "view w r b k --rounds 5 --seed 12345")) (ViewCommand (codes "w") (codes "r") (codes "b") (codes "k") 12345 5)
-unfolding kind_of choice_of is_among rest_after is_file_name is_dumps dumps_of number_of
+unfolding command_kind_of choice_of is_among rest_after is_file_name is_dumps dumps_of decimal_value
 view_command = read-accepts (words_of (codes "view w r b k --rounds 5 --seed 12345")) (ViewCommand (codes "w") (codes "r") (codes "b") (codes "k") 12345 5) refl
 
 -- `workload`
 pub workload_command : IsCommand (words_of (codes "workload 12345 1000 4")) (WorkloadCommand 12345 1000 4)
-unfolding kind_of choice_of is_among rest_after is_file_name is_dumps dumps_of number_of
+unfolding command_kind_of choice_of is_among rest_after is_file_name is_dumps dumps_of decimal_value
 workload_command = read-accepts (words_of (codes "workload 12345 1000 4")) (WorkloadCommand 12345 1000 4) refl
 
 -- there is no word
@@ -131,235 +131,235 @@ no_word = read-refuses [] 1 refl
 
 -- no command has this first word
 pub unknown_command : IsRefusedAt (words_of (codes "Run w r b --seed 1 --rounds 1")) 1
-unfolding kind_of choice_of is_among rest_after is_file_name is_dumps dumps_of number_of
+unfolding command_kind_of choice_of is_among rest_after is_file_name is_dumps dumps_of decimal_value
 unknown_command = read-refuses (words_of (codes "Run w r b --seed 1 --rounds 1")) 1 refl
 
 -- --rounds is missing
 pub rounds_missing : IsRefusedAt (words_of (codes "run w r b --seed 1")) 7
-unfolding kind_of choice_of is_among rest_after is_file_name is_dumps dumps_of number_of
+unfolding command_kind_of choice_of is_among rest_after is_file_name is_dumps dumps_of decimal_value
 rounds_missing = read-refuses (words_of (codes "run w r b --seed 1")) 7 refl
 
 -- an option stands twice
 pub seed_given_twice : IsRefusedAt (words_of (codes "run w r b --seed 1 --seed 2")) 7
-unfolding kind_of choice_of is_among rest_after is_file_name is_dumps dumps_of number_of
+unfolding command_kind_of choice_of is_among rest_after is_file_name is_dumps dumps_of decimal_value
 seed_given_twice = read-refuses (words_of (codes "run w r b --seed 1 --seed 2")) 7 refl
 
 -- the seed is above 4,294,967,295
 pub seed_too_great : IsRefusedAt (words_of (codes "show w 4294967296")) 3
-unfolding kind_of choice_of is_among rest_after is_file_name is_dumps dumps_of number_of
+unfolding command_kind_of choice_of is_among rest_after is_file_name is_dumps dumps_of decimal_value
 seed_too_great = read-refuses (words_of (codes "show w 4294967296")) 3 refl
 
 -- no word may follow
 pub word_too_many : IsRefusedAt (words_of (codes "show w 1 2")) 4
-unfolding kind_of choice_of is_among rest_after is_file_name is_dumps dumps_of number_of
+unfolding command_kind_of choice_of is_among rest_after is_file_name is_dumps dumps_of decimal_value
 word_too_many = read-refuses (words_of (codes "show w 1 2")) 4 refl
 
 -- the width is below 3
 pub side_too_small : IsRefusedAt (words_of (codes "gen 1 --width 2")) 4
-unfolding kind_of choice_of is_among rest_after is_file_name is_dumps dumps_of number_of
+unfolding command_kind_of choice_of is_among rest_after is_file_name is_dumps dumps_of decimal_value
 side_too_small = read-refuses (words_of (codes "gen 1 --width 2")) 4 refl
 
 -- a number is missing between two commas
 pub list_with_a_gap : IsRefusedAt (words_of (codes "run w r b --dump 1,,2")) 6
-unfolding kind_of choice_of is_among rest_after is_file_name is_dumps dumps_of number_of
+unfolding command_kind_of choice_of is_among rest_after is_file_name is_dumps dumps_of decimal_value
 list_with_a_gap = read-refuses (words_of (codes "run w r b --dump 1,,2")) 6 refl
 
 -- `--` begins no file name
 pub no_file_name : IsRefusedAt (words_of (codes "brain --")) 2
-unfolding kind_of choice_of is_among rest_after is_file_name is_dumps dumps_of number_of
+unfolding command_kind_of choice_of is_among rest_after is_file_name is_dumps dumps_of decimal_value
 no_file_name = read-refuses (words_of (codes "brain --")) 2 refl
 
 -- the seventh foe
 pub surround_too_great : IsRefusedAt (words_of (codes "run w r b --seed 1 --rounds 1 --surround 7")) 10
-unfolding kind_of choice_of is_among rest_after is_file_name is_dumps dumps_of number_of
+unfolding command_kind_of choice_of is_among rest_after is_file_name is_dumps dumps_of decimal_value
 surround_too_great = read-refuses (words_of (codes "run w r b --seed 1 --rounds 1 --surround 7")) 10 refl
 
 -- three foes
 pub surround_too_small : IsRefusedAt (words_of (codes "run w r b --surround 3")) 6
-unfolding kind_of choice_of is_among rest_after is_file_name is_dumps dumps_of number_of
+unfolding command_kind_of choice_of is_among rest_after is_file_name is_dumps dumps_of decimal_value
 surround_too_small = read-refuses (words_of (codes "run w r b --surround 3")) 6 refl
 
 -- ten food particles
 pub corpse_too_great : IsRefusedAt (words_of (codes "run w r b --corpse 10")) 6
-unfolding kind_of choice_of is_among rest_after is_file_name is_dumps dumps_of number_of
+unfolding command_kind_of choice_of is_among rest_after is_file_name is_dumps dumps_of decimal_value
 corpse_too_great = read-refuses (words_of (codes "run w r b --corpse 10")) 6 refl
 
 -- 256 rounds of rest
 pub rest_too_great : IsRefusedAt (words_of (codes "run w r b --rest 256")) 6
-unfolding kind_of choice_of is_among rest_after is_file_name is_dumps dumps_of number_of
+unfolding command_kind_of choice_of is_among rest_after is_file_name is_dumps dumps_of decimal_value
 rest_too_great = read-refuses (words_of (codes "run w r b --rest 256")) 6 refl
 
 -- no workers
 pub no_workers : IsRefusedAt (words_of (codes "run w r b --workers 0")) 6
-unfolding kind_of choice_of is_among rest_after is_file_name is_dumps dumps_of number_of
+unfolding command_kind_of choice_of is_among rest_after is_file_name is_dumps dumps_of decimal_value
 no_workers = read-refuses (words_of (codes "run w r b --workers 0")) 6 refl
 
 -- 17 workers
 pub too_many_workers : IsRefusedAt (words_of (codes "run w r b --workers 17")) 6
-unfolding kind_of choice_of is_among rest_after is_file_name is_dumps dumps_of number_of
+unfolding command_kind_of choice_of is_among rest_after is_file_name is_dumps dumps_of decimal_value
 too_many_workers = read-refuses (words_of (codes "run w r b --workers 17")) 6 refl
 
 -- a window without turns
 pub no_window : IsRefusedAt (words_of (codes "run w r b --window 0")) 6
-unfolding kind_of choice_of is_among rest_after is_file_name is_dumps dumps_of number_of
+unfolding command_kind_of choice_of is_among rest_after is_file_name is_dumps dumps_of decimal_value
 no_window = read-refuses (words_of (codes "run w r b --window 0")) 6 refl
 
 -- a window of 16,385 turns
 pub window_too_great : IsRefusedAt (words_of (codes "run w r b --window 16385")) 6
-unfolding kind_of choice_of is_among rest_after is_file_name is_dumps dumps_of number_of
+unfolding command_kind_of choice_of is_among rest_after is_file_name is_dumps dumps_of decimal_value
 window_too_great = read-refuses (words_of (codes "run w r b --window 16385")) 6 refl
 
 -- `--stats` takes no word
 pub stats_with_a_value : IsRefusedAt (words_of (codes "run w r b --stats 1")) 6
-unfolding kind_of choice_of is_among rest_after is_file_name is_dumps dumps_of number_of
+unfolding command_kind_of choice_of is_among rest_after is_file_name is_dumps dumps_of decimal_value
 stats_with_a_value = read-refuses (words_of (codes "run w r b --stats 1")) 6 refl
 
 -- 1,000,001 rounds
 pub rounds_too_many : IsRefusedAt (words_of (codes "run w r b --rounds 1000001")) 6
-unfolding kind_of choice_of is_among rest_after is_file_name is_dumps dumps_of number_of
+unfolding command_kind_of choice_of is_among rest_after is_file_name is_dumps dumps_of decimal_value
 rounds_too_many = read-refuses (words_of (codes "run w r b --rounds 1000001")) 6 refl
 
 -- the height is above 512
 pub side_too_great : IsRefusedAt (words_of (codes "gen 1 --height 513")) 4
-unfolding kind_of choice_of is_among rest_after is_file_name is_dumps dumps_of number_of
+unfolding command_kind_of choice_of is_among rest_after is_file_name is_dumps dumps_of decimal_value
 side_too_great = read-refuses (words_of (codes "gen 1 --height 513")) 4 refl
 
 -- 256 rocks
 pub rocks_too_many : IsRefusedAt (words_of (codes "gen 1 --rocks 256")) 4
-unfolding kind_of choice_of is_among rest_after is_file_name is_dumps dumps_of number_of
+unfolding command_kind_of choice_of is_among rest_after is_file_name is_dumps dumps_of decimal_value
 rocks_too_many = read-refuses (words_of (codes "gen 1 --rocks 256")) 4 refl
 
 -- 256 blobs
 pub blobs_too_many : IsRefusedAt (words_of (codes "gen 1 --blobs 256")) 4
-unfolding kind_of choice_of is_among rest_after is_file_name is_dumps dumps_of number_of
+unfolding command_kind_of choice_of is_among rest_after is_file_name is_dumps dumps_of decimal_value
 blobs_too_many = read-refuses (words_of (codes "gen 1 --blobs 256")) 4 refl
 
 -- an option of another command
 pub option_of_another : IsRefusedAt (words_of (codes "gen 1 --rounds 1")) 3
-unfolding kind_of choice_of is_among rest_after is_file_name is_dumps dumps_of number_of
+unfolding command_kind_of choice_of is_among rest_after is_file_name is_dumps dumps_of decimal_value
 option_of_another = read-refuses (words_of (codes "gen 1 --rounds 1")) 3 refl
 
 -- --seed is missing
 pub seed_missing : IsRefusedAt (words_of (codes "run w r b --rounds 1")) 7
-unfolding kind_of choice_of is_among rest_after is_file_name is_dumps dumps_of number_of
+unfolding command_kind_of choice_of is_among rest_after is_file_name is_dumps dumps_of decimal_value
 seed_missing = read-refuses (words_of (codes "run w r b --rounds 1")) 7 refl
 
 -- a file name has a byte at least
 pub empty_name : IsRefusedAt (words_of (codes "brain ")) 2
-unfolding kind_of choice_of is_among rest_after is_file_name is_dumps dumps_of number_of
+unfolding command_kind_of choice_of is_among rest_after is_file_name is_dumps dumps_of decimal_value
 empty_name = read-refuses (words_of (codes "brain ")) 2 refl
 
 -- an option and its number are two words
 pub equals_sign : IsRefusedAt (words_of (codes "run w r b --seed=1")) 5
-unfolding kind_of choice_of is_among rest_after is_file_name is_dumps dumps_of number_of
+unfolding command_kind_of choice_of is_among rest_after is_file_name is_dumps dumps_of decimal_value
 equals_sign = read-refuses (words_of (codes "run w r b --seed=1")) 5 refl
 
 -- words are spelled exactly
 pub dump_spelled_otherwise : IsRefusedAt (words_of (codes "run w r b --dump None")) 6
-unfolding kind_of choice_of is_among rest_after is_file_name is_dumps dumps_of number_of
+unfolding command_kind_of choice_of is_among rest_after is_file_name is_dumps dumps_of decimal_value
 dump_spelled_otherwise = read-refuses (words_of (codes "run w r b --dump None")) 6 refl
 
 -- `show` takes no option
 pub show_takes_no_option : IsRefusedAt (words_of (codes "show w 1 --seed 1")) 4
-unfolding kind_of choice_of is_among rest_after is_file_name is_dumps dumps_of number_of
+unfolding command_kind_of choice_of is_among rest_after is_file_name is_dumps dumps_of decimal_value
 show_takes_no_option = read-refuses (words_of (codes "show w 1 --seed 1")) 4 refl
 
 -- `run` takes no shape
 pub run_takes_no_width : IsRefusedAt (words_of (codes "run w r b --width 150")) 5
-unfolding kind_of choice_of is_among rest_after is_file_name is_dumps dumps_of number_of
+unfolding command_kind_of choice_of is_among rest_after is_file_name is_dumps dumps_of decimal_value
 run_takes_no_width = read-refuses (words_of (codes "run w r b --width 150")) 5 refl
 
 -- `view` needs a file of breaks
 pub view_without_breaks : IsRefusedAt (words_of (codes "view w r b --seed 1")) 5
-unfolding kind_of choice_of is_among rest_after is_file_name is_dumps dumps_of number_of
+unfolding command_kind_of choice_of is_among rest_after is_file_name is_dumps dumps_of decimal_value
 view_without_breaks = read-refuses (words_of (codes "view w r b --seed 1")) 5 refl
 
 -- `view` takes no workers
 pub view_takes_no_workers : IsRefusedAt (words_of (codes "view w r b k --workers 1")) 6
-unfolding kind_of choice_of is_among rest_after is_file_name is_dumps dumps_of number_of
+unfolding command_kind_of choice_of is_among rest_after is_file_name is_dumps dumps_of decimal_value
 view_takes_no_workers = read-refuses (words_of (codes "view w r b k --workers 1")) 6 refl
 
 -- two brains are the same
 pub equal_brains : IsRefusedAt (words_of (codes "cup --worlds w --brains a a")) 6
-unfolding kind_of choice_of is_among rest_after is_file_name is_dumps dumps_of number_of
+unfolding command_kind_of choice_of is_among rest_after is_file_name is_dumps dumps_of decimal_value
 equal_brains = read-refuses (words_of (codes "cup --worlds w --brains a a")) 6 refl
 
 -- two brains are the same, with one between them
 pub equal_brains_apart : IsRefusedAt (words_of (codes "cup --worlds w --brains a b a")) 7
-unfolding kind_of choice_of is_among rest_after is_file_name is_dumps dumps_of number_of
+unfolding command_kind_of choice_of is_among rest_after is_file_name is_dumps dumps_of decimal_value
 equal_brains_apart = read-refuses (words_of (codes "cup --worlds w --brains a b a")) 7 refl
 
 -- the worlds come first
 pub cup_worlds_first : IsRefusedAt (words_of (codes "cup --brains a b --worlds w")) 2
-unfolding kind_of choice_of is_among rest_after is_file_name is_dumps dumps_of number_of
+unfolding command_kind_of choice_of is_among rest_after is_file_name is_dumps dumps_of decimal_value
 cup_worlds_first = read-refuses (words_of (codes "cup --brains a b --worlds w")) 2 refl
 
 -- no world
 pub cup_no_world : IsRefusedAt (words_of (codes "cup --worlds --brains a b")) 3
-unfolding kind_of choice_of is_among rest_after is_file_name is_dumps dumps_of number_of
+unfolding command_kind_of choice_of is_among rest_after is_file_name is_dumps dumps_of decimal_value
 cup_no_world = read-refuses (words_of (codes "cup --worlds --brains a b")) 3 refl
 
 -- one brain is a beginning
 pub cup_one_brain : IsRefusedAt (words_of (codes "cup --worlds w --brains a")) 6
-unfolding kind_of choice_of is_among rest_after is_file_name is_dumps dumps_of number_of
+unfolding command_kind_of choice_of is_among rest_after is_file_name is_dumps dumps_of decimal_value
 cup_one_brain = read-refuses (words_of (codes "cup --worlds w --brains a")) 6 refl
 
 -- one brain, and then an option
 pub cup_one_brain_then_option : IsRefusedAt (words_of (codes "cup --worlds w --brains a --seed 1")) 6
-unfolding kind_of choice_of is_among rest_after is_file_name is_dumps dumps_of number_of
+unfolding command_kind_of choice_of is_among rest_after is_file_name is_dumps dumps_of decimal_value
 cup_one_brain_then_option = read-refuses (words_of (codes "cup --worlds w --brains a --seed 1")) 6 refl
 
 -- the worlds are a beginning
 pub cup_no_brains : IsRefusedAt (words_of (codes "cup --worlds w")) 4
-unfolding kind_of choice_of is_among rest_after is_file_name is_dumps dumps_of number_of
+unfolding command_kind_of choice_of is_among rest_after is_file_name is_dumps dumps_of decimal_value
 cup_no_brains = read-refuses (words_of (codes "cup --worlds w")) 4 refl
 
 -- an option before the brains
 pub cup_options_before_brains : IsRefusedAt (words_of (codes "cup --worlds w --seed 1")) 4
-unfolding kind_of choice_of is_among rest_after is_file_name is_dumps dumps_of number_of
+unfolding command_kind_of choice_of is_among rest_after is_file_name is_dumps dumps_of decimal_value
 cup_options_before_brains = read-refuses (words_of (codes "cup --worlds w --seed 1")) 4 refl
 
 -- both lists are a beginning
 pub cup_unfinished : IsRefusedAt (words_of (codes "cup --worlds w --brains a b")) 7
-unfolding kind_of choice_of is_among rest_after is_file_name is_dumps dumps_of number_of
+unfolding command_kind_of choice_of is_among rest_after is_file_name is_dumps dumps_of decimal_value
 cup_unfinished = read-refuses (words_of (codes "cup --worlds w --brains a b")) 7 refl
 
 -- 17 workers of a cup
 pub cup_workers_too_many : IsRefusedAt (words_of (codes "cup --worlds w --brains a b --workers 17")) 8
-unfolding kind_of choice_of is_among rest_after is_file_name is_dumps dumps_of number_of
+unfolding command_kind_of choice_of is_among rest_after is_file_name is_dumps dumps_of decimal_value
 cup_workers_too_many = read-refuses (words_of (codes "cup --worlds w --brains a b --workers 17")) 8 refl
 
 -- 17 worlds
 pub cup_seventeen_worlds : IsRefusedAt (words_of (codes "cup --worlds a b c d e f g h i j k l m n o p q --brains a b")) 19
-unfolding kind_of choice_of is_among rest_after is_file_name is_dumps dumps_of number_of
+unfolding command_kind_of choice_of is_among rest_after is_file_name is_dumps dumps_of decimal_value
 cup_seventeen_worlds = read-refuses (words_of (codes "cup --worlds a b c d e f g h i j k l m n o p q --brains a b")) 19 refl
 
 -- 17 brains
 pub cup_seventeen_brains : IsRefusedAt (words_of (codes "cup --worlds w --brains a b c d e f g h i j k l m n o p q")) 21
-unfolding kind_of choice_of is_among rest_after is_file_name is_dumps dumps_of number_of
+unfolding command_kind_of choice_of is_among rest_after is_file_name is_dumps dumps_of decimal_value
 cup_seventeen_brains = read-refuses (words_of (codes "cup --worlds w --brains a b c d e f g h i j k l m n o p q")) 21 refl
 
 -- no name may follow the options
 pub cup_name_after_options : IsRefusedAt (words_of (codes "cup --worlds w --brains a b --seed 1 c")) 9
-unfolding kind_of choice_of is_among rest_after is_file_name is_dumps dumps_of number_of
+unfolding command_kind_of choice_of is_among rest_after is_file_name is_dumps dumps_of decimal_value
 cup_name_after_options = read-refuses (words_of (codes "cup --worlds w --brains a b --seed 1 c")) 9 refl
 
 -- `cup` takes no window
 pub cup_takes_no_window : IsRefusedAt (words_of (codes "cup --worlds w --brains a b --window 1")) 7
-unfolding kind_of choice_of is_among rest_after is_file_name is_dumps dumps_of number_of
+unfolding command_kind_of choice_of is_among rest_after is_file_name is_dumps dumps_of decimal_value
 cup_takes_no_window = read-refuses (words_of (codes "cup --worlds w --brains a b --window 1")) 7 refl
 
 -- `cup` takes no rules
 pub cup_takes_no_rules : IsRefusedAt (words_of (codes "cup --worlds w --brains a b --surround 5")) 7
-unfolding kind_of choice_of is_among rest_after is_file_name is_dumps dumps_of number_of
+unfolding command_kind_of choice_of is_among rest_after is_file_name is_dumps dumps_of decimal_value
 cup_takes_no_rules = read-refuses (words_of (codes "cup --worlds w --brains a b --surround 5")) 7 refl
 
 -- no worker of a workload
 pub workload_workers : IsRefusedAt (words_of (codes "workload 1 2 0")) 4
-unfolding kind_of choice_of is_among rest_after is_file_name is_dumps dumps_of number_of
+unfolding command_kind_of choice_of is_among rest_after is_file_name is_dumps dumps_of decimal_value
 workload_workers = read-refuses (words_of (codes "workload 1 2 0")) 4 refl
 
 -- `workload` takes no option
 pub workload_takes_no_option : IsRefusedAt (words_of (codes "workload 1 2 3 --stats")) 5
-unfolding kind_of choice_of is_among rest_after is_file_name is_dumps dumps_of number_of
+unfolding command_kind_of choice_of is_among rest_after is_file_name is_dumps dumps_of decimal_value
 workload_takes_no_option = read-refuses (words_of (codes "workload 1 2 3 --stats")) 5 refl

@@ -1,11 +1,11 @@
 -- Options that a command doesn't take, each refused at its word; and the greatest numbers and the names of the other commands.
 use Rattle.std.proofs.Common.{◌≡◌, ℕ, List, [], ◌∷◌, ◌++◌, codes, false, refl, Err}
-use Rattle.ant_base.specs.Number.{number_of}
+use Rattle.ant_base.specs.Number.{decimal_value}
 use Rattle.command_words.specs.Slots.{is_file_name, is_dumps, dumps_of}
 use Rattle.command_words.specs.Slots.DumpChoice.{NoDump}
 use Rattle.command_words.specs.Command.{IsCommand, IsRefusedAt, RunSetup}
 use Rattle.command_words.specs.Command.PlainCommand.{BrainCommand, CupCommand, GenCommand, RunCommand, ViewCommand, WorkloadCommand}
-use Rattle.command_words.specs.Inner.Walk.{kind_of, choice_of, is_among, read_of, rest_after}
+use Rattle.command_words.specs.Inner.Walk.{command_kind_of, choice_of, is_among, read_of, rest_after}
 use Rattle.command_words.proofs.ReadLemmas.{read-accepts, read-refuses}
 use Rattle.command_words.proofs.WorkedLines.{words_of}
 
@@ -42,49 +42,49 @@ all_options = game_options ++ shape_options ++ common_options
 
 -- `show` takes no option
 pub show_takes_none : AreRefusedAfter (codes "show w 1") 4 all_options
-unfolding kind_of choice_of is_among rest_after is_file_name is_dumps dumps_of number_of
+unfolding command_kind_of choice_of is_among rest_after is_file_name is_dumps dumps_of decimal_value
 show_takes_none = refused_after (codes "show w 1") 4 all_options
     (refl, (refl, (refl, (refl, (refl, (refl, (refl, (refl, (refl, (refl, (refl, (refl, (refl, tt)))))))))))))
 
 -- `brain` takes no option
 pub brain_takes_none : AreRefusedAfter (codes "brain b") 3 all_options
-unfolding kind_of choice_of is_among rest_after is_file_name is_dumps dumps_of number_of
+unfolding command_kind_of choice_of is_among rest_after is_file_name is_dumps dumps_of decimal_value
 brain_takes_none = refused_after (codes "brain b") 3 all_options
     (refl, (refl, (refl, (refl, (refl, (refl, (refl, (refl, (refl, (refl, (refl, (refl, (refl, tt)))))))))))))
 
 -- `minimise` takes no option
 pub minimise_takes_none : AreRefusedAfter (codes "minimise b") 3 all_options
-unfolding kind_of choice_of is_among rest_after is_file_name is_dumps dumps_of number_of
+unfolding command_kind_of choice_of is_among rest_after is_file_name is_dumps dumps_of decimal_value
 minimise_takes_none = refused_after (codes "minimise b") 3 all_options
     (refl, (refl, (refl, (refl, (refl, (refl, (refl, (refl, (refl, (refl, (refl, (refl, (refl, tt)))))))))))))
 
 -- `workload` takes no option
 pub workload_takes_none : AreRefusedAfter (codes "workload 1 2 3") 5 all_options
-unfolding kind_of choice_of is_among rest_after is_file_name is_dumps dumps_of number_of
+unfolding command_kind_of choice_of is_among rest_after is_file_name is_dumps dumps_of decimal_value
 workload_takes_none = refused_after (codes "workload 1 2 3") 5 all_options
     (refl, (refl, (refl, (refl, (refl, (refl, (refl, (refl, (refl, (refl, (refl, (refl, (refl, tt)))))))))))))
 
 -- `run` takes no option of a world
 pub run_takes_no_shape : AreRefusedAfter (codes "run w r b") 5 shape_options
-unfolding kind_of choice_of is_among rest_after is_file_name is_dumps dumps_of number_of
+unfolding command_kind_of choice_of is_among rest_after is_file_name is_dumps dumps_of decimal_value
 run_takes_no_shape = refused_after (codes "run w r b") 5 shape_options
     (refl, (refl, (refl, (refl, tt))))
 
 -- `gen` takes no option of a game
 pub gen_takes_no_game : AreRefusedAfter (codes "gen 1") 3 (game_options ++ common_options)
-unfolding kind_of choice_of is_among rest_after is_file_name is_dumps dumps_of number_of
+unfolding command_kind_of choice_of is_among rest_after is_file_name is_dumps dumps_of decimal_value
 gen_takes_no_game = refused_after (codes "gen 1") 3 (game_options ++ common_options)
     (refl, (refl, (refl, (refl, (refl, (refl, (refl, (refl, (refl, tt)))))))))
 
 -- `cup` takes a seed, rounds and workers alone
 pub cup_takes_few : AreRefusedAfter (codes "cup --worlds w --brains a b") 7 (game_options ++ shape_options)
-unfolding kind_of choice_of is_among rest_after is_file_name is_dumps dumps_of number_of
+unfolding command_kind_of choice_of is_among rest_after is_file_name is_dumps dumps_of decimal_value
 cup_takes_few = refused_after (codes "cup --worlds w --brains a b") 7 (game_options ++ shape_options)
     (refl, (refl, (refl, (refl, (refl, (refl, (refl, (refl, (refl, (refl, tt))))))))))
 
 -- `view` takes a seed and rounds alone
 pub view_takes_two : AreRefusedAfter (codes "view w r b k") 6 ((codes "--workers") ∷ (game_options ++ shape_options))
-unfolding kind_of choice_of is_among rest_after is_file_name is_dumps dumps_of number_of
+unfolding command_kind_of choice_of is_among rest_after is_file_name is_dumps dumps_of decimal_value
 view_takes_two = refused_after (codes "view w r b k") 6 ((codes "--workers") ∷ (game_options ++ shape_options))
     (refl, (refl, (refl, (refl, (refl, (refl, (refl, (refl, (refl, (refl, (refl, tt)))))))))))
 
@@ -104,64 +104,64 @@ greatest = record {
 
 -- the greatest seed of a game
 pub run_greatest_seed : IsCommand (words_of (codes "run w r b --seed 4294967295 --rounds 1000000")) (RunCommand (codes "w") (codes "r") (codes "b") greatest)
-unfolding kind_of choice_of is_among rest_after is_file_name is_dumps dumps_of number_of
+unfolding command_kind_of choice_of is_among rest_after is_file_name is_dumps dumps_of decimal_value
 run_greatest_seed = read-accepts (words_of (codes "run w r b --seed 4294967295 --rounds 1000000")) (RunCommand (codes "w") (codes "r") (codes "b") greatest) refl
 
 -- of a generated world
 pub gen_greatest_seed : IsCommand (words_of (codes "gen 4294967295")) (GenCommand 4294967295 (record { width = 150; height = 150; rocks = 14; blobs = 11 }))
-unfolding kind_of choice_of is_among rest_after is_file_name is_dumps dumps_of number_of
+unfolding command_kind_of choice_of is_among rest_after is_file_name is_dumps dumps_of decimal_value
 gen_greatest_seed = read-accepts (words_of (codes "gen 4294967295")) (GenCommand 4294967295 (record { width = 150; height = 150; rocks = 14; blobs = 11 })) refl
 
 -- of a cup
 pub cup_greatest_seed : IsCommand (words_of (codes "cup --worlds w --brains a b --seed 4294967295 --rounds 1000000"))
     (CupCommand ((codes "w") ∷ []) ((codes "a") ∷ (codes "b") ∷ []) 4294967295 1000000 1)
-unfolding kind_of choice_of is_among rest_after is_file_name is_dumps dumps_of number_of
+unfolding command_kind_of choice_of is_among rest_after is_file_name is_dumps dumps_of decimal_value
 cup_greatest_seed = read-accepts (words_of (codes "cup --worlds w --brains a b --seed 4294967295 --rounds 1000000"))
     (CupCommand ((codes "w") ∷ []) ((codes "a") ∷ (codes "b") ∷ []) 4294967295 1000000 1) refl
 
 -- of a view
 pub view_greatest_seed : IsCommand (words_of (codes "view w r b k --seed 4294967295 --rounds 1000000"))
     (ViewCommand (codes "w") (codes "r") (codes "b") (codes "k") 4294967295 1000000)
-unfolding kind_of choice_of is_among rest_after is_file_name is_dumps dumps_of number_of
+unfolding command_kind_of choice_of is_among rest_after is_file_name is_dumps dumps_of decimal_value
 view_greatest_seed = read-accepts (words_of (codes "view w r b k --seed 4294967295 --rounds 1000000"))
     (ViewCommand (codes "w") (codes "r") (codes "b") (codes "k") 4294967295 1000000) refl
 
 -- and of a workload, with the most rounds and workers
 pub workload_greatest : IsCommand (words_of (codes "workload 4294967295 1000000 16")) (WorkloadCommand 4294967295 1000000 16)
-unfolding kind_of choice_of is_among rest_after is_file_name is_dumps dumps_of number_of
+unfolding command_kind_of choice_of is_among rest_after is_file_name is_dumps dumps_of decimal_value
 workload_greatest = read-accepts (words_of (codes "workload 4294967295 1000000 16")) (WorkloadCommand 4294967295 1000000 16) refl
 
 -- dashes may stand within a file name
 pub dashes_within : IsCommand (words_of (codes "brain a--b")) (BrainCommand (codes "a--b"))
-unfolding kind_of choice_of is_among rest_after is_file_name is_dumps dumps_of number_of
+unfolding command_kind_of choice_of is_among rest_after is_file_name is_dumps dumps_of decimal_value
 dashes_within = read-accepts (words_of (codes "brain a--b")) (BrainCommand (codes "a--b")) refl
 
 -- an option stands twice, with another between
 pub seed_given_twice_apart : IsRefusedAt (words_of (codes "run w r b --seed 1 --rounds 2 --seed 3")) 9
-unfolding kind_of choice_of is_among rest_after is_file_name is_dumps dumps_of number_of
+unfolding command_kind_of choice_of is_among rest_after is_file_name is_dumps dumps_of decimal_value
 seed_given_twice_apart = read-refuses (words_of (codes "run w r b --seed 1 --rounds 2 --seed 3")) 9 refl
 
 -- `--stats` stands twice
 pub stats_given_twice : IsRefusedAt (words_of (codes "run w r b --stats --stats")) 6
-unfolding kind_of choice_of is_among rest_after is_file_name is_dumps dumps_of number_of
+unfolding command_kind_of choice_of is_among rest_after is_file_name is_dumps dumps_of decimal_value
 stats_given_twice = read-refuses (words_of (codes "run w r b --stats --stats")) 6 refl
 
 -- a number has at most ten digits
 pub eleven_digits : IsRefusedAt (words_of (codes "show w 00000000001")) 3
-unfolding kind_of choice_of is_among rest_after is_file_name is_dumps dumps_of number_of
+unfolding command_kind_of choice_of is_among rest_after is_file_name is_dumps dumps_of decimal_value
 eleven_digits = read-refuses (words_of (codes "show w 00000000001")) 3 refl
 
 -- 1,000,001 rounds of a workload
 pub workload_rounds_too_many : IsRefusedAt (words_of (codes "workload 1 1000001 1")) 3
-unfolding kind_of choice_of is_among rest_after is_file_name is_dumps dumps_of number_of
+unfolding command_kind_of choice_of is_among rest_after is_file_name is_dumps dumps_of decimal_value
 workload_rounds_too_many = read-refuses (words_of (codes "workload 1 1000001 1")) 3 refl
 
 -- 17 workers of a workload
 pub workload_workers_too_many : IsRefusedAt (words_of (codes "workload 1 2 17")) 4
-unfolding kind_of choice_of is_among rest_after is_file_name is_dumps dumps_of number_of
+unfolding command_kind_of choice_of is_among rest_after is_file_name is_dumps dumps_of decimal_value
 workload_workers_too_many = read-refuses (words_of (codes "workload 1 2 17")) 4 refl
 
 -- a dump after round 1,000,001
 pub dump_too_late : IsRefusedAt (words_of (codes "run w r b --dump 0,1000001")) 6
-unfolding kind_of choice_of is_among rest_after is_file_name is_dumps dumps_of number_of
+unfolding command_kind_of choice_of is_among rest_after is_file_name is_dumps dumps_of decimal_value
 dump_too_late = read-refuses (words_of (codes "run w r b --dump 0,1000001")) 6 refl

@@ -1,7 +1,7 @@
 // Going over the words one after another.
 ghost use Rattle.std.specs.Prelude.{[], length, option_copied, ◌<◌, ◌≡◌, drop, if◌then◌else◌, take, ◌+◌};
 ghost use Rattle.command_words.specs.Inner.Walk.{choice_of, closed, due_after, due_after_option, has_enough, has_needed, is_among, is_finished};
-ghost use Rattle.command_words.specs.Inner.Walk.{is_repeated, kind_of, may_follow, plain_walk, reached, takes_names, walk};
+ghost use Rattle.command_words.specs.Inner.Walk.{is_repeated, command_kind_of, may_follow, plain_walk, reached, takes_names, walk};
 ghost use Rattle.command_words.specs.Table.{places_of};
 ghost use Rattle.command_words.specs.Words.{texts};
 
@@ -10,9 +10,9 @@ use crate::table::{MOST_NAMES, kinds};
 use crate::{Choice, CommandKind, NameList, Place, Refused};
 
 // The known command of this first word.
-#[tactic(auto, unfolding(crate::specs::Inner::Walk::kind_of))]
+#[tactic(auto, unfolding(crate::specs::Inner::Walk::command_kind_of))]
 pub(crate) fn kind_of(word: &str) -> Option<CommandKind>
-    ensures { result ≡ kind_of word.now }
+    ensures { result ≡ command_kind_of word.now }
 {
     kinds().iter().copied().find(|kind| kind.word() == word)
 }

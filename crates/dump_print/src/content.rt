@@ -120,9 +120,9 @@ impl Layout for Facing {
 
 // An ant.
 #[derive(Clone, Copy)]
-pub struct Standing(pub Ant);
+pub struct StandingAnt(pub Ant);
 
-impl Layout for Standing {
+impl Layout for StandingAnt {
     ghost text = { λ standing. standing_ant_text standing.0 };
 
     #[tactic(auto, unfolding(crate::specs::Content::standing_ant_text))]
@@ -162,7 +162,7 @@ impl Layout for Content {
                 Hill(self.0.hill),
                 Marked(Colour::Red, self.0.red),
                 Marked(Colour::Black, self.0.black),
-                self.0.ant.map(Standing)
+                self.0.ant.map(StandingAnt)
             )
             .push_to(sink)
         }

@@ -13,7 +13,7 @@ use Rattle.cell_world.specs.Score.{score_of}
 use Rattle.dump_print.specs.Texts.{dump_text, score_text, seed_text}
 use Rattle.match_run.specs.Dumps.{has_round}
 use Rattle.match_run.specs.Run.{chosen_dump, dumps_text, run_text, world_after}
-use Rattle.match_run.specs.RunLaws.{AllDumps, NoDumps, SameRounds, RepeatAddsNothing, LaterAddsNothing, GoesOn}
+use Rattle.match_run.specs.RunLaws.{AllDumps, NoDumps, SameRounds, RepeatAddsNothing, LaterAddsNothing, GamesGoOn}
 
 pub all_dumps : AllDumps
 unfolding run_text dumps_text
@@ -64,6 +64,6 @@ later_adds_nothing minds seed rounds w list round later =
     (λ other within longer. elim (Contains-push_cases list round other longer) [ inl there ↦ there | inr here ↦ absurd (let no : ⊥ = omega arith in no) ])
     (λ other within there. Contains-append_left list (round ∷ []) other there)
 
-pub goes_on : GoesOn
+pub goes_on : GamesGoOn
 unfolding world_after
 goes_on minds seed w r q = ap (λ (m : Moment). score_of m.world) (sym (after_rounds-then minds seed (start_of w) r q))

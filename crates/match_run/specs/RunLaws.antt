@@ -18,7 +18,8 @@ AllDumps = (minds : Minds) (seed rounds : ℕ) (w : World) → run_text minds se
 
 -- without dumps it is the line of the seed and the score
 abbrev pub NoDumps : Type 0
-NoDumps = (minds : Minds) (seed rounds : ℕ) (w : World) → run_text minds seed rounds (chooses Nothing) w ≡ seed_text seed +++ score_text (score_of (world_after minds seed w rounds))
+NoDumps = (minds : Minds) (seed rounds : ℕ) (w : World) → run_text minds seed rounds (chooses Nothing) w
+    ≡ seed_text seed +++ score_text (score_of (world_after minds seed w rounds))
 
 -- lists that have the same rounds, up to the number of rounds, give the same text, in whatever order and however often
 abbrev pub SameRounds : Type 0
@@ -38,6 +39,6 @@ LaterAddsNothing = (minds : Minds) (seed rounds : ℕ) (w : World) (list : List 
     → run_text minds seed rounds (has_round (list ++ round ∷ [])) w ≡ run_text minds seed rounds (has_round list) w
 
 -- the score after r and then q rounds is that after q rounds from the moment after r: its world, and the place of its random numbers
-abbrev pub GoesOn : Type 0
-GoesOn = (minds : Minds) (seed : ℕ) (w : World) (r q : ℕ)
+abbrev pub GamesGoOn : Type 0
+GamesGoOn = (minds : Minds) (seed : ℕ) (w : World) (r q : ℕ)
     → score_of (world_after minds seed w (r + q)) ≡ score_of (after_rounds minds seed (after_rounds minds seed (start_of w) r) q).world

@@ -1,6 +1,6 @@
 // What holds of all games and runs, as laws of their definitions.
 ghost use Rattle.match_run.specs.CountLaws.{BrokenRoundsGoOn, CountsComeLast, LoneWindowsAreTaken, RoundsGoOn, TotalsAddUp, WholeRounds};
-ghost use Rattle.match_run.specs.RunLaws.{AllDumps, NoDumps, SameRounds, RepeatAddsNothing, LaterAddsNothing, GoesOn};
+ghost use Rattle.match_run.specs.RunLaws.{AllDumps, NoDumps, SameRounds, RepeatAddsNothing, LaterAddsNothing, GamesGoOn};
 
 /// The text of a run with `Dumps::All` is the line of the seed, the dump after each round from 0 to the number of rounds in order, and the
 /// score (the task's game play). The call does nothing: its clause is the law.
@@ -33,7 +33,7 @@ pub fn later_adds_nothing()
 /// The score after r + q rounds of a game is that after q rounds from the moment after the first r, with the random numbers going on where
 /// they were (the task's game play and kinetics). The call does nothing: its clause is the law.
 pub fn goes_on()
-    ensures { GoesOn }
+    ensures { GamesGoOn }
 {}
 
 /// Rounds go on: some rounds and those after them lead where all of them lead, and their turns are the turns of all (the task's

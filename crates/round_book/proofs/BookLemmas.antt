@@ -13,7 +13,7 @@ use Rattle.ant_turn.specs.Keeps.{Keeps}
 use Rattle.ant_turn.specs.Minds.{AreSound, Fits, Minds}
 use Rattle.ant_turn.specs.Rounds.{Moment, after_turn}
 use Rattle.ant_turn.specs.Turn.{Outcome, turn}
-use Rattle.spec_record.specs.Claims.{Claim, Sighting, with_cells_at, places_of}
+use Rattle.spec_record.specs.Claims.{Claim, Sighting, with_cells_at, seen_positions}
 use Rattle.spec_record.specs.Holds.{Holds}
 use Rattle.spec_record.specs.Locality.{GoesOn, outcome_by}
 use Rattle.spec_record.specs.Look.{LookValue, look_of}
@@ -78,20 +78,20 @@ own-turn minds seed w place t valid =
     sym (ap (λ (out : Outcome). record { world = with_cells w out.cells; place = place + one_if out.drew }) same)
 
 -- the positions of a look's writes are those of the turn's writes
-places_of-claims : (after : Cells) (claims : List Claim) → places_of (with_cells_at after claims) ≡ map (λ write. write.at) claims
-places_of-claims after [] = refl
-places_of-claims after (c ∷ claims) = ap (λ l. c.at ∷ l) (places_of-claims after claims)
+seen_positions-claims : (after : Cells) (claims : List Claim) → seen_positions (with_cells_at after claims) ≡ map (λ write. write.at) claims
+seen_positions-claims after [] = refl
+seen_positions-claims after (c ∷ claims) = ap (λ l. c.at ∷ l) (seen_positions-claims after claims)
 
-look-places : (minds : Minds) (seed : ℕ) (w : World) (place t : ℕ) → places_of (look_of minds seed w place t).writes ≡ map (λ write. write.at) (writes minds w t)
+look-places : (minds : Minds) (seed : ℕ) (w : World) (place t : ℕ) → seen_positions (look_of minds seed w place t).writes ≡ map (λ write. write.at) (writes minds w t)
 unfolding look_of
-look-places minds seed w place t = places_of-claims (turn minds seed w place t).cells (writes minds w t)
+look-places minds seed w place t = seen_positions-claims (turn minds seed w place t).cells (writes minds w t)
 
 -- a turn that ended as the look at it in the book's own world was executed anew
 pub IsRedone-ended : (minds : Minds) (found : Cause) (look : LookValue) (book new : BookValue) → Valid (world_of book.world) → look ≡ look_of minds book.seed (world_of book.world) book.place book.next →
     IsEnded look (Redone found) book new → IsRedone minds found book new
 IsRedone-ended minds found look book new valid is ended = record {
   now = ended.now ∙ ap (taken (moment_of book)) is ∙ own-turn minds book.seed (world_of book.world) book.place book.next valid;
-  written = subst (λ (places : List Pos). Wrote book.written places new.written) (ap (λ (l : LookValue). places_of l.writes) is ∙ look-places minds book.seed (world_of book.world) book.place book.next) ended.written;
+  written = subst (λ (places : List Pos). Wrote book.written places new.written) (ap (λ (l : LookValue). seen_positions l.writes) is ∙ look-places minds book.seed (world_of book.world) book.place book.next) ended.written;
   next = ended.next;
   verdicts = ended.verdicts;
 }
@@ -126,11 +126,11 @@ module _ (window : Window) (book : BookValue) (playable : IsPlayable window) (st
       look-CanTake window.minds window.seed window.base (guess_for window t) (world_of book.world) book.place t playable.sound playable.valid keeps.valid keeps.fits (GoesOn-Keeps window (world_of book.world) t playable keeps) (look_for-holds t holds)
 
 -- what isn't contained is apart
-apart_from : (writes : List Sighting) (p : Pos) → ¬ Contains (places_of writes) p → AllByRecursion (λ q. q ≢ p) (places_of writes)
+apart_from : (writes : List Sighting) (p : Pos) → ¬ Contains (seen_positions writes) p → AllByRecursion (λ q. q ≢ p) (seen_positions writes)
 apart_from [] p none = tt
 apart_from (write ∷ writes) p none = (
-  λ same. none (subst (λ q. Contains (write.0 ∷ places_of writes) q) same (0, omega arith, refl)),
-  apart_from writes p (λ held. none (Contains-append_right (write.0 ∷ []) (places_of writes) p held)),
+  λ same. none (subst (λ q. Contains (write.0 ∷ seen_positions writes) q) same (0, omega arith, refl)),
+  apart_from writes p (λ held. none (Contains-append_right (write.0 ∷ []) (seen_positions writes) p held)),
 )
 
 -- a sighting among claims with their cells is one of them

@@ -131,6 +131,11 @@ IsReached-happens window state (Settles verdict) playable worth reached lawful =
   drew_it = reached.drew_it;
 }
 
+-- lawful events after lawful events
+pub AreLawful-append : (window : Window) (state : State) (first more : List Event) → AreLawful window state first → AreLawful window (run window state first) more → AreLawful window state (first ++ more)
+AreLawful-append window state [] more lawful then = then
+AreLawful-append window state (event ∷ first) more lawful then = (lawful.0, AreLawful-append window (happens window state event) first more lawful.1 then)
+
 -- events, one after another
 IsReached-run : (window : Window) (state : State) (events : List Event) → IsPlayable window → LookIsTurn window → IsReached window state → AreLawful window state events → IsReached window (run window state events)
 IsReached-run window state [] playable worth reached lawful = reached

@@ -1,12 +1,12 @@
 -- Workers on windows, worked out.
-use Rattle.std.proofs.Common.{◌≡◌, ◌≢◌, ⊎_elim, ℕ, ◌+◌, ◌-◌, ◌<◌, Bool, true, false, ◌||◌, nat_eq, List, [], ◌∷◌, ◌++◌, None, refl, sym, ◌∙◌, ap, subst, arith}
+use Rattle.std.proofs.Common.{◌≡◌, ⊎_elim, ℕ, ◌+◌, ◌-◌, ◌<◌, Bool, true, false, ◌||◌, nat_eq, List, [], ◌∷◌, ◌++◌, None, refl, sym, ◌∙◌, ap, arith}
 use Rattle.std.proofs.lemmas.Bool.{eq-eqb, false≢true, or_left, or_right}
 use Rattle.std.specs.List.{Contains}
 use Rattle.hex_geometry.specs.declared.position.Pos.{Pos}
 use Rattle.hex_geometry.specs.Direction.{directions}
 use Rattle.hex_geometry.specs.Neighbourhood.{adjacent_pos, neighbours_of}
 use Rattle.hex_geometry.specs.Position.{same_pos}
-use Rattle.cell_world.specs.declared.part.Part.TheVariants.{Who, Mind, Load, Food}
+use Rattle.cell_world.specs.declared.part.Part.TheVariants.{Who, Load}
 use Rattle.cell_world.specs.Cell.{rock}
 use Rattle.cell_world.specs.Parts.{has_part, patched}
 use Rattle.cell_world.specs.Grid.{cell_in}
@@ -28,9 +28,10 @@ use Rattle.round_book.specs.declared.verdict.Verdict.TheVariants.{Taken, Redone}
 use Rattle.round_book.specs.Counts.{look_holds}
 use Rattle.round_book.specs.Machine.{AreLawful, Event, IsLawful, IsPut, Put, State, first_state, run}
 use Rattle.round_book.specs.Machine.Event.{Draws, Puts, Settles}
-use Rattle.round_book.specs.Window.{HoldsIn, IsVerdict, Window, guess_for, look_for}
+use Rattle.round_book.specs.Window.{IsVerdict, Window, guess_for, look_for}
 use Rattle.round_book.proofs.CountLemmas.{Redone-refutes, parts-test}
 use Rattle.round_book.proofs.CountsWorked.{all_seven}
+use Rattle.round_book.proofs.MachineLemmas.{AreLawful-append}
 use Rattle.round_book.proofs.MarkLemmas.{Contains-cons, none_contained}
 use Rattle.round_book.proofs.VerdictLemmas.{held, not_held, unlike}
 
@@ -182,43 +183,25 @@ is-guessed = record {
 
 five-lawful : AreLawful all_seven (first_state all_seven) five_settled
 unfolding patched look_for look_of guess_for after_turn turn reads writes merged stepped is_surrounded check_at killed_at places_around put_cell same_pos neighbours_of adjacent_pos directions guess flips opening cell_in rock floor place_in drawn random_at state_at
-five-lawful = (
+five-lawful = AreLawful-append all_seven (first_state all_seven) two_settled (Draws 1 ∷ Draws 0 ∷ Draws 0 ∷ Puts 0 4 ∷ Puts 1 2 ∷ Settles killed ∷ Puts 0 3 ∷ Settles Taken ∷ Settles guessed ∷ []) two-lawful (
   tt,
   (
     tt,
     (
-      put_so all_seven _ 1 1 (omega arith) (0, omega arith, refl) refl,
+      tt,
       (
-        put_so all_seven _ 0 0 (omega arith) (0, omega arith, refl) refl,
+        put_so all_seven _ 0 4 (omega arith) (2, omega arith, refl) refl,
         (
-          take_so all_seven _ (omega arith) (0, (1, omega arith, refl)) refl,
+          put_so all_seven _ 1 2 (omega arith) (1, omega arith, refl) refl,
           (
-            take_so all_seven _ (omega arith) (1, (0, omega arith, refl)) refl,
+            redo_so all_seven _ (cause.Part (at 3 3) Who) (omega arith) (1, (3, omega arith, refl)) is-killed,
             (
-              tt,
+              put_so all_seven _ 0 3 (omega arith) (1, omega arith, refl) refl,
               (
-                tt,
+                take_so all_seven _ (omega arith) (0, (4, omega arith, refl)) refl,
                 (
+                  redo_so all_seven _ (cause.Place 1 0) (omega arith) (0, (2, omega arith, refl)) is-guessed,
                   tt,
-                  (
-                    put_so all_seven _ 0 4 (omega arith) (2, omega arith, refl) refl,
-                    (
-                      put_so all_seven _ 1 2 (omega arith) (1, omega arith, refl) refl,
-                      (
-                        redo_so all_seven _ (cause.Part (at 3 3) Who) (omega arith) (1, (3, omega arith, refl)) is-killed,
-                        (
-                          put_so all_seven _ 0 3 (omega arith) (1, omega arith, refl) refl,
-                          (
-                            take_so all_seven _ (omega arith) (0, (4, omega arith, refl)) refl,
-                            (
-                              redo_so all_seven _ (cause.Place 1 0) (omega arith) (0, (2, omega arith, refl)) is-guessed,
-                              tt,
-                            ),
-                          ),
-                        ),
-                      ),
-                    ),
-                  ),
                 ),
               ),
             ),

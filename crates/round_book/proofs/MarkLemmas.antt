@@ -10,7 +10,7 @@ use Rattle.cell_world.specs.Grid.{Grid, index_of}
 use Rattle.cell_world.specs.Parts.{Agree}
 use Rattle.cell_world.specs.World.{Cells}
 use Rattle.cell_world.proofs.GridLemmas.{index_of-inside}
-use Rattle.spec_record.specs.Claims.{Sighting, places_of}
+use Rattle.spec_record.specs.Claims.{Sighting, seen_positions}
 use Rattle.round_book.specs.declared.verdict.Cause.{Cause}
 use Rattle.round_book.specs.declared.verdict.Cause.TheVariants as cause
 use Rattle.round_book.specs.Book.{Wrote}
@@ -34,16 +34,16 @@ Contains-first y xs = (0, omega arith, refl)
 Contains-later : {A : Type 0} (y : A) (xs : List A) (x : A) → Contains xs x → Contains (y ∷ xs) x
 Contains-later y xs x held = Contains-append_right (y ∷ []) xs x held
 
-Contains-place : (writes : List Sighting) (i : ℕ) (d : Sighting) → i < length writes → Contains (places_of writes) (slice_index_or writes i d).0
+Contains-place : (writes : List Sighting) (i : ℕ) (d : Sighting) → i < length writes → Contains (seen_positions writes) (slice_index_or writes i d).0
 Contains-place [] i d early = absurd (omega arith)
-Contains-place (write ∷ writes) zero d early = Contains-first write.0 (places_of writes)
-Contains-place (write ∷ writes) (suc i) d early = Contains-later write.0 (places_of writes) (slice_index_or writes i d).0 (Contains-place writes i d (omega arith))
+Contains-place (write ∷ writes) zero d early = Contains-first write.0 (seen_positions writes)
+Contains-place (write ∷ writes) (suc i) d early = Contains-later write.0 (seen_positions writes) (slice_index_or writes i d).0 (Contains-place writes i d (omega arith))
 
 -- some of the writes are marked: all that was is still, nothing else but their positions is, and each of them is or is among those that are left
 pub record Marking (start : List Pos) (all : List Sighting) (now : List Pos) (left : List Sighting) : Type 0 where
   pub old : (p : Pos) → Contains start p → Contains now p
-  pub from : (p : Pos) → Contains now p → Contains start p ⊎ Contains (places_of all) p
-  pub done : (p : Pos) → Contains (places_of all) p → Contains now p ⊎ Contains (places_of left) p
+  pub from : (p : Pos) → Contains now p → Contains start p ⊎ Contains (seen_positions all) p
+  pub done : (p : Pos) → Contains (seen_positions all) p → Contains now p ⊎ Contains (seen_positions left) p
 
 pub Marking-none : (start : List Pos) (all : List Sighting) → Marking start all start all
 Marking-none start all = record { old = λ p held. held; from = λ p held. inl held; done = λ p held. inr held }
@@ -52,21 +52,21 @@ pub Marking-step : (start : List Pos) (all : List Sighting) (now : List Pos) (i 
     ((q : Pos) → Contains new q ↔ (Contains now q ⊎ (q ≡ (slice_index_or all i d).0))) → Marking start all now (drop i all) → Marking start all new (drop (i + 1) all)
 Marking-step start all now i d new early marks before = record {
   old = λ p held. (marks p).1 (inl (before.old p held));
-  from = λ p held. ⊎_elim (λ old. before.from p old) (λ same. inr (subst (Contains (places_of all)) (sym same) (Contains-place all i d early))) ((marks p).0 held);
+  from = λ p held. ⊎_elim (λ old. before.from p old) (λ same. inr (subst (Contains (seen_positions all)) (sym same) (Contains-place all i d early))) ((marks p).0 held);
   done = λ p held. ⊎_elim
       (λ old. inl ((marks p).1 (inl old)))
       (λ left. ⊎_elim
       (λ same. inl ((marks p).1 (inr (sym same))))
       inr
-      (Contains-cons (slice_index_or all i d).0 (places_of (drop (i + 1) all)) p (subst (λ left. Contains (places_of left) p) (drop_more all i d early) left)))
+      (Contains-cons (slice_index_or all i d).0 (seen_positions (drop (i + 1) all)) p (subst (λ left. Contains (seen_positions left) p) (drop_more all i d early) left)))
       (before.done p held);
 }
 
-pub Marking-end : (start : List Pos) (all : List Sighting) (now : List Pos) (i : ℕ) → length all ≤ i → Marking start all now (drop i all) → Wrote start (places_of all) now
+pub Marking-end : (start : List Pos) (all : List Sighting) (now : List Pos) (i : ℕ) → length all ≤ i → Marking start all now (drop i all) → Wrote start (seen_positions all) now
 Marking-end start all now i late marking = λ p. (
   λ held. marking.from p held,
   λ cases. ⊎_elim (λ old. marking.old p old)
-      (λ new. ⊎_elim (λ held. held) (λ left. none_contained p (subst (λ (ps : List Pos). Contains ps p) (at_drop_all places_of all i late) left)) (marking.done p new))
+      (λ new. ⊎_elim (λ held. held) (λ left. none_contained p (subst (λ (ps : List Pos). Contains ps p) (at_drop_all seen_positions all i late) left)) (marking.done p new))
       cases,
 )
 

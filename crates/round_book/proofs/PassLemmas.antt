@@ -15,7 +15,7 @@ use Rattle.cell_world.specs.Valid.{CanSet}
 use Rattle.cell_world.specs.World.{Cells, World, put, put_cell, with_cells}
 use Rattle.cell_world.proofs.Patches.{CanPatch-alike, patched-named, patched-others, patched-unchanged}
 use Rattle.cell_world.proofs.Puts.{cases_pos, put_cell-other, put_cell-same}
-use Rattle.spec_record.specs.Claims.{EachOnce, Sighting, places_of}
+use Rattle.spec_record.specs.Claims.{EachOnce, Sighting, seen_positions}
 use Rattle.spec_record.specs.Patching.{CanSetHeavier, CanWrite, CanSetLighter, after_lighter, patched_by_write, patched_cells, raises, with_heavier, with_lighter, with_write}
 use Rattle.round_book.specs.Book.{CanPatchIn, CanTake}
 use Rattle.round_book.specs.Inner.Passes.{CanSetInPass, CanSetPass, after_pass, is_in_pass, with_pass}
@@ -76,7 +76,7 @@ module _ (heavier : Bool) (w : World) (write : Sighting) where
       (λ no'. can)
 
 -- of all that is left
-each-next : (heavier : Bool) (w : World) (write : Sighting) (left : List Sighting) → AllByRecursion (λ q. q ≢ write.0) (places_of left) → AllByRecursion (CanPatchIn w) left → AllByRecursion (CanPatchIn (with_pass heavier w write)) left
+each-next : (heavier : Bool) (w : World) (write : Sighting) (left : List Sighting) → AllByRecursion (λ q. q ≢ write.0) (seen_positions left) → AllByRecursion (CanPatchIn w) left → AllByRecursion (CanPatchIn (with_pass heavier w write)) left
 each-next heavier w write [] apart each = tt
 each-next heavier w write (other ∷ left) apart each = (CanPatchIn-pass heavier w write other apart.0 each.0, each-next heavier w write left apart.1 each.1)
 
@@ -85,7 +85,7 @@ pub record PassLeft (heavier : Bool) (start : World) (writes : List Sighting) (n
   pub leads : after_pass heavier now left ≡ after_pass heavier start writes
   pub set : CanSetPass heavier now left
   pub each : AllByRecursion (CanPatchIn now) left
-  pub once : EachOnce (places_of left)
+  pub once : EachOnce (seen_positions left)
 
 PassLeft-next : (heavier : Bool) (start : World) (writes : List Sighting) (now : World) (write : Sighting) (left : List Sighting) (new : World) → new ≡ with_pass heavier now write →
     PassLeft heavier start writes now (write ∷ left) → PassLeft heavier start writes new left
@@ -138,11 +138,11 @@ CanSetPass-heavier [] w can = tt
 CanSetPass-heavier (write ∷ writes) w can = (λ heavy. (can.0 heavy).can_set, CanSetPass-heavier writes (with_heavier w write) can.1)
 
 -- a pass leaves all positions that it doesn't write
-after_pass-other : (heavier : Bool) (writes : List Sighting) (w : World) (p : Pos) → AllByRecursion (λ q. q ≢ p) (places_of writes) → (after_pass heavier w writes).cells p ≡ w.cells p
+after_pass-other : (heavier : Bool) (writes : List Sighting) (w : World) (p : Pos) → AllByRecursion (λ q. q ≢ p) (seen_positions writes) → (after_pass heavier w writes).cells p ≡ w.cells p
 after_pass-other heavier [] w p apart = refl
 after_pass-other heavier (write ∷ writes) w p apart = after_pass-other heavier writes (with_pass heavier w write) p apart.1 ∙ with_pass-other heavier w write p apart.0
 
-pub patched_cells-other : (writes : List Sighting) (cells : Cells) (p : Pos) → AllByRecursion (λ q. q ≢ p) (places_of writes) → patched_cells cells writes p ≡ cells p
+pub patched_cells-other : (writes : List Sighting) (cells : Cells) (p : Pos) → AllByRecursion (λ q. q ≢ p) (seen_positions writes) → patched_cells cells writes p ≡ cells p
 patched_cells-other [] cells p apart = refl
 patched_cells-other (write ∷ writes) cells p apart = patched_cells-other writes (with_write cells write) p apart.1 ∙ put_cell-other cells write.0 (patched_by_write cells write) p apart.0
 
@@ -155,7 +155,7 @@ after_pass-sizes heavier (write ∷ writes) w =
 -- the list has this write, and no other at its position
 abbrev Has : List Sighting → Sighting → Type 0
 Has [] x = ⊥
-Has (write ∷ writes) x = ((write ≡ x) × AllByRecursion (λ q. q ≢ x.0) (places_of writes)) ⊎ ((write.0 ≢ x.0) × Has writes x)
+Has (write ∷ writes) x = ((write ≡ x) × AllByRecursion (λ q. q ≢ x.0) (seen_positions writes)) ⊎ ((write.0 ≢ x.0) × Has writes x)
 
 -- a position is written by no write, or by one
 record Writer (writes : List Sighting) (p : Pos) : Type 0 where
@@ -163,7 +163,7 @@ record Writer (writes : List Sighting) (p : Pos) : Type 0 where
   pub has : Has writes write
   pub here : write.0 ≡ p
 
-find_writer : (writes : List Sighting) (p : Pos) → EachOnce (places_of writes) → AllByRecursion (λ q. q ≢ p) (places_of writes) ⊎ Writer writes p
+find_writer : (writes : List Sighting) (p : Pos) → EachOnce (seen_positions writes) → AllByRecursion (λ q. q ≢ p) (seen_positions writes) ⊎ Writer writes p
 find_writer [] p once = inl tt
 find_writer (write ∷ writes) p once = ⊎_elim
     (λ same. inr (record { write = write; has = inl (refl, once.0); here = same }))
@@ -214,7 +214,7 @@ passes_patch cell x can = go (nat_lt (cell_weight cell) (cell_weight (patched ce
       ∙ either (nat_lt (cell_weight (patched cell x.2 x.1)) (cell_weight (patched (patched cell x.2 x.1) x.2 x.1)))
 
 -- both passes make what the writes make
-passes_cells : (w : World) (writes : List Sighting) → EachOnce (places_of writes) → CanTake w writes → (p : Pos) → (after_pass true (after_pass false w writes) writes).cells p ≡ patched_cells w.cells writes p
+passes_cells : (w : World) (writes : List Sighting) → EachOnce (seen_positions writes) → CanTake w writes → (p : Pos) → (after_pass true (after_pass false w writes) writes).cells p ≡ patched_cells w.cells writes p
 passes_cells w writes once can p = ⊎_elim
     (λ none. after_pass-other true writes (after_pass false w writes) p none ∙ after_pass-other false writes w p none ∙ sym (patched_cells-other writes w.cells p none))
     (λ found. subst (λ q. (after_pass true (after_pass false w writes) writes).cells q ≡ patched_cells w.cells writes q) found.here
@@ -224,7 +224,7 @@ passes_cells w writes once can p = ⊎_elim
     ∙ sym (patched_cells-at writes w.cells found.write found.has)))
     (find_writer writes p once)
 
-pub passes-set : (w first second : World) (writes : List Sighting) → EachOnce (places_of writes) → CanTake w writes → first ≡ after_pass false w writes → second ≡ after_pass true first writes → second ≡ with_cells w (patched_cells w.cells writes)
+pub passes-set : (w first second : World) (writes : List Sighting) → EachOnce (seen_positions writes) → CanTake w writes → first ≡ after_pass false w writes → second ≡ after_pass true first writes → second ≡ with_cells w (patched_cells w.cells writes)
 passes-set w first second writes once can one two =
     two ∙ ap (λ v. after_pass true v writes) one
     ∙ after_pass-sizes true writes (after_pass false w writes)
@@ -232,7 +232,7 @@ passes-set w first second writes once can one two =
     ∙ ap (with_cells w) (fun_ext (passes_cells w writes once can))
 
 -- after the first pass
-each_after : (heavier : Bool) (writes : List Sighting) (w : World) → EachOnce (places_of writes) → AllByRecursion (CanPatchIn w) writes → AllByRecursion (CanPatchIn (after_pass heavier w writes)) writes
+each_after : (heavier : Bool) (writes : List Sighting) (w : World) → EachOnce (seen_positions writes) → AllByRecursion (CanPatchIn w) writes → AllByRecursion (CanPatchIn (after_pass heavier w writes)) writes
 each_after heavier [] w once each = tt
 each_after heavier (write ∷ writes) w once each =
     let own : CanPatchIn (with_pass heavier w write) write = CanPatchIn-own heavier w write each.0 in
@@ -245,7 +245,7 @@ each_after heavier (write ∷ writes) w once each =
     CanPatchIn-same v u x sizes same can =
         (subst (λ (t : World). IsInside t.width t.height x.0) (sym sizes) can.0, subst (λ c. CanPatch c x.2 x.1) (sym same) can.1)
 
-pub second-each : (w first : World) (writes : List Sighting) → EachOnce (places_of writes) → CanTake w writes → first ≡ after_pass false w writes → AllByRecursion (CanPatchIn first) writes
+pub second-each : (w first : World) (writes : List Sighting) → EachOnce (seen_positions writes) → CanTake w writes → first ≡ after_pass false w writes → AllByRecursion (CanPatchIn first) writes
 second-each w first writes once can one = subst (λ v. AllByRecursion (CanPatchIn v) writes) (sym one) (each_after false writes w once can.each)
 
 pub second-set : (w first : World) (writes : List Sighting) → CanTake w writes → first ≡ after_pass false w writes → CanSetPass true first writes

@@ -6,14 +6,14 @@ use Rattle.ant_turn.specs.Rounds.{Moment, after_turn}
 use Rattle.round_book.specs.declared.verdict.Cause.{Cause}
 use Rattle.round_book.specs.declared.verdict.Verdict.{Verdict}
 use Rattle.round_book.specs.declared.verdict.Verdict.TheVariants.{Taken, Redone}
-use Rattle.round_book.specs.Book.{BookValue, FieldValue, IsSameWindow, StandsOn, begun, moment_of, window_of}
-use Rattle.round_book.specs.BookLaws.{BooksAreReached, IsAt, IsSettled, MaySettle, StandingBooksSettle, next_look, verdict_of, window_of_book}
-use Rattle.round_book.specs.Machine.{AreLawful, CanSettle, Event, IsLawful, IsPut, Put, State, first_state, happens, run, taken}
+use Rattle.round_book.specs.Book.{BookValue, FieldValue, IsSameWindow, StandsOn, moment_of}
+use Rattle.round_book.specs.BookLaws.{BooksAreReached, IsAt, IsSettled, StandingBooksSettle, next_look, verdict_of, window_of_book}
+use Rattle.round_book.specs.Machine.{AreLawful, Event, IsLawful, IsPut, Put, State, first_state, happens, run, taken}
 use Rattle.round_book.specs.Machine.Event.{Draws, Puts, Settles}
 use Rattle.round_book.specs.Window.{AreVerdicts, HoldsIn, IsPlayable, IsVerdict, Window, look_for, moment_before}
 use Rattle.round_book.proofs.BookLemmas.{IsVerdict-cause, look_for-holds}
 use Rattle.round_book.proofs.FieldLemmas.{on-keeps, on-redone, on-taken, on-turn, on-unwritten, on-writes}
-use Rattle.round_book.proofs.MachineLemmas.{IsReached-every}
+use Rattle.round_book.proofs.MachineLemmas.{AreLawful-append, IsReached-every}
 use Rattle.round_book.proofs.MarkLemmas.{none_contained}
 use Rattle.round_book.proofs.WindowLemmas.{LookIsTurn-window}
 
@@ -35,10 +35,6 @@ standing_books_settle = record {
 run-append : (window : Window) (state : State) (first more : List Event) → run window state (first ++ more) ≡ run window (run window state first) more
 run-append window state [] more = refl
 run-append window state (event ∷ first) more = run-append window (happens window state event) first more
-
-AreLawful-append : (window : Window) (state : State) (first more : List Event) → AreLawful window state first → AreLawful window (run window state first) more → AreLawful window state (first ++ more)
-AreLawful-append window state [] more lawful then = then
-AreLawful-append window state (event ∷ first) more lawful then = (lawful.0, AreLawful-append window (happens window state event) first more lawful.1 then)
 
 -- one hand has drawn n tickets, put their looks and settled their turns, one after another
 pub record Went (window : Window) (n : ℕ) (said : List Verdict) (state : State) : Type 0 where

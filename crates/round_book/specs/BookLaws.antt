@@ -3,7 +3,6 @@ use Rattle.std.specs.Prelude.{◌≡◌, ℕ, ◌-◌, ◌<◌, ◌≤◌, List,
 use Rattle.std.specs.List.{AllByRecursion}
 use Rattle.cell_world.specs.Grid.{world_of}
 use Rattle.ant_turn.specs.Minds.{Fits, Minds}
-use Rattle.ant_turn.specs.Rounds.{Moment}
 use Rattle.spec_record.specs.Look.{LookValue}
 use Rattle.round_book.specs.declared.verdict.Cause.{Cause}
 use Rattle.round_book.specs.declared.verdict.Verdict.{Verdict}
@@ -57,7 +56,8 @@ verdict_of (Some found) = Redone found
 pub record BooksAreReached : Type 0 where
   pub first : (field : FieldValue) (from to : ℕ) → IsAt (first_state (window_of field from to)) (begun field from to)
   pub reached : (field : FieldValue) (book : BookValue) → StandsOn field book → book.next ≤ book.to →
-      (events : List Event) × AreLawful (window_of_book field book) (first_state (window_of_book field book)) events × IsAt (run (window_of_book field book) (first_state (window_of_book field book)) events) book
+      (events : List Event) × AreLawful (window_of_book field book) (first_state (window_of_book field book)) events
+      × IsAt (run (window_of_book field book) (first_state (window_of_book field book)) events) book
   pub settled : (field : FieldValue) (answer : Option Cause) (book new : BookValue) (state : State) →
       StandsOn field book → book.next < book.to → IsSettled field.minds (next_look field book) answer book new → IsAt state book → IsPut state (book.next - book.from) →
       IsLawful (window_of_book field book) state (Settles (verdict_of answer)) × IsAt (happens (window_of_book field book) state (Settles (verdict_of answer))) new

@@ -1,25 +1,31 @@
 // One turn of a window.
-ghost use Rattle.std.specs.Prelude.{◌≡◌, ◌+◌, ◌<◌};
-ghost use Rattle.round_book.specs.Book.{IsSameWindow, StandsOn, window_of};
+ghost use Rattle.std.specs.Prelude.{◌≡◌, ◌+◌, ◌<◌, MatchOption};
+ghost use Rattle.round_book.specs.Book.{HoldsInBook, IsCause, IsSameWindow, StandsOn, moment_of, window_of};
 ghost use Rattle.round_book.specs.Window.{look_for};
 
 use crate::book::Book;
 use crate::field::Field;
+use crate::verdict::Cause;
 use spec_record::Look;
 
-/// Settles the next turn of a window by the look at it: takes the look where it holds, and else executes the turn anew. The book stands on
-/// the field, the next turn is one of the window, and the look is that at the turn on the field's world at its guess; the book stands on
-/// the field again, one turn further. So where a book stands, the conditions of `settle` are met.
-#[inline]
-pub fn advance(book: &mut Book, field: &Field<'_>, look: &Look)
+/// Settles the next turn of a window by the look at it: takes the look where it holds, and else executes the turn anew and says why it
+/// doesn't. The book stands on the field, the next turn is one of the window, and the look is that at the turn on the field's world at its
+/// guess; the book stands on the field again, one turn further. So where a book stands, the conditions of `settle` are met.
+#[inline(always)]
+pub fn advance(book: &mut Book, field: &Field<'_>, look: &Look) -> Option<Cause>
     requires stands { StandsOn field.now book.old }
     requires left { book.old.next < book.old.to }
     requires look { look.now ≡ look_for (window_of field.now book.old.from book.old.to) book.old.next }
+    ensures answer { MatchOption result (HoldsInBook book.old look.now) (λ cause. IsCause look.now (moment_of book.old) cause) }
     ensures stands { StandsOn field.now book.new }
     ensures next { book.new.next ≡ book.old.next + 1 }
     ensures same { IsSameWindow book.old book.new }
 {
-    if let Some(cause) = book.settle_by(look) {
-        book.redo(field.brains(), cause);
+    match book.settle_by(look) {
+        None => None,
+        Some(cause) => {
+            book.redo(field.brains(), cause);
+            Some(cause)
+        }
     }
 }

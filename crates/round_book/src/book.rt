@@ -9,7 +9,7 @@ ghost use Rattle.cell_world.specs.World.{with_cells};
 ghost use Rattle.ant_turn.specs.Minds.{AreSound, Fits, minds_of};
 ghost use Rattle.spec_record.specs.Patching.{patched_cells};
 ghost use Rattle.round_book.specs.Book.{AgreesUnwritten, BookValue, CanTake, HoldsInBook, IsCause, IsEnded, IsRedone, IsSameWindow, Settles, Wrote, moment_of};
-ghost use Rattle.round_book.specs.Inner.Kept.{IsReady};
+ghost use Rattle.round_book.specs.Inner.Kept.{IsWorkspaceReady};
 ghost use Rattle.round_book.specs.Inner.Workspace.{AreMarked};
 
 use crate::verdict::{Cause, Verdict};
@@ -34,7 +34,7 @@ pub struct Book {
 
 impl Model for Book {
     ghost use Rattle.round_book.specs.Book.{BookValue};
-    ghost use Rattle.round_book.specs.Inner.Kept.{IsBookKept};
+    ghost use Rattle.round_book.specs.Inner.Kept.{IsWorkspaceKept};
 
     ghost Value = { BookValue };
 
@@ -49,13 +49,13 @@ impl Model for Book {
       verdicts = book.work.verdicts.items;
     } };
 
-    ghost invariant = { λ book. IsBookKept book.from book.to book.next book.place book.work };
+    ghost invariant = { λ book. IsWorkspaceKept book.from book.to book.next book.place book.work };
 }
 
 impl Book {
     // A book of these turns, in a workspace that is ready and has room for them.
     pub(crate) fn over(work: Workspace, seed: u32, place: u64, from: u32, to: u32) -> Book
-        requires ready { IsReady work.world work }
+        requires ready { IsWorkspaceReady work.world work }
         requires forwards { from ≤ to }
         requires ids { to ≤ work.world.ids }
         requires lasting { place + (to - from) < 2 ^ 63 }
@@ -132,7 +132,7 @@ impl Book {
     }
 
     // The same by a look that stays with the caller.
-    #[inline]
+    #[inline(always)]
     pub(crate) fn settle_by(&mut self, look: &Look) -> Option<Cause>
         requires in_window { self.old.next < self.old.to }
         requires turn { look.now.turn ≡ self.old.next }
@@ -149,7 +149,7 @@ impl Book {
     }
 
     // Why a look doesn't hold, if it doesn't.
-    #[inline]
+    #[inline(always)]
     fn cause_against(&self, look: &Look) -> Option<Cause>
         requires { AllByRecursion (AgreesUnwritten self.now) look.now.reads }
         ensures { MatchOption result (HoldsInBook self.now look.now) (λ cause. IsCause look.now (moment_of self.now) cause) }
@@ -161,7 +161,7 @@ impl Book {
     }
 
     // Why a look doesn't hold, if it doesn't, where all that it read is as it was.
-    #[inline]
+    #[inline(always)]
     fn move_against(&self, look: &Look) -> Option<Cause>
         requires { AllByRecursion (λ read. Agree read.1 read.2 ((world_of self.now.world).cells read.0)) look.now.reads }
         ensures { MatchOption result (HoldsInBook self.now look.now) (λ cause. IsCause look.now (moment_of self.now) cause) }
@@ -180,6 +180,7 @@ impl Book {
     ///
     /// The next turn is one of the window, and the brains fit the book's world. A book in which a turn was executed anew although its look
     /// holds, or for another cause than the look's, doesn't stand.
+    #[inline(never)]
     pub fn redo(&mut self, brains: Brains<'_>, cause: Cause)
         requires in_window { self.old.next < self.old.to }
         requires fit { Fits (world_of self.old.world) (minds_of brains) }
@@ -193,7 +194,7 @@ impl Book {
     }
 
     // Ends the next turn, which does what the look says, with a verdict.
-    #[inline]
+    #[inline(always)]
     pub(crate) fn end_turn(&mut self, look: &Look, verdict: Verdict)
         requires in_window { self.old.next < self.old.to }
         requires writes { CanTake (world_of self.old.world) look.now.writes }

@@ -7,6 +7,7 @@
 #![tactic(auto)]
 
 mod advancing;
+mod alone;
 mod book;
 mod counts;
 mod crew;
@@ -19,6 +20,7 @@ mod verdict;
 mod workspace;
 
 pub use advancing::advance;
+pub use alone::play_window;
 pub use book::Book;
 pub use counts::Counts;
 pub use crew::Crew;

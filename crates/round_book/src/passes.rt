@@ -1,24 +1,24 @@
 // The writes of a look, set in a world.
-ghost use Rattle.std.specs.Prelude.{◌≡◌, [], ◌∷◌, if◌then◌else◌};
+ghost use Rattle.std.specs.Prelude.{◌≡◌, true, [], ◌∷◌, if◌then◌else◌};
 ghost use Rattle.hex_geometry.specs.Position.{IsInside};
 ghost use Rattle.cell_world.specs.Cell.{ant_weight, cell_weight};
 ghost use Rattle.cell_world.specs.Grid.{world_of};
-ghost use Rattle.cell_world.specs.Parts.{CanPatch};
-ghost use Rattle.cell_world.specs.World.{with_cells};
+ghost use Rattle.cell_world.specs.Parts.{CanPatch, only, patched};
+ghost use Rattle.cell_world.specs.World.{put, with_cells};
 ghost use Rattle.spec_record.specs.Patching.{patched_cells};
 ghost use Rattle.round_book.specs.Book.{CanPatchIn, CanTake};
 ghost use Rattle.round_book.specs.Inner.Passes.{CanSetInPass, CanSetPass, after_pass, is_in_pass, with_pass};
-ghost use Rattle.spec_record.specs.Claims.{EachOnce, places_of};
+ghost use Rattle.spec_record.specs.Claims.{EachOnce, seen_positions};
 ghost use Rattle.std.specs.List.{AllByRecursion};
 
-use cell_world::{Ant, Cell, Ground, Parts, World};
+use cell_world::{Ant, Cell, Ground, Part, Parts, World};
 use hex_geometry::Pos;
 
 // Sets the named parts of each write: of one alone at once; of more first where that doesn't raise the weight of the cell, then at the others, so that the world is
 // light enough at every step.
-#[inline]
+#[inline(always)]
 pub(crate) fn set_writes(world: &mut World, writes: &[(Pos, Parts, Cell)])
-    requires once { EachOnce (places_of writes.now) }
+    requires once { EachOnce (seen_positions writes.now) }
     requires may { CanTake (world_of world.old) writes.now }
     ensures { world_of world.new ≡ with_cells (world_of world.old) (patched_cells (world_of world.old).cells writes.now) }
 {
@@ -30,9 +30,51 @@ pub(crate) fn set_writes(world: &mut World, writes: &[(Pos, Parts, Cell)])
     set_pass(world, writes, true);
 }
 
-// Sets the named parts of a write that is the only one.
-#[inline]
+// Sets the named parts of a write that is the only one. Most turns write what their ant is about and nothing else.
+#[inline(always)]
 fn set_one(world: &mut World, write: &(Pos, Parts, Cell))
+    requires { CanTake (world_of world.old) (write.now ∷ []) }
+    ensures { world_of world.new ≡ with_cells (world_of world.old) (patched_cells (world_of world.old).cells (write.now ∷ [])) }
+{
+    if is_mind_alone(write.1) {
+        set_posture(world, write.0, &write.2);
+    } else {
+        set_parts(world, write);
+    }
+}
+
+// Whether these parts are what an ant is about, and no other.
+#[inline]
+fn is_mind_alone(parts: Parts) -> bool
+    ensures { result ≡ true → parts ≡ only Part.Mind }
+{
+    parts == Parts::none().with(Part::Mind)
+}
+
+// Gives the ant of `p` the posture of that of another cell.
+#[inline(always)]
+fn set_posture(world: &mut World, p: Pos, source: &Cell)
+    requires { CanPatchIn (world_of world.old) (p, only Part.Mind, source.now) }
+    ensures { world_of world.new ≡ put (world_of world.old) p (patched ((world_of world.old).cells p) source.now (only Part.Mind)) }
+{
+    let cell = world.cell(p);
+    let (Some(ant), Some(other)) = (cell.ant, source.ant) else {
+        unreachable!()
+    };
+    world.set_mind(
+        p,
+        Ant {
+            state: other.state,
+            resting: other.resting,
+            facing: other.facing,
+            ..ant
+        },
+    );
+}
+
+// Sets the named parts of a write that is the only one, whichever they are.
+#[inline(never)]
+fn set_parts(world: &mut World, write: &(Pos, Parts, Cell))
     requires { CanTake (world_of world.old) (write.now ∷ []) }
     ensures { world_of world.new ≡ with_cells (world_of world.old) (patched_cells (world_of world.old).cells (write.now ∷ [])) }
 {
@@ -42,7 +84,7 @@ fn set_one(world: &mut World, write: &(Pos, Parts, Cell))
 
 // Sets those writes that raise the weight of their cell, or those that don't.
 fn set_pass(world: &mut World, writes: &[(Pos, Parts, Cell)], heavier: bool)
-    requires once { EachOnce (places_of writes.now) }
+    requires once { EachOnce (seen_positions writes.now) }
     requires each { AllByRecursion (CanPatchIn (world_of world.old)) writes.now }
     requires set { CanSetPass heavier (world_of world.old) writes.now }
     ensures { world_of world.new ≡ after_pass heavier (world_of world.old) writes.now }

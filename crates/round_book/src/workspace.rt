@@ -5,11 +5,11 @@ ghost use Rattle.std.specs.Vec.{vec_capacity, vec_len};
 ghost use Rattle.hex_geometry.specs.Position.{IsInside};
 ghost use Rattle.cell_world.specs.Grid.{Grid, IsWorld, index_of, world_of};
 ghost use Rattle.cell_world.specs.World.{with_cells};
-ghost use Rattle.spec_record.specs.Claims.{EachOnce, places_of};
+ghost use Rattle.spec_record.specs.Claims.{EachOnce, seen_positions};
 ghost use Rattle.spec_record.specs.Patching.{patched_cells};
 ghost use Rattle.round_book.specs.Book.{CanTake, Wrote};
 ghost use Rattle.round_book.specs.Inner.Changes.{AgreesIfUnwritten, Changes};
-ghost use Rattle.round_book.specs.Inner.Kept.{IsReady};
+ghost use Rattle.round_book.specs.Inner.Kept.{IsWorkspaceReady};
 ghost use Rattle.round_book.specs.Inner.Workspace.{AreMarked};
 
 use crate::passes::set_writes;
@@ -30,7 +30,7 @@ pub(crate) struct Workspace {
 impl Workspace {
     // A copy of a world, with nothing written.
     pub(crate) fn over(alloc: Global, world: &World) -> Result<Workspace, OutOfMemory>
-        ensures { IfOk result (λ it. IsReady world.now it) }
+        ensures { IfOk result (λ it. IsWorkspaceReady world.now it) }
     {
         let cells = world.width() as usize * world.height() as usize;
         Ok(Workspace {
@@ -98,7 +98,7 @@ impl Workspace {
     }
 
     // The first part, in the order of the reads, that was read and is another now. It compares the written cells alone.
-    #[inline]
+    #[inline(always)]
     pub(crate) fn first_change(&self, reads: &[(Pos, Parts, Cell)]) -> Option<Cause>
         requires marks { AreMarked self.now.world self.now.marked.items self.now.written.items }
         requires unwritten { AllByRecursion (AgreesIfUnwritten self.now.written.items (world_of self.now.world).cells) reads.now }
@@ -114,7 +114,7 @@ impl Workspace {
     }
 
     // The same of one position.
-    #[inline]
+    #[inline(always)]
     fn change(&self, read: &(Pos, Parts, Cell)) -> Option<Cause>
         requires marks { AreMarked self.now.world self.now.marked.items self.now.written.items }
         requires unwritten { AgreesIfUnwritten self.now.written.items (world_of self.now.world).cells read.now }
@@ -123,15 +123,24 @@ impl Workspace {
         if !self.is_marked(read.0) {
             return None;
         }
+        self.difference_at(read)
+    }
+
+    // The same of one position, which is compared. Few are, so it is a call.
+    #[inline(never)]
+    fn difference_at(&self, read: &(Pos, Parts, Cell)) -> Option<Cause>
+        requires { IsInside self.now.world.width self.now.world.height read.now.0 }
+        ensures { Changes (read.now ∷ []) (world_of self.now.world).cells result }
+    {
         let part = read.2.difference(&self.world.cell(read.0), read.1)?;
         Some(Cause::Part { at: read.0, part })
     }
 
     // Sets the named parts of writes, and marks their cells.
-    #[inline]
+    #[inline(always)]
     pub(crate) fn write(&mut self, writes: &[(Pos, Parts, Cell)])
         requires marks { AreMarked self.old.world self.old.marked.items self.old.written.items }
-        requires once { EachOnce (places_of writes.now) }
+        requires once { EachOnce (seen_positions writes.now) }
         requires writes { CanTake (world_of self.old.world) writes.now }
         requires room { vec_len self.old.written + length writes.now ≤ vec_capacity self.old.written }
         ensures world { world_of self.new.world ≡ with_cells (world_of self.old.world) (patched_cells (world_of self.old.world).cells writes.now) }
@@ -146,7 +155,7 @@ impl Workspace {
     }
 
     // Marks the cells of writes.
-    #[inline]
+    #[inline(always)]
     fn mark_all(&mut self, writes: &[(Pos, Parts, Cell)])
         requires marks { AreMarked self.old.world self.old.marked.items self.old.written.items }
         requires inside { AllByRecursion (λ write. IsInside self.old.world.width self.old.world.height write.0) writes.now }
@@ -166,7 +175,7 @@ impl Workspace {
     // Takes all marks off, and empties the lists.
     pub(crate) fn clear(&mut self)
         requires { AreMarked self.old.world self.old.marked.items self.old.written.items }
-        ensures { IsReady self.old.world self.new }
+        ensures { IsWorkspaceReady self.old.world self.new }
     {
         unmark(&mut self.marked, &self.world, &self.written);
         self.written.clear();

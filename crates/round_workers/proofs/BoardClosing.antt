@@ -13,11 +13,11 @@ use Rattle.round_book.specs.Book.{BookValue}
 use Rattle.round_book.specs.Machine.{times}
 use Rattle.round_book.specs.Window.{Window, look_for}
 use Rattle.round_workers.specs.declared.board.view.Basis.{Basis}
-use Rattle.round_workers.specs.declared.board.view.Place.{Place}
-use Rattle.round_workers.specs.declared.board.view.Place.TheVariants.{Nothing, OneLook, Spare, TheBook}
+use Rattle.round_workers.specs.declared.board.view.BoardSlot.{BoardSlot}
+use Rattle.round_workers.specs.declared.board.view.BoardSlot.TheVariants.{Nothing, OneLook, Spare, TheBook}
 use Rattle.round_workers.specs.declared.board.view.Phase.TheVariants.{Resting}
 use Rattle.round_workers.specs.declared.board.view.View.{View}
-use Rattle.round_workers.specs.BoardTotals.{once_below, total}
+use Rattle.round_workers.specs.BoardTotals.{once_below, summed}
 use Rattle.round_workers.specs.BoardView.{spent_seat, window_for}
 use Rattle.round_workers.specs.BoardRule.{HasHome, IsKept, IsLookKept, StandsFor, made_by, putting, taking, turns_of}
 use Rattle.round_workers.specs.Inner.BoardPlaces.{AreTaken, book_in, look_in}
@@ -28,21 +28,21 @@ use Rattle.round_workers.proofs.BoardBook.{opened-seen}
 use Rattle.round_workers.proofs.BoardTickets.{few-turns, word-bound}
 
 -- a look that was put, or not, and taken, or not, and what its slot has
-look-left : (window : Window) (ticket word put took : ℕ) (home : maybe.Option (maybe.Option Place)) (kept : IsLookKept window ticket word home put took 0 0)
-    → (place : Place) × HasHome home place × (look_in place ≡ left_if put took (look_for window (window.from + ticket)))
+look-left : (window : Window) (ticket word put took : ℕ) (home : maybe.Option (maybe.Option BoardSlot)) (kept : IsLookKept window ticket word home put took 0 0)
+    → (place : BoardSlot) × HasHome home place × (look_in place ≡ left_if put took (look_for window (window.from + ticket)))
 look-left window ticket word zero took home kept = let spare = kept.bare (let back = kept.back in omega arith) refl in (Spare spare.0, spare.1, refl)
 look-left window ticket word (suc zero) zero home kept = (OneLook (Some (look_for window (window.from + ticket))), kept.full refl refl, refl)
 look-left window ticket word (suc zero) (suc took) home kept = let spare = kept.bare (let back = kept.back in omega arith) refl in (Spare spare.0, spare.1, refl)
 look-left window ticket word (suc (suc put)) took home kept = absurd (let once = kept.once in omega arith)
 
 -- what the last state has: how many tickets were drawn, the book, and the look of each ticket
-pub record IsLast (key : Basis) (v : View) (words : List ℕ) (slots : List Place) : Type 0 where
+pub record IsLast (key : Basis) (v : View) (words : List ℕ) (slots : List BoardSlot) : Type 0 where
   pub small : slice_index words 0 < 2 ^ 32
   pub drawn : (k : ℕ) → times k v.drawn ≡ once_below k (slice_index words 0)
   pub book : (book : BookValue) × (get_elem? slots 0 ≡ maybe.some (TheBook (Some book))) × StandsFor (window_for key) book
-  pub looks : (k : ℕ) → k < turns_of key → (place : Place) × (get_elem? slots (k + 1) ≡ maybe.some place) × (look_in place ≡ left_look (window_for key) v k)
+  pub looks : (k : ℕ) → k < turns_of key → (place : BoardSlot) × (get_elem? slots (k + 1) ≡ maybe.some place) × (look_in place ≡ left_look (window_for key) v k)
 
-module _ (key : Basis) (id : ℕ) (v : View) (about : v.about ≡ Some key) (zeroth : v.number ≡ 0) (whole : (k : ℕ) → k ≤ v.made → 1 ≤ times k v.parts) (s : State Place View) (r : IsKept key s) (at : get_elem? s.views id ≡ maybe.some v) where
+module _ (key : Basis) (id : ℕ) (v : View) (about : v.about ≡ Some key) (zeroth : v.number ≡ 0) (whole : (k : ℕ) → k ≤ v.made → 1 ≤ times k v.parts) (s : State BoardSlot View) (r : IsKept key s) (at : get_elem? s.views id ≡ maybe.some v) where
   -- every other seat went into this one
   all-spent : (j : ℕ) (w : View) → j ≢ id → get_elem? s.views j ≡ maybe.some w → w ≡ spent_seat
   all-spent j w other there = ⊎_elim (λ spent. spent)
@@ -50,10 +50,10 @@ module _ (key : Basis) (id : ℕ) (v : View) (about : v.about ≡ Some key) (zer
       let made = made-all key s r id v at about zeroth in let below = below-where w.number (made_by s.views + 1) (omega arith) in let mine = whole w.number (omega arith) in absurd (omega arith))
       (r.seats j w there)
 
-  alone : (f : View → ℕ) → f spent_seat ≡ 0 → total f s.views ≡ f v
+  alone : (f : View → ℕ) → f spent_seat ≡ 0 → summed f s.views ≡ f v
   alone f none_left = total-alone f s.views id v at (λ j w other there. subst (λ (u : View). f u ≡ 0) (sym (all-spent j w other there)) none_left)
 
-  module _ (rests : v.phase ≡ Resting) (seen : v.opened ≡ true) (free : v.holds ≡ false) (words : List ℕ) (slots : List Place) (are : s.words ≡ words) (home : (k : ℕ) (y : Place) → HasHome (get_elem? s.homes k) y → get_elem? slots k ≡ maybe.some y) where
+  module _ (rests : v.phase ≡ Resting) (seen : v.opened ≡ true) (free : v.holds ≡ false) (words : List ℕ) (slots : List BoardSlot) (are : s.words ≡ words) (home : (k : ℕ) (y : BoardSlot) → HasHome (get_elem? s.homes k) y → get_elem? slots k ≡ maybe.some y) where
     last : IsLast key v words slots
     last =
         let bound = word-bound key s r in let few = few-turns key s r in let word : slice_index s.words 0 ≡ slice_index words 0 = ap (λ (ws : List ℕ). slice_index ws 0) are in
@@ -70,7 +70,7 @@ module _ (key : Basis) (id : ℕ) (v : View) (about : v.about ≡ Some key) (zer
 
 -- the same, of a table that is closed
 pub lasts : (key : Basis) (id : ℕ) (v : View) → v.about ≡ Some key → v.number ≡ 0 → ((k : ℕ) → k ≤ v.made → 1 ≤ times k v.parts) → v.phase ≡ Resting → v.opened ≡ true → v.holds ≡ false
-    → (words : List ℕ) (slots : List Place) → Final (Seen (IsKept key) id v) words slots → IsLast key v words slots
+    → (words : List ℕ) (slots : List BoardSlot) → Final (Seen (IsKept key) id v) words slots → IsLast key v words slots
 lasts key id v about zeroth whole rests seen free words slots final = last key id v about zeroth whole final.0 final.1.0 final.1.1 rests seen free words slots final.2 (λ k y at. final.4 k y at)
 
 -- an element that is there
@@ -87,11 +87,11 @@ taken-more n count filled new long inside is was = record { taken = λ k h. ap (
   before k h (no ne) = get_or-set_other filled n k false false ne ∙ was.taken k (omega arith)
 
 -- the look of a ticket, from what its slot has
-pub look-at-slot : (key : Basis) (v : View) (words : List ℕ) (slots : List Place) (k : ℕ) (place : Place) → IsLast key v words slots → k < turns_of key → get_elem? slots (k + 1) ≡ maybe.some place → look_in place ≡ left_look (window_for key) v k
+pub look-at-slot : (key : Basis) (v : View) (words : List ℕ) (slots : List BoardSlot) (k : ℕ) (place : BoardSlot) → IsLast key v words slots → k < turns_of key → get_elem? slots (k + 1) ≡ maybe.some place → look_in place ≡ left_look (window_for key) v k
 look-at-slot key v words slots k place last inside at = let found = last.looks k inside in ap look_in (maybe.some-injective place found.0 (sym at ∙ found.1)) ∙ found.2
 
 -- the book, from what its slot has
-pub book-at-slot : (key : Basis) (v : View) (words : List ℕ) (slots : List Place) (place : Place) → IsLast key v words slots → get_elem? slots 0 ≡ maybe.some place → (book : BookValue) × (book_in place ≡ Some book) × StandsFor (window_for key) book
+pub book-at-slot : (key : Basis) (v : View) (words : List ℕ) (slots : List BoardSlot) (place : BoardSlot) → IsLast key v words slots → get_elem? slots 0 ≡ maybe.some place → (book : BookValue) × (book_in place ≡ Some book) × StandsFor (window_for key) book
 book-at-slot key v words slots place last at = (last.book.0, ap book_in (maybe.some-injective place (TheBook (Some last.book.0)) (sym at ∙ last.book.1)), last.book.2)
 
 -- it is the one that was found
@@ -99,21 +99,21 @@ pub stands-so : (window : Window) (result : Option BookValue) (one other : BookV
 stands-so window result one other a b stands = subst (λ (o : Option BookValue). IfSome o (StandsFor window)) (sym a ∙ b) stands
 
 -- one more place in order
-pub places-more : (window : Window) (v : View) (places new : List Place) (n : ℕ) (place : Place) → length places ≡ n → new ≡ places ++ place ∷ [] → look_in place ≡ left_look window v n
+pub places-more : (window : Window) (v : View) (places new : List BoardSlot) (n : ℕ) (place : BoardSlot) → length places ≡ n → new ≡ places ++ place ∷ [] → look_in place ≡ left_look window v n
     → ((k : ℕ) → k < n → look_in (get_or places k Nothing) ≡ left_look window v k) → (k : ℕ) → k < n + 1 → look_in (get_or new k Nothing) ≡ left_look window v k
-places-more window v places new n place long is here before k h = ap (λ (l : List Place). look_in (get_or l k Nothing)) is ∙ go (ℕ_discrete k n) where
+places-more window v places new n place long is here before k h = ap (λ (l : List BoardSlot). look_in (get_or l k Nothing)) is ∙ go (ℕ_discrete k n) where
   go : Dec (k ≡ n) → look_in (get_or (places ++ place ∷ []) k Nothing) ≡ left_look window v k
   go (yes e) = subst (λ (m : ℕ). look_in (get_or (places ++ place ∷ []) m Nothing) ≡ left_look window v m) (sym e)
       (ap look_in (subst (λ (m : ℕ). get_or (places ++ place ∷ []) m Nothing ≡ place) long (get_or-append_seam places place [] Nothing)) ∙ here)
   go (no ne) = ap look_in (get_or-append places (place ∷ []) Nothing k (omega arith)) ∙ before k (omega arith)
 
 -- the looks of places are as many
-pub places-looked : (places : List Place) → length (map look_in places) ≡ length places
+pub places-looked : (places : List BoardSlot) → length (map look_in places) ≡ length places
 places-looked [] = refl
 places-looked (p ∷ ps) = ap suc (places-looked ps)
 
 -- the look of each place
-pub looks-of : (places : List Place) (k : ℕ) → slice_index_or (map look_in places) k None ≡ look_in (slice_index_or places k Nothing)
+pub looks-of : (places : List BoardSlot) (k : ℕ) → slice_index_or (map look_in places) k None ≡ look_in (slice_index_or places k Nothing)
 looks-of [] k = refl
 looks-of (p ∷ ps) zero = refl
 looks-of (p ∷ ps) (suc k) = looks-of ps k
@@ -123,7 +123,7 @@ snoc-append [] x ys = refl
 snoc-append (z ∷ zs) x ys = ap (λ (l : List (Option LookValue)). z ∷ l) (snoc-append zs x ys)
 
 -- one more place whose look is taken out
-pub looks-on : (looks new all : List (Option LookValue)) (look : Option LookValue) (place : Place) (rest left : List Place) → new ≡ looks ++ look ∷ [] → look ≡ look_in place → rest ≡ place ∷ left → looks ++ map look_in rest ≡ all → new ++ map look_in left ≡ all
+pub looks-on : (looks new all : List (Option LookValue)) (look : Option LookValue) (place : BoardSlot) (rest left : List BoardSlot) → new ≡ looks ++ look ∷ [] → look ≡ look_in place → rest ≡ place ∷ left → looks ++ map look_in rest ≡ all → new ++ map look_in left ≡ all
 looks-on looks new all look place rest left is it next so_far =
     ap (λ (l : List (Option LookValue)). l ++ map look_in left) (is ∙ ap (λ (o : Option LookValue). looks ++ o ∷ []) it)
-    ∙ (snoc-append looks (look_in place) (map look_in left) ∙ (ap (λ (l : List Place). looks ++ map look_in l) (sym next) ∙ so_far))
+    ∙ (snoc-append looks (look_in place) (map look_in left) ∙ (ap (λ (l : List BoardSlot). looks ++ map look_in l) (sym next) ∙ so_far))

@@ -15,8 +15,8 @@ use Rattle.round_book.specs.Window.{IsPlayable, Window, look_for}
 use Rattle.round_workers.specs.declared.board.seat.Board.{Board}
 use Rattle.round_workers.specs.declared.board.seat.Seat.{Seat}
 use Rattle.round_workers.specs.declared.board.view.Basis.{Basis}
-use Rattle.round_workers.specs.declared.board.view.Place.{Place}
-use Rattle.round_workers.specs.declared.board.view.Place.TheVariants.{Nothing}
+use Rattle.round_workers.specs.declared.board.view.BoardSlot.{BoardSlot}
+use Rattle.round_workers.specs.declared.board.view.BoardSlot.TheVariants.{Nothing}
 use Rattle.round_workers.specs.declared.board.view.View.{View}
 use Rattle.round_workers.specs.declared.board.worker.Worker.{Worker}
 use Rattle.round_workers.specs.Inner.BoardCrew.{AreLooks, HasWorked, IsHired, IsManned, seat_numbers}
@@ -26,7 +26,7 @@ use Rattle.round_workers.specs.BoardRule.{StandsFor}
 use Rattle.round_workers.specs.BoardSeats.{IsSeatOf, known, left_if, left_look}
 use Rattle.round_workers.specs.BoardTotals.{once_below}
 use Rattle.round_workers.specs.BoardView.{first_seat, window_about}
-use Rattle.round_workers.specs.BoardWorker.{IsLentFor, IsWorker, ascends, below, guesses_for, turns_in}
+use Rattle.round_workers.specs.BoardWorker.{IsLentFor, IsWorker, ascends, those_below, guesses_for, turns_in}
 use Rattle.round_workers.proofs.BoardTotalLemmas.{above-none, below-one, once-suc, times-append}
 
 numbers-snoc : (workers : List Worker) (w : Worker) → seat_numbers (workers ++ w ∷ []) ≡ seat_numbers workers ++ (known w.seat).number ∷ []
@@ -113,7 +113,7 @@ worker-new v made other alone free drew put bare = record {
   free = free;
   alone = alone;
   in_order = ap (ascends 0) drew;
-  puts = put ∙ sym (ap (below (turns_in (window_about v.about))) drew);
+  puts = put ∙ sym (ap (those_below (turns_in (window_about v.about))) drew);
   made_them = bare ∙ sym (ap (map (λ k. (window_about v.about).from + k)) put);
 }
 
@@ -123,7 +123,7 @@ left-some zero took look = tt
 left-some (suc put) zero look = refl
 left-some (suc put) (suc took) look = tt
 
-pub looks-left : (window : Window) (v : View) (places : List Place) → ((k : ℕ) → k < turns_in window → look_in (slice_index_or places k Nothing) ≡ left_look window v k) → AreLooks window places
+pub looks-left : (window : Window) (v : View) (places : List BoardSlot) → ((k : ℕ) → k < turns_in window → look_in (slice_index_or places k Nothing) ≡ left_look window v k) → AreLooks window places
 looks-left window v places are k h = subst (λ (o : Option LookValue). IfSome o (λ look. look ≡ look_for window (window.from + k))) (sym (are k h)) (left-some (times k v.put) (times k v.took) (look_for window (window.from + k)))
 
 -- a book of a field stands for the field's window
@@ -149,7 +149,7 @@ module _ (field : FieldValue) (from to : ℕ) (book : BookValue) (begins : book.
   pub look-next : (look : LookValue) → look ≡ look_for (window_of field from to) (from + k) → look ≡ look_for (window_of field book.from book.to) book.next
   look-next look is = let turn : from + k ≡ book.next = omega arith in is ∙ ap₂ (λ (w : Window) (t : ℕ). look_for w t) (ap₂ (window_of field) (sym begins) (sym ends)) turn
 
-  pub look-there : (look : LookValue) (places : List Place) → AreLooks (window_of field from to) places → look_in (slice_index_or places k Nothing) ≡ Some look → look ≡ look_for (window_of field book.from book.to) book.next
+  pub look-there : (look : LookValue) (places : List BoardSlot) → AreLooks (window_of field from to) places → look_in (slice_index_or places k Nothing) ≡ Some look → look ≡ look_for (window_of field book.from book.to) book.next
   look-there look places are is = look-next look (subst (λ (o : Option LookValue). IfSome o (λ l. l ≡ look_for (window_of field from to) (from + k))) is (are k (omega arith)))
 
 -- the guesses of a window, from what they are made of

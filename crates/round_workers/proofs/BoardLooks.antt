@@ -11,15 +11,15 @@ use Rattle.spec_record.specs.Look.{LookValue}
 use Rattle.round_book.specs.Machine.{times}
 use Rattle.round_book.specs.Window.{look_for}
 use Rattle.round_workers.specs.declared.board.view.Basis.{Basis}
-use Rattle.round_workers.specs.declared.board.view.Place.{Place}
-use Rattle.round_workers.specs.declared.board.view.Place.TheVariants.{OneLook, Spare}
+use Rattle.round_workers.specs.declared.board.view.BoardSlot.{BoardSlot}
+use Rattle.round_workers.specs.declared.board.view.BoardSlot.TheVariants.{OneLook, Spare}
 use Rattle.round_workers.specs.declared.board.view.Phase.TheVariants.{Resting, Putting, Taking}
 use Rattle.round_workers.specs.declared.board.view.Try.TheVariants.{OfLook}
 use Rattle.round_workers.specs.declared.board.view.View.{View}
-use Rattle.round_workers.specs.BoardTotals.{total}
+use Rattle.round_workers.specs.BoardTotals.{summed}
 use Rattle.round_workers.specs.BoardView.{window_about, window_for}
 use Rattle.round_workers.specs.BoardPlays.{after_try, has_put, has_taken, puts_now, takes_now, tells_has_put, tells_has_taken, tells_put, tells_take_look}
-use Rattle.round_workers.specs.BoardRule.{IsKept, opening, putting, taking, turns_of}
+use Rattle.round_workers.specs.BoardRule.{IsKept, phase_opening, putting, taking, turns_of}
 use Rattle.round_workers.proofs.BoardTotalLemmas.{once-le, other-none, same-one, times-append, total-add, total-at, total-gap, total-same, total-set}
 use Rattle.round_workers.proofs.BoardKeeps.{look-stays, seated}
 use Rattle.round_workers.proofs.BoardSteps.{look-kept}
@@ -37,10 +37,10 @@ module _ (key : Basis) (slots id : ℕ) (v : View) (about : v.about ≡ Some key
   abbrev its-look : LookValue
   its-look = look_for (window_for key) ((window_for key).from + j)
 
-  module _ (c : List (ℕ × Place)) (rests : v.phase ≡ Resting) where
+  module _ (c : List (ℕ × BoardSlot)) (rests : v.phase ≡ Resting) where
     -- what a seat drew and hasn't put, nobody put
-    none-put : (s : State Place View) → IsKept key s → get_elem? s.views id ≡ maybe.some v → 1 ≤ times j v.drawn → times j v.put ≡ 0
-        → total (λ u. times j u.put) s.views + total (λ u. putting j u.phase) s.views ≡ 0
+    none-put : (s : State BoardSlot View) → IsKept key s → get_elem? s.views id ≡ maybe.some v → 1 ≤ times j v.drawn → times j v.put ≡ 0
+        → summed (λ u. times j u.put) s.views + summed (λ u. putting j u.phase) s.views ≡ 0
     none-put s r at drawn unput =
         let sum = total-add (λ (u : View). times j u.put) (λ u. putting j u.phase) s.views in
         let gap = total-gap (λ (u : View). times j u.put + putting j u.phase) (λ u. times j u.drawn) s.views id v at
@@ -62,7 +62,7 @@ module _ (key : Basis) (slots id : ℕ) (v : View) (about : v.about ≡ Some key
           look-kept key s r id v w at record { about = refl; number = refl; made = refl; parts = refl; drawn = refl }
               (inr record { same = about; own = is.own; makes = is.makes; late = is.late; drew = (λ x. by_cases x (is.drew x) (ℕ_discrete j x)); opens = (let o = is.opens in omega arith) })
               j 1 (set s.homes (j + 1) maybe.none) inside (length-set s.homes (j + 1) maybe.none) (λ i ne. set_else s.homes (j + 1) i maybe.none ne)
-              record { holds = refl; opens = sym (ap opening rests); opened = refl }
+              record { holds = refl; opens = sym (ap phase_opening rests); opened = refl }
               (λ i ne. record { put = refl; took = refl; puts = other-none j i (λ e. ne (sym e)) ∙ sym (ap (putting i) rests); takes = sym (ap (taking i) rests) })
               record { sum = (omega arith); once = (omega arith); back = (omega arith); bare = (λ e d. absurd (omega arith)); full = (λ e. absurd (omega arith)) },
           λ i e. (let same : j ≡ i = omega arith in (spare.0, ap (λ (m : ℕ). (puts_now v m, (m + 1, Spare spare.0) ∷ c)) same)),
@@ -87,7 +87,7 @@ module _ (key : Basis) (slots id : ℕ) (v : View) (about : v.about ≡ Some key
           look-kept key s r id v w at record { about = refl; number = refl; made = refl; parts = refl; drawn = refl }
               (inr record { same = about; own = is.own; makes = is.makes; late = is.late; drew = (λ x. let d = is.drew x in omega arith); opens = (let o = is.opens in omega arith) })
               j 1 (set s.homes (j + 1) maybe.none) inside (length-set s.homes (j + 1) maybe.none) (λ i ne. set_else s.homes (j + 1) i maybe.none ne)
-              record { holds = refl; opens = sym (ap opening rests); opened = refl }
+              record { holds = refl; opens = sym (ap phase_opening rests); opened = refl }
               (λ i ne. record { put = refl; took = refl; puts = sym (ap (putting i) rests); takes = other-none j i (λ e. ne (sym e)) ∙ sym (ap (taking i) rests) })
               record { sum = (omega arith); once = (omega arith); back = (omega arith); bare = (λ e d. absurd (omega arith)); full = (λ e d. absurd (omega arith)) },
           λ i e. (let same : j ≡ i = omega arith in record {
@@ -106,7 +106,7 @@ module _ (key : Basis) (slots id : ℕ) (v : View) (about : v.about ≡ Some key
           λ i e. (let same : j ≡ i = omega arith in record { full = λ is_two. absurd (miss is_two); other = λ _. ap (λ (m : ℕ). (after_try v (OfLook m word), c)) same }),
         ))
 
-  module _ (xs : List (ℕ × Place)) where
+  module _ (xs : List (ℕ × BoardSlot)) where
     pub has-put : (look : Option LookValue) → look ≡ Some its-look → v.phase ≡ Putting j → Allows (IsKept key) slots id (v, (j + 1, OneLook look) ∷ xs) (j + 2) (λ _. 2) (tells_has_put (step slots (j + 2) 2 0 maybe.none) (v, (j + 1, OneLook look) ∷ xs))
     has-put look its midst s r _ at _ =
         let w : View = has_put v j in let k = r.looks j inside in let sum = k.sum in let back = k.back in let once = k.once in let is = seated key v about (r.seats id v at) in
@@ -119,7 +119,7 @@ module _ (key : Basis) (slots id : ℕ) (v : View) (about : v.about ≡ Some key
           look-kept key s r id v w at record { about = refl; number = refl; made = refl; parts = refl; drawn = refl }
               (inr record { same = about; own = is.own; makes = is.makes; late = is.late; drew = (λ x. let d = is.drew x in let a = times-append x v.put (j ∷ []) in let b = ap (putting x) midst in omega arith); opens = (let o = is.opens in omega arith) })
               j 2 (set s.homes (j + 1) (maybe.some (OneLook look))) inside (length-set s.homes (j + 1) (maybe.some (OneLook look))) (λ i ne. set_else s.homes (j + 1) i (maybe.some (OneLook look)) ne)
-              record { holds = refl; opens = sym (ap opening midst); opened = refl }
+              record { holds = refl; opens = sym (ap phase_opening midst); opened = refl }
               (λ i ne. record { put = times-other i j v.put (λ e. ne (sym e)); took = refl; puts = sym (ap (putting i) midst ∙ other-none j i (λ e. ne (sym e))); takes = sym (ap (taking i) midst) })
               record {
                 sum = (omega arith);
@@ -143,7 +143,7 @@ module _ (key : Basis) (slots id : ℕ) (v : View) (about : v.about ≡ Some key
           look-kept key s r id v w at record { about = refl; number = refl; made = refl; parts = refl; drawn = refl }
               (inr record { same = about; own = is.own; makes = is.makes; late = is.late; drew = (λ x. let d = is.drew x in omega arith); opens = (let o = is.opens in omega arith) })
               j 3 (set s.homes (j + 1) (maybe.some (Spare old))) inside (length-set s.homes (j + 1) (maybe.some (Spare old))) (λ i ne. set_else s.homes (j + 1) i (maybe.some (Spare old)) ne)
-              record { holds = refl; opens = sym (ap opening midst); opened = refl }
+              record { holds = refl; opens = sym (ap phase_opening midst); opened = refl }
               (λ i ne. record { put = refl; took = times-other i j v.took (λ e. ne (sym e)); puts = sym (ap (putting i) midst); takes = sym (ap (taking i) midst ∙ other-none j i (λ e. ne (sym e))) })
               record {
                 sum = (omega arith);

@@ -8,9 +8,9 @@ use Rattle.std.specs.List.{AllByRecursion}
 use Rattle.atomic_table.specs.Table.{State, Me, step, keeps, stepped, Allows}
 use Rattle.round_book.specs.Machine.{times}
 use Rattle.round_workers.specs.declared.board.view.Basis.{Basis}
-use Rattle.round_workers.specs.declared.board.view.Place.{Place}
+use Rattle.round_workers.specs.declared.board.view.BoardSlot.{BoardSlot}
 use Rattle.round_workers.specs.declared.board.view.View.{View}
-use Rattle.round_workers.specs.BoardTotals.{late_among, total}
+use Rattle.round_workers.specs.BoardTotals.{late_among, summed}
 use Rattle.round_workers.specs.BoardView.{window_for}
 use Rattle.round_workers.specs.BoardPlays.{drew, tells_draw}
 use Rattle.round_workers.specs.BoardRule.{AreDealt, IsBookKeptBy, IsKept, IsLookKeptBy, turns_of}
@@ -23,20 +23,20 @@ below-word word n views id v at dealt =
     all-below word v.drawn (λ x there. below-where x word (let sum = dealt.each x in let here = total-at (λ (u : View). times x u.drawn) views id v at in omega arith))
 
 -- how far the word goes
-pub word-bound : (key : Basis) (s : State Place View) → IsKept key s → slice_index s.words 0 ≤ turns_of key + 17
+pub word-bound : (key : Basis) (s : State BoardSlot View) → IsKept key s → slice_index s.words 0 ≤ turns_of key + 17
 word-bound key s r = let within = r.tickets.within in let count = r.parts.count in let few = r.parts.few in
     let late = total-le (λ u. late_among (turns_of key) u.drawn) (λ u. length u.parts) s.views (λ j u at. ⊎_elim (λ spent. let a = ap (λ (w : View). late_among (turns_of key) w.drawn) spent in omega arith) (λ is. is.late) (r.seats j u at)) in omega arith
 
-pub few-turns : (key : Basis) (s : State Place View) → IsKept key s → turns_of key ≤ 16384
+pub few-turns : (key : Basis) (s : State BoardSlot View) → IsKept key s → turns_of key ≤ 16384
 few-turns key s r = let few = r.playable.valid.few in let ids = r.playable.ids in (omega arith)
 
-module _ (key : Basis) (slots id : ℕ) (me : Me Place View) (about : me.0.about ≡ Some key) (early : late_among (turns_of key) me.0.drawn ≡ 0) where
-  drawn-at : (s : State Place View) → IsKept key s → get_elem? s.views id ≡ maybe.some me.0 → slice_index s.words 0 < 18446744073709551616 → IsKept key (stepped s 0 (slice_index s.words 0 + 1) id me.1 (drew me.0 (slice_index s.words 0)) keeps)
+module _ (key : Basis) (slots id : ℕ) (me : Me BoardSlot View) (about : me.0.about ≡ Some key) (early : late_among (turns_of key) me.0.drawn ≡ 0) where
+  drawn-at : (s : State BoardSlot View) → IsKept key s → get_elem? s.views id ≡ maybe.some me.0 → slice_index s.words 0 < 18446744073709551616 → IsKept key (stepped s 0 (slice_index s.words 0 + 1) id me.1 (drew me.0 (slice_index s.words 0)) keeps)
   drawn-at s r at small =
       let v : View = me.0 in let word : ℕ = slice_index s.words 0 in let w : View = drew me.0 word in let n : ℕ = turns_of key in
       let is = seated key v about (r.seats id v at) in let wide = r.words in let own = is.own in
       let late = late-append n v.drawn (word ∷ []) in let sum = total-set (λ u. late_among n u.drawn) s.views id v w at in let before = r.tickets.within in
-      let within : word + 1 ≤ n + total (λ u. late_among n u.drawn) (set s.views id w) = by_cases (dec_le n word) late sum before in
+      let within : word + 1 ≤ n + summed (λ u. late_among n u.drawn) (set s.views id w) = by_cases (dec_le n word) late sum before in
       let counts = times-length v.number v.parts in
       record {
         playable = r.playable;
@@ -55,9 +55,9 @@ module _ (key : Basis) (slots id : ℕ) (me : Me Place View) (about : me.0.about
       }
     where
       by_cases : Dec (turns_of key ≤ slice_index s.words 0) → late_among (turns_of key) (me.0.drawn ++ slice_index s.words 0 ∷ []) ≡ late_among (turns_of key) me.0.drawn + late_among (turns_of key) (slice_index s.words 0 ∷ [])
-          → total (λ u. late_among (turns_of key) u.drawn) (set s.views id (drew me.0 (slice_index s.words 0))) + late_among (turns_of key) me.0.drawn ≡ total (λ u. late_among (turns_of key) u.drawn) s.views + late_among (turns_of key) (me.0.drawn ++ slice_index s.words 0 ∷ [])
-          → slice_index s.words 0 ≤ turns_of key + total (λ u. late_among (turns_of key) u.drawn) s.views
-          → slice_index s.words 0 + 1 ≤ turns_of key + total (λ u. late_among (turns_of key) u.drawn) (set s.views id (drew me.0 (slice_index s.words 0)))
+          → summed (λ u. late_among (turns_of key) u.drawn) (set s.views id (drew me.0 (slice_index s.words 0))) + late_among (turns_of key) me.0.drawn ≡ summed (λ u. late_among (turns_of key) u.drawn) s.views + late_among (turns_of key) (me.0.drawn ++ slice_index s.words 0 ∷ [])
+          → slice_index s.words 0 ≤ turns_of key + summed (λ u. late_among (turns_of key) u.drawn) s.views
+          → slice_index s.words 0 + 1 ≤ turns_of key + summed (λ u. late_among (turns_of key) u.drawn) (set s.views id (drew me.0 (slice_index s.words 0)))
       by_cases (yes le) late sum before = let one = late-one (turns_of key) (slice_index s.words 0) le in omega arith
       by_cases (no gt) late sum before = let g : slice_index s.words 0 < turns_of key = lt_of_not-le gt in omega arith
 

@@ -8,32 +8,32 @@ use Rattle.std.specs.List.{AllByRecursion}
 use Rattle.std.specs.Prelude.{nat_eq, nat_le, nat_lt}
 use Rattle.cell_world.specs.Cell.{one_if}
 use Rattle.round_book.specs.Machine.{times}
-use Rattle.round_workers.specs.BoardTotals.{late_among, once_below, total}
+use Rattle.round_workers.specs.BoardTotals.{late_among, once_below, summed}
 
 module _ {A : Type 0} (f : A → ℕ) where
-  pub total-set : (l : List A) (i : ℕ) (v w : A) → get_elem? l i ≡ some v → total f (set l i w) + f v ≡ total f l + f w
+  pub total-set : (l : List A) (i : ℕ) (v w : A) → get_elem? l i ≡ some v → summed f (set l i w) + f v ≡ summed f l + f w
   total-set [] i v w e = absurd (some-ne-none v (sym e))
   total-set (x ∷ xs) zero v w e = let is : f x ≡ f v = ap f (some-injective x v e) in omega arith
   total-set (x ∷ xs) (suc i) v w e = let r = total-set xs i v w e in omega arith
 
-  pub total-same : (l : List A) (i : ℕ) (v w : A) → get_elem? l i ≡ some v → f w ≡ f v → total f (set l i w) ≡ total f l
+  pub total-same : (l : List A) (i : ℕ) (v w : A) → get_elem? l i ≡ some v → f w ≡ f v → summed f (set l i w) ≡ summed f l
   total-same l i v w e same = let r = total-set l i v w e in omega arith
 
-  pub total-snoc : (l : List A) (v : A) → total f (l ++ v ∷ []) ≡ total f l + f v
+  pub total-snoc : (l : List A) (v : A) → summed f (l ++ v ∷ []) ≡ summed f l + f v
   total-snoc [] v = omega arith
   total-snoc (x ∷ xs) v = let r = total-snoc xs v in omega arith
 
-  pub total-at : (l : List A) (i : ℕ) (v : A) → get_elem? l i ≡ some v → f v ≤ total f l
+  pub total-at : (l : List A) (i : ℕ) (v : A) → get_elem? l i ≡ some v → f v ≤ summed f l
   total-at [] i v e = absurd (some-ne-none v (sym e))
   total-at (x ∷ xs) zero v e = let is : f x ≡ f v = ap f (some-injective x v e) in omega arith
   total-at (x ∷ xs) (suc i) v e = let r = total-at xs i v e in omega arith
 
-  pub total-none : (l : List A) → ((i : ℕ) (v : A) → get_elem? l i ≡ some v → f v ≡ 0) → total f l ≡ 0
+  pub total-none : (l : List A) → ((i : ℕ) (v : A) → get_elem? l i ≡ some v → f v ≡ 0) → summed f l ≡ 0
   total-none [] none_of = refl
   total-none (x ∷ xs) none_of = let here : f x ≡ 0 = none_of 0 x refl in let there = total-none xs (λ i. none_of (suc i)) in omega arith
 
   -- where no other element counts
-  pub total-alone : (l : List A) (i : ℕ) (v : A) → get_elem? l i ≡ some v → ((j : ℕ) (w : A) → j ≢ i → get_elem? l j ≡ some w → f w ≡ 0) → total f l ≡ f v
+  pub total-alone : (l : List A) (i : ℕ) (v : A) → get_elem? l i ≡ some v → ((j : ℕ) (w : A) → j ≢ i → get_elem? l j ≡ some w → f w ≡ 0) → summed f l ≡ f v
   total-alone [] i v e none_of = absurd (some-ne-none v (sym e))
   total-alone (x ∷ xs) zero v e none_of =
       let is : f x ≡ f v = ap f (some-injective x v e) in let rest = total-none xs (λ j w at. none_of (suc j) w (λ h. omega arith) at) in omega arith
@@ -41,16 +41,16 @@ module _ {A : Type 0} (f : A → ℕ) where
       let here : f x ≡ 0 = none_of 0 x (λ h. omega arith) refl in let rest = total-alone xs i v e (λ j w other at. none_of (suc j) w (λ h. other (omega arith)) at) in omega arith
 
   module _ (g : A → ℕ) where
-    pub total-add : (l : List A) → total (λ v. f v + g v) l ≡ total f l + total g l
+    pub total-add : (l : List A) → summed (λ v. f v + g v) l ≡ summed f l + summed g l
     total-add [] = refl
     total-add (x ∷ xs) = let r = total-add xs in omega arith
 
-    pub total-le : (l : List A) → ((j : ℕ) (u : A) → get_elem? l j ≡ some u → f u ≤ g u) → total f l ≤ total g l
+    pub total-le : (l : List A) → ((j : ℕ) (u : A) → get_elem? l j ≡ some u → f u ≤ g u) → summed f l ≤ summed g l
     total-le [] le = omega arith
     total-le (x ∷ xs) le = let here : f x ≤ g x = le 0 x refl in let r = total-le xs (λ j. le (suc j)) in omega arith
 
     -- where f is nowhere above g, the gap of one element is at most that of the totals
-    pub total-gap : (l : List A) (i : ℕ) (v : A) → get_elem? l i ≡ some v → ((j : ℕ) (u : A) → get_elem? l j ≡ some u → f u ≤ g u) → total f l + g v ≤ total g l + f v
+    pub total-gap : (l : List A) (i : ℕ) (v : A) → get_elem? l i ≡ some v → ((j : ℕ) (u : A) → get_elem? l j ≡ some u → f u ≤ g u) → summed f l + g v ≤ summed g l + f v
     total-gap [] i v e le = absurd (some-ne-none v (sym e))
     total-gap (x ∷ xs) zero v e le =
         let is : f x ≡ f v = ap f (some-injective x v e) in let is' : g x ≡ g v = ap g (some-injective x v e) in let r = total-le xs (λ j. le (suc j)) in omega arith
@@ -117,13 +117,13 @@ late-one n x h = ap one_if (le-leb n x h)
 
 module _ {A : Type 0} (f : A → ℕ) where
   -- two elements count no more than all
-  pub total-two : (l : List A) (i j : ℕ) (v w : A) → get_elem? l i ≡ some v → get_elem? l j ≡ some w → j ≢ i → f v + f w ≤ total f l
+  pub total-two : (l : List A) (i j : ℕ) (v w : A) → get_elem? l i ≡ some v → get_elem? l j ≡ some w → j ≢ i → f v + f w ≤ summed f l
   total-two [] i j v w e d ne = absurd (some-ne-none v (sym e))
   total-two (x ∷ xs) zero zero v w e d ne = absurd (ne refl)
   total-two (x ∷ xs) zero (suc j) v w e d ne = let is : f x ≡ f v = ap f (some-injective x v e) in let r = total-at f xs j w d in omega arith
   total-two (x ∷ xs) (suc i) zero v w e d ne = let is : f x ≡ f w = ap f (some-injective x w d) in let r = total-at f xs i v e in omega arith
   total-two (x ∷ xs) (suc i) (suc j) v w e d ne = let r = total-two xs i j v w e d (λ h. ne (ap suc h)) in omega arith
 
-  -- where one element becomes what two were, and the other counts none, the total stays
-  pub total-joined : (l : List A) (i j : ℕ) (v w both spent : A) → get_elem? l i ≡ some v → get_elem? (set l i both) j ≡ some w → f spent ≡ 0 → total f (set (set l i both) j spent) + (f v + f w) ≡ total f l + f both
+  -- where one element becomes what two were, and the other counts none, the summed stays
+  pub total-joined : (l : List A) (i j : ℕ) (v w both spent : A) → get_elem? l i ≡ some v → get_elem? (set l i both) j ≡ some w → f spent ≡ 0 → summed f (set (set l i both) j spent) + (f v + f w) ≡ summed f l + f both
   total-joined l i j v w both spent e d none_left = let a = total-set f l i v both e in let b = total-set f (set l i both) j w spent d in omega arith

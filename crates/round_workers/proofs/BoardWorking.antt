@@ -15,7 +15,7 @@ use Rattle.round_workers.specs.declared.board.view.View.{View}
 use Rattle.round_workers.specs.BoardPlays.{drew, has_put}
 use Rattle.round_workers.specs.BoardRule.{StandsFor}
 use Rattle.round_workers.specs.BoardView.{window_about}
-use Rattle.round_workers.specs.BoardWorker.{HasServed, IsLentFor, IsSameButTook, IsWorker, ascends, below, guesses_for, turns_in}
+use Rattle.round_workers.specs.BoardWorker.{HasServed, IsLentFor, IsSameButTook, IsWorker, ascends, those_below, guesses_for, turns_in}
 use Rattle.round_workers.proofs.BoardTotalLemmas.{late-append, late-one, other-none, same-one, times-append}
 
 and_both : (x y : Bool) → (x && y) ≡ true → (x ≡ true) × (y ≡ true)
@@ -32,7 +32,7 @@ ascends-snoc least t [] le up all = and_from (nat_le least t) true (le-leb least
 ascends-snoc least t (x ∷ xs) le up all =
     let both = and_both (nat_le least x) (ascends (x + 1) xs) up in and_from (nat_le least x) (ascends (x + 1) (xs ++ t ∷ [])) both.0 (ascends-snoc (x + 1) t xs (let l : x < t = all.0 in omega arith) both.1 all.1)
 
--- numbers in order that are below t are no more than t
+-- numbers in order that are those_below t are no more than t
 ascends-length : (least t : ℕ) (xs : List ℕ) → least ≤ t → ascends least xs ≡ true → AllByRecursion (λ k. k < t) xs → length xs + least ≤ t
 ascends-length least t [] le up all = omega arith
 ascends-length least t (x ∷ xs) le up all =
@@ -51,30 +51,30 @@ keep-times : (b : Bool) (x k n : ℕ) (l : List ℕ) → times k l ≤ n → tim
 keep-times true x k n l le = omega arith
 keep-times false x k n l le = omega arith
 
--- of a list and one more, those below n
-below-early : (n t : ℕ) (xs : List ℕ) → t < n → below n (xs ++ t ∷ []) ≡ below n xs ++ t ∷ []
-below-early n t [] h = ap (λ (b : Bool). cond b (t ∷ []) []) (lt-ltb t n h)
-below-early n t (x ∷ xs) h = keep-snoc (nat_lt x n) x t (below n (xs ++ t ∷ [])) (below n xs) (below-early n t xs h)
+-- of a list and one more, those those_below n
+those_below-early : (n t : ℕ) (xs : List ℕ) → t < n → those_below n (xs ++ t ∷ []) ≡ those_below n xs ++ t ∷ []
+those_below-early n t [] h = ap (λ (b : Bool). cond b (t ∷ []) []) (lt-ltb t n h)
+those_below-early n t (x ∷ xs) h = keep-snoc (nat_lt x n) x t (those_below n (xs ++ t ∷ [])) (those_below n xs) (those_below-early n t xs h)
 
-below-late : (n t : ℕ) (xs : List ℕ) → n ≤ t → below n (xs ++ t ∷ []) ≡ below n xs
-below-late n t [] h = ap (λ (b : Bool). cond b (t ∷ []) []) (le-ltb t n h)
-below-late n t (x ∷ xs) h = ap (λ (z : List ℕ). cond (nat_lt x n) (x ∷ z) z) (below-late n t xs h)
+those_below-late : (n t : ℕ) (xs : List ℕ) → n ≤ t → those_below n (xs ++ t ∷ []) ≡ those_below n xs
+those_below-late n t [] h = ap (λ (b : Bool). cond b (t ∷ []) []) (le-ltb t n h)
+those_below-late n t (x ∷ xs) h = ap (λ (z : List ℕ). cond (nat_lt x n) (x ∷ z) z) (those_below-late n t xs h)
 
-below-length : (n : ℕ) (xs : List ℕ) → length (below n xs) ≤ length xs
-below-length n [] = omega arith
-below-length n (x ∷ xs) = keep-length (nat_lt x n) x (length xs) (below n xs) (below-length n xs)
+those_below-length : (n : ℕ) (xs : List ℕ) → length (those_below n xs) ≤ length xs
+those_below-length n [] = omega arith
+those_below-length n (x ∷ xs) = keep-length (nat_lt x n) x (length xs) (those_below n xs) (those_below-length n xs)
 
-times-below : (n k : ℕ) (xs : List ℕ) → times k (below n xs) ≤ times k xs
-times-below n k [] = omega arith
-times-below n k (x ∷ xs) = keep-times (nat_lt x n) x k (times k xs) (below n xs) (times-below n k xs)
+times-those_below : (n k : ℕ) (xs : List ℕ) → times k (those_below n xs) ≤ times k xs
+times-those_below n k [] = omega arith
+times-those_below n k (x ∷ xs) = keep-times (nat_lt x n) x k (times k xs) (those_below n xs) (times-those_below n k xs)
 
 within-one : (n k x m : ℕ) (l : List ℕ) → k < n → times k l ≡ m → Dec (n ≤ x) → times k (cond (nat_lt x n) (x ∷ l) l) ≡ one_if (nat_eq x k) + m
 within-one n k x m l h e (yes le) = ap (λ (b : Bool). times k (cond b (x ∷ l) l)) (le-ltb x n le) ∙ (let not_it = other-none x k (λ d. omega arith) in omega arith)
 within-one n k x m l h e (no gt) = ap (λ (b : Bool). times k (cond b (x ∷ l) l)) (lt-ltb x n (lt_of_not-le gt)) ∙ (omega arith)
 
-pub times-within : (n k : ℕ) (xs : List ℕ) → k < n → times k (below n xs) ≡ times k xs
+pub times-within : (n k : ℕ) (xs : List ℕ) → k < n → times k (those_below n xs) ≡ times k xs
 times-within n k [] h = refl
-times-within n k (x ∷ xs) h = within-one n k x (times k xs) (below n xs) h (times-within n k xs h) (dec_le n x)
+times-within n k (x ∷ xs) h = within-one n k x (times k xs) (those_below n xs) h (times-within n k xs h) (dec_le n x)
 
 -- a number above all of a list isn't in it
 times-above : (t : ℕ) (xs : List ℕ) → AllByRecursion (λ k. k < t) xs → times t xs ≡ 0
@@ -95,19 +95,19 @@ module _ (v : View) (made : List ℕ) (is : IsWorker v made) (t : ℕ) (above : 
 
   -- what it put is no more than what it drew
   pub made-few : length made ≤ t
-  made-few = let put_few = below-length turns v.drawn in let drawn_few = ascends-length 0 t v.drawn (omega arith) is.in_order above in
-      let a : length made ≡ length v.put = ap length is.made_them ∙ map-length (λ k. (window_about v.about).from + k) v.put in let b : length v.put ≡ length (below turns v.drawn) = ap length is.puts in omega arith
+  made-few = let put_few = those_below-length turns v.drawn in let drawn_few = ascends-length 0 t v.drawn (omega arith) is.in_order above in
+      let a : length made ≡ length v.put = ap length is.made_them ∙ map-length (λ k. (window_about v.about).from + k) v.put in let b : length v.put ≡ length (those_below turns v.drawn) = ap length is.puts in omega arith
 
   -- it didn't put the look of a new ticket
   pub unput : times t v.put ≡ 0
-  unput = let a : times t v.put ≡ times t (below turns v.drawn) = ap (times t) is.puts in let b = times-below turns t v.drawn in let d = times-above t v.drawn above in omega arith
+  unput = let a : times t v.put ≡ times t (those_below turns v.drawn) = ap (times t) is.puts in let b = times-those_below turns t v.drawn in let d = times-above t v.drawn above in omega arith
 
   pub new-drawn : 1 ≤ times t (v.drawn ++ t ∷ [])
   new-drawn = let a = times-append t v.drawn (t ∷ []) in let b = same-one t t refl in omega arith
 
   -- a worker that drew a ticket behind the window
   pub worker-late : turns_in (window_about v.about) ≤ t → IsWorker (drew v t) made
-  worker-late le = record { other = is.other; free = is.free; alone = is.alone; in_order = ascends-snoc 0 t v.drawn (omega arith) is.in_order above; puts = is.puts ∙ sym (below-late turns t v.drawn le); made_them = is.made_them }
+  worker-late le = record { other = is.other; free = is.free; alone = is.alone; in_order = ascends-snoc 0 t v.drawn (omega arith) is.in_order above; puts = is.puts ∙ sym (those_below-late turns t v.drawn le); made_them = is.made_them }
 
   pub served-late : turns_in (window_about v.about) ≤ t → HasServed (turns_in (window_about v.about)) v (drew v t) false
   served-late le = record {
@@ -124,12 +124,12 @@ module _ (v : View) (made : List ℕ) (is : IsWorker v made) (t : ℕ) (above : 
   module _ (within : t < turns_in (window_about v.about)) (w : View) (same : IsSameButTook (has_put (drew v t) t) w) (tried : v.tries + 1 ≤ w.tries) where
     pub worker-more : IsWorker w (made ++ ((window_about v.about).from + t) ∷ [])
     worker-more =
-        let from : ℕ = (window_about v.about).from in let put : v.put ++ t ∷ [] ≡ below turns (v.drawn ++ t ∷ []) = ap (λ (l : List ℕ). l ++ t ∷ []) is.puts ∙ sym (below-early turns t v.drawn within) in record {
+        let from : ℕ = (window_about v.about).from in let put : v.put ++ t ∷ [] ≡ those_below turns (v.drawn ++ t ∷ []) = ap (λ (l : List ℕ). l ++ t ∷ []) is.puts ∙ sym (those_below-early turns t v.drawn within) in record {
           other = subst (λ (k : ℕ). k ≢ 0) (sym same.number) is.other;
           free = same.holds ∙ is.free;
           alone = same.parts ∙ (is.alone ∙ ap (λ (k : ℕ). k ∷ []) (sym same.number));
           in_order = ap (ascends 0) same.drawn ∙ ascends-snoc 0 t v.drawn (omega arith) is.in_order above;
-          puts = same.put ∙ (put ∙ ap₂ (λ (z : Option _) (l : List ℕ). below (turns_in (window_about z)) l) (sym same.about) (sym same.drawn));
+          puts = same.put ∙ (put ∙ ap₂ (λ (z : Option _) (l : List ℕ). those_below (turns_in (window_about z)) l) (sym same.about) (sym same.drawn));
           made_them = ap (λ (l : List ℕ). l ++ (from + t) ∷ []) is.made_them ∙ (sym (map-snoc (λ k. from + k) v.put t) ∙ ap₂ (λ (z : Option _) (l : List ℕ). map (λ k. (window_about z).from + k) l) (sym same.about) (sym same.put));
         }
 

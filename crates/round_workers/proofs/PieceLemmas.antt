@@ -17,9 +17,9 @@ use Rattle.spec_record.specs.Look.{LookValue, look_of}
 use Rattle.spec_record.proofs.Flips.{look-drew}
 use Rattle.round_workers.specs.declared.piece.Piece.{Piece}
 use Rattle.round_workers.specs.declared.share.Share.{Share}
-use Rattle.round_workers.specs.Inner.Pieces.{AreLooked, Follow, HasRoom, IsDone, IsReady, all_have_room, shares_among}
+use Rattle.round_workers.specs.Inner.Pieces.{AreLooked, AreConsecutive, HasPieceRoom, IsPieceDone, IsPieceReady, all_have_room, shares_among}
 use Rattle.round_workers.specs.Inner.Shares.{looks_for, shares}
-use Rattle.round_workers.proofs.ShareLemmas.{Follow-shares, Follow-within}
+use Rattle.round_workers.proofs.ShareLemmas.{Follow-shares, AreConsecutive-within}
 
 pub looks_for-length : (window : Window) (t n : ℕ) → length (looks_for window t n) ≡ n
 looks_for-length window t zero = refl
@@ -99,15 +99,15 @@ module _ (field : FieldValue) (from to id seed place : ℕ) (same_seed : seed �
       drawn ∙ ap₂ (λ n k. n + k) guessed (ap one_if (look-drew field.minds seed (world_of field.world) place id)) ∙ sym (guess_for-next (window_of field from to) id first)
 
 -- a share for one piece more: the rooms that there are
-rooms-more : (pieces new : List Piece) (n : ℕ) (piece : Piece) → HasRoom piece → take (n + 1) new ≡ take n pieces ++ piece ∷ [] → all_have_room n pieces → all_have_room (n + 1) new
+rooms-more : (pieces new : List Piece) (n : ℕ) (piece : Piece) → HasPieceRoom piece → take (n + 1) new ≡ take n pieces ++ piece ∷ [] → all_have_room n pieces → all_have_room (n + 1) new
 rooms-more pieces new n piece room is all =
-    All-same HasRoom (take (n + 1) new) (take n pieces ++ piece ∷ []) is (All-append HasRoom (take n pieces) (piece ∷ []) all (All-cons HasRoom piece [] room (All-nil HasRoom)))
+    All-same HasPieceRoom (take (n + 1) new) (take n pieces ++ piece ∷ []) is (All-append HasPieceRoom (take n pieces) (piece ∷ []) all (All-cons HasPieceRoom piece [] room (All-nil HasPieceRoom)))
 
-pub rooms-set : {A : Type 0} (result : Result A OutOfMemory) (pieces : List Piece) (n : ℕ) (piece : Piece) → n < length pieces → OnOk result (HasRoom piece) → OnOk result (all_have_room n pieces → all_have_room (n + 1) (slice_set pieces n piece))
+pub rooms-set : {A : Type 0} (result : Result A OutOfMemory) (pieces : List Piece) (n : ℕ) (piece : Piece) → n < length pieces → OnOk result (HasPieceRoom piece) → OnOk result (all_have_room n pieces → all_have_room (n + 1) (slice_set pieces n piece))
 rooms-set (Ok x) pieces n piece within room = rooms-more pieces (slice_set pieces n piece) n piece room (take_more_set pieces n piece within)
 rooms-set (Err e) pieces n piece within room = tt
 
-pub rooms-push : (pieces new : List Piece) (n : ℕ) (piece : Piece) → n ≡ length pieces → HasRoom piece → new ≡ pieces ++ piece ∷ [] → all_have_room n pieces → all_have_room (n + 1) new
+pub rooms-push : (pieces new : List Piece) (n : ℕ) (piece : Piece) → n ≡ length pieces → HasPieceRoom piece → new ≡ pieces ++ piece ∷ [] → all_have_room n pieces → all_have_room (n + 1) new
 rooms-push pieces new n piece at room is =
     let long : length new ≡ length pieces + 1 = ap length is ∙ length-append pieces (piece ∷ []) in
     rooms-more pieces new n piece room (take_all (n + 1) new (omega arith) ∙ is ∙ ap (λ xs. xs ++ piece ∷ []) (sym (take_all n pieces (omega arith))))
@@ -122,31 +122,31 @@ begin-front field from to end begin first within = record {
 }
 
 module _ (field : FieldValue) (from to : ℕ) (begin : CanBegin field from to) where
-  ready-from : (pieces : List Piece) (at : ℕ) → from ≤ at → Follow (map (λ piece. piece.share) pieces) at to → All HasRoom pieces → All (IsReady field from) pieces
-  ready-from [] at first follow rooms = All-nil (IsReady field from)
+  ready-from : (pieces : List Piece) (at : ℕ) → from ≤ at → AreConsecutive (map (λ piece. piece.share) pieces) at to → All HasPieceRoom pieces → All (IsPieceReady field from) pieces
+  ready-from [] at first follow rooms = All-nil (IsPieceReady field from)
   ready-from (piece ∷ pieces) at first follow rooms =
       let here : piece.share.from ≡ at = follow.0 in
       let forwards : piece.share.from ≤ piece.share.to = follow.1 in
-      let within : piece.share.to ≤ to = Follow-within (map (λ p. p.share) pieces) piece.share.to to follow.2 in
-      All-cons (IsReady field from) piece pieces
+      let within : piece.share.to ≤ to = AreConsecutive-within (map (λ p. p.share) pieces) piece.share.to to follow.2 in
+      All-cons (IsPieceReady field from) piece pieces
       (record { begin = begin-front field from to piece.share.to begin (omega arith) within; first = omega arith; forwards = forwards; room = rooms 0 piece (omega arith) })
       (ready-from pieces piece.share.to (omega arith) follow.2 (λ k d lt. rooms (suc k) d (omega arith)))
 
   -- pieces that are a window's, and have room
-  pub ready : (pieces : List Piece) → Follow (map (λ piece. piece.share) pieces) from to → All HasRoom pieces → All (IsReady field from) pieces
+  pub ready : (pieces : List Piece) → AreConsecutive (map (λ piece. piece.share) pieces) from to → All HasPieceRoom pieces → All (IsPieceReady field from) pieces
   ready pieces follow rooms = ready-from pieces from (omega arith) follow rooms
 
 module _ (field : FieldValue) (from to : ℕ) where
   abbrev IsLooked : Piece → Type 0
   IsLooked piece = AreLooked (window_of field from to) piece.share piece.looks.items
 
-  looked-done : (old new : Piece) → IsDone field from old new → IsLooked new
+  looked-done : (old new : Piece) → IsPieceDone field from old new → IsLooked new
   looked-done old new done =
       let same : AreLooked (window_of field from to) old.share new.looks.items = done.looked ∙ looks_for-same field from old.share.to to old.share.from (old.share.to - old.share.from) in
       subst (λ s. AreLooked (window_of field from to) s new.looks.items) (sym done.share) same
 
   -- pieces whose looks are made
-  pub done-looked : (old new : List Piece) → length new ≡ length old → ((i : ℕ) (d : Piece) → i < length old → IsDone field from (get_or old i d) (get_or new i d)) → All IsLooked new
+  pub done-looked : (old new : List Piece) → length new ≡ length old → ((i : ℕ) (d : Piece) → i < length old → IsPieceDone field from (get_or old i d) (get_or new i d)) → All IsLooked new
   done-looked [] [] len each = All-nil IsLooked
   done-looked [] (y ∷ ys) len each = absurd (omega arith)
   done-looked (x ∷ xs) [] len each = absurd (omega arith)
@@ -154,7 +154,7 @@ module _ (field : FieldValue) (from to : ℕ) where
       All-cons IsLooked y ys (looked-done x y (each 0 y (omega arith))) (done-looked xs ys (omega arith) (λ i d lt. each (suc i) d (omega arith)))
 
   -- their shares stay
-  pub done-shares : (old new : List Piece) → length new ≡ length old → ((i : ℕ) (d : Piece) → i < length old → IsDone field from (get_or old i d) (get_or new i d)) → map (λ piece. piece.share) new ≡ map (λ piece. piece.share) old
+  pub done-shares : (old new : List Piece) → length new ≡ length old → ((i : ℕ) (d : Piece) → i < length old → IsPieceDone field from (get_or old i d) (get_or new i d)) → map (λ piece. piece.share) new ≡ map (λ piece. piece.share) old
   done-shares [] [] len each = refl
   done-shares [] (y ∷ ys) len each = absurd (omega arith)
   done-shares (x ∷ xs) [] len each = absurd (omega arith)
@@ -163,10 +163,10 @@ module _ (field : FieldValue) (from to : ℕ) where
       ap₂ (λ s ss. s ∷ ss) here (done-shares xs ys (omega arith) (λ i d lt. each (suc i) d (omega arith)))
 
 -- a piece that is next ends within what is left
-pub Follow-item : (pieces : List Piece) (i : ℕ) (piece : Piece) (from to : ℕ) → i < length pieces → piece ≡ get_or pieces i piece → Follow (map (λ p. p.share) (drop i pieces)) from to → piece.share.to ≤ to
-Follow-item pieces i piece from to below is follow =
-    let front : Follow (map (λ p. p.share) (get_or pieces i piece ∷ drop (suc i) pieces)) from to = subst (λ ps. Follow (map (λ p. p.share) ps) from to) (drop-cons pieces i piece below) follow in
-    let rest : (get_or pieces i piece).share.to ≤ to = Follow-within (map (λ p. p.share) (drop (suc i) pieces)) (get_or pieces i piece).share.to to front.2 in
+pub AreConsecutive-item : (pieces : List Piece) (i : ℕ) (piece : Piece) (from to : ℕ) → i < length pieces → piece ≡ get_or pieces i piece → AreConsecutive (map (λ p. p.share) (drop i pieces)) from to → piece.share.to ≤ to
+AreConsecutive-item pieces i piece from to below is follow =
+    let front : AreConsecutive (map (λ p. p.share) (get_or pieces i piece ∷ drop (suc i) pieces)) from to = subst (λ ps. AreConsecutive (map (λ p. p.share) ps) from to) (drop-cons pieces i piece below) follow in
+    let rest : (get_or pieces i piece).share.to ≤ to = AreConsecutive-within (map (λ p. p.share) (drop (suc i) pieces)) (get_or pieces i piece).share.to to front.2 in
     subst (λ (p : Piece). p.share.to ≤ to) (sym is) rest
 
 module _ (window : Window) (share : Share) (looks : List LookValue) (looked : AreLooked window share looks) where
@@ -182,8 +182,8 @@ module _ (window : Window) (share : Share) (looks : List LookValue) (looked : Ar
       is ∙ ap (λ xs. get_or xs i look) looked ∙ looks_for-at window share.from (share.to - share.from) i look within
 
 -- what was dealt to all workers is the window
-pub dealt-follow : (workers from to dealt : ℕ) (pieces slice : List Piece) → 0 < workers → from ≤ to → slice ≡ pieces → shares_among dealt pieces ≡ shares workers from (to - from) workers → Follow (shares_among dealt slice) from to
+pub dealt-follow : (workers from to dealt : ℕ) (pieces slice : List Piece) → 0 < workers → from ≤ to → slice ≡ pieces → shares_among dealt pieces ≡ shares workers from (to - from) workers → AreConsecutive (shares_among dealt slice) from to
 dealt-follow workers from to dealt pieces slice some_workers forwards is shared =
     let end : from + (to - from) ≡ to = omega arith in
-    subst (λ ss. Follow ss from to) (sym (ap (shares_among dealt) is ∙ shared))
-    (subst (λ e. Follow (shares workers from (to - from) workers) from e) end (Follow-shares workers from (to - from) some_workers))
+    subst (λ ss. AreConsecutive ss from to) (sym (ap (shares_among dealt) is ∙ shared))
+    (subst (λ e. AreConsecutive (shares workers from (to - from) workers) from e) end (Follow-shares workers from (to - from) some_workers))

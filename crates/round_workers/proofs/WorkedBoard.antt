@@ -4,16 +4,16 @@ use mathlib.Core.Option as maybe
 use Rattle.spec_record.specs.Look.{LookValue}
 use Rattle.round_book.specs.Window.{Window}
 use Rattle.round_workers.specs.declared.board.view.Basis.{Basis}
-use Rattle.round_workers.specs.declared.board.view.Place.{Place}
+use Rattle.round_workers.specs.declared.board.view.BoardSlot.{BoardSlot}
 use Rattle.round_workers.specs.declared.board.view.Phase.TheVariants.{Resting}
 use Rattle.round_workers.specs.declared.board.view.Try.TheVariants.{Never, OfBook, OfLook}
 use Rattle.round_workers.specs.declared.board.view.View.{View}
-use Rattle.round_workers.specs.BoardPlays.{after_try, drew, has_put, has_seen, joined, made_one, newcomer, took_look, with_book, without_book}
+use Rattle.round_workers.specs.BoardPlays.{after_try, drew, has_put, has_seen, views_joined, made_one, newcomer, took_look, with_book, without_book}
 use Rattle.round_workers.specs.BoardRule.{IsLookKept}
 use Rattle.round_workers.specs.BoardSeats.{left_if}
-use Rattle.round_workers.specs.BoardTotals.{late_among, once_below, total}
+use Rattle.round_workers.specs.BoardTotals.{late_among, once_below, summed}
 use Rattle.round_workers.specs.BoardView.{book_home, book_out, first_seat, look_emptied, look_empty, look_full, look_in_hand}
-use Rattle.round_workers.specs.BoardWorker.{ascends, below}
+use Rattle.round_workers.specs.BoardWorker.{ascends, those_below}
 
 -- what the words say, as numbers
 pub the_words : (book_home ∷ book_out ∷ look_empty ∷ look_in_hand ∷ look_full ∷ look_emptied ∷ []) ≡ 0 ∷ 1 ∷ 0 ∷ 1 ∷ 2 ∷ 3 ∷ []
@@ -51,11 +51,11 @@ module _ (basis : Basis) where
   a_taker = refl
 
   -- it goes into the first seat
-  pub the_whole : joined (drew first 0) giver ≡ record { about = Some basis; number = 0; made = 2; parts = 0 ∷ 2 ∷ []; drawn = 0 ∷ 3 ∷ 5 ∷ []; put = 3 ∷ []; took = 3 ∷ []; holds = false; opened = true; tries = 0; last = Never; phase = Resting }
+  pub the_whole : views_joined (drew first 0) giver ≡ record { about = Some basis; number = 0; made = 2; parts = 0 ∷ 2 ∷ []; drawn = 0 ∷ 3 ∷ 5 ∷ []; put = 3 ∷ []; took = 3 ∷ []; holds = false; opened = true; tries = 0; last = Never; phase = Resting }
   the_whole = refl
 
 -- what the word of a look is: before it is put, while a seat puts it, once it is put, while a seat takes it, and once it is taken
-module _ (window : Window) (ticket word : ℕ) (home : maybe.Option (maybe.Option Place)) where
+module _ (window : Window) (ticket word : ℕ) (home : maybe.Option (maybe.Option BoardSlot)) where
   pub not_put : IsLookKept window ticket word home 0 0 0 0 → word ≡ 0
   not_put is = let sum = is.sum in omega arith
 
@@ -75,11 +75,11 @@ module _ (window : Window) (ticket word : ℕ) (home : maybe.Option (maybe.Optio
 pub left_looks : (look : LookValue) → (left_if 0 0 look ∷ left_if 1 0 look ∷ left_if 1 1 look ∷ []) ≡ None ∷ Some look ∷ None ∷ []
 left_looks look = refl
 
--- totals, and numbers below or from 3 on
-pub totals : (total (λ (n : ℕ). n + 1) (2 ∷ 0 ∷ 5 ∷ []) ∷ once_below 2 3 ∷ once_below 3 3 ∷ late_among 3 (1 ∷ 3 ∷ 5 ∷ []) ∷ []) ≡ 10 ∷ 1 ∷ 0 ∷ 2 ∷ []
+-- totals, and numbers those_below or from 3 on
+pub totals : (summed (λ (n : ℕ). n + 1) (2 ∷ 0 ∷ 5 ∷ []) ∷ once_below 2 3 ∷ once_below 3 3 ∷ late_among 3 (1 ∷ 3 ∷ 5 ∷ []) ∷ []) ≡ 10 ∷ 1 ∷ 0 ∷ 2 ∷ []
 totals = refl
 
-pub belows : below 3 (0 ∷ 2 ∷ 3 ∷ 5 ∷ []) ≡ 0 ∷ 2 ∷ []
+pub belows : those_below 3 (0 ∷ 2 ∷ 3 ∷ 5 ∷ []) ≡ 0 ∷ 2 ∷ []
 belows = refl
 
 pub ascending : (ascends 0 (0 ∷ 2 ∷ 5 ∷ []) ≡ true) × (ascends 0 (2 ∷ 2 ∷ []) ≡ false) × (ascends 1 (0 ∷ []) ≡ false)

@@ -6,8 +6,8 @@ use Rattle.spec_record.specs.Look.{LookValue}
 use Rattle.round_book.specs.Book.{BookValue}
 use Rattle.round_book.specs.Machine.{times}
 use Rattle.round_book.specs.Window.{look_for}
-use Rattle.round_workers.specs.declared.board.view.Place.{Place}
-use Rattle.round_workers.specs.declared.board.view.Place.TheVariants.{OneLook, Spare, TheBook}
+use Rattle.round_workers.specs.declared.board.view.BoardSlot.{BoardSlot}
+use Rattle.round_workers.specs.declared.board.view.BoardSlot.TheVariants.{OneLook, Spare, TheBook}
 use Rattle.round_workers.specs.declared.board.view.Phase.TheVariants.{Resting, Opening, Putting, Taking}
 use Rattle.round_workers.specs.declared.board.view.Try.{Try}
 use Rattle.round_workers.specs.declared.board.view.Try.TheVariants.{Never, OfBook, OfLook}
@@ -16,14 +16,14 @@ use Rattle.round_workers.specs.BoardRule.{StandsFor}
 use Rattle.round_workers.specs.BoardView.{book_home, book_out, look_full, window_about}
 
 abbrev At : Type 0
-At = Me Place View
+At = Me BoardSlot View
 
 -- a seat after it drew a ticket
 abbrev pub drew : View → ℕ → View
 drew v ticket = record v { drawn = v.drawn ++ ticket ∷ [] }
 
 -- the ticket is the seat's, above each that it drew, and small
-abbrev pub tells_draw : Step Place → At → ℕ → At → Type 0
+abbrev pub tells_draw : Step BoardSlot → At → ℕ → At → Type 0
 tells_draw step me found new = (new ≡ (drew me.0 found, me.1)) × AllByRecursion (λ k. k < found) me.0.drawn × (found < 2 ^ 32)
 
 -- the first seat after it made another
@@ -48,11 +48,11 @@ newcomer v = record {
 }
 
 -- a seat after another went into it
-abbrev pub joined : View → View → View
-joined v w = record v { parts = v.parts ++ w.parts; drawn = v.drawn ++ w.drawn; put = v.put ++ w.put; took = v.took ++ w.took }
+abbrev pub views_joined : View → View → View
+views_joined v w = record v { parts = v.parts ++ w.parts; drawn = v.drawn ++ w.drawn; put = v.put ++ w.put; took = v.took ++ w.took }
 
 -- the seat is as it was, and drew no ticket twice
-abbrev pub tells_each_once : Step Place → At → ℕ → At → Type 0
+abbrev pub tells_each_once : Step BoardSlot → At → ℕ → At → Type 0
 tells_each_once step me found new = (new ≡ me) × ((k : ℕ) → times k me.0.drawn ≤ 1)
 
 -- a seat after a try
@@ -90,10 +90,10 @@ abbrev pub has_taken : View → ℕ → View
 has_taken v ticket = record v { phase = Resting; took = v.took ++ ticket ∷ [] }
 
 -- the book's slot was home, and is the seat's
-abbrev pub tells_open : Step Place → At → ℕ → At → Type 0
+abbrev pub tells_open : Step BoardSlot → At → ℕ → At → Type 0
 tells_open step me found new = (found ≡ book_home) × (new ≡ (opens_now me.0, (0, TheBook None) ∷ me.1))
 
-abbrev pub tells_opened : Step Place → At → ℕ → At → Type 0
+abbrev pub tells_opened : Step BoardSlot → At → ℕ → At → Type 0
 tells_opened step me found new = new ≡ (has_seen me.0, rest me.1)
 
 -- where the book was home it is the seat's, and stands for the window that the seat knows; else another seat has it
@@ -101,17 +101,17 @@ pub record TellsTake (me : At) (found : ℕ) (new : At) : Type 0 where
   pub home : found ≡ book_home → (book : BookValue) × StandsFor (window_about me.0.about) book × (new ≡ (with_book me.0, (0, TheBook (Some book)) ∷ me.1))
   pub out : found ≢ book_home → (found ≡ book_out) × (new ≡ (after_try me.0 (OfBook book_out), me.1))
 
-abbrev pub tells_take_book : Step Place → At → ℕ → At → Type 0
+abbrev pub tells_take_book : Step BoardSlot → At → ℕ → At → Type 0
 tells_take_book step = TellsTake
 
-abbrev pub tells_give_book : Step Place → At → ℕ → At → Type 0
+abbrev pub tells_give_book : Step BoardSlot → At → ℕ → At → Type 0
 tells_give_book step me found new = new ≡ (without_book me.0, rest me.1)
 
 -- the look's slot was home, with no look waiting in it, and is the seat's
-abbrev pub tells_put : Step Place → At → ℕ → At → Type 0
+abbrev pub tells_put : Step BoardSlot → At → ℕ → At → Type 0
 tells_put step me found new = (j : ℕ) → step.word ≡ j + 2 → (old : Option LookValue) × (new ≡ (puts_now me.0 j, (j + 1, Spare old) ∷ me.1))
 
-abbrev pub tells_has_put : Step Place → At → ℕ → At → Type 0
+abbrev pub tells_has_put : Step BoardSlot → At → ℕ → At → Type 0
 tells_has_put step me found new = (j : ℕ) → step.word ≡ j + 2 → new ≡ (has_put me.0 j, rest me.1)
 
 -- the look at a ticket's turn, in the window that the seat knows
@@ -123,10 +123,10 @@ pub record TellsTakeLook (ticket : ℕ) (me : At) (found : ℕ) (new : At) : Typ
   pub full : found ≡ look_full → new ≡ (takes_now me.0 ticket, (ticket + 1, OneLook (Some (look_at_ticket me.0 ticket))) ∷ me.1)
   pub other : found ≢ look_full → new ≡ (after_try me.0 (OfLook ticket found), me.1)
 
-abbrev pub tells_take_look : Step Place → At → ℕ → At → Type 0
+abbrev pub tells_take_look : Step BoardSlot → At → ℕ → At → Type 0
 tells_take_look step me found new = (j : ℕ) → step.word ≡ j + 2 → TellsTakeLook j me found new
 
-abbrev pub tells_has_taken : Step Place → At → ℕ → At → Type 0
+abbrev pub tells_has_taken : Step BoardSlot → At → ℕ → At → Type 0
 tells_has_taken step me found new = (j : ℕ) → step.word ≡ j + 2 → new ≡ (has_taken me.0 j, rest me.1)
 
 -- a seat that tried for the look of a ticket, found its word full and took it

@@ -12,12 +12,12 @@ use Rattle.round_book.specs.Book.{BookValue, Stands}
 use Rattle.round_book.specs.Machine.{times}
 use Rattle.round_book.specs.Window.{IsPlayable, Window, look_for}
 use Rattle.round_workers.specs.declared.board.view.Basis.{Basis}
-use Rattle.round_workers.specs.declared.board.view.Place.{Place}
-use Rattle.round_workers.specs.declared.board.view.Place.TheVariants.{OneLook, Spare, TheBook}
+use Rattle.round_workers.specs.declared.board.view.BoardSlot.{BoardSlot}
+use Rattle.round_workers.specs.declared.board.view.BoardSlot.TheVariants.{OneLook, Spare, TheBook}
 use Rattle.round_workers.specs.declared.board.view.Phase.{Phase}
 use Rattle.round_workers.specs.declared.board.view.Phase.TheVariants.{Resting, Opening, Putting, Taking}
 use Rattle.round_workers.specs.declared.board.view.View.{View}
-use Rattle.round_workers.specs.BoardTotals.{late_among, once_below, total}
+use Rattle.round_workers.specs.BoardTotals.{late_among, once_below, summed}
 use Rattle.round_workers.specs.BoardView.{spent_seat, window_for}
 
 -- a book stands for a window: the window may be played, and the book stands on it
@@ -48,12 +48,12 @@ only_if false n = 0
 abbrev pub has_opened : View → ℕ
 has_opened v = only_if v.opened (is_first v)
 
--- 1 in the midst of opening the book, else 0
-abbrev pub opening : Phase → ℕ
-opening Resting = 0
-opening Opening = 1
-opening (Putting j) = 0
-opening (Taking j) = 0
+-- 1 in the midst of phase_opening the book, else 0
+abbrev pub phase_opening : Phase → ℕ
+phase_opening Resting = 0
+phase_opening Opening = 1
+phase_opening (Putting j) = 0
+phase_opening (Taking j) = 0
 
 -- 1 in the midst of putting the look of ticket x, else 0
 abbrev pub putting : ℕ → Phase → ℕ
@@ -78,7 +78,7 @@ pub record IsSeated (key : Basis) (v : View) : Type 0 where
   pub makes : v.number ≢ 0 → v.made ≡ 0
   pub late : late_among (turns_of key) v.drawn ≤ length v.parts
   pub drew : (x : ℕ) → times x v.put + putting x v.phase ≤ times x v.drawn
-  pub opens : opening v.phase + has_opened v ≤ is_first v
+  pub opens : phase_opening v.phase + has_opened v ≤ is_first v
 
 -- of a seat that went into another nothing is left
 abbrev pub Sits : Basis → View → Type 0
@@ -86,35 +86,35 @@ Sits key v = (v ≡ spent_seat) ⊎ IsSeated key v
 
 -- how many others the first seat made
 abbrev pub made_by : List View → ℕ
-made_by views = total (λ v. v.made) views
+made_by views = summed (λ v. v.made) views
 
 -- the parts of all seats are the numbers from 0 to the count of seats that were made, each once; that count is at most 16; there is one first
 -- seat
 pub record AreParts (views : List View) : Type 0 where
-  pub each : (x : ℕ) → total (λ v. times x v.parts) views ≡ once_below x (made_by views + 1)
-  pub count : total (λ v. length v.parts) views ≡ made_by views + 1
+  pub each : (x : ℕ) → summed (λ v. times x v.parts) views ≡ once_below x (made_by views + 1)
+  pub count : summed (λ v. length v.parts) views ≡ made_by views + 1
   pub few : made_by views ≤ 16
-  pub first : total is_first views ≡ 1
+  pub first : summed is_first views ≡ 1
 
 -- the tickets of all seats are the numbers below the ticket word, each once; at most as many as are behind the window were drawn beyond it
 pub record AreDealt (turns word : ℕ) (views : List View) : Type 0 where
-  pub each : (x : ℕ) → total (λ v. times x v.drawn) views ≡ once_below x word
-  pub within : word ≤ turns + total (λ v. late_among turns v.drawn) views
+  pub each : (x : ℕ) → summed (λ v. times x v.drawn) views ≡ once_below x word
+  pub within : word ≤ turns + summed (λ v. late_among turns v.drawn) views
 
 -- a slot is home, with this in it
-abbrev pub HasHome : maybe.Option (maybe.Option Place) → Place → Type 0
+abbrev pub HasHome : maybe.Option (maybe.Option BoardSlot) → BoardSlot → Type 0
 HasHome home place = home ≡ maybe.some (maybe.some place)
 
 -- a slot is home, with a book in it that stands for the window
-abbrev pub HasBook : maybe.Option (maybe.Option Place) → Window → Type 0
+abbrev pub HasBook : maybe.Option (maybe.Option BoardSlot) → Window → Type 0
 HasBook home window = (book : BookValue) × HasHome home (TheBook (Some book)) × StandsFor window book
 
 -- a slot is home, with a look's room in it in which no look is waiting; there may be an old one
-abbrev pub IsSpare : maybe.Option (maybe.Option Place) → Type 0
+abbrev pub IsSpare : maybe.Option (maybe.Option BoardSlot) → Type 0
 IsSpare home = (old : Option LookValue) × HasHome home (Spare old)
 
--- the book, by its word and what its slot has at home: so many seats hold it, are opening it, opened it, and have seen it opened
-pub record IsBookKept (window : Window) (word : ℕ) (home : maybe.Option (maybe.Option Place)) (held opens opened seen : ℕ) : Type 0 where
+-- the book, by its word and what its slot has at home: so many seats hold it, are phase_opening it, opened it, and have seen it opened
+pub record IsBookKept (window : Window) (word : ℕ) (home : maybe.Option (maybe.Option BoardSlot)) (held opens opened seen : ℕ) : Type 0 where
   pub out : word ≡ held + opens
   pub bit : word ≤ 1
   pub once : opens + opened ≤ 1
@@ -126,24 +126,25 @@ pub record IsBookKept (window : Window) (word : ℕ) (home : maybe.Option (maybe
 -- the look of a ticket, by its word and what its slot has at home: so many seats put it, took it, are putting it and are taking it. The word
 -- says how far the look is: in hand while a seat puts it, full once it is put, emptied once it is taken; while a seat takes it, it is in hand
 -- again. So it is 1 for a put that is under way, 2 for one that is done, 1 more for a take that is done, and 1 less for one that is under way
-pub record IsLookKept (window : Window) (ticket word : ℕ) (home : maybe.Option (maybe.Option Place)) (put took puts takes : ℕ) : Type 0 where
+pub record IsLookKept (window : Window) (ticket word : ℕ) (home : maybe.Option (maybe.Option BoardSlot)) (put took puts takes : ℕ) : Type 0 where
   pub sum : word + takes ≡ puts + (put + put) + took
   pub once : puts + put ≤ 1
   pub back : takes + took ≤ put
   pub bare : put ≡ took → puts ≡ 0 → IsSpare home
   pub full : put ≡ 1 → took + takes ≡ 0 → HasHome home (OneLook (Some (look_for window (window.from + ticket))))
 
-abbrev pub IsBookKeptBy : Window → ℕ → maybe.Option (maybe.Option Place) → List View → Type 0
+abbrev pub IsBookKeptBy : Window → ℕ → maybe.Option (maybe.Option BoardSlot) → List View → Type 0
 IsBookKeptBy window word home views =
-    IsBookKept window word home (total (λ v. one_if v.holds) views) (total (λ v. opening v.phase) views) (total has_opened views) (total (λ v. one_if v.opened) views)
+    IsBookKept window word home (summed (λ v. one_if v.holds) views) (summed (λ v. phase_opening v.phase) views) (summed has_opened views)
+    (summed (λ v. one_if v.opened) views)
 
-abbrev pub IsLookKeptBy : Window → ℕ → ℕ → maybe.Option (maybe.Option Place) → List View → Type 0
+abbrev pub IsLookKeptBy : Window → ℕ → ℕ → maybe.Option (maybe.Option BoardSlot) → List View → Type 0
 IsLookKeptBy window j word home views =
-    IsLookKept window j word home (total (λ v. times j v.put) views) (total (λ v. times j v.took) views)
-    (total (λ v. putting j v.phase) views) (total (λ v. taking j v.phase) views)
+    IsLookKept window j word home (summed (λ v. times j v.put) views) (summed (λ v. times j v.took) views)
+    (summed (λ v. putting j v.phase) views) (summed (λ v. taking j v.phase) views)
 
 -- the rule
-pub record IsKept (key : Basis) (s : State Place View) : Type 0 where
+pub record IsKept (key : Basis) (s : State BoardSlot View) : Type 0 where
   pub playable : IsPlayable (window_for key)
   pub words : length s.words ≡ turns_of key + 2
   pub homes : length s.homes ≡ turns_of key + 1

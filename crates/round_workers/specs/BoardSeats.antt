@@ -15,8 +15,8 @@ use Rattle.round_workers.specs.BoardView.{look_full, window_for}
 abbrev pub basis_of : Board → Basis
 basis_of board = board.table.shared.key
 
-abbrev pub window_of : Board → Window
-window_of board = window_for (basis_of board)
+abbrev pub board_window : Board → Window
+board_window board = window_for (basis_of board)
 
 -- what a seat knows
 abbrev pub known : Seat → View

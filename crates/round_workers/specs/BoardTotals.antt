@@ -3,9 +3,9 @@ use Rattle.std.specs.Prelude.{ℕ, ◌+◌, nat_le, nat_lt, List, [], ◌∷◌}
 use Rattle.cell_world.specs.Cell.{one_if}
 
 -- the sum of f over a list
-abbrev pub total : {A : Type 0} → (A → ℕ) → List A → ℕ
-total f [] = 0
-total f (v ∷ vs) = f v + total f vs
+abbrev pub summed : {A : Type 0} → (A → ℕ) → List A → ℕ
+summed f [] = 0
+summed f (v ∷ vs) = f v + summed f vs
 
 -- 1 where x is below n, else 0
 abbrev pub once_below : ℕ → ℕ → ℕ

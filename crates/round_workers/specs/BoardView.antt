@@ -7,8 +7,8 @@ use Rattle.ant_turn.specs.Sheet.{sheet_of}
 use Rattle.round_book.specs.Window.{Window}
 use Rattle.atomic_table.specs.Table.{Me}
 use Rattle.round_workers.specs.declared.board.view.Basis.{Basis}
-use Rattle.round_workers.specs.declared.board.view.Place.{Place}
-use Rattle.round_workers.specs.declared.board.view.Place.TheVariants.{TheBook}
+use Rattle.round_workers.specs.declared.board.view.BoardSlot.{BoardSlot}
+use Rattle.round_workers.specs.declared.board.view.BoardSlot.TheVariants.{TheBook}
 use Rattle.round_workers.specs.declared.board.view.Phase.TheVariants.{Resting}
 use Rattle.round_workers.specs.declared.board.view.Try.TheVariants.{Never}
 use Rattle.round_workers.specs.declared.board.view.View.{View}
@@ -87,12 +87,12 @@ abbrev pub look_emptied : ℕ
 look_emptied = 3
 
 -- the slots that are out with a seat between two calls: the book's, whose room is empty while the seat holds the book
-abbrev pub out_with : Bool → List (ℕ × Place)
+abbrev pub out_with : Bool → List (ℕ × BoardSlot)
 out_with false = []
 out_with true = (0, TheBook None) ∷ []
 
 -- a seat is between two calls
-pub record IsAtRest (me : Me Place View) : Type 0 where
+pub record IsAtRest (me : Me BoardSlot View) : Type 0 where
   pub live : me.0.about ≢ None
   pub resting : me.0.phase ≡ Resting
   pub out : me.1 ≡ out_with me.0.holds

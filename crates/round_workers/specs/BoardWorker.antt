@@ -8,10 +8,10 @@ use Rattle.round_workers.specs.declared.board.view.View.{View}
 use Rattle.round_workers.specs.BoardTotals.{late_among}
 use Rattle.round_workers.specs.BoardView.{window_about}
 
--- the numbers of a list that are below n
-abbrev pub below : ℕ → List ℕ → List ℕ
-below n [] = []
-below n (x ∷ xs) = cond (nat_lt x n) (x ∷ below n xs) (below n xs)
+-- the numbers of a list that are those_below n
+abbrev pub those_below : ℕ → List ℕ → List ℕ
+those_below n [] = []
+those_below n (x ∷ xs) = cond (nat_lt x n) (x ∷ those_below n xs) (those_below n xs)
 
 -- whether each number is above those before it, from this one on
 abbrev pub ascends : ℕ → List ℕ → Bool
@@ -29,7 +29,7 @@ pub record IsWorker (v : View) (made : List ℕ) : Type 0 where
   pub free : v.holds ≡ false
   pub alone : v.parts ≡ v.number ∷ []
   pub in_order : ascends 0 v.drawn ≡ true
-  pub puts : v.put ≡ below (turns_in (window_about v.about)) v.drawn
+  pub puts : v.put ≡ those_below (turns_in (window_about v.about)) v.drawn
   pub made_them : made ≡ map (λ ticket. (window_about v.about).from + ticket) v.put
 
 -- a field is lent for a window

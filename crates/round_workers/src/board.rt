@@ -6,7 +6,7 @@ ghost use Rattle.round_book.specs.Book.{CanBegin, window_of};
 ghost use Rattle.round_book.specs.Machine.{times};
 ghost use Rattle.round_book.specs.Window.{IsPlayable};
 ghost use Rattle.round_workers.specs.Inner.BoardPlaces.{AreBare};
-ghost use Rattle.round_workers.specs.BoardPlays.{drew, joined, made_one, newcomer};
+ghost use Rattle.round_workers.specs.BoardPlays.{drew, views_joined, made_one, newcomer};
 ghost use Rattle.round_workers.specs.BoardRule.{turns_of};
 ghost use Rattle.round_workers.specs.BoardSeats.{IsSeatOf, basis_of, known};
 ghost use Rattle.round_workers.specs.BoardView.{first_seat, window_for};
@@ -28,13 +28,14 @@ pub use closing::Closed;
 pub use crew::BoardCrew;
 use hex_geometry::OutOfMemory;
 use law::{Draws, Joins, SeesEachOnce, Splits};
+use places::keep;
 pub use room::Room;
 use round_book::Field;
 pub use seat::{Board, Seat};
 use spec_record::Look;
 use std::alloc::Global;
 use std::snapshot::Snapshot;
-pub use view::{Basis, Phase, Place, Try, View};
+pub use view::{Basis, BoardSlot, Phase, Try, View};
 pub use worker::Worker;
 
 impl Board {
@@ -57,7 +58,7 @@ impl Board {
         Board::over(alloc, field, from, to, &mut kept)
     }
 
-    // The same, with the rooms for looks that were kept, and such as are wanted besides.
+    // The same, with the rooms for looks that were kept, and such as are wanted besides. Where it is refused, the rooms are kept still.
     pub(crate) fn over(
         alloc: Global,
         field: &Field<'_>,
@@ -73,11 +74,15 @@ impl Board {
         let basis = basis(field, from, to);
         let turns = (to - from) as usize;
         let words = vec![in alloc; 0u64; turns + 2]?;
-        let slots = bare(alloc, turns, kept)?;
         let places = Vec::with_capacity(alloc, turns)?;
         let room = Vec::with_capacity(alloc, turns)?;
-        let Ok((table, hand)) = Table::new(alloc, &words, slots, &basis) else {
-            return Err(OutOfMemory);
+        let slots = bare(alloc, turns, kept)?;
+        let (table, hand) = match Table::new(alloc, &words, slots, &basis) {
+            Ok(made) => made,
+            Err(refused) => {
+                keep(kept, refused.slots);
+                return Err(OutOfMemory);
+            }
         };
         let board = Board {
             table,
@@ -152,7 +157,7 @@ impl Board {
         requires other_first { (known other).number ≢ 0 }
         requires free { (known other).holds ≡ false }
         ensures board { IsSeatOf self.now seat.new }
-        ensures joined { known seat.new ≡ joined (known seat.old) (known other) }
+        ensures joined { known seat.new ≡ views_joined (known seat.old) (known other) }
         ensures apart { (k : ℕ) → times k (known seat.old).drawn + times k (known other).drawn ≤ 1 }
     {
         let Seat { hand } = other;
@@ -186,17 +191,25 @@ fn basis(field: &Field<'_>, from: u32, to: u32) -> Basis
     }
 }
 
-// The slots with which a board of so many turns begins, with the rooms that were kept, and such as are wanted besides.
-fn bare(alloc: Global, turns: usize, kept: &mut Vec<Room<Look>>) -> Result<Vec<Place>, OutOfMemory>
+// The slots with which a board of so many turns begins, with the rooms that were kept, and such as are wanted besides. Where memory is
+// wanting, those that are there by then are kept.
+fn bare(
+    alloc: Global,
+    turns: usize,
+    kept: &mut Vec<Room<Look>>,
+) -> Result<Vec<BoardSlot>, OutOfMemory>
     requires { turns < 2 ^ 32 }
     ensures { IfOk result (λ slots. AreBare turns slots.items) }
 {
     let mut slots = Vec::with_capacity(alloc, turns + 1)?;
     let book = Room::new(alloc)?;
-    slots.push_reserved(Place::TheBook(book));
+    slots.push_reserved(BoardSlot::TheBook(book));
     for _ in 0..turns {
-        let room = spare(alloc, kept)?;
-        slots.push_reserved(Place::Spare(room));
+        let Ok(room) = spare(alloc, kept) else {
+            keep(kept, slots);
+            return Err(OutOfMemory);
+        };
+        slots.push_reserved(BoardSlot::Spare(room));
     }
     Ok(slots)
 }

@@ -1,7 +1,7 @@
 // The threads of a crew of pieces.
 ghost use Rattle.std.specs.Prelude.{◌≡◌, ℕ, ◌<◌, All, length, slice_index_or};
 ghost use Rattle.round_workers.specs.declared.piece.Piece.{Piece};
-ghost use Rattle.round_workers.specs.Inner.Pieces.{IsDone, IsReady};
+ghost use Rattle.round_workers.specs.Inner.Pieces.{IsPieceDone, IsPieceReady};
 
 use crate::piece::Piece;
 use ant_base::Gate;
@@ -19,8 +19,8 @@ pub fn look_at_pieces<R: Threads + Sync, G: Gate>(
     workers: usize,
 )
     requires workers { 0 < workers }
-    requires ready { All (IsReady field.now from) pieces.old }
-    ensures done { (i : ℕ) (d : Piece) → i < length pieces.old → IsDone field.now from (slice_index_or pieces.old i d) (slice_index_or pieces.new i d) }
+    requires ready { All (IsPieceReady field.now from) pieces.old }
+    ensures done { (i : ℕ) (d : Piece) → i < length pieces.old → IsPieceDone field.now from (slice_index_or pieces.old i d) (slice_index_or pieces.new i d) }
     ensures len { length pieces.new ≡ length pieces.old }
 {
     thread::for_each_mut(
@@ -28,8 +28,8 @@ pub fn look_at_pieces<R: Threads + Sync, G: Gate>(
         pieces,
         workers,
         &|_: usize, piece: &mut Piece|
-            requires { IsReady field.now from piece.now }
-            ensures { IsDone field.entry.now from piece.entry.now piece.exit.now }
+            requires { IsPieceReady field.now from piece.now }
+            ensures { IsPieceDone field.entry.now from piece.entry.now piece.exit.now }
         { piece.look_at_turns(field, gate, from) },
     );
 }

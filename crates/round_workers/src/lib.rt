@@ -10,7 +10,6 @@
 //! What is true of a board between any two steps of its seats stands in `specs/BoardRule.antt`.
 #![tactic(auto)]
 
-mod alone;
 mod board;
 mod fork;
 mod piece;
@@ -18,6 +17,6 @@ mod piece_crew;
 mod settling;
 mod share;
 
-pub use board::{Basis, Board, BoardCrew, Closed, Phase, Place, Room, Seat, Try, View, Worker};
+pub use board::{Basis, Board, BoardCrew, BoardSlot, Closed, Phase, Room, Seat, Try, View, Worker};
 pub use hex_geometry::OutOfMemory;
 pub use piece_crew::PieceCrew;

@@ -6,7 +6,7 @@ ghost use Rattle.cell_world.specs.Grid.{world_of};
 ghost use Rattle.round_book.specs.Book.{CanBegin, window_of};
 ghost use Rattle.round_book.specs.Window.{guess_for};
 ghost use Rattle.spec_record.specs.Look.{look_of};
-ghost use Rattle.round_workers.specs.Inner.Pieces.{AreLooked, HasRoom, IsDone, IsReady, all_have_room, shares_among};
+ghost use Rattle.round_workers.specs.Inner.Pieces.{AreLooked, HasPieceRoom, IsPieceDone, IsPieceReady, all_have_room, shares_among};
 ghost use Rattle.round_workers.specs.Inner.Shares.{if_any, looks_for, shares};
 
 use crate::share::{Share, share_of};
@@ -29,7 +29,7 @@ impl Piece {
     // Takes these turns on, and room for their looks.
     fn take_on(&mut self, share: Share) -> Result<(), OutOfMemory>
         ensures share { self.new.share ≡ share }
-        ensures room { OnOk result (HasRoom self.new) }
+        ensures room { OnOk result (HasPieceRoom self.new) }
     {
         self.share = share;
         let turns = share.to.saturating_sub(share.from) as usize;
@@ -40,8 +40,8 @@ impl Piece {
 
     // Makes the look at each of its turns, in order, and calls the gate before each.
     pub fn look_at_turns<G: Gate>(&mut self, field: &Field<'_>, gate: &G, from: u32)
-        requires { IsReady field.now from self.old }
-        ensures { IsDone field.now from self.old self.new }
+        requires { IsPieceReady field.now from self.old }
+        ensures { IsPieceDone field.now from self.old self.new }
     {
         make_looks(&mut self.looks, self.share, field, gate, from);
     }
@@ -76,8 +76,12 @@ fn make_look(looks: &mut Vec<Look>, at: usize, field: &Field<'_>, stream: &mut S
     requires place { stream.old.place + 1 < 2 ^ 63 }
     requires next { at ≤ vec_len looks.old }
     requires room { at < vec_capacity looks.old }
-    ensures made { take (at + 1) looks.new.items ≡ take at looks.old.items ++ look_of field.now.minds stream.old.seed (world_of field.now.world) stream.old.place id ∷ [] }
-    ensures stream { stream.new ≡ record stream.old { place = stream.old.place + one_if (look_of field.now.minds stream.old.seed (world_of field.now.world) stream.old.place id).drew } }
+    ensures made { take (at + 1) looks.new.items ≡ take at looks.old.items ++ look_of field.now.minds stream.old.seed
+        (world_of field.now.world) stream.old.place id ∷ [] }
+    ensures stream { stream.new ≡ record stream.old {
+      place = stream.old.place + one_if
+          (look_of field.now.minds stream.old.seed (world_of field.now.world) stream.old.place id).drew;
+    } }
     ensures len { at + 1 ≤ vec_len looks.new }
     ensures capacity { vec_capacity looks.new ≡ vec_capacity looks.old }
 {

@@ -3,13 +3,12 @@ ghost use Rattle.std.specs.Prelude.{◌≡◌, ◌+◌, ◌-◌, ◌≤◌, ◌^
 ghost use Rattle.round_book.specs.Book.{CanBegin, IsPlayed, window_of};
 ghost use Rattle.round_book.specs.Counts.{counts_of};
 
-use crate::alone::play_alone;
 use crate::fork::look_at_pieces;
 use crate::piece::{Piece, deal};
 use crate::settling::settle_pieces;
 use ant_base::Gate;
 use hex_geometry::OutOfMemory;
-use round_book::{Counts, Field};
+use round_book::{Counts, Field, play_window};
 use std::alloc::Global;
 use std::marker::Model;
 use std::thread::Threads;
@@ -118,7 +117,7 @@ fn play<R: Threads + Sync, G: Gate>(
     ensures unchanged { OnErr result (field.new ≡ field.old) }
 {
     if workers.min(to - from) <= 1 {
-        return play_alone(gate, alloc, field, from, to);
+        return play_window(gate, alloc, field, from, to);
     }
     let dealt = deal(pieces, alloc, workers, from, to)?;
     let pieces = &mut pieces[..dealt];

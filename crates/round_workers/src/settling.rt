@@ -1,7 +1,7 @@
 // The looks of all pieces, settled in order.
 ghost use Rattle.std.specs.Prelude.{◌≡◌, ◌≤◌, All, map};
 ghost use Rattle.round_book.specs.Book.{IsSameWindow, StandsOn, window_of};
-ghost use Rattle.round_workers.specs.Inner.Pieces.{AreLooked, Follow};
+ghost use Rattle.round_workers.specs.Inner.Pieces.{AreLooked, AreConsecutive};
 
 use crate::piece::Piece;
 use round_book::{Book, Field, advance};
@@ -9,7 +9,7 @@ use round_book::{Book, Field, advance};
 // Settles the turns of all pieces, one after another.
 pub fn settle_pieces(book: &mut Book, field: &Field<'_>, pieces: &[Piece])
     requires stands { StandsOn field.now book.old }
-    requires follow { Follow (map (λ piece. piece.share) pieces.now) book.old.next book.old.to }
+    requires follow { AreConsecutive (map (λ piece. piece.share) pieces.now) book.old.next book.old.to }
     requires looked { All (λ piece. AreLooked (window_of field.now book.old.from book.old.to) piece.share piece.looks.items) pieces.now }
     ensures stands { StandsOn field.now book.new }
     ensures next { book.new.next ≡ book.old.to }

@@ -20,7 +20,7 @@ got name bytes = record { name = name; answer = Ok bytes }
 
 -- each of three files was fetched once, in this order; its bytes are the text of a world that opens as this grid, or of a brain; and the score
 -- is that of the world after so many rounds by the contest's rules, with that seed
-pub record IsPlayed (log new_log : List Fetched) (world_name red_name black_name : List ℕ) (rounds : ℕ) (score : Score) : Type 0 where
+pub record IsGamePlayed (log new_log : List Fetched) (world_name red_name black_name : List ℕ) (rounds : ℕ) (score : Score) : Type 0 where
   pub world_bytes : List ℕ
   pub red_bytes : List ℕ
   pub black_bytes : List ℕ

@@ -4,7 +4,7 @@
 
 ghost use Rattle.std.specs.Prelude.{◌≤◌, IfSome};
 ghost use Rattle.match_run.specs.Run.{most_rounds};
-ghost use Rattle.sample_caller.specs.Played.{IsPlayed};
+ghost use Rattle.sample_caller.specs.Played.{IsGamePlayed};
 
 use ant_base::{FileShelf, OutSink, Shelf, read_number_within};
 use ant_turn::{Brains, Sheet};
@@ -33,7 +33,7 @@ fn play<S: Shelf>(
     rounds: u32,
 ) -> Option<Score>
     requires { rounds ≤ most_rounds }
-    ensures { IfSome result (λ score. IsPlayed (S.state shelf.old).log (S.state shelf.new).log world.now red.now black.now rounds score) }
+    ensures { IfSome result (λ score. IsGamePlayed (S.state shelf.old).log (S.state shelf.new).log world.now red.now black.now rounds score) }
 {
     let Ok(world_bytes) = shelf.fetch(alloc, world) else {
         return None;

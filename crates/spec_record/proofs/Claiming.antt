@@ -13,7 +13,7 @@ use Rattle.cell_world.specs.declared.part.Part.TheVariants.{Who, Mind, Load, Foo
 use Rattle.cell_world.specs.declared.part.Parts.{Parts}
 use Rattle.cell_world.specs.Parts.{Agree, has_part, no_parts, union}
 use Rattle.cell_world.specs.World.{Cells}
-use Rattle.spec_record.specs.Claims.{Claim, EachOnce, claim, joined, merged, merged_onto, places_of, with_cells_at}
+use Rattle.spec_record.specs.Claims.{Claim, EachOnce, claim, with_claim, merged, merged_onto, seen_positions, with_cells_at}
 use Rattle.spec_record.specs.Patching.{parts_at, parts_there}
 
 -- a part is in a union where it is in one of the two
@@ -115,26 +115,26 @@ parts_at-both at a b claims p =
     ∙ ap (λ t. union t (parts_at claims p)) (sym (parts_there-union at a b p))
 
 -- what is claimed with one claim more
-parts_at-joined : (claims : List Claim) (new : Claim) (p : Pos) → parts_at (joined claims new) p ≡ union (parts_at claims p) (parts_there new p)
-parts_at-joined [] new p = union-none (parts_there new p)
-parts_at-joined (old ∷ claims) new p =
+parts_at-with_claim : (claims : List Claim) (new : Claim) (p : Pos) → parts_at (with_claim claims new) p ≡ union (parts_at claims p) (parts_there new p)
+parts_at-with_claim [] new p = union-none (parts_there new p)
+parts_at-with_claim (old ∷ claims) new p =
     elim (cases_Bool (same_pos old.at new.at)) [
       | inl one ↦
           let at : old.at ≡ new.at = same_pos_true old.at new.at one in
-          ap (λ l. parts_at l p) (cond-true _ (claim old.at (union old.parts new.parts) ∷ claims) (old ∷ joined claims new) one)
+          ap (λ l. parts_at l p) (cond-true _ (claim old.at (union old.parts new.parts) ∷ claims) (old ∷ with_claim claims new) one)
           ∙ ap (λ t. union t (parts_at claims p)) (parts_there-union old.at old.parts new.parts p ∙ ap (λ q. union (parts_there old p) (parts_there (claim q new.parts) p)) at)
           ∙ union-swap (parts_there old p) (parts_there new p) (parts_at claims p)
       | inr apart ↦
-          ap (λ l. parts_at l p) (cond-false _ (claim old.at (union old.parts new.parts) ∷ claims) (old ∷ joined claims new) apart)
-          ∙ ap (union (parts_there old p)) (parts_at-joined claims new p)
+          ap (λ l. parts_at l p) (cond-false _ (claim old.at (union old.parts new.parts) ∷ claims) (old ∷ with_claim claims new) apart)
+          ∙ ap (union (parts_there old p)) (parts_at-with_claim claims new p)
           ∙ sym (union-assoc (parts_there old p) (parts_at claims p) (parts_there new p))
     ]
 
 parts_at-merged_onto : (more claims : List Claim) (p : Pos) → parts_at (merged_onto claims more) p ≡ union (parts_at claims p) (parts_at more p)
 parts_at-merged_onto [] claims p = sym (union-none (parts_at claims p))
 parts_at-merged_onto (new ∷ more) claims p =
-    parts_at-merged_onto more (joined claims new) p
-    ∙ ap (λ t. union t (parts_at more p)) (parts_at-joined claims new p)
+    parts_at-merged_onto more (with_claim claims new) p
+    ∙ ap (λ t. union t (parts_at more p)) (parts_at-with_claim claims new p)
     ∙ union-assoc (parts_at claims p) (parts_there new p) (parts_at more p)
 
 -- merging keeps what is claimed at each position
@@ -146,27 +146,27 @@ parts_at-merged claims p = parts_at-merged_onto claims [] p
 abbrev pub AgreeInAll : Cells → Cells → List Claim → Type 0
 AgreeInAll v w claims = AllByRecursion (λ c. Agree c.parts (v c.at) (w c.at)) claims
 
-AgreeInAll-joined : (v w : Cells) (claims : List Claim) (new : Claim) → AgreeInAll v w (joined claims new) → AgreeInAll v w claims × Agree new.parts (v new.at) (w new.at)
-AgreeInAll-joined v w [] new all = (tt, all.0)
-AgreeInAll-joined v w (old ∷ claims) new all =
+AgreeInAll-with_claim : (v w : Cells) (claims : List Claim) (new : Claim) → AgreeInAll v w (with_claim claims new) → AgreeInAll v w claims × Agree new.parts (v new.at) (w new.at)
+AgreeInAll-with_claim v w [] new all = (tt, all.0)
+AgreeInAll-with_claim v w (old ∷ claims) new all =
     elim (cases_Bool (same_pos old.at new.at)) [
       | inl one ↦
           let at : old.at ≡ new.at = same_pos_true old.at new.at one in
-          let it : AgreeInAll v w (claim old.at (union old.parts new.parts) ∷ claims) = subst (AgreeInAll v w) (cond-true _ (claim old.at (union old.parts new.parts) ∷ claims) (old ∷ joined claims new) one) all in (
+          let it : AgreeInAll v w (claim old.at (union old.parts new.parts) ∷ claims) = subst (AgreeInAll v w) (cond-true _ (claim old.at (union old.parts new.parts) ∷ claims) (old ∷ with_claim claims new) one) all in (
             (Agree-first old.parts new.parts (v old.at) (w old.at) it.0, it.1),
             subst (λ q. Agree new.parts (v q) (w q)) at (Agree-second old.parts new.parts (v old.at) (w old.at) it.0),
           )
       | inr apart ↦
-          let it : AgreeInAll v w (old ∷ joined claims new) = subst (AgreeInAll v w) (cond-false _ (claim old.at (union old.parts new.parts) ∷ claims) (old ∷ joined claims new) apart) all in
-          let rest : AgreeInAll v w claims × Agree new.parts (v new.at) (w new.at) = AgreeInAll-joined v w claims new it.1 in
+          let it : AgreeInAll v w (old ∷ with_claim claims new) = subst (AgreeInAll v w) (cond-false _ (claim old.at (union old.parts new.parts) ∷ claims) (old ∷ with_claim claims new) apart) all in
+          let rest : AgreeInAll v w claims × Agree new.parts (v new.at) (w new.at) = AgreeInAll-with_claim v w claims new it.1 in
           ((it.0, rest.0), rest.1)
     ]
 
 AgreeInAll-merged_onto : (v w : Cells) (more claims : List Claim) → AgreeInAll v w (merged_onto claims more) → AgreeInAll v w claims × AgreeInAll v w more
 AgreeInAll-merged_onto v w [] claims all = (all, tt)
 AgreeInAll-merged_onto v w (new ∷ more) claims all =
-    let front : AgreeInAll v w (joined claims new) × AgreeInAll v w more = AgreeInAll-merged_onto v w more (joined claims new) all in
-    let it : AgreeInAll v w claims × Agree new.parts (v new.at) (w new.at) = AgreeInAll-joined v w claims new front.0 in
+    let front : AgreeInAll v w (with_claim claims new) × AgreeInAll v w more = AgreeInAll-merged_onto v w more (with_claim claims new) all in
+    let it : AgreeInAll v w claims × Agree new.parts (v new.at) (w new.at) = AgreeInAll-with_claim v w claims new front.0 in
     (it.0, (it.1, front.1))
 
 -- what agrees in merged claims agrees in each of the claims
@@ -178,26 +178,26 @@ AgreeInAll-merged v w claims all = (AgreeInAll-merged_onto v w claims [] all).1
 abbrev pub positions : List Claim → List Pos
 positions claims = map (λ c. c.at) claims
 
-fresh-joined : (claims : List Claim) (new : Claim) (p : Pos) → AllByRecursion (λ q. q ≢ p) (positions claims) → new.at ≢ p → AllByRecursion (λ q. q ≢ p) (positions (joined claims new))
-fresh-joined [] new p fresh apart = (apart, tt)
-fresh-joined (old ∷ claims) new p fresh apart =
+fresh-with_claim : (claims : List Claim) (new : Claim) (p : Pos) → AllByRecursion (λ q. q ≢ p) (positions claims) → new.at ≢ p → AllByRecursion (λ q. q ≢ p) (positions (with_claim claims new))
+fresh-with_claim [] new p fresh apart = (apart, tt)
+fresh-with_claim (old ∷ claims) new p fresh apart =
     elim (cases_Bool (same_pos old.at new.at)) [
-      | inl one ↦ subst (λ l. AllByRecursion (λ q. q ≢ p) (positions l)) (sym (cond-true _ (claim old.at (union old.parts new.parts) ∷ claims) (old ∷ joined claims new) one)) fresh
-      | inr two ↦ subst (λ l. AllByRecursion (λ q. q ≢ p) (positions l)) (sym (cond-false _ (claim old.at (union old.parts new.parts) ∷ claims) (old ∷ joined claims new) two)) (fresh.0, fresh-joined claims new p fresh.1 apart)
+      | inl one ↦ subst (λ l. AllByRecursion (λ q. q ≢ p) (positions l)) (sym (cond-true _ (claim old.at (union old.parts new.parts) ∷ claims) (old ∷ with_claim claims new) one)) fresh
+      | inr two ↦ subst (λ l. AllByRecursion (λ q. q ≢ p) (positions l)) (sym (cond-false _ (claim old.at (union old.parts new.parts) ∷ claims) (old ∷ with_claim claims new) two)) (fresh.0, fresh-with_claim claims new p fresh.1 apart)
     ]
 
-EachOnce-joined : (claims : List Claim) (new : Claim) → EachOnce (positions claims) → EachOnce (positions (joined claims new))
-EachOnce-joined [] new once = (tt, tt)
-EachOnce-joined (old ∷ claims) new once =
+EachOnce-with_claim : (claims : List Claim) (new : Claim) → EachOnce (positions claims) → EachOnce (positions (with_claim claims new))
+EachOnce-with_claim [] new once = (tt, tt)
+EachOnce-with_claim (old ∷ claims) new once =
     elim (cases_Bool (same_pos old.at new.at)) [
-      | inl one ↦ subst (λ l. EachOnce (positions l)) (sym (cond-true _ (claim old.at (union old.parts new.parts) ∷ claims) (old ∷ joined claims new) one)) once
-      | inr two ↦ subst (λ l. EachOnce (positions l)) (sym (cond-false _ (claim old.at (union old.parts new.parts) ∷ claims) (old ∷ joined claims new) two))
-          (fresh-joined claims new old.at once.0 (λ e. same_pos_false old.at new.at two (sym e)), EachOnce-joined claims new once.1)
+      | inl one ↦ subst (λ l. EachOnce (positions l)) (sym (cond-true _ (claim old.at (union old.parts new.parts) ∷ claims) (old ∷ with_claim claims new) one)) once
+      | inr two ↦ subst (λ l. EachOnce (positions l)) (sym (cond-false _ (claim old.at (union old.parts new.parts) ∷ claims) (old ∷ with_claim claims new) two))
+          (fresh-with_claim claims new old.at once.0 (λ e. same_pos_false old.at new.at two (sym e)), EachOnce-with_claim claims new once.1)
     ]
 
 EachOnce-merged_onto : (more claims : List Claim) → EachOnce (positions claims) → EachOnce (positions (merged_onto claims more))
 EachOnce-merged_onto [] claims once = once
-EachOnce-merged_onto (new ∷ more) claims once = EachOnce-merged_onto more (joined claims new) (EachOnce-joined claims new once)
+EachOnce-merged_onto (new ∷ more) claims once = EachOnce-merged_onto more (with_claim claims new) (EachOnce-with_claim claims new once)
 
 -- merged claims have each position once
 pub EachOnce-merged : (claims : List Claim) → EachOnce (positions (merged claims))
@@ -205,13 +205,13 @@ unfolding merged
 EachOnce-merged claims = EachOnce-merged_onto claims [] tt
 
 -- claims with their cells are at the positions of the claims
-pub places_of-claims : (cells : Cells) (claims : List Claim) → positions claims ≡ places_of (with_cells_at cells claims)
-places_of-claims cells [] = refl
-places_of-claims cells (c ∷ claims) = ap (λ l. c.at ∷ l) (places_of-claims cells claims)
+pub seen_positions-claims : (cells : Cells) (claims : List Claim) → positions claims ≡ seen_positions (with_cells_at cells claims)
+seen_positions-claims cells [] = refl
+seen_positions-claims cells (c ∷ claims) = ap (λ l. c.at ∷ l) (seen_positions-claims cells claims)
 
 -- so merged claims with their cells have each position once
-pub EachOnce-sightings : (cells : Cells) (claims : List Claim) → EachOnce (places_of (with_cells_at cells (merged claims)))
-EachOnce-sightings cells claims = subst EachOnce (places_of-claims cells (merged claims)) (EachOnce-merged claims)
+pub EachOnce-sightings : (cells : Cells) (claims : List Claim) → EachOnce (seen_positions (with_cells_at cells (merged claims)))
+EachOnce-sightings cells claims = subst EachOnce (seen_positions-claims cells (merged claims)) (EachOnce-merged claims)
 
 -- at a position that isn't among those of claims nothing is claimed
 pub parts_at-fresh : (claims : List Claim) (p : Pos) → AllByRecursion (λ q. q ≢ p) (positions claims) → parts_at claims p ≡ no_parts
@@ -233,17 +233,17 @@ pub AllPairs-positions : (claims : List Claim) → AllPairs ◌≢◌ (positions
 AllPairs-positions claims = EachOnce-AllPairs (positions (merged claims)) (EachOnce-merged claims)
 
 -- what holds of the position of each claim holds of those of merged claims
-positions-joined : (P : Pos → Type 0) (claims : List Claim) (new : Claim) → AllByRecursion P (positions claims) → P new.at → AllByRecursion P (positions (joined claims new))
-positions-joined P [] new all one = (one, tt)
-positions-joined P (old ∷ claims) new all one =
+positions-with_claim : (P : Pos → Type 0) (claims : List Claim) (new : Claim) → AllByRecursion P (positions claims) → P new.at → AllByRecursion P (positions (with_claim claims new))
+positions-with_claim P [] new all one = (one, tt)
+positions-with_claim P (old ∷ claims) new all one =
     elim (cases_Bool (same_pos old.at new.at)) [
-      | inl same ↦ subst (λ l. AllByRecursion P (positions l)) (sym (cond-true _ (claim old.at (union old.parts new.parts) ∷ claims) (old ∷ joined claims new) same)) all
-      | inr two ↦ subst (λ l. AllByRecursion P (positions l)) (sym (cond-false _ (claim old.at (union old.parts new.parts) ∷ claims) (old ∷ joined claims new) two)) (all.0, positions-joined P claims new all.1 one)
+      | inl same ↦ subst (λ l. AllByRecursion P (positions l)) (sym (cond-true _ (claim old.at (union old.parts new.parts) ∷ claims) (old ∷ with_claim claims new) same)) all
+      | inr two ↦ subst (λ l. AllByRecursion P (positions l)) (sym (cond-false _ (claim old.at (union old.parts new.parts) ∷ claims) (old ∷ with_claim claims new) two)) (all.0, positions-with_claim P claims new all.1 one)
     ]
 
 positions-merged_onto : (P : Pos → Type 0) (more claims : List Claim) → AllByRecursion P (positions claims) → AllByRecursion P (positions more) → AllByRecursion P (positions (merged_onto claims more))
 positions-merged_onto P [] claims first second = first
-positions-merged_onto P (new ∷ more) claims first second = positions-merged_onto P more (joined claims new) (positions-joined P claims new first second.0) second.1
+positions-merged_onto P (new ∷ more) claims first second = positions-merged_onto P more (with_claim claims new) (positions-with_claim P claims new first second.0) second.1
 
 pub positions-merged : (P : Pos → Type 0) (claims : List Claim) → AllByRecursion P (positions claims) → AllByRecursion P (positions (merged claims))
 unfolding merged

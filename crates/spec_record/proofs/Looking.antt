@@ -23,17 +23,17 @@ use Rattle.ant_turn.specs.Minds.{Minds, mind_of}
 use Rattle.ant_turn.specs.Sheet.{Sheet}
 use Rattle.ant_turn.specs.Turn.{Outcome, acts, checked, execute, has_ant, instruction_at, is_blocked, stepped, turn, turn_from, turn_at, with_ant}
 use Rattle.ant_turn.proofs.Turns.{turn-acts}
-use Rattle.spec_record.specs.Claims.{Claim, EachOnce, Sighting, claim, merged, places_of, with_cells_at}
+use Rattle.spec_record.specs.Claims.{Claim, EachOnce, Sighting, claim, merged, seen_positions, with_cells_at}
 use Rattle.spec_record.specs.Look.{LookValue, look_of, look_with}
 use Rattle.spec_record.specs.Reads.{ant_and_food, asked, emptied, marks_part, load_and_food, reads, reads_acting, reads_besides, reads_from, reads_going, reads_of, seen_around, who_and_mind, whole_ant}
 use Rattle.spec_record.specs.Writes.{writes, writes_acting, writes_besides, writes_from, writes_going, writes_of}
 use Rattle.spec_record.specs.Inner.Going.{destination, fallen, going_reads, going_writes, seen_from}
-use Rattle.spec_record.specs.Inner.Sightings.{all_sighted, sighted, sights}
+use Rattle.spec_record.specs.Inner.Sightings.{all_sighted, sighted, sightings_of}
 use Rattle.spec_record.specs.Inner.Standing.{blank_look, read_at, rested_look, staying_reads, staying_writes}
 use Rattle.spec_record.proofs.Claiming.{EachOnce-sightings}
 use Rattle.spec_record.proofs.Bounds.{going_reads-fit, going_writes-fit}
 use Rattle.spec_record.proofs.Emptying.{emptied-fallen, emptied-none, seen_around-from}
-use Rattle.spec_record.proofs.Sighting.{all_sighted-append, claims-append, claims-sights, with_cells_at-merged}
+use Rattle.spec_record.proofs.Sighting.{all_sighted-append, claims-append, claims-sightings_of, with_cells_at-merged}
 
 -- the look of an outcome with these claims
 abbrev look_claiming : Cells → ℕ → ℕ → Outcome → List Claim → List Claim → LookValue
@@ -211,23 +211,23 @@ reads-goes sheet cells last p ant q next left top is =
     let after : Cells = stepped sheet cells p ant q next in
     let checks : List Claim = map (λ r. claim r (only part.Who)) (seen_around after q) in
     let corpses : List Claim = map (λ r. claim r load_and_food) (emptied sheet after (places_around q)) in
-    let both : with_cells_at cells (checks ++ corpses) ≡ sights cells (only part.Who) (seen_from cells p q) ++ sights cells load_and_food (fallen cells last p q) =
+    let both : with_cells_at cells (checks ++ corpses) ≡ sightings_of cells (only part.Who) (seen_from cells p q) ++ sightings_of cells load_and_food (fallen cells last p q) =
     claims-append cells checks corpses
     ∙ ap₂ (λ xs ys. xs ++ ys)
-    (claims-sights cells (only part.Who) (seen_around after q) ∙ ap (sights cells (only part.Who)) (seen_around-from sheet cells p ant q next left top))
-    (claims-sights cells load_and_food (emptied sheet after (places_around q)) ∙ ap (sights cells load_and_food) (emptied-fallen sheet cells last p ant q next left top is)) in
+    (claims-sightings_of cells (only part.Who) (seen_around after q) ∙ ap (sightings_of cells (only part.Who)) (seen_around-from sheet cells p ant q next left top))
+    (claims-sightings_of cells load_and_food (emptied sheet after (places_around q)) ∙ ap (sightings_of cells load_and_food) (emptied-fallen sheet cells last p ant q next left top is)) in
     with_cells_at-merged cells (claim p who_and_mind ∷ claim p (only part.Load) ∷ (checks ++ corpses))
     ∙ ap (λ list. all_sighted list (with_cells_at cells (checks ++ corpses))) (cond-true _ ((p, whole_ant, cells p) ∷ []) _ (same_pos_self p))
     ∙ ap (all_sighted ((p, whole_ant, cells p) ∷ [])) both
-    ∙ all_sighted-append ((p, whole_ant, cells p) ∷ []) (sights cells (only part.Who) (seen_from cells p q)) (sights cells load_and_food (fallen cells last p q))
+    ∙ all_sighted-append ((p, whole_ant, cells p) ∷ []) (sightings_of cells (only part.Who) (seen_from cells p q)) (sightings_of cells load_and_food (fallen cells last p q))
 
 writes-goes : (sheet : Sheet) (cells last : Cells) (p : Pos) (ant : Ant) (q : Pos) (next : ℕ) → 1 ≤ q.x → 1 ≤ q.y → p ≢ q → last ≡ check_all sheet (stepped sheet cells p ant q next) (places_around q) →
     with_cells_at last (merged (claim p (only part.Mind) ∷ writes_going sheet cells p ant q next)) ≡ going_writes cells last p q
 writes-goes sheet cells last p ant q next left top other is =
     let after : Cells = stepped sheet cells p ant q next in
     let corpses : List Claim = map (λ r. claim r ant_and_food) (emptied sheet after (places_around q)) in
-    let left_there : with_cells_at last corpses ≡ sights last ant_and_food (fallen cells last p q) =
-    claims-sights last ant_and_food (emptied sheet after (places_around q)) ∙ ap (sights last ant_and_food) (emptied-fallen sheet cells last p ant q next left top is) in
+    let left_there : with_cells_at last corpses ≡ sightings_of last ant_and_food (fallen cells last p q) =
+    claims-sightings_of last ant_and_food (emptied sheet after (places_around q)) ∙ ap (sightings_of last ant_and_food) (emptied-fallen sheet cells last p ant q next left top is) in
     with_cells_at-merged last (claim p (only part.Mind) ∷ claim p whole_ant ∷ claim q whole_ant ∷ corpses)
     ∙ ap (λ list. all_sighted (sighted list (q, whole_ant, last q)) (with_cells_at last corpses)) (cond-true _ ((p, whole_ant, last p) ∷ []) _ (same_pos_self p))
     ∙ ap (λ list. all_sighted list (with_cells_at last corpses)) (cond-false _ _ ((p, whole_ant, last p) ∷ (q, whole_ant, last q) ∷ []) (same_pos_apart p q other))
@@ -271,14 +271,14 @@ module _ {minds : Minds} {seed : ℕ} {w : World} {guess t : ℕ} {p : Pos} {ant
   acting-look = look_of-executes minds seed w guess t p ant acting.found acting.holds acting.ready ∙ ap (look_by minds.sheet seed w.cells guess t p ant) (sym acting.at)
 
   -- a look lists each position once
-  reads-once : (seen left : List Sighting) → look_of minds seed w guess t ≡ look_with t guess outcome seen left → EachOnce (places_of seen)
+  reads-once : (seen left : List Sighting) → look_of minds seed w guess t ≡ look_with t guess outcome seen left → EachOnce (seen_positions seen)
   unfolding look_of reads
-  reads-once seen left is = subst (λ (l : LookValue). EachOnce (places_of l.reads)) is (EachOnce-sightings w.cells (reads_from minds w.cells (place_in w t)))
+  reads-once seen left is = subst (λ (l : LookValue). EachOnce (seen_positions l.reads)) is (EachOnce-sightings w.cells (reads_from minds w.cells (place_in w t)))
 
-  writes-once : (seen left : List Sighting) → look_of minds seed w guess t ≡ look_with t guess outcome seen left → EachOnce (places_of left)
+  writes-once : (seen left : List Sighting) → look_of minds seed w guess t ≡ look_with t guess outcome seen left → EachOnce (seen_positions left)
   unfolding look_of writes
   writes-once seen left is =
-      subst (λ (l : LookValue). EachOnce (places_of l.writes)) is (EachOnce-sightings (turn minds seed w guess t).cells (writes_from minds w.cells (place_in w t)))
+      subst (λ (l : LookValue). EachOnce (seen_positions l.writes)) is (EachOnce-sightings (turn minds seed w guess t).cells (writes_from minds w.cells (place_in w t)))
 
   -- the look at it where it stays
   pub look-stays : (last : Cells) → last ≡ outcome.cells → destination w.cells p ant instruction ≡ None →
@@ -287,7 +287,7 @@ module _ {minds : Minds} {seed : ℕ} {w : World} {guess t : ℕ} {p : Pos} {ant
       acting-look ∙ look_by-stays minds.sheet seed w.cells guess t p ant instruction outcome stays acting-executes
       ∙ ap (λ (cells : Cells). look_with t guess outcome (staying_reads w.cells p ant instruction) (staying_writes cells p ant instruction)) (sym left)
 
-  pub stays-once : (last : Cells) → last ≡ outcome.cells → destination w.cells p ant instruction ≡ None → EachOnce (places_of (staying_reads w.cells p ant instruction))
+  pub stays-once : (last : Cells) → last ≡ outcome.cells → destination w.cells p ant instruction ≡ None → EachOnce (seen_positions (staying_reads w.cells p ant instruction))
   stays-once last left stays = reads-once (staying_reads w.cells p ant instruction) (staying_writes last p ant instruction) (look-stays last left stays)
 
   module _ {q : Pos} (way : destination w.cells p ant instruction ≡ Some q) where
@@ -324,10 +324,10 @@ module _ {minds : Minds} {seed : ℕ} {w : World} {guess t : ℕ} {p : Pos} {ant
         (reads-goes minds.sheet w.cells last p ant q there.next inner-there.from_left inner-there.from_top (last-there last left))
         (writes-goes minds.sheet w.cells last p ant q there.next inner-there.from_left inner-there.from_top other-there (last-there last left))
 
-    pub goes-reads_once : (last : Cells) → last ≡ outcome.cells → EachOnce (places_of (going_reads w.cells last p q))
+    pub goes-reads_once : (last : Cells) → last ≡ outcome.cells → EachOnce (seen_positions (going_reads w.cells last p q))
     goes-reads_once last left = reads-once (going_reads w.cells last p q) (going_writes w.cells last p q) (look-goes last left)
 
-    pub goes-writes_once : (last : Cells) → last ≡ outcome.cells → EachOnce (places_of (going_writes w.cells last p q))
+    pub goes-writes_once : (last : Cells) → last ≡ outcome.cells → EachOnce (seen_positions (going_writes w.cells last p q))
     goes-writes_once last left = writes-once (going_reads w.cells last p q) (going_writes w.cells last p q) (look-goes last left)
 
     -- it has room

@@ -14,8 +14,8 @@ use Rattle.ant_turn.specs.Kills.{places_around}
 use Rattle.ant_turn.specs.Turn.{has_ant}
 use Rattle.spec_record.specs.Claims.{Sighting}
 use Rattle.spec_record.specs.Inner.Going.{beyond, fallen, fallen_at, is_manned, seen_from}
-use Rattle.spec_record.specs.Inner.Sightings.{all_sighted, sighted, sights}
-use Rattle.spec_record.proofs.Sighting.{sights-append, sights-room}
+use Rattle.spec_record.specs.Inner.Sightings.{all_sighted, sighted, sightings_of}
+use Rattle.spec_record.proofs.Sighting.{sightings_of-append, sightings_of-room}
 
 -- an ant that is there
 there : (o : Option Ant) → has_ant o ≡ true → (ant : Ant) × (o ≡ Some ant)
@@ -36,33 +36,33 @@ manned-near w p r valid is = clear_has_neighbours w r valid (manned-clear w p r 
 
 -- whose ants decide the checks: the position's, its neighbours', and those beyond
 pub seen_from-parts : (list : List Sighting) (cells : Cells) (parts : Parts) (p q : Pos) →
-    all_sighted list (sights cells parts (seen_from cells p q))
-    ≡ all_sighted (all_sighted (sighted list (q, parts, cells q)) (sights cells parts (neighbours_of q))) (sights cells parts (flat_map (beyond cells p) (neighbours_of q)))
+    all_sighted list (sightings_of cells parts (seen_from cells p q))
+    ≡ all_sighted (all_sighted (sighted list (q, parts, cells q)) (sightings_of cells parts (neighbours_of q))) (sightings_of cells parts (flat_map (beyond cells p) (neighbours_of q)))
 unfolding places_around
 seen_from-parts list cells parts p q =
-    sights-append (sighted list (q, parts, cells q)) cells parts (neighbours_of q) (flat_map (beyond cells p) (neighbours_of q))
+    sightings_of-append (sighted list (q, parts, cells q)) cells parts (neighbours_of q) (flat_map (beyond cells p) (neighbours_of q))
 
 -- there is room for the neighbours' where there is for all
-pub seen_from-beside_room : (list : List Sighting) (cells : Cells) (parts : Parts) (p q : Pos) (n : ℕ) → length (all_sighted list (sights cells parts (seen_from cells p q))) ≤ n →
-    length (all_sighted (sighted list (q, parts, cells q)) (sights cells parts (neighbours_of q))) ≤ n
+pub seen_from-beside_room : (list : List Sighting) (cells : Cells) (parts : Parts) (p q : Pos) (n : ℕ) → length (all_sighted list (sightings_of cells parts (seen_from cells p q))) ≤ n →
+    length (all_sighted (sighted list (q, parts, cells q)) (sightings_of cells parts (neighbours_of q))) ≤ n
 seen_from-beside_room list cells parts p q n fits =
-    sights-room (all_sighted (sighted list (q, parts, cells q)) (sights cells parts (neighbours_of q))) _ cells parts (flat_map (beyond cells p) (neighbours_of q)) n (sym (seen_from-parts list cells parts p q)) fits
+    sightings_of-room (all_sighted (sighted list (q, parts, cells q)) (sightings_of cells parts (neighbours_of q))) _ cells parts (flat_map (beyond cells p) (neighbours_of q)) n (sym (seen_from-parts list cells parts p q)) fits
 
 -- and for the position's own
-pub seen_from-own_room : (list : List Sighting) (cells : Cells) (parts : Parts) (p q : Pos) (n : ℕ) → length (all_sighted list (sights cells parts (seen_from cells p q))) ≤ n →
+pub seen_from-own_room : (list : List Sighting) (cells : Cells) (parts : Parts) (p q : Pos) (n : ℕ) → length (all_sighted list (sightings_of cells parts (seen_from cells p q))) ≤ n →
     length (sighted list (q, parts, cells q)) ≤ n
 seen_from-own_room list cells parts p q n fits =
-    sights-room (sighted list (q, parts, cells q)) _ cells parts (neighbours_of q) n refl (seen_from-beside_room list cells parts p q n fits)
+    sightings_of-room (sighted list (q, parts, cells q)) _ cells parts (neighbours_of q) n refl (seen_from-beside_room list cells parts p q n fits)
 
 -- the killed: on the position, and on its neighbours
 pub fallen-parts : (list : List Sighting) (cells before last : Cells) (parts : Parts) (p q : Pos) →
-    all_sighted list (sights cells parts (fallen before last p q))
-    ≡ all_sighted (all_sighted list (sights cells parts (fallen_at before last p q q))) (sights cells parts (flat_map (fallen_at before last p q) (neighbours_of q)))
+    all_sighted list (sightings_of cells parts (fallen before last p q))
+    ≡ all_sighted (all_sighted list (sightings_of cells parts (fallen_at before last p q q))) (sightings_of cells parts (flat_map (fallen_at before last p q) (neighbours_of q)))
 unfolding places_around
-fallen-parts list cells before last parts p q = sights-append list cells parts (fallen_at before last p q q) (flat_map (fallen_at before last p q) (neighbours_of q))
+fallen-parts list cells before last parts p q = sightings_of-append list cells parts (fallen_at before last p q q) (flat_map (fallen_at before last p q) (neighbours_of q))
 
 -- there is room for the first where there is for all
-pub fallen-own_room : (list : List Sighting) (cells before last : Cells) (parts : Parts) (p q : Pos) (n : ℕ) → length (all_sighted list (sights cells parts (fallen before last p q))) ≤ n →
-    length (all_sighted list (sights cells parts (fallen_at before last p q q))) ≤ n
+pub fallen-own_room : (list : List Sighting) (cells before last : Cells) (parts : Parts) (p q : Pos) (n : ℕ) → length (all_sighted list (sightings_of cells parts (fallen before last p q))) ≤ n →
+    length (all_sighted list (sightings_of cells parts (fallen_at before last p q q))) ≤ n
 fallen-own_room list cells before last parts p q n fits =
-    sights-room (all_sighted list (sights cells parts (fallen_at before last p q q))) _ cells parts (flat_map (fallen_at before last p q) (neighbours_of q)) n (sym (fallen-parts list cells before last parts p q)) fits
+    sightings_of-room (all_sighted list (sightings_of cells parts (fallen_at before last p q q))) _ cells parts (flat_map (fallen_at before last p q) (neighbours_of q)) n (sym (fallen-parts list cells before last parts p q)) fits

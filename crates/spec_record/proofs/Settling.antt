@@ -16,7 +16,7 @@ use Rattle.cell_world.proofs.Patches.{CanPatch-alike, patched-named, patched-oth
 use Rattle.cell_world.proofs.Places.{clear_inside, holds_id-own}
 use Rattle.cell_world.proofs.Puts.{cases_pos, put_cell-other, put_cell-same}
 use Rattle.cell_world.proofs.ValidLemmas.{CanSet-replaces, Valid-put}
-use Rattle.spec_record.specs.Claims.{EachOnce, Sighting, places_of}
+use Rattle.spec_record.specs.Claims.{EachOnce, Sighting, seen_positions}
 use Rattle.spec_record.specs.Patching.{CanSetHeavier, CanSetLighter, CanSetWrites, CanWrite, after_heavier, after_lighter, patched_by_write, raises, with_heavier, with_lighter}
 
 -- a write makes of its cell the one that is wanted there
@@ -86,11 +86,11 @@ lighter_can w room wanted write left valid eases light =
 pub record Eased (w : World) (wanted : Cells) (writes : List Sighting) (now : World) : Type 0 where
   pub valid : Valid now
   pub sizes : with_cells now w.cells ≡ w
-  pub others : (p : Pos) → AllByRecursion (λ q. q ≢ p) (places_of writes) → now.cells p ≡ w.cells p
+  pub others : (p : Pos) → AllByRecursion (λ q. q ≢ p) (seen_positions writes) → now.cells p ≡ w.cells p
   pub each : AllByRecursion (λ write. (raises w.cells write ≡ false → now.cells write.0 ≡ wanted write.0) × (raises w.cells write ≡ true → now.cells write.0 ≡ w.cells write.0)) writes
 
 -- what holds of each write, where the world changed at none of their positions
-all_apart : (P Q : Sighting → Type 0) (writes : List Sighting) (p : Pos) → AllByRecursion (λ q. q ≢ p) (places_of writes) → ((write : Sighting) → write.0 ≢ p → P write → Q write) → AllByRecursion P writes → AllByRecursion Q writes
+all_apart : (P Q : Sighting → Type 0) (writes : List Sighting) (p : Pos) → AllByRecursion (λ q. q ≢ p) (seen_positions writes) → ((write : Sighting) → write.0 ≢ p → P write → Q write) → AllByRecursion P writes → AllByRecursion Q writes
 all_apart P Q [] p apart f all = tt
 all_apart P Q (write ∷ writes) p apart f all = (f write apart.0 all.0, all_apart P Q writes p apart.1 f all.1)
 
@@ -109,7 +109,7 @@ module _ (w : World) (write : Sighting) where
   with_heavier-light light = cond-false _ _ _ light
 
 -- after those writes that don't raise their cell's weight
-pub lighter_all : (room : ℕ) (wanted : Cells) (writes : List Sighting) (w : World) → 1 ≤ room → Valid w → EachOnce (places_of writes) → AllByRecursion (Eases w.cells wanted) writes →
+pub lighter_all : (room : ℕ) (wanted : Cells) (writes : List Sighting) (w : World) → 1 ≤ room → Valid w → EachOnce (seen_positions writes) → AllByRecursion (Eases w.cells wanted) writes →
     CanSetLighter w room writes × Eased w wanted writes (after_lighter w writes)
 lighter_all room wanted [] w left valid once eases = (tt, record { valid = valid; sizes = refl; others = λ p _. refl; each = tt })
 lighter_all room wanted (write ∷ writes) w left valid once eases =
@@ -173,7 +173,7 @@ heavier_none room (write ∷ writes) w light = (
 )
 
 -- writes of which one at most raises its cell's weight, and may be set
-heavier_one : (room : ℕ) (q : Pos) (writes : List Sighting) (w : World) → EachOnce (places_of writes) → AllByRecursion (λ write. write.0 ≢ q → raises w.cells write ≡ false) writes →
+heavier_one : (room : ℕ) (q : Pos) (writes : List Sighting) (w : World) → EachOnce (seen_positions writes) → AllByRecursion (λ write. write.0 ≢ q → raises w.cells write ≡ false) writes →
     AllByRecursion (λ write. write.0 ≡ q → raises w.cells write ≡ true → CanWrite w room write) writes → CanSetHeavier w room writes
 heavier_one room q [] w once light can = tt
 heavier_one room q (write ∷ writes) w once light can =
@@ -197,10 +197,10 @@ heavier_one room q (write ∷ writes) w once light can =
 -- what comes of the writes that raise their cell's weight: each of these cells is as wanted, and all others are as they were
 record Raised (w : World) (wanted : Cells) (writes : List Sighting) (now : World) : Type 0 where
   sizes : with_cells now w.cells ≡ w
-  others : (p : Pos) → AllByRecursion (λ q. q ≢ p) (places_of writes) → now.cells p ≡ w.cells p
+  others : (p : Pos) → AllByRecursion (λ q. q ≢ p) (seen_positions writes) → now.cells p ≡ w.cells p
   each : AllByRecursion (λ write. (raises w.cells write ≡ true → now.cells write.0 ≡ wanted write.0) × (raises w.cells write ≡ false → now.cells write.0 ≡ w.cells write.0)) writes
 
-heavier_all : (wanted : Cells) (writes : List Sighting) (w : World) → EachOnce (places_of writes) → AllByRecursion (Makes w.cells wanted) writes → Raised w wanted writes (after_heavier w writes)
+heavier_all : (wanted : Cells) (writes : List Sighting) (w : World) → EachOnce (seen_positions writes) → AllByRecursion (Makes w.cells wanted) writes → Raised w wanted writes (after_heavier w writes)
 heavier_all wanted [] w once made = record { sizes = refl; others = λ p _. refl; each = tt }
 heavier_all wanted (write ∷ writes) w once made =
     elim (cases_Bool (raises w.cells write)) [
@@ -237,7 +237,7 @@ heavier_all wanted (write ∷ writes) w once made =
     ]
 
 -- what holds at each write, and at each other position, holds everywhere
-everywhere : (P : Pos → Type 0) (writes : List Sighting) (p : Pos) → (AllByRecursion (λ q. q ≢ p) (places_of writes) → P p) → AllByRecursion (λ write. P write.0) writes → P p
+everywhere : (P : Pos → Type 0) (writes : List Sighting) (p : Pos) → (AllByRecursion (λ q. q ≢ p) (seen_positions writes) → P p) → AllByRecursion (λ write. P write.0) writes → P p
 everywhere P [] p outside each = outside tt
 everywhere P (write ∷ writes) p outside each =
     elim (cases_pos write.0 p) [
@@ -254,12 +254,12 @@ zip_all P Q R (write ∷ writes) f first second = (f write first.0 second.0, zip
 pub record Settles (w : World) (wanted : Cells) (writes : List Sighting) (q : Pos) : Type 0 where
   pub valid : Valid w
   pub still : Valid (with_cells w wanted)
-  pub once : EachOnce (places_of writes)
+  pub once : EachOnce (seen_positions writes)
   pub made : AllByRecursion (Makes w.cells wanted) writes
   pub clear : AllByRecursion (λ write. (w.cells write.0).rocky ≡ false) writes
   pub rocks : (p : Pos) → (wanted p).rocky ≡ (w.cells p).rocky
   pub hills : (p : Pos) → (wanted p).hill ≡ (w.cells p).hill
-  pub others : (p : Pos) → AllByRecursion (λ r. r ≢ p) (places_of writes) → wanted p ≡ w.cells p
+  pub others : (p : Pos) → AllByRecursion (λ r. r ≢ p) (seen_positions writes) → wanted p ≡ w.cells p
   pub replaced : (p : Pos) → p ≢ q → Replaces (w.cells p) (wanted p)
   pub raised : cell_weight (wanted q) ≤ cell_weight (w.cells q) → Replaces (w.cells q) (wanted q)
 

@@ -16,7 +16,7 @@ use Rattle.spec_record.specs.Look.{look_of}
 use Rattle.spec_record.specs.Patching.{CanSetWrites, after_heavier, after_lighter, parts_at, patched_cells}
 use Rattle.spec_record.specs.Writes.{writes}
 use Rattle.spec_record.proofs.CheckSteps.{all_map}
-use Rattle.spec_record.proofs.Claiming.{own_parts, parts_at-fresh, places_of-claims, positions}
+use Rattle.spec_record.proofs.Claiming.{own_parts, parts_at-fresh, seen_positions-claims, positions}
 use Rattle.spec_record.proofs.Patched.{look_step, patched-none, turn-patched, written_once}
 use Rattle.spec_record.proofs.Raising.{RaisesOne, turn-raises}
 use Rattle.spec_record.proofs.Settling.{CanSetWrites-all, Makes, Settles, after_all}
@@ -67,12 +67,12 @@ module _ (minds : Minds) (seed : ℕ) (base : World) (guess : ℕ) (now : World)
       record {
         valid = valid;
         still = (Keeps-turn minds seed now place t sound valid fits).valid;
-        once = subst EachOnce (places_of-claims after claims) once;
+        once = subst EachOnce (seen_positions-claims after claims) once;
         made = step-makes claims base.cells now.cells after (turn minds seed now place t).cells step once;
         clear = all_at_places (λ q. (now.cells q).rocky ≡ false) after claims (all_map (λ q. (base.cells q).rocky ≡ false) (λ q. (now.cells q).rocky ≡ false) (positions claims) (λ q clear. goes.rocks q ∙ clear) (writes-clear minds base t valid_base));
         rocks = λ p. (step.each p).same_kind;
         hills = λ p. (step.each p).same_hill;
-        others = λ p fresh. step-others claims base.cells now.cells after (turn minds seed now place t).cells step p (subst (AllByRecursion (λ r. r ≢ p)) (sym (places_of-claims after claims)) fresh);
+        others = λ p fresh. step-others claims base.cells now.cells after (turn minds seed now place t).cells step p (subst (AllByRecursion (λ r. r ≢ p)) (sym (seen_positions-claims after claims)) fresh);
         replaced = raised.others;
         raised = raised.own;
       }

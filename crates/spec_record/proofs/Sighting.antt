@@ -10,27 +10,27 @@ use Rattle.hex_geometry.proofs.Places.{same_pos_true}
 use Rattle.cell_world.specs.declared.part.Parts.{Parts}
 use Rattle.cell_world.specs.Parts.{union}
 use Rattle.cell_world.specs.World.{Cells}
-use Rattle.spec_record.specs.Claims.{Claim, Sighting, claim, joined, merged, merged_onto, with_cells_at}
-use Rattle.spec_record.specs.Inner.Sightings.{all_sighted, number_of, sighted, sights}
+use Rattle.spec_record.specs.Claims.{Claim, Sighting, claim, with_claim, merged, merged_onto, with_cells_at}
+use Rattle.spec_record.specs.Inner.Sightings.{all_sighted, seen_number, sighted, sightings_of}
 
 -- the sighting of a claim
 abbrev pub sight : Cells → Claim → Sighting
 sight cells c = (c.at, c.parts, cells c.at)
 
 -- a claim more is a sighting more
-with_cells_at-joined : (cells : Cells) (claims : List Claim) (new : Claim) → with_cells_at cells (joined claims new) ≡ sighted (with_cells_at cells claims) (sight cells new)
-with_cells_at-joined cells [] new = refl
-with_cells_at-joined cells (old ∷ claims) new =
+with_cells_at-with_claim : (cells : Cells) (claims : List Claim) (new : Claim) → with_cells_at cells (with_claim claims new) ≡ sighted (with_cells_at cells claims) (sight cells new)
+with_cells_at-with_claim cells [] new = refl
+with_cells_at-with_claim cells (old ∷ claims) new =
     elim (cases_Bool (same_pos old.at new.at)) [
       | inl same ↦ ap (with_cells_at cells) (cond-true _ _ _ same) ∙ sym (cond-true _ _ _ same)
-      | inr apart ↦ ap (with_cells_at cells) (cond-false _ _ _ apart) ∙ ap (λ more. sight cells old ∷ more) (with_cells_at-joined cells claims new) ∙ sym (cond-false _ _ _ apart)
+      | inr apart ↦ ap (with_cells_at cells) (cond-false _ _ _ apart) ∙ ap (λ more. sight cells old ∷ more) (with_cells_at-with_claim cells claims new) ∙ sym (cond-false _ _ _ apart)
     ]
 
 -- so are many
 with_cells_at-merged_onto : (cells : Cells) (claims more : List Claim) → with_cells_at cells (merged_onto claims more) ≡ all_sighted (with_cells_at cells claims) (with_cells_at cells more)
 with_cells_at-merged_onto cells claims [] = refl
 with_cells_at-merged_onto cells claims (new ∷ more) =
-    with_cells_at-merged_onto cells (joined claims new) more ∙ ap (λ list. all_sighted list (with_cells_at cells more)) (with_cells_at-joined cells claims new)
+    with_cells_at-merged_onto cells (with_claim claims new) more ∙ ap (λ list. all_sighted list (with_cells_at cells more)) (with_cells_at-with_claim cells claims new)
 
 -- merged claims with their cells are the sightings of all claims, one after another
 pub with_cells_at-merged : (cells : Cells) (claims : List Claim) → with_cells_at cells (merged claims) ≡ all_sighted [] (with_cells_at cells claims)
@@ -63,15 +63,15 @@ abbrev pub widened : Sighting → Sighting → Sighting
 widened old new = (old.0, union old.1 new.1, old.2)
 
 -- a position that is in the list: its parts are more
-pub sighted-again : (list : List Sighting) (new z : Sighting) → number_of new.0 list < length list →
-    sighted list new ≡ slice_set list (number_of new.0 list) (widened (slice_index_or list (number_of new.0 list) z) new)
+pub sighted-again : (list : List Sighting) (new z : Sighting) → seen_number new.0 list < length list →
+    sighted list new ≡ slice_set list (seen_number new.0 list) (widened (slice_index_or list (seen_number new.0 list) z) new)
 sighted-again [] new z below = absurd (omega arith)
 sighted-again (old ∷ list) new z below =
     let At : ℕ → Type 0 = λ k. sighted (old ∷ list) new ≡ slice_set (old ∷ list) k (widened (slice_index_or (old ∷ list) k z) new) in
     elim (cases_Bool (same_pos old.0 new.0)) [
-      | inl same ↦ subst At (sym (cond-true _ zero (suc (number_of new.0 list)) same)) (cond-true _ (widened old new ∷ list) (old ∷ sighted list new) same)
+      | inl same ↦ subst At (sym (cond-true _ zero (suc (seen_number new.0 list)) same)) (cond-true _ (widened old new ∷ list) (old ∷ sighted list new) same)
       | inr apart ↦
-          let e = cond-false _ zero (suc (number_of new.0 list)) apart in
+          let e = cond-false _ zero (suc (seen_number new.0 list)) apart in
           subst At (sym e) (cond-false _ (widened old new ∷ list) (old ∷ sighted list new) apart ∙ ap (λ more. old ∷ more) (sighted-again list new z (omega (arith, e))))
     ]
 
@@ -85,31 +85,31 @@ refill-whole list new e =
     ∙ take-length new
 
 -- the list in which that sighting is written
-pub sighted-written : (items now other : List Sighting) (k : ℕ) (both : Parts) (new z : Sighting) → now ≡ items → other ≡ items → k ≡ number_of new.0 items → both ≡ union (slice_index_or other k z).1 new.1 → number_of new.0 items < length items →
+pub sighted-written : (items now other : List Sighting) (k : ℕ) (both : Parts) (new z : Sighting) → now ≡ items → other ≡ items → k ≡ seen_number new.0 items → both ≡ union (slice_index_or other k z).1 new.1 → seen_number new.0 items < length items →
     refill (length items) items (slice_set now k ((slice_index_or other k z).0, both, (slice_index_or other k z).2)) ≡ sighted items new
-sighted-written items now other k both new z at_now at_other here joined below =
+sighted-written items now other k both new z at_now at_other here with_claim below =
     ap (λ list. refill (length items) items (slice_set list k ((slice_index_or other k z).0, both, (slice_index_or other k z).2))) at_now
-    ∙ ap (λ parts. refill (length items) items (slice_set items k ((slice_index_or other k z).0, parts, (slice_index_or other k z).2))) joined
+    ∙ ap (λ parts. refill (length items) items (slice_set items k ((slice_index_or other k z).0, parts, (slice_index_or other k z).2))) with_claim
     ∙ ap (λ list. refill (length items) items (slice_set items k (widened (slice_index_or list k z) new))) at_other
     ∙ ap (λ n. refill (length items) items (slice_set items n (widened (slice_index_or items n z) new))) here
-    ∙ refill-whole items (slice_set items (number_of new.0 items) (widened (slice_index_or items (number_of new.0 items) z) new)) (length-set items _ _)
+    ∙ refill-whole items (slice_set items (seen_number new.0 items) (widened (slice_index_or items (seen_number new.0 items) z) new)) (length-set items _ _)
     ∙ sym (sighted-again items new z below)
 
 -- one that isn't comes last
-pub sighted-first : (list : List Sighting) (new : Sighting) → length list ≤ number_of new.0 list → sighted list new ≡ list ++ new ∷ []
+pub sighted-first : (list : List Sighting) (new : Sighting) → length list ≤ seen_number new.0 list → sighted list new ≡ list ++ new ∷ []
 sighted-first [] new beyond = refl
 sighted-first (old ∷ list) new beyond =
     elim (cases_Bool (same_pos old.0 new.0)) [
-      | inl same ↦ let e = cond-true _ zero (suc (number_of new.0 list)) same in absurd (omega (arith, e))
-      | inr apart ↦ let e = cond-false _ zero (suc (number_of new.0 list)) apart in cond-false _ _ _ apart ∙ ap (λ more. old ∷ more) (sighted-first list new (omega (arith, e)))
+      | inl same ↦ let e = cond-true _ zero (suc (seen_number new.0 list)) same in absurd (omega (arith, e))
+      | inr apart ↦ let e = cond-false _ zero (suc (seen_number new.0 list)) apart in cond-false _ _ _ apart ∙ ap (λ more. old ∷ more) (sighted-first list new (omega (arith, e)))
     ]
 
 -- the number of a position from a place of the list on
-pub number_of-drop : (p : Pos) (list : List Sighting) (k : ℕ) (z : Sighting) → k < length list →
-    number_of p (drop k list) ≡ cond (same_pos (slice_index_or list k z).0 p) zero (suc (number_of p (drop (k + 1) list)))
-number_of-drop p list k z below =
-    ap (number_of p) (drop-cons list k z below)
-    ∙ ap (λ n. cond (same_pos (slice_index_or list k z).0 p) zero (suc (number_of p (drop n list)))) (sym (add-one k))
+pub seen_number-drop : (p : Pos) (list : List Sighting) (k : ℕ) (z : Sighting) → k < length list →
+    seen_number p (drop k list) ≡ cond (same_pos (slice_index_or list k z).0 p) zero (suc (seen_number p (drop (k + 1) list)))
+seen_number-drop p list k z below =
+    ap (seen_number p) (drop-cons list k z below)
+    ∙ ap (λ n. cond (same_pos (slice_index_or list k z).0 p) zero (suc (seen_number p (drop n list)))) (sym (add-one k))
 
 -- what holds of the positions of a list and of a new one holds then
 pub sighted-all : (P : Pos → Type 0) (list : List Sighting) (new : Sighting) → AllByRecursion (λ s. P s.0) list → P new.0 → AllByRecursion (λ s. P s.0) (sighted list new)
@@ -200,37 +200,37 @@ all_sighted-fits more places all =
     apart-fits (all_sighted [] more) places (all_sighted-apart [] more tt) (all_sighted-all (λ p. among p places ≡ true) [] more tt all)
 
 -- the sightings at the positions from a place of a list on: the one there, and the rest
-pub sights-next : (list : List Sighting) (cells : Cells) (parts : Parts) (places : List Pos) (k : ℕ) (z : Pos) → k < length places →
-    all_sighted list (sights cells parts (drop k places)) ≡ all_sighted (sighted list (slice_index_or places k z, parts, cells (slice_index_or places k z))) (sights cells parts (drop (k + 1) places))
-sights-next list cells parts places k z below =
-    ap (λ rest. all_sighted list (sights cells parts rest)) (drop-cons places k z below)
-    ∙ ap (λ n. all_sighted (sighted list (slice_index_or places k z, parts, cells (slice_index_or places k z))) (sights cells parts (drop n places))) (sym (add-one k))
+pub sightings_of-next : (list : List Sighting) (cells : Cells) (parts : Parts) (places : List Pos) (k : ℕ) (z : Pos) → k < length places →
+    all_sighted list (sightings_of cells parts (drop k places)) ≡ all_sighted (sighted list (slice_index_or places k z, parts, cells (slice_index_or places k z))) (sightings_of cells parts (drop (k + 1) places))
+sightings_of-next list cells parts places k z below =
+    ap (λ rest. all_sighted list (sightings_of cells parts rest)) (drop-cons places k z below)
+    ∙ ap (λ n. all_sighted (sighted list (slice_index_or places k z, parts, cells (slice_index_or places k z))) (sightings_of cells parts (drop n places))) (sym (add-one k))
 
 -- the sightings at some positions and then at others
-pub sights-append : (list : List Sighting) (cells : Cells) (parts : Parts) (some more : List Pos) →
-    all_sighted list (sights cells parts (some ++ more)) ≡ all_sighted (all_sighted list (sights cells parts some)) (sights cells parts more)
-sights-append list cells parts [] more = refl
-sights-append list cells parts (r ∷ some) more = sights-append (sighted list (r, parts, cells r)) cells parts some more
+pub sightings_of-append : (list : List Sighting) (cells : Cells) (parts : Parts) (some more : List Pos) →
+    all_sighted list (sightings_of cells parts (some ++ more)) ≡ all_sighted (all_sighted list (sightings_of cells parts some)) (sightings_of cells parts more)
+sightings_of-append list cells parts [] more = refl
+sightings_of-append list cells parts (r ∷ some) more = sightings_of-append (sighted list (r, parts, cells r)) cells parts some more
 
 -- the same of positions that each bring some
-pub sights-flat_next : (list : List Sighting) (cells : Cells) (parts : Parts) (f : Pos → List Pos) (places : List Pos) (k : ℕ) (z : Pos) → k < length places →
-    all_sighted list (sights cells parts (flat_map f (drop k places))) ≡ all_sighted (all_sighted list (sights cells parts (f (slice_index_or places k z)))) (sights cells parts (flat_map f (drop (k + 1) places)))
-sights-flat_next list cells parts f places k z below =
-    ap (λ rest. all_sighted list (sights cells parts (flat_map f rest))) (drop-cons places k z below)
-    ∙ ap (λ n. all_sighted list (sights cells parts (f (slice_index_or places k z) ++ flat_map f (drop n places)))) (sym (add-one k))
-    ∙ sights-append list cells parts (f (slice_index_or places k z)) (flat_map f (drop (k + 1) places))
+pub sightings_of-flat_next : (list : List Sighting) (cells : Cells) (parts : Parts) (f : Pos → List Pos) (places : List Pos) (k : ℕ) (z : Pos) → k < length places →
+    all_sighted list (sightings_of cells parts (flat_map f (drop k places))) ≡ all_sighted (all_sighted list (sightings_of cells parts (f (slice_index_or places k z)))) (sightings_of cells parts (flat_map f (drop (k + 1) places)))
+sightings_of-flat_next list cells parts f places k z below =
+    ap (λ rest. all_sighted list (sightings_of cells parts (flat_map f rest))) (drop-cons places k z below)
+    ∙ ap (λ n. all_sighted list (sightings_of cells parts (f (slice_index_or places k z) ++ flat_map f (drop n places)))) (sym (add-one k))
+    ∙ sightings_of-append list cells parts (f (slice_index_or places k z)) (flat_map f (drop (k + 1) places))
 
 -- nothing more than the sightings at all positions of a list
-pub sights-room : (list whole : List Sighting) (cells : Cells) (parts : Parts) (more : List Pos) (n : ℕ) → all_sighted list (sights cells parts more) ≡ whole → length whole ≤ n → length list ≤ n
-sights-room list whole cells parts more n is fits =
-    let grows = all_sighted-grows list (sights cells parts more) in
+pub sightings_of-room : (list whole : List Sighting) (cells : Cells) (parts : Parts) (more : List Pos) (n : ℕ) → all_sighted list (sightings_of cells parts more) ≡ whole → length whole ≤ n → length list ≤ n
+sightings_of-room list whole cells parts more n is fits =
+    let grows = all_sighted-grows list (sightings_of cells parts more) in
     let same = ap length is in
     omega (arith, grows, same)
 
 -- a property of positions is one of sightings there
-pub sights-all : (P : Pos → Type 0) (cells : Cells) (parts : Parts) (places : List Pos) → AllByRecursion P places → AllByRecursion (λ s. P s.0) (sights cells parts places)
-sights-all P cells parts [] all = tt
-sights-all P cells parts (r ∷ places) all = (all.0, sights-all P cells parts places all.1)
+pub sightings_of-all : (P : Pos → Type 0) (cells : Cells) (parts : Parts) (places : List Pos) → AllByRecursion P places → AllByRecursion (λ s. P s.0) (sightings_of cells parts places)
+sightings_of-all P cells parts [] all = tt
+sightings_of-all P cells parts (r ∷ places) all = (all.0, sightings_of-all P cells parts places all.1)
 
 -- of two lists together
 pub all-append : {X : Type 0} (P : X → Type 0) (xs ys : List X) → AllByRecursion P xs → AllByRecursion P ys → AllByRecursion P (xs ++ ys)
@@ -238,9 +238,9 @@ all-append P [] ys first second = second
 all-append P (x ∷ xs) ys first second = (first.0, all-append P xs ys first.1 second)
 
 -- claims of the same parts at some positions
-pub claims-sights : (cells : Cells) (parts : Parts) (places : List Pos) → with_cells_at cells (map (λ r. claim r parts) places) ≡ sights cells parts places
-claims-sights cells parts [] = refl
-claims-sights cells parts (r ∷ places) = ap (λ more. (r, parts, cells r) ∷ more) (claims-sights cells parts places)
+pub claims-sightings_of : (cells : Cells) (parts : Parts) (places : List Pos) → with_cells_at cells (map (λ r. claim r parts) places) ≡ sightings_of cells parts places
+claims-sightings_of cells parts [] = refl
+claims-sightings_of cells parts (r ∷ places) = ap (λ more. (r, parts, cells r) ∷ more) (claims-sightings_of cells parts places)
 
 -- claims and more claims
 pub claims-append : (cells : Cells) (some more : List Claim) → with_cells_at cells (some ++ more) ≡ with_cells_at cells some ++ with_cells_at cells more
@@ -248,13 +248,13 @@ claims-append cells [] more = refl
 claims-append cells (c ∷ some) more = ap (λ rest. sight cells c ∷ rest) (claims-append cells some more)
 
 -- there is room for the next sighting where there is room for all
-pub sights-step_room : (list whole : List Sighting) (cells : Cells) (parts : Parts) (places : List Pos) (k : ℕ) (z : Pos) (n : ℕ) → k < length places →
-    all_sighted list (sights cells parts (drop k places)) ≡ whole → length whole ≤ n → length (sighted list (slice_index_or places k z, parts, cells (slice_index_or places k z))) ≤ n
-sights-step_room list whole cells parts places k z n below is fits =
-    sights-room (sighted list (slice_index_or places k z, parts, cells (slice_index_or places k z))) whole cells parts (drop (k + 1) places) n (sym (sights-next list cells parts places k z below) ∙ is) fits
+pub sightings_of-step_room : (list whole : List Sighting) (cells : Cells) (parts : Parts) (places : List Pos) (k : ℕ) (z : Pos) (n : ℕ) → k < length places →
+    all_sighted list (sightings_of cells parts (drop k places)) ≡ whole → length whole ≤ n → length (sighted list (slice_index_or places k z, parts, cells (slice_index_or places k z))) ≤ n
+sightings_of-step_room list whole cells parts places k z n below is fits =
+    sightings_of-room (sighted list (slice_index_or places k z, parts, cells (slice_index_or places k z))) whole cells parts (drop (k + 1) places) n (sym (sightings_of-next list cells parts places k z below) ∙ is) fits
 
 -- and for those that the next position brings
-pub sights-flat_room : (list whole : List Sighting) (cells : Cells) (parts : Parts) (f : Pos → List Pos) (places : List Pos) (k : ℕ) (z : Pos) (n : ℕ) → k < length places →
-    all_sighted list (sights cells parts (flat_map f (drop k places))) ≡ whole → length whole ≤ n → length (all_sighted list (sights cells parts (f (slice_index_or places k z)))) ≤ n
-sights-flat_room list whole cells parts f places k z n below is fits =
-    sights-room (all_sighted list (sights cells parts (f (slice_index_or places k z)))) whole cells parts (flat_map f (drop (k + 1) places)) n (sym (sights-flat_next list cells parts f places k z below) ∙ is) fits
+pub sightings_of-flat_room : (list whole : List Sighting) (cells : Cells) (parts : Parts) (f : Pos → List Pos) (places : List Pos) (k : ℕ) (z : Pos) (n : ℕ) → k < length places →
+    all_sighted list (sightings_of cells parts (flat_map f (drop k places))) ≡ whole → length whole ≤ n → length (all_sighted list (sightings_of cells parts (f (slice_index_or places k z)))) ≤ n
+sightings_of-flat_room list whole cells parts f places k z n below is fits =
+    sightings_of-room (all_sighted list (sightings_of cells parts (f (slice_index_or places k z)))) whole cells parts (flat_map f (drop (k + 1) places)) n (sym (sightings_of-flat_next list cells parts f places k z below) ∙ is) fits

@@ -17,14 +17,14 @@ abbrev pub claim : Pos → Parts → Claim
 claim p parts = record { at = p; parts = parts }
 
 -- one claim more: where the position is claimed already the parts go there, else it comes last
-abbrev pub joined : List Claim → Claim → List Claim
-joined [] new = new ∷ []
-joined (old ∷ claims) new = if same_pos old.at new.at then claim old.at (union old.parts new.parts) ∷ claims else old ∷ joined claims new
+abbrev pub with_claim : List Claim → Claim → List Claim
+with_claim [] new = new ∷ []
+with_claim (old ∷ claims) new = if same_pos old.at new.at then claim old.at (union old.parts new.parts) ∷ claims else old ∷ with_claim claims new
 
 -- these claims, and then more
 abbrev pub merged_onto : List Claim → List Claim → List Claim
 merged_onto claims [] = claims
-merged_onto claims (new ∷ more) = merged_onto (joined claims new) more
+merged_onto claims (new ∷ more) = merged_onto (with_claim claims new) more
 
 -- each position once, in the order in which they are first claimed, with all parts that are claimed there
 unfoldable pub merged : List Claim → List Claim
@@ -35,8 +35,8 @@ abbrev pub Sighting : Type 0
 Sighting = Pos × Parts × Cell
 
 -- the positions of sightings
-abbrev pub places_of : List Sighting → List Pos
-places_of sightings = map (λ sighting. sighting.0) sightings
+abbrev pub seen_positions : List Sighting → List Pos
+seen_positions sightings = map (λ sighting. sighting.0) sightings
 
 -- each position is there once
 abbrev pub EachOnce : List Pos → Type 0

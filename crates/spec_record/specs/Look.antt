@@ -3,7 +3,7 @@ use Rattle.std.specs.Prelude.{ℕ, Bool, List}
 use Rattle.cell_world.specs.World.{World}
 use Rattle.ant_turn.specs.Minds.{Minds}
 use Rattle.ant_turn.specs.Turn.{Outcome, turn}
-use Rattle.spec_record.specs.Claims.{EachOnce, Sighting, places_of, with_cells_at}
+use Rattle.spec_record.specs.Claims.{EachOnce, Sighting, seen_positions, with_cells_at}
 use Rattle.spec_record.specs.Reads.{reads}
 use Rattle.spec_record.specs.Writes.{writes}
 
@@ -18,8 +18,8 @@ pub record LookValue : Type 0 where
 
 -- what every look keeps: it lists each position that it reads once, and each that it writes
 pub record IsListedOnce (seen left : List Sighting) : Type 0 where
-  pub reads : EachOnce (places_of seen)
-  pub writes : EachOnce (places_of left)
+  pub reads : EachOnce (seen_positions seen)
+  pub writes : EachOnce (seen_positions left)
 
 -- the look of an outcome: what is read as it was, what is written as it is then
 abbrev pub look_with : ℕ → ℕ → Outcome → List Sighting → List Sighting → LookValue

@@ -7,7 +7,7 @@ ghost use Rattle.cell_world.specs.Parts.{only};
 ghost use Rattle.cell_world.specs.Valid.{Valid};
 ghost use Rattle.ant_turn.specs.Turn.{has_ant};
 ghost use Rattle.spec_record.specs.Inner.Going as going;
-ghost use Rattle.spec_record.specs.Inner.Sightings.{all_sighted, sights};
+ghost use Rattle.spec_record.specs.Inner.Sightings.{all_sighted, sightings_of};
 ghost use Rattle.spec_record.specs.Reads.{ant_and_food, load_and_food, whole_ant};
 ghost use Rattle.spec_record.specs.Trail.{trail_world};
 
@@ -22,8 +22,8 @@ use hex_geometry::{Pos, neighbours};
 pub(crate) fn note_checks(list: &mut ArrayVec<(Pos, Parts, Cell), 19>, base: &World, p: Pos, q: Pos)
     requires inner { IsInner base.now.width base.now.height q }
     requires near { HasNeighbours q }
-    requires room { length (all_sighted list.old.items (sights (world_of base.now).cells (only Part.Who) (going.seen_from (world_of base.now).cells p q))) ≤ 19 }
-    ensures { list.new.items ≡ all_sighted list.old.items (sights (world_of base.now).cells (only Part.Who) (going.seen_from (world_of base.now).cells p q)) }
+    requires room { length (all_sighted list.old.items (sightings_of (world_of base.now).cells (only Part.Who) (going.seen_from (world_of base.now).cells p q))) ≤ 19 }
+    ensures { list.new.items ≡ all_sighted list.old.items (sightings_of (world_of base.now).cells (only Part.Who) (going.seen_from (world_of base.now).cells p q)) }
 {
     note_read(list, q, who(), base.cell(q));
     note_neighbours(list, base, q);
@@ -37,8 +37,8 @@ pub(crate) fn note_checks(list: &mut ArrayVec<(Pos, Parts, Cell), 19>, base: &Wo
 #[inline]
 fn note_beyond(list: &mut ArrayVec<(Pos, Parts, Cell), 19>, base: &World, p: Pos, r: Pos)
     requires inside { IsInside base.now.width base.now.height r }
-    requires room { length (all_sighted list.old.items (sights (world_of base.now).cells (only Part.Who) (going.beyond (world_of base.now).cells p r))) ≤ 19 }
-    ensures { list.new.items ≡ all_sighted list.old.items (sights (world_of base.now).cells (only Part.Who) (going.beyond (world_of base.now).cells p r)) }
+    requires room { length (all_sighted list.old.items (sightings_of (world_of base.now).cells (only Part.Who) (going.beyond (world_of base.now).cells p r))) ≤ 19 }
+    ensures { list.new.items ≡ all_sighted list.old.items (sightings_of (world_of base.now).cells (only Part.Who) (going.beyond (world_of base.now).cells p r)) }
 {
     if is_manned(base, p, r) {
         note_neighbours(list, base, r);
@@ -49,8 +49,8 @@ fn note_beyond(list: &mut ArrayVec<(Pos, Parts, Cell), 19>, base: &World, p: Pos
 fn note_neighbours(list: &mut ArrayVec<(Pos, Parts, Cell), 19>, base: &World, r: Pos)
     requires inner { IsInner base.now.width base.now.height r }
     requires near { HasNeighbours r }
-    requires room { length (all_sighted list.old.items (sights (world_of base.now).cells (only Part.Who) (neighbours_of r))) ≤ 19 }
-    ensures { list.new.items ≡ all_sighted list.old.items (sights (world_of base.now).cells (only Part.Who) (neighbours_of r)) }
+    requires room { length (all_sighted list.old.items (sightings_of (world_of base.now).cells (only Part.Who) (neighbours_of r))) ≤ 19 }
+    ensures { list.new.items ≡ all_sighted list.old.items (sightings_of (world_of base.now).cells (only Part.Who) (neighbours_of r)) }
 {
     let around = neighbours(r);
     for q in around {
@@ -99,13 +99,13 @@ pub(crate) fn note_fallen(
     requires wide { (trail_world trail.now).width ≡ base.now.width }
     requires high { (trail_world trail.now).height ≡ base.now.height }
     requires reads { length (all_sighted reads.old.items
-        (sights (world_of base.now).cells load_and_food (going.fallen (world_of base.now).cells (trail_world trail.now).cells p q))) ≤ 19 }
+        (sightings_of (world_of base.now).cells load_and_food (going.fallen (world_of base.now).cells (trail_world trail.now).cells p q))) ≤ 19 }
     requires writes { length (all_sighted writes.old.items
-        (sights (trail_world trail.now).cells ant_and_food (going.fallen (world_of base.now).cells (trail_world trail.now).cells p q))) ≤ 7 }
+        (sightings_of (trail_world trail.now).cells ant_and_food (going.fallen (world_of base.now).cells (trail_world trail.now).cells p q))) ≤ 7 }
     ensures reads { reads.new.items ≡ all_sighted reads.old.items
-        (sights (world_of base.now).cells load_and_food (going.fallen (world_of base.now).cells (trail_world trail.now).cells p q)) }
+        (sightings_of (world_of base.now).cells load_and_food (going.fallen (world_of base.now).cells (trail_world trail.now).cells p q)) }
     ensures writes { writes.new.items ≡ all_sighted writes.old.items
-        (sights (trail_world trail.now).cells ant_and_food (going.fallen (world_of base.now).cells (trail_world trail.now).cells p q)) }
+        (sightings_of (trail_world trail.now).cells ant_and_food (going.fallen (world_of base.now).cells (trail_world trail.now).cells p q)) }
 {
     note_if_fallen(reads, writes, base, trail, p, q, q);
     let around = neighbours(q);
@@ -129,13 +129,13 @@ fn note_if_fallen(
     requires wide { (trail_world trail.now).width ≡ base.now.width }
     requires high { (trail_world trail.now).height ≡ base.now.height }
     requires reads { length (all_sighted reads.old.items
-        (sights (world_of base.now).cells load_and_food (going.fallen_at (world_of base.now).cells (trail_world trail.now).cells p q r))) ≤ 19 }
+        (sightings_of (world_of base.now).cells load_and_food (going.fallen_at (world_of base.now).cells (trail_world trail.now).cells p q r))) ≤ 19 }
     requires writes { length (all_sighted writes.old.items
-        (sights (trail_world trail.now).cells ant_and_food (going.fallen_at (world_of base.now).cells (trail_world trail.now).cells p q r))) ≤ 7 }
+        (sightings_of (trail_world trail.now).cells ant_and_food (going.fallen_at (world_of base.now).cells (trail_world trail.now).cells p q r))) ≤ 7 }
     ensures reads { reads.new.items ≡ all_sighted reads.old.items
-        (sights (world_of base.now).cells load_and_food (going.fallen_at (world_of base.now).cells (trail_world trail.now).cells p q r)) }
+        (sightings_of (world_of base.now).cells load_and_food (going.fallen_at (world_of base.now).cells (trail_world trail.now).cells p q r)) }
     ensures writes { writes.new.items ≡ all_sighted writes.old.items
-        (sights (trail_world trail.now).cells ant_and_food (going.fallen_at (world_of base.now).cells (trail_world trail.now).cells p q r)) }
+        (sightings_of (trail_world trail.now).cells ant_and_food (going.fallen_at (world_of base.now).cells (trail_world trail.now).cells p q r)) }
 {
     if has_fallen(base, trail, p, q, r) {
         note_read(reads, r, load_and_food(), base.cell(r));

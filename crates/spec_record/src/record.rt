@@ -1,6 +1,6 @@
 // A look at a turn.
 ghost use Rattle.std.specs.Prelude.{◌≡◌};
-ghost use Rattle.spec_record.specs.Claims.{EachOnce, places_of};
+ghost use Rattle.spec_record.specs.Claims.{EachOnce, seen_positions};
 
 use arrayvec::ArrayVec;
 use cell_world::{Cell, Parts};
@@ -66,7 +66,7 @@ impl Look {
     #[inline]
     pub fn reads(&self) -> &ArrayVec<(Pos, Parts, Cell), 19>
         ensures reads { result.now.items ≡ self.now.reads }
-        ensures once { EachOnce (places_of self.now.reads) }
+        ensures once { EachOnce (seen_positions self.now.reads) }
     {
         &self.reads
     }
@@ -75,7 +75,7 @@ impl Look {
     #[inline]
     pub fn writes(&self) -> &ArrayVec<(Pos, Parts, Cell), 7>
         ensures writes { result.now.items ≡ self.now.writes }
-        ensures once { EachOnce (places_of self.now.writes) }
+        ensures once { EachOnce (seen_positions self.now.writes) }
     {
         &self.writes
     }

@@ -91,7 +91,7 @@ pub(crate) fn note_write(
 // At which number a position is in the list, or how long the list is.
 #[inline]
 fn number_of(list: &[(Pos, Parts, Cell)], p: Pos) -> usize
-    ensures { result ≡ sighting.number_of p list.now }
+    ensures { result ≡ sighting.seen_number p list.now }
 {
     let mut number = 0;
     for (q, _, _) in list {

@@ -6,7 +6,7 @@ use Rattle.std.proofs.lemmas.List.Elements.{filter-append, All-append, All-nil, 
 use Rattle.std.proofs.lemmas.Bool.{lt-ltb, ltb-true, le-ltb}
 use Rattle.std.proofs.lemmas.List.Sums.{length-filter, count_by-le-length}
 use Rattle.std.proofs.Math.Nat.{suc-mul}
-use Rattle.tournament.specs.declared.games.Game.{Game}
+use Rattle.tournament.specs.declared.games.Pairing.{Pairing}
 use Rattle.tournament.specs.Games.{below, above, both_ways, games_with, games_on, games_of}
 
 -- one number more comes last
@@ -43,26 +43,26 @@ above-more i n lt =
     ap (filter (nat_lt i)) (below-more n) ∙ filter-append (nat_lt i) (below n) (n ∷ []) ∙ rw last refl
 
 -- the first pair's games come first
-pub pairs_none : (old : List Game) (world i : ℕ) → old ≡ old ++ flat_map (both_ways world i) (above i (i + 1))
+pub pairs_none : (old : List Pairing) (world i : ℕ) → old ≡ old ++ flat_map (both_ways world i) (above i (i + 1))
 pairs_none old world i = sym (ap (λ ns. old ++ flat_map (both_ways world i) ns) (above-none i) ∙ append-nil old)
 
 -- one pair's games more come last
-pub pairs_more : (old mid new : List Game) (world i j : ℕ) → i < j → mid ≡ old ++ flat_map (both_ways world i) (above i j) → new ≡ mid ++ both_ways world i j → new ≡ old ++ flat_map (both_ways world i) (above i (j + 1))
+pub pairs_more : (old mid new : List Pairing) (world i j : ℕ) → i < j → mid ≡ old ++ flat_map (both_ways world i) (above i j) → new ≡ mid ++ both_ways world i j → new ≡ old ++ flat_map (both_ways world i) (above i (j + 1))
 pairs_more old mid new world i j lt before more =
     more ∙ ap (λ t. t ++ both_ways world i j) before ∙ flat_map_more (both_ways world i) old (above i j) j ∙ ap (λ ns. old ++ flat_map (both_ways world i) ns) (sym (above-more i j lt))
 
 -- when all pairs are there
-pub pairs_all : (old new : List Game) (players world i j : ℕ) → j ≡ players → new ≡ old ++ flat_map (both_ways world i) (above i j) → new ≡ old ++ games_with players world i
+pub pairs_all : (old new : List Pairing) (players world i j : ℕ) → j ≡ players → new ≡ old ++ flat_map (both_ways world i) (above i j) → new ≡ old ++ games_with players world i
 unfolding games_with
 pairs_all old new players world i j at before = before ∙ ap (λ n. old ++ flat_map (both_ways world i) (above i n)) at
 
 -- when all players of a world are there
-pub players_all : (old new : List Game) (players world i : ℕ) → i ≡ players → new ≡ old ++ flat_map (games_with players world) (below i) → new ≡ old ++ games_on players world
+pub players_all : (old new : List Pairing) (players world i : ℕ) → i ≡ players → new ≡ old ++ flat_map (games_with players world) (below i) → new ≡ old ++ games_on players world
 unfolding games_on
 players_all old new players world i at before = before ∙ ap (λ n. old ++ flat_map (games_with players world) (below n)) at
 
 -- when all worlds are there
-pub worlds_all : (new : List Game) (players worlds world : ℕ) → world ≡ worlds → new ≡ flat_map (games_on players) (below world) → new ≡ games_of players worlds
+pub worlds_all : (new : List Pairing) (players worlds world : ℕ) → world ≡ worlds → new ≡ flat_map (games_on players) (below world) → new ≡ games_of players worlds
 unfolding games_of
 worlds_all new players worlds world at before = before ∙ ap (λ n. flat_map (games_on players) (below n)) at
 
@@ -90,7 +90,7 @@ unfolding above
 All-above i n = above_in i n (below n) (All-below n)
 
 -- a game of a cup: its world and its two players are there, and they are different
-pub record IsGame (players worlds : ℕ) (game : Game) : Type 0 where
+pub record IsGame (players worlds : ℕ) (game : Pairing) : Type 0 where
   pub world : game.world < worlds
   pub red : game.red < players
   pub black : game.black < players
@@ -104,8 +104,8 @@ more_apart i j lt = λ (e : j ≡ i). absurd (omega arith)
 
 pair_all : (players worlds world i j : ℕ) → world < worlds → i < j → j < players → All (IsGame players worlds) (both_ways world i j)
 pair_all players worlds world i j w lt j_in =
-    let there : Game = record { world = world; red = i; black = j } in
-    let back : Game = record { world = world; red = j; black = i } in
+    let there : Pairing = record { world = world; red = i; black = j } in
+    let back : Pairing = record { world = world; red = j; black = i } in
     All-cons (IsGame players worlds) there (back ∷ []) (record { world = w; red = omega arith; black = j_in; apart = less_apart i j lt })
     (All-cons (IsGame players worlds) back [] (record { world = w; red = j_in; black = omega arith; apart = more_apart i j lt }) (All-nil (IsGame players worlds)))
 

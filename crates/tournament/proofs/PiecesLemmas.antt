@@ -1,21 +1,20 @@
 -- Pieces of a list of games: where they begin, and what they are together.
 use Rattle.hex_geometry.specs.declared.memory.OutOfMemory.{OutOfMemory}
-use Rattle.std.proofs.Common.{Result, Ok, Err, Vec, IfOk, OnOk, ◌≡◌, ◌≢◌, ℕ, suc, ◌+◌, ◌-◌, ◌*◌, ◌/◌, ◌^◌, ◌<◌, ◌≤◌, Bool, true, false, List, [], ◌∷◌, ◌++◌, length, get_or, take, drop, map, All, refl, sym, ◌∙◌, ap, arith}
+use Rattle.std.proofs.Common.{Result, Ok, Err, Vec, IfOk, OnOk, ◌≡◌, ◌≢◌, ℕ, suc, ◌+◌, ◌-◌, ◌<◌, ◌≤◌, Bool, true, false, List, [], ◌∷◌, ◌++◌, length, get_or, take, drop, map, All, refl, sym, ◌∙◌, ap, arith}
 use Rattle.std.specs.Bool.{OnFalse}
-use Rattle.std.proofs.Math.Nat.{mul-le-mul_right, div-mul-le_self, le-div_iff_mul-le, div-le_of_le-mul, mul-div_cancel_left}
 use Rattle.std.proofs.Math.Seq.{take-add}
 use Rattle.std.proofs.lemmas.List.{map-append, take_more, take_at, drop_at, flat_map_more}
 use Rattle.std.proofs.lemmas.List.Elements.{All-take, All-drop, All-same, All-nil, All-cons, All-weaker}
 use Rattle.cell_world.specs.declared.score.Score.{Score}
-use Rattle.tournament.specs.declared.games.Game.{Game}
+use Rattle.tournament.specs.declared.games.Pairing.{Pairing}
 use Rattle.tournament.specs.declared.games.Played.{Played}
 use Rattle.tournament.specs.declared.pieces.Piece.{Piece}
 use Rattle.tournament.specs.Games.{played_by}
-use Rattle.tournament.specs.Inner.Pieces.{AreKnown, IsReady, IsDone, dealt_games, played_games}
+use Rattle.tournament.specs.Inner.Pieces.{AreKnown, IsPieceReady, IsPieceDone, dealt_games, played_games}
 use Rattle.tournament.proofs.GamesLemmas.{IsGame}
 
 -- one piece more
-pub dealt_more : (games old new : List Game) (from to : ℕ) → from ≤ to → old ≡ take from games → new ≡ old ++ take (to - from) (drop from games) → new ≡ take to games
+pub dealt_more : (games old new : List Pairing) (from to : ℕ) → from ≤ to → old ≡ take from games → new ≡ old ++ take (to - from) (drop from games) → new ≡ take to games
 dealt_more games old new from to le before more =
     let at : to ≡ from + (to - from) = omega arith in
     more ∙ ap (λ t. t ++ take (to - from) (drop from games)) before ∙ sym (take-add from (to - from) games) ∙ ap (λ n. take n games) (sym at)
@@ -29,23 +28,23 @@ pub played_more : (pieces : List Piece) (i : ℕ) (piece : Piece) → i < length
 played_more pieces i piece lt is =
     ap played_games (take_more pieces i piece lt) ∙ sym (flat_map_more (λ p. p.played.items) [] (take i pieces) (get_or pieces i piece)) ∙ ap (λ p. played_games (take i pieces) ++ p.played.items) (sym is)
 
-All-left : (P : Game → Type 0) (xs ys : List Game) → All P (xs ++ ys) → All P xs
+All-left : (P : Pairing → Type 0) (xs ys : List Pairing) → All P (xs ++ ys) → All P xs
 All-left P xs ys all = All-same P xs (take (length xs) (xs ++ ys)) (sym (take_at xs ys (length xs) refl)) (All-take P (length xs) (xs ++ ys) all)
 
-All-right : (P : Game → Type 0) (xs ys : List Game) → All P (xs ++ ys) → All P ys
+All-right : (P : Pairing → Type 0) (xs ys : List Pairing) → All P (xs ++ ys) → All P ys
 All-right P xs ys all = All-same P ys (drop (length xs) (xs ++ ys)) (sym (drop_at xs ys (length xs) refl)) (All-drop P (length xs) (xs ++ ys) all)
 
-ready_by : (knows : ℕ → ℕ → ℕ → Type 0) (pieces : List Piece) → AreKnown knows (dealt_games pieces) → All (λ piece. piece.played.items ≡ []) pieces → All (IsReady knows) pieces
-ready_by knows [] known fresh = All-nil (IsReady knows)
+ready_by : (knows : ℕ → ℕ → ℕ → Type 0) (pieces : List Piece) → AreKnown knows (dealt_games pieces) → All (λ piece. piece.played.items ≡ []) pieces → All (IsPieceReady knows) pieces
+ready_by knows [] known fresh = All-nil (IsPieceReady knows)
 ready_by knows (piece ∷ pieces) known fresh =
     let here = All-left (λ game. knows game.world game.red game.black) piece.games.items (dealt_games pieces) known in
     let rest = All-right (λ game. knows game.world game.red game.black) piece.games.items (dealt_games pieces) known in
-    All-cons (IsReady knows) piece pieces (record { fresh = fresh 0 piece (omega arith); known = here }) (ready_by knows pieces rest (λ k d lt. fresh (suc k) d (omega arith)))
+    All-cons (IsPieceReady knows) piece pieces (record { fresh = fresh 0 piece (omega arith); known = here }) (ready_by knows pieces rest (λ k d lt. fresh (suc k) d (omega arith)))
 
 -- a referee that knows the games of a cup knows those of its pieces
-pub ready : (knows : ℕ → ℕ → ℕ → Type 0) (players worlds : ℕ) (games : List Game) (pieces : List Piece)
+pub ready : (knows : ℕ → ℕ → ℕ → Type 0) (players worlds : ℕ) (games : List Pairing) (pieces : List Piece)
     → ((world red black : ℕ) → world < worlds → red < players → black < players → red ≢ black → knows world red black)
-    → All (IsGame players worlds) games → dealt_games pieces ≡ games → All (λ piece. piece.played.items ≡ []) pieces → All (IsReady knows) pieces
+    → All (IsGame players worlds) games → dealt_games pieces ≡ games → All (λ piece. piece.played.items ≡ []) pieces → All (IsPieceReady knows) pieces
 ready knows players worlds games pieces known all dealt fresh =
     let each : AreKnown knows games = All-weaker (IsGame players worlds) (λ game. knows game.world game.red game.black) (λ game at. known game.world game.red game.black at.world at.red at.black at.apart) games all in
     ready_by knows pieces (All-same (λ game. knows game.world game.red game.black) (dealt_games pieces) games dealt each) fresh
@@ -56,7 +55,7 @@ at_false false P e h = h
 
 -- what all pieces played together, where no game was refused
 pub done : (score : ℕ → ℕ → ℕ → Score) (old new : List Piece) → length new ≡ length old
-    → ((i : ℕ) (d : Piece) → i < length old → IsDone score (get_or old i d) (get_or new i d))
+    → ((i : ℕ) (d : Piece) → i < length old → IsPieceDone score (get_or old i d) (get_or new i d))
     → All (λ piece. piece.refused ≡ false) new → played_games new ≡ map (played_by score) (dealt_games old)
 done score [] [] len each whole = refl
 done score [] (y ∷ ys) len each whole = absurd (omega arith)
@@ -68,7 +67,7 @@ done score (x ∷ xs) (y ∷ ys) len each whole =
 
 -- what was gathered from the pieces is what they played
 pub gathered_done : {A : Type 0} (result : Result (Vec Played A) OutOfMemory) (score : ℕ → ℕ → ℕ → Score) (old new : List Piece) → length new ≡ length old
-    → ((i : ℕ) (d : Piece) → i < length old → IsDone score (get_or old i d) (get_or new i d))
+    → ((i : ℕ) (d : Piece) → i < length old → IsPieceDone score (get_or old i d) (get_or new i d))
     → IfOk result (λ played. played.items ≡ played_games new) → OnOk result (All (λ piece. piece.refused ≡ false) new)
     → IfOk result (λ played. played.items ≡ map (played_by score) (dealt_games old))
 gathered_done (Ok played) score old new len each is whole = is ∙ done score old new len each whole

@@ -4,7 +4,7 @@ use Rattle.std.proofs.lemmas.Bool.{ltb-false, ltb-true, eqb-true, eqb-false, eq-
 use Rattle.std.proofs.lemmas.List.{map_push}
 use Rattle.std.proofs.lemmas.List.Sums.{sum_by-cons, sum_by_push}
 use Rattle.cell_world.specs.declared.score.Score.{Score}
-use Rattle.tournament.specs.declared.games.Game.{Game}
+use Rattle.tournament.specs.declared.games.Pairing.{Pairing}
 use Rattle.tournament.specs.declared.games.Played.{Played}
 use Rattle.tournament.specs.declared.standing.Line.{Line}
 use Rattle.tournament.specs.Games.{below, played_by}
@@ -106,39 +106,39 @@ three_ways r b false false true p q e = refl
 three_ways r b false false false p q e = absurd (eqb-false r b e (omega (arith, ltb-false b r p, ltb-false r b q)))
 
 module _ (players worlds : ℕ) (score : ℕ → ℕ → ℕ → Score) where
-  abbrev scored : List Game → List Played
+  abbrev scored : List Pairing → List Played
   scored games = map (played_by score) games
 
-  abbrev red_wins : Game → ℕ
+  abbrev red_wins : Pairing → ℕ
   red_wins g = cond (nat_lt (score g.world g.red g.black).black (score g.world g.red g.black).red) 1 0
 
-  abbrev black_wins : Game → ℕ
+  abbrev black_wins : Pairing → ℕ
   black_wins g = cond (nat_lt (score g.world g.red g.black).red (score g.world g.red g.black).black) 1 0
 
-  abbrev drawn_once : Game → ℕ
+  abbrev drawn_once : Pairing → ℕ
   drawn_once g = cond ((score g.world g.red g.black).red == (score g.world g.red g.black).black) 1 0
 
-  won_more : (g : Game) (games : List Game) → IsGame players worlds g
+  won_more : (g : Pairing) (games : List Pairing) → IsGame players worlds g
       → total (λ p. count_by (is_won p) (scored (g ∷ games))) players ≡ (red_wins g + black_wins g) + total (λ p. count_by (is_won p) (scored games)) players
   won_more g games at = more is_won (played_by score g) (scored games) players g.red g.black (red_wins g) (black_wins g) at.red at.black (λ p. two_sides (g.red == p) (g.black == p) _ _ (not_both g.red g.black p at.apart))
 
-  lost_more : (g : Game) (games : List Game) → IsGame players worlds g
+  lost_more : (g : Pairing) (games : List Pairing) → IsGame players worlds g
       → total (λ p. count_by (is_lost p) (scored (g ∷ games))) players ≡ (black_wins g + red_wins g) + total (λ p. count_by (is_lost p) (scored games)) players
   lost_more g games at = more is_lost (played_by score g) (scored games) players g.red g.black (black_wins g) (red_wins g) at.red at.black (λ p. two_sides (g.red == p) (g.black == p) _ _ (not_both g.red g.black p at.apart))
 
-  drawn_more : (g : Game) (games : List Game) → IsGame players worlds g
+  drawn_more : (g : Pairing) (games : List Pairing) → IsGame players worlds g
       → total (λ p. count_by (is_drawn p) (scored (g ∷ games))) players ≡ (drawn_once g + drawn_once g) + total (λ p. count_by (is_drawn p) (scored games)) players
   drawn_more g games at = more is_drawn (played_by score g) (scored games) players g.red g.black (drawn_once g) (drawn_once g) at.red at.black (λ p. each_side (g.red == p) (g.black == p) _ (not_both g.red g.black p at.apart))
 
   -- as many wins as losses
-  pub wins_losses : (games : List Game) → All (IsGame players worlds) games → total (λ p. count_by (is_won p) (scored games)) players ≡ total (λ p. count_by (is_lost p) (scored games)) players
+  pub wins_losses : (games : List Pairing) → All (IsGame players worlds) games → total (λ p. count_by (is_won p) (scored games)) players ≡ total (λ p. count_by (is_lost p) (scored games)) players
   wins_losses [] all = refl
   wins_losses (g ∷ games) all =
       let at = all 0 g (omega arith) in
       omega (arith, won_more g games at, lost_more g games at, wins_losses games (λ k d lt. all (suc k) d (omega arith)))
 
   -- two points for each game
-  pub points_games : (games : List Game) → All (IsGame players worlds) games
+  pub points_games : (games : List Pairing) → All (IsGame players worlds) games
       → 2 * total (λ p. count_by (is_won p) (scored games)) players + total (λ p. count_by (is_drawn p) (scored games)) players ≡ 2 * length games
   points_games [] all = omega (arith, total-none players)
   points_games (g ∷ games) all =

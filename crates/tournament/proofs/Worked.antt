@@ -4,12 +4,12 @@ use Rattle.std.specs.Fmt.{digits}
 use Rattle.std.specs.List.{AllAdjacentBelow}
 use Rattle.std.proofs.lemmas.List.Sorted.{IsPermutation-append_comm}
 use Rattle.cell_world.specs.declared.score.Score.{Score}
-use Rattle.tournament.specs.declared.games.Game.{Game}
+use Rattle.tournament.specs.declared.games.Pairing.{Pairing}
 use Rattle.tournament.specs.declared.standing.Line.{Line}
 use Rattle.tournament.specs.Names.{has_name, with_name}
 use Rattle.tournament.specs.Games.{below, above, games_with, games_on, games_of, all_played}
 use Rattle.tournament.specs.Standing.{line_of, StandsAbove, IsStandingOf}
-use Rattle.tournament.specs.Text.{line_text, standing_text, IsCupText}
+use Rattle.tournament.specs.Text.{table_line_text, standing_text, IsCupText}
 
 abbrev score : ℕ → ℕ → ℕ → Score
 score world red black = cond (red == 1) (record { red = 3; black = 0 }) (record { red = 0; black = 0 })
@@ -20,7 +20,7 @@ line_a = record { player = 0; points = 1; won = 0; drawn = 1; lost = 1 }
 abbrev line_b : Line
 line_b = record { player = 1; points = 3; won = 1; drawn = 1; lost = 0 }
 
-abbrev game : ℕ → ℕ → ℕ → Game
+abbrev game : ℕ → ℕ → ℕ → Pairing
 game world red black = record { world = world; red = red; black = black }
 
 -- the games of two players on one world
@@ -51,7 +51,7 @@ b_then_a = record {
 }
 
 text_is : codes "3 points: b (1 won, 1 drawn, 0 lost)\n1 points: a (0 won, 1 drawn, 1 lost)\n" ≡ standing_text (codes "a" ∷ codes "b" ∷ []) (line_b ∷ line_a ∷ [])
-unfolding digits line_text
+unfolding digits table_line_text
 text_is = refl
 
 -- the text of that cup

@@ -2,7 +2,7 @@
 use Rattle.std.specs.Prelude.{ℕ, zero, suc, List, [], ◌∷◌, ◌++◌, filter, map, nat_lt}
 use Rattle.std.specs.List.{flat_map}
 use Rattle.cell_world.specs.declared.score.Score.{Score}
-use Rattle.tournament.specs.declared.games.Game.{Game}
+use Rattle.tournament.specs.declared.games.Pairing.{Pairing}
 use Rattle.tournament.specs.declared.games.Played.{Played}
 
 -- the numbers from 0 that are below n, in rising order
@@ -15,23 +15,23 @@ unfoldable pub above : ℕ → ℕ → List ℕ
 above i n = filter (nat_lt i) (below n)
 
 -- the two games of a pair on a world: i as red against j, and then j as red against i
-abbrev pub both_ways : ℕ → ℕ → ℕ → List Game
+abbrev pub both_ways : ℕ → ℕ → ℕ → List Pairing
 both_ways world i j = (record { world = world; red = i; black = j }) ∷ (record { world = world; red = j; black = i }) ∷ []
 
 -- the games on a world of player i with each player of a higher number
-unfoldable pub games_with : ℕ → ℕ → ℕ → List Game
+unfoldable pub games_with : ℕ → ℕ → ℕ → List Pairing
 games_with players world i = flat_map (both_ways world i) (above i players)
 
 -- the games on a world: those of each pair of players
-unfoldable pub games_on : ℕ → ℕ → List Game
+unfoldable pub games_on : ℕ → ℕ → List Pairing
 games_on players world = flat_map (games_with players world) (below players)
 
 -- the games of a cup: those on each world
-unfoldable pub games_of : ℕ → ℕ → List Game
+unfoldable pub games_of : ℕ → ℕ → List Pairing
 games_of players worlds = flat_map (games_on players) (below worlds)
 
 -- a game with its score, where scores are told by world, red player and black player
-abbrev pub played_by : (ℕ → ℕ → ℕ → Score) → Game → Played
+abbrev pub played_by : (ℕ → ℕ → ℕ → Score) → Pairing → Played
 played_by score game = record { game = game; score = score game.world game.red game.black }
 
 -- the games of a cup with their scores

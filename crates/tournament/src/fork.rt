@@ -2,7 +2,7 @@
 ghost use Rattle.std.specs.Prelude.{◌≡◌, ℕ, ◌<◌, All, IfOk, length, map, slice_index_or};
 ghost use Rattle.tournament.specs.declared.pieces.Piece.{Piece};
 ghost use Rattle.tournament.specs.Games.{played_by};
-ghost use Rattle.tournament.specs.Inner.Pieces.{IsReady, IsDone, dealt_games};
+ghost use Rattle.tournament.specs.Inner.Pieces.{IsPieceReady, IsPieceDone, dealt_games};
 
 use crate::games::Played;
 use crate::pieces::{Piece, gathered};
@@ -21,7 +21,7 @@ pub fn played_together<R: Threads + Sync, F: Referee>(
     workers: usize,
 ) -> Result<Vec<Played>, OutOfMemory>
     requires workers { 0 < workers }
-    requires ready { All (IsReady (F.knows referee.now)) pieces.old }
+    requires ready { All (IsPieceReady (F.knows referee.now)) pieces.old }
     ensures { IfOk result (λ played. played.items ≡ map (played_by (F.score referee.now)) (dealt_games pieces.old)) }
 {
     play_pieces(rt, alloc, referee, pieces, workers);
@@ -37,8 +37,8 @@ fn play_pieces<R: Threads + Sync, F: Referee>(
     workers: usize,
 )
     requires workers { 0 < workers }
-    requires ready { All (IsReady (F.knows referee.now)) pieces.old }
-    ensures done { (i : ℕ) (d : Piece) → i < length pieces.old → IsDone (F.score referee.now) (slice_index_or pieces.old i d) (slice_index_or pieces.new i d) }
+    requires ready { All (IsPieceReady (F.knows referee.now)) pieces.old }
+    ensures done { (i : ℕ) (d : Piece) → i < length pieces.old → IsPieceDone (F.score referee.now) (slice_index_or pieces.old i d) (slice_index_or pieces.new i d) }
     ensures len { length pieces.new ≡ length pieces.old }
 {
     thread::for_each_mut(
@@ -46,8 +46,8 @@ fn play_pieces<R: Threads + Sync, F: Referee>(
         pieces,
         workers,
         &|_: usize, piece: &mut Piece|
-            requires { IsReady (F.knows referee.now) piece.now }
-            ensures { IsDone (F.score referee.entry.now) piece.entry.now piece.exit.now }
+            requires { IsPieceReady (F.knows referee.now) piece.now }
+            ensures { IsPieceDone (F.score referee.entry.now) piece.entry.now piece.exit.now }
         { piece.play(alloc, referee) },
     );
 }

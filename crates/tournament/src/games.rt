@@ -8,7 +8,7 @@ use std::alloc::Global;
 
 // A game: the numbers of its world, its red player and its black player.
 #[derive(Clone, Copy)]
-pub struct Game {
+pub struct Pairing {
     pub world: u32,
     pub red: u32,
     pub black: u32,
@@ -17,12 +17,12 @@ pub struct Game {
 // A game with its score.
 #[derive(Clone, Copy)]
 pub struct Played {
-    pub game: Game,
+    pub game: Pairing,
     pub score: Score,
 }
 
 // All games, world by world.
-pub fn games_of(alloc: Global, players: u32, worlds: u32) -> Result<Vec<Game>, OutOfMemory>
+pub fn games_of(alloc: Global, players: u32, worlds: u32) -> Result<Vec<Pairing>, OutOfMemory>
     ensures { IfOk result (λ games. games.items ≡ games_of players worlds) }
 {
     let mut games = Vec::new(alloc);
@@ -33,7 +33,7 @@ pub fn games_of(alloc: Global, players: u32, worlds: u32) -> Result<Vec<Game>, O
 }
 
 // Adds the games on one world.
-fn add_world(games: &mut Vec<Game>, players: u32, world: u32) -> Result<(), OutOfMemory>
+fn add_world(games: &mut Vec<Pairing>, players: u32, world: u32) -> Result<(), OutOfMemory>
     ensures { IfOk result (λ _. games.new.items ≡ games.old.items ++ games_on players world) }
 {
     for first in 0..players {
@@ -43,7 +43,12 @@ fn add_world(games: &mut Vec<Game>, players: u32, world: u32) -> Result<(), OutO
 }
 
 // Adds the games on one world of a player with those of a higher number.
-fn add_pairs(games: &mut Vec<Game>, players: u32, world: u32, first: u32) -> Result<(), OutOfMemory>
+fn add_pairs(
+    games: &mut Vec<Pairing>,
+    players: u32,
+    world: u32,
+    first: u32,
+) -> Result<(), OutOfMemory>
     requires { first < players }
     ensures { IfOk result (λ _. games.new.items ≡ games.old.items ++ games_with players world first) }
 {
@@ -54,15 +59,20 @@ fn add_pairs(games: &mut Vec<Game>, players: u32, world: u32, first: u32) -> Res
 }
 
 // Adds the two games of a pair on one world.
-fn add_pair(games: &mut Vec<Game>, world: u32, first: u32, second: u32) -> Result<(), OutOfMemory>
+fn add_pair(
+    games: &mut Vec<Pairing>,
+    world: u32,
+    first: u32,
+    second: u32,
+) -> Result<(), OutOfMemory>
     ensures { IfOk result (λ _. games.new.items ≡ games.old.items ++ both_ways world first second) }
 {
-    let there = Game {
+    let there = Pairing {
         world,
         red: first,
         black: second,
     };
-    let back = Game {
+    let back = Pairing {
         world,
         red: second,
         black: first,

@@ -1,9 +1,9 @@
 // The list of games in contiguous pieces, one for each worker.
 ghost use Rattle.std.specs.Prelude.{◌≡◌, ℕ, ◌+◌, ◌*◌, ◌/◌, ◌<◌, ◌≤◌, ◌++◌, ◌^◌, false, [], All, length, map, IfOk, OnOk};
 ghost use Rattle.tournament.specs.Games.{played_by};
-ghost use Rattle.tournament.specs.Inner.Pieces.{AreKnown, IsReady, IsDone, dealt_games, played_games};
+ghost use Rattle.tournament.specs.Inner.Pieces.{AreKnown, IsPieceReady, IsPieceDone, dealt_games, played_games};
 
-use crate::games::{Game, Played};
+use crate::games::{Pairing, Played};
 use crate::referee::Referee;
 use hex_geometry::OutOfMemory;
 use std::alloc::Global;
@@ -12,14 +12,14 @@ use work_share::border;
 // A worker's games, rooms for what is played, and whether a game was refused.
 #[derive(Drop)]
 pub struct Piece {
-    pub games: Vec<Game>,
+    pub games: Vec<Pairing>,
     pub played: Vec<Played>,
     pub refused: bool,
 }
 
 impl Piece {
     // The piece of these games, with a room for each.
-    fn of_games(alloc: Global, games: &[Game]) -> Result<Piece, OutOfMemory>
+    fn of_games(alloc: Global, games: &[Pairing]) -> Result<Piece, OutOfMemory>
         ensures games { IfOk result (λ piece. piece.games.items ≡ games.now) }
         ensures fresh { IfOk result (λ piece. piece.played.items ≡ []) }
     {
@@ -32,8 +32,8 @@ impl Piece {
 
     // Plays the games in their order, up to the first that is refused.
     pub fn play<F: Referee>(&mut self, alloc: Global, referee: &F)
-        requires { IsReady (F.knows referee.now) self.old }
-        ensures { IsDone (F.score referee.now) self.old self.new }
+        requires { IsPieceReady (F.knows referee.now) self.old }
+        ensures { IsPieceDone (F.score referee.now) self.old self.new }
     {
         self.refused = play_games(alloc, referee, &self.games, &mut self.played).is_err();
     }
@@ -43,7 +43,7 @@ impl Piece {
 fn play_games<F: Referee>(
     alloc: Global,
     referee: &F,
-    games: &[Game],
+    games: &[Pairing],
     played: &mut Vec<Played>,
 ) -> Result<(), OutOfMemory>
     requires { AreKnown (F.knows referee.now) games.now }
@@ -58,7 +58,7 @@ fn play_games<F: Referee>(
 
 // The games in as many pieces as there are workers, piece k from game k * n / workers on, where n is the number of games. Pieces
 // without a game are left out.
-pub fn dealt(alloc: Global, games: &[Game], workers: usize) -> Result<Vec<Piece>, OutOfMemory>
+pub fn dealt(alloc: Global, games: &[Pairing], workers: usize) -> Result<Vec<Piece>, OutOfMemory>
     requires workers { (0 < workers) × (workers ≤ 16) }
     requires few { length games.now < 2 ^ 30 }
     ensures games { IfOk result (λ pieces. dealt_games pieces.items ≡ games.now) }
@@ -75,7 +75,7 @@ pub fn dealt(alloc: Global, games: &[Game], workers: usize) -> Result<Vec<Piece>
 }
 
 // Adds the piece of these games, if there are any.
-fn add_piece(pieces: &mut Vec<Piece>, alloc: Global, games: &[Game]) -> Result<(), OutOfMemory>
+fn add_piece(pieces: &mut Vec<Piece>, alloc: Global, games: &[Pairing]) -> Result<(), OutOfMemory>
     ensures games { IfOk result (λ _. dealt_games pieces.new.items ≡ dealt_games pieces.old.items ++ games.now) }
     ensures fresh { OnOk result (All (λ piece. piece.played.items ≡ []) pieces.old.items → All (λ piece. piece.played.items ≡ []) pieces.new.items) }
 {

@@ -3,7 +3,7 @@ ghost use Rattle.std.specs.Prelude.{◌<◌, All, length, slice_index_or};
 ghost use Rattle.ant_base.specs.Sink.{Pushed};
 ghost use Rattle.ant_base.specs.Layout.{◌+++◌};
 ghost use Rattle.tournament.specs.Inner.Blank.{blank};
-ghost use Rattle.tournament.specs.Text.{line_text, standing_text};
+ghost use Rattle.tournament.specs.Text.{table_line_text, standing_text};
 
 use crate::names::Names;
 use crate::standing::{Line, Standing};
@@ -11,16 +11,16 @@ use ant_base::{Each, Failed, Layout, Parts, Sink, layout};
 
 // The lines of a standing, whose players all have names.
 #[derive(Clone, Copy)]
-struct Lines<'s> {
+struct TableLines<'s> {
     standing: &'s Standing,
     names: &'s Names,
     ghost named: { All (λ line. line.player < length names.now) standing.now },
 }
 
-impl Parts for Lines<'_> {
+impl Parts for TableLines<'_> {
     ghost count = { λ lines. length lines.standing.now };
 
-    ghost part = { λ lines at. line_text lines.names.now (slice_index_or lines.standing.now at blank) };
+    ghost part = { λ lines at. table_line_text lines.names.now (slice_index_or lines.standing.now at blank) };
 
     fn count(&self) -> usize {
         self.standing.len()
@@ -33,10 +33,10 @@ impl Parts for Lines<'_> {
 }
 
 // Pushes one line.
-#[tactic(auto, unfolding(crate::specs::Text::line_text))]
+#[tactic(auto, unfolding(crate::specs::Text::table_line_text))]
 fn push_line<K: Sink>(names: &Names, line: Line, sink: &mut K) -> Result<(), Failed>
     requires { line.player < length names.now }
-    ensures { Pushed (K.state sink.old) (K.state sink.new) (line_text names.now line) result }
+    ensures { Pushed (K.state sink.old) (K.state sink.new) (table_line_text names.now line) result }
 {
     let name = names.of_player(line.player);
     layout!(
@@ -64,5 +64,5 @@ pub fn push_standing<K: Sink>(
     requires { All (λ line. line.player < length names.now) standing.now }
     ensures { Pushed (K.state sink.old) (K.state sink.new) (standing_text names.now standing.now) result }
 {
-    Each(Lines { standing, names }).push_to(sink)
+    Each(TableLines { standing, names }).push_to(sink)
 }

@@ -11,7 +11,7 @@ use Rattle.std.proofs.lemmas.Int.{ints}
 use Rattle.std.specs.Prelude.{Bool, ℤ, pos, negsuc, ◌+ℤ◌, ◌-ℤ◌}
 use Rattle.world_gen.proofs.Steps.{point_one}
 use Rattle.world_gen.specs.Fitting.{IsOffRim}
-use Rattle.world_gen.specs.Inner.Open.{BallIsOpen, IsFenced, IsOpen, IsShut, IsWithin, RowIsOpen, in_row, is_open}
+use Rattle.world_gen.specs.Inner.Open.{BallIsOpen, IsFenced, IsOpen, IsShut, IsBallWithin, RowIsOpen, in_row, is_unblocked}
 
 -- what is at a distance in a ball is within its radius
 pub ball_far : (p q : Point) (radius k : ℕ) → IsInBall p radius q → IsDistance p q k → k ≤ radius
@@ -82,7 +82,7 @@ ball_has centre radius all =
     record { from_left = omega arith; to_right = omega arith; from_top = omega arith; to_bottom = omega arith }
 
 -- a ball off the rim ends before it
-pub off_rim_within : (width height : ℕ) (centre : Pos) (radius : ℕ) → ((q : Point) → IsInBall (point_of centre) radius q → IsOffRim width height q) → IsWithin width height centre radius
+pub off_rim_within : (width height : ℕ) (centre : Pos) (radius : ℕ) → ((q : Point) → IsInBall (point_of centre) radius q → IsOffRim width height q) → IsBallWithin width height centre radius
 off_rim_within width height centre radius all =
     let at = sides (IsInner width height) centre radius all in
     let a = at.left.1 in
@@ -96,12 +96,12 @@ off_rim_within width height centre radius all =
     record { from_left = omega arith; from_top = omega arith; to_right = omega arith; to_bottom = omega arith }
 
 -- so does an open ball
-pub open_within : (width height : ℕ) (blocked : List Bool) (centre : Pos) (radius : ℕ) → IsFenced width height blocked → BallIsOpen width height blocked (point_of centre) radius → IsWithin width height centre radius
+pub open_within : (width height : ℕ) (blocked : List Bool) (centre : Pos) (radius : ℕ) → IsFenced width height blocked → BallIsOpen width height blocked (point_of centre) radius → IsBallWithin width height centre radius
 open_within width height blocked centre radius fence all =
     off_rim_within width height centre radius (λ q ball. let found = all q ball in (found.0, found.1, fence.rim found.0 found.2))
 
 -- rows that are open are an open ball
-row_of : (width height : ℕ) (blocked : List Bool) (centre : Pos) (radius n : ℕ) (x y : ℤ) → IsWithin width height centre radius → 2 * radius + 1 ≤ n
+row_of : (width height : ℕ) (blocked : List Bool) (centre : Pos) (radius n : ℕ) (x y : ℤ) → IsBallWithin width height centre radius → 2 * radius + 1 ≤ n
     → ((i : ℕ) → i < n → RowIsOpen width height blocked centre radius (centre.y - radius + i) (2 * radius + 1))
     → IsInBall (point_of centre) radius (side x y) → Within radius (point_of centre) (side x y) → IsOpen width height blocked (side x y)
 unfolding half side
@@ -116,7 +116,7 @@ row_of width height blocked centre radius n (pos x) (pos y) within whole rows ba
     let here : in_row centre radius (centre.y - radius + i) j ≡ p = ap (λ z. record { x = z; y = centre.y - radius + i }) column ∙ ap (λ z. record { x = x; y = z }) row in (
       p,
       refl,
-      elim (cases_Bool (is_open width height blocked p)) [
+      elim (cases_Bool (is_unblocked width height blocked p)) [
         | inl free ↦ free
         | inr shut ↦ absurd (rows i low j wide (subst (IsShut width height blocked centre radius) (sym here) (ball, shut)))
       ],
@@ -125,7 +125,7 @@ row_of width height blocked centre radius n (negsuc x) (pos y) within whole rows
 row_of width height blocked centre radius n (pos x) (negsuc y) within whole rows ball w = absurd (omega (arith, ints))
 row_of width height blocked centre radius n (negsuc x) (negsuc y) within whole rows ball w = absurd (omega (arith, ints))
 
-pub rows_ball : (width height : ℕ) (blocked : List Bool) (centre : Pos) (radius n : ℕ) → IsWithin width height centre radius → 2 * radius + 1 ≤ n
+pub rows_ball : (width height : ℕ) (blocked : List Bool) (centre : Pos) (radius n : ℕ) → IsBallWithin width height centre radius → 2 * radius + 1 ≤ n
     → ((i : ℕ) → i < n → RowIsOpen width height blocked centre radius (centre.y - radius + i) (2 * radius + 1)) → BallIsOpen width height blocked (point_of centre) radius
 unfolding side
 rows_ball width height blocked centre radius n within whole rows q ball =
@@ -135,5 +135,5 @@ rows_ball width height blocked centre radius n within whole rows q ball =
 pub ball_row : (width height : ℕ) (blocked : List Bool) (centre : Pos) (radius y n : ℕ) → BallIsOpen width height blocked (point_of centre) radius → RowIsOpen width height blocked centre radius y n
 ball_row width height blocked centre radius y n all j below shut =
     let found = all (point_of (in_row centre radius y j)) shut.0 in
-    let free : is_open width height blocked (in_row centre radius y j) ≡ true = subst (λ r. is_open width height blocked r ≡ true) (point_one found.0 (in_row centre radius y j) found.1) found.2 in
+    let free : is_unblocked width height blocked (in_row centre radius y j) ≡ true = subst (λ r. is_unblocked width height blocked r ≡ true) (point_one found.0 (in_row centre radius y j) found.1) found.2 in
     false≢true (sym shut.1 ∙ free)

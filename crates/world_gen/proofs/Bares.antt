@@ -15,7 +15,7 @@ use Rattle.std.proofs.lemmas.List.Elements.{All-push}
 use Rattle.std.specs.List.{All}
 use Rattle.std.specs.Prelude.{Bool, Contains, ◌==◌, ◌||◌, not}
 use Rattle.world_gen.proofs.Indexes.{index_below, pos_at_index}
-use Rattle.world_gen.specs.Inner.Open.{is_open}
+use Rattle.world_gen.specs.Inner.Open.{is_unblocked}
 use Rattle.world_gen.specs.Inner.Yards.{IsYard, bare_blocked, bare_kind, bare_kinds, is_rim}
 
 no_member : {X : Type 0} (z : X) → Contains [] z → ⊥
@@ -106,7 +106,7 @@ bare_hills width height (suc n) =
     omega (arith, hill_count_push (bare_kinds width height n) kind, bare_no_hill (is_rim width height (pos_at width n)), bare_hills width height n)
 
 -- an open cell is inside, and not blocked
-pub open_inside : (width height : ℕ) (blocked : List Bool) (p : Pos) → is_open width height blocked p ≡ true → IsInside width height p
+pub open_inside : (width height : ℕ) (blocked : List Bool) (p : Pos) → is_unblocked width height blocked p ≡ true → IsInside width height p
 open_inside width height blocked p free =
     let a = and_parts _ _ free in
     let b = and_parts _ _ a.1 in
@@ -116,13 +116,13 @@ true_not : (b : Bool) → not b ≡ true → b ≡ false
 true_not true e = absurd (cc)
 true_not false e = refl
 
-pub open_free : (width height : ℕ) (blocked : List Bool) (p : Pos) → is_open width height blocked p ≡ true → get_or blocked (index_of width p) true ≡ false
+pub open_free : (width height : ℕ) (blocked : List Bool) (p : Pos) → is_unblocked width height blocked p ≡ true → get_or blocked (index_of width p) true ≡ false
 open_free width height blocked p free =
     let a = and_parts _ _ free in
     let b = and_parts _ _ a.1 in
     true_not _ b.1
 
-pub open_from : (width height : ℕ) (blocked : List Bool) (p : Pos) → IsInside width height p → get_or blocked (index_of width p) true ≡ false → is_open width height blocked p ≡ true
+pub open_from : (width height : ℕ) (blocked : List Bool) (p : Pos) → IsInside width height p → get_or blocked (index_of width p) true ≡ false → is_unblocked width height blocked p ≡ true
 open_from width height blocked p inside free =
     and_from _ _ (lt-ltb p.x width inside.column) (and_from _ _ (lt-ltb p.y height inside.row) (ap not free))
 

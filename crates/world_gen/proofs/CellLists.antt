@@ -8,15 +8,15 @@ use Rattle.std.specs.Prelude.{Contains}
 use Rattle.world_gen.proofs.Lines.{lines_each, lines_every}
 use Rattle.world_gen.specs.Elements.{IsCellOf, IsInBlob}
 use Rattle.world_gen.specs.Inner.Open.{ListsCells, lines_from}
-use Rattle.world_gen.specs.declared.spot.Form.{Form}
-use Rattle.world_gen.specs.declared.spot.Form.TheVariants.{Blob}
+use Rattle.world_gen.specs.declared.spot.Figure.{Figure}
+use Rattle.world_gen.specs.declared.spot.Figure.TheVariants.{Blob}
 use Rattle.world_gen.specs.declared.spot.Spot.{Spot}
 
 blob_cells : (spot : Spot) (first : Dir) (cells : List Pos) → spot.form ≡ Blob first → ((q : Point) → IsInBlob (point_of spot.place) first q → (p : Pos) × (point_of p ≡ q) × HasNeighbours p) → cells ≡ lines_from 5 first spot.place → ListsCells spot cells
 blob_cells spot first cells form all is = record {
-  each = λ p among. subst (λ (f : Form). IsCellOf f (point_of spot.place) (point_of p)) (sym form) (lines_each spot.place first all p (subst (λ l. Contains l p) is among));
+  each = λ p among. subst (λ (f : Figure). IsCellOf f (point_of spot.place) (point_of p)) (sym form) (lines_each spot.place first all p (subst (λ l. Contains l p) is among));
   every = λ q cell.
-      let place = lines_every spot.place first all q (subst (λ (f : Form). IsCellOf f (point_of spot.place) q) form cell) in
+      let place = lines_every spot.place first all q (subst (λ (f : Figure). IsCellOf f (point_of spot.place) q) form cell) in
       (place.0, place.1, subst (λ l. Contains l place.0) (sym is) place.2);
 }
 

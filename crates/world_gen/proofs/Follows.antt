@@ -8,22 +8,22 @@ use Rattle.std.proofs.lemmas.Bool.{cond_both}
 use Rattle.std.proofs.lemmas.List.{append-nil}
 use Rattle.std.specs.Prelude.{nat_lt}
 use Rattle.world_gen.specs.Elements.{element_of}
-use Rattle.world_gen.specs.Fitting.{Fits}
+use Rattle.world_gen.specs.Fitting.{IsFreeSpot}
 use Rattle.world_gen.specs.Painting.{paint_of}
-use Rattle.world_gen.specs.Placing.{Follow, Goes, HasNone, IsFound, IsTaken, after_begun, begun, tried_form}
+use Rattle.world_gen.specs.Placing.{Follow, Goes, HasNone, IsFound, IsChosenSpot, after_begun, form_begun, tried_form}
 use Rattle.world_gen.specs.declared.element.Element.{Element}
 use Rattle.world_gen.specs.declared.element.Element.TheVariants as element
 use Rattle.world_gen.specs.declared.shape.Shape.{Shape}
-use Rattle.world_gen.specs.declared.spot.Form.{Form}
-use Rattle.world_gen.specs.declared.spot.Form.TheVariants.{Hill, Rock, Blob}
+use Rattle.world_gen.specs.declared.spot.Figure.{Figure}
+use Rattle.world_gen.specs.declared.spot.Figure.TheVariants.{Hill, Rock, Blob}
 use Rattle.world_gen.specs.declared.spot.Spot.{Spot}
 
 -- where one test holds exactly as another does, an element goes to the same spot
-taken_as : (P Q : Spot → Type 0) (into : (s : Spot) → P s → Q s) (back : (s : Spot) → Q s → P s) (seed width height : ℕ) (form : Form) (g : ℕ) (spot : Spot) (after : ℕ)
-    → IsTaken P seed width height form g spot after → IsTaken Q seed width height form g spot after
+taken_as : (P Q : Spot → Type 0) (into : (s : Spot) → P s → Q s) (back : (s : Spot) → Q s → P s) (seed width height : ℕ) (form : Figure) (g : ℕ) (spot : Spot) (after : ℕ)
+    → IsChosenSpot P seed width height form g spot after → IsChosenSpot Q seed width height form g spot after
 taken_as P Q into back seed width height form g spot after t = record { try = t.try; below = t.below; is = t.is; fitting = into spot t.fitting; first = λ k h q. t.first k h (back _ q); drew = t.drew }
 
-found_as : (P Q : Spot → Type 0) (into : (s : Spot) → P s → Q s) (back : (s : Spot) → Q s → P s) (seed width height : ℕ) (form : Form) (g : ℕ) (spot : Spot) (after : ℕ)
+found_as : (P Q : Spot → Type 0) (into : (s : Spot) → P s → Q s) (back : (s : Spot) → Q s → P s) (seed width height : ℕ) (form : Figure) (g : ℕ) (spot : Spot) (after : ℕ)
     → IsFound P seed width height form g spot after → IsFound Q seed width height form g spot after
 found_as P Q into back seed width height form g spot after f = record {
   no_try = λ k h q. f.no_try k h (back _ q);
@@ -39,8 +39,8 @@ pub goes_as : (P Q : Spot → Type 0) (into : (s : Spot) → P s → Q s) (back 
     → Goes P seed width height e g spot after → Goes Q seed width height e g spot after
 goes_as P Q into back seed width height e g spot after goes =
     elim goes [
-      | inl t ↦ inl (taken_as P Q into back seed width height (begun seed g e) (after_begun g e) spot after t)
-      | inr f ↦ inr (found_as P Q into back seed width height (begun seed g e) (after_begun g e) spot after f)
+      | inl t ↦ inl (taken_as P Q into back seed width height (form_begun seed g e) (after_begun g e) spot after t)
+      | inr f ↦ inr (found_as P Q into back seed width height (form_begun seed g e) (after_begun g e) spot after f)
     ]
 
 pub none_as : (P Q : Spot → Type 0) (back : (s : Spot) → Q s → P s) (seed width height : ℕ) (e : Element) (g : ℕ) → HasNone P seed width height e g → HasNone Q seed width height e g
@@ -52,15 +52,15 @@ goes_fits P seed width height e g spot after goes = elim goes [ inl t ↦ t.fitt
 
 -- one element after the others
 pub follow_more : (seed : ℕ) (shape : Shape) (placed : List Spot) (g : ℕ) (rest : List Spot) (after : ℕ) (spot : Spot) (next : ℕ)
-    → Follow seed shape placed g rest after → Goes (Fits shape.width shape.height (placed ++ rest)) seed shape.width shape.height (element_of shape (length (placed ++ rest))) after spot next
+    → Follow seed shape placed g rest after → Goes (IsFreeSpot shape.width shape.height (placed ++ rest)) seed shape.width shape.height (element_of shape (length (placed ++ rest))) after spot next
     → Follow seed shape placed g (rest ++ spot ∷ []) next
 follow_more seed shape placed g [] after spot next same goes =
-    let here : Goes (Fits shape.width shape.height placed) seed shape.width shape.height (element_of shape (length placed)) after spot next =
-    subst (λ l. Goes (Fits shape.width shape.height l) seed shape.width shape.height (element_of shape (length l)) after spot next) (append-nil placed) goes in
-    (next, subst (λ n. Goes (Fits shape.width shape.height placed) seed shape.width shape.height (element_of shape (length placed)) n spot next) (sym same) here, refl)
+    let here : Goes (IsFreeSpot shape.width shape.height placed) seed shape.width shape.height (element_of shape (length placed)) after spot next =
+    subst (λ l. Goes (IsFreeSpot shape.width shape.height l) seed shape.width shape.height (element_of shape (length l)) after spot next) (append-nil placed) goes in
+    (next, subst (λ n. Goes (IsFreeSpot shape.width shape.height placed) seed shape.width shape.height (element_of shape (length placed)) n spot next) (sym same) here, refl)
 follow_more seed shape placed g (one ∷ rest) after spot next follow goes =
-    let moved : Goes (Fits shape.width shape.height ((placed ++ one ∷ []) ++ rest)) seed shape.width shape.height (element_of shape (length ((placed ++ one ∷ []) ++ rest))) after spot next =
-    subst (λ l. Goes (Fits shape.width shape.height l) seed shape.width shape.height (element_of shape (length l)) after spot next) (sym (append_assoc placed (one ∷ []) rest)) goes in
+    let moved : Goes (IsFreeSpot shape.width shape.height ((placed ++ one ∷ []) ++ rest)) seed shape.width shape.height (element_of shape (length ((placed ++ one ∷ []) ++ rest))) after spot next =
+    subst (λ l. Goes (IsFreeSpot shape.width shape.height l) seed shape.width shape.height (element_of shape (length l)) after spot next) (sym (append_assoc placed (one ∷ []) rest)) goes in
     (follow.0, follow.1, follow_more seed shape (placed ++ one ∷ []) follow.0 rest after spot next follow.2 moved)
 
 -- the cells of each element are of a kind that a world may have
@@ -68,22 +68,22 @@ hill_fed : (colour : Colour) → IsFed (paint_of (Hill colour))
 hill_fed Red = tt
 hill_fed Black = tt
 
-pub paint_fed : (form : Form) → IsFed (paint_of form)
+pub paint_fed : (form : Figure) → IsFed (paint_of form)
 paint_fed (Hill colour) = hill_fed colour
 paint_fed (Rock radius) = tt
 paint_fed (Blob first) = (omega arith, omega arith)
 
 -- only the first two elements are hills
-tried_no_hill : (seed i g : ℕ) (e : Element) → is_hill (paint_of (begun seed g e)) ≡ false → is_hill (paint_of (tried_form seed i (begun seed g e))) ≡ false
+tried_no_hill : (seed i g : ℕ) (e : Element) → is_hill (paint_of (form_begun seed g e)) ≡ false → is_hill (paint_of (tried_form seed i (form_begun seed g e))) ≡ false
 tried_no_hill seed i g (element.Hill colour) off = off
 tried_no_hill seed i g element.Rock off = refl
 tried_no_hill seed i g element.Blob off = refl
 
-late_no_hill : (seed g : ℕ) (shape : Shape) (n : ℕ) → is_hill (paint_of (begun seed g (element_of shape (suc (suc n))))) ≡ false
+late_no_hill : (seed g : ℕ) (shape : Shape) (n : ℕ) → is_hill (paint_of (form_begun seed g (element_of shape (suc (suc n))))) ≡ false
 late_no_hill seed g shape n =
-    cond_both (nat_lt n shape.rocks) element.Rock element.Blob (λ (e : Element). is_hill (paint_of (begun seed g e)) ≡ false) (λ h. refl) (λ h. refl)
+    cond_both (nat_lt n shape.rocks) element.Rock element.Blob (λ (e : Element). is_hill (paint_of (form_begun seed g e)) ≡ false) (λ h. refl) (λ h. refl)
 
-goes_no_hill : (P : Spot → Type 0) (seed width height : ℕ) (e : Element) (g : ℕ) (spot : Spot) (after : ℕ) → Goes P seed width height e g spot after → is_hill (paint_of (begun seed g e)) ≡ false
+goes_no_hill : (P : Spot → Type 0) (seed width height : ℕ) (e : Element) (g : ℕ) (spot : Spot) (after : ℕ) → Goes P seed width height e g spot after → is_hill (paint_of (form_begun seed g e)) ≡ false
     → is_hill (paint_of spot.form) ≡ false
 goes_no_hill P seed width height e g spot after goes off =
     elim goes [

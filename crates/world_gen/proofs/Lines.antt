@@ -13,50 +13,50 @@ use Rattle.std.proofs.lemmas.List.{append-nil}
 use Rattle.std.proofs.lemmas.List.Elements.{Contains-append_cases, Contains-append_left, Contains-append_right, Contains-push, Contains-push_cases}
 use Rattle.std.specs.Prelude.{Bool, Contains}
 use Rattle.world_gen.proofs.Steps.{point_one}
-use Rattle.world_gen.specs.Elements.{IsInBlob, stepped}
-use Rattle.world_gen.specs.Inner.Open.{BlobHasNeighbours, BlobIsOpen, IsFenced, IsOpen, LineIsOpen, LinesAreOpen, is_open, line_from, lines_from, walked}
+use Rattle.world_gen.specs.Elements.{IsInBlob, point_after}
+use Rattle.world_gen.specs.Inner.Open.{BlobHasNeighbours, BlobIsOpen, IsFenced, IsOpen, LineIsOpen, LinesAreOpen, is_unblocked, line_from, lines_from, walked}
 
 -- a place that is a position with neighbours
 abbrev HasRound : Point → Type 0
 HasRound q = (p : Pos) × (point_of p ≡ q) × HasNeighbours p
 
 -- an open position has neighbours
-pub open_neighbours : (width height : ℕ) (blocked : List Bool) (p : Pos) → IsFenced width height blocked → is_open width height blocked p ≡ true → HasNeighbours p
+pub open_neighbours : (width height : ℕ) (blocked : List Bool) (p : Pos) → IsFenced width height blocked → is_unblocked width height blocked p ≡ true → HasNeighbours p
 open_neighbours width height blocked p fence free =
     let wide = fence.narrow in
     let high = fence.low in
     inner_has_neighbours (fence.rim p free) (omega arith) (omega arith)
 
-pub open_here : (width height : ℕ) (blocked : List Bool) (p : Pos) (q : Point) → point_of p ≡ q → IsOpen width height blocked q → is_open width height blocked p ≡ true
-open_here width height blocked p q is free = subst (λ r. is_open width height blocked r ≡ true) (point_one free.0 p (free.1 ∙ sym is)) free.2
+pub open_here : (width height : ℕ) (blocked : List Bool) (p : Pos) (q : Point) → point_of p ≡ q → IsOpen width height blocked q → is_unblocked width height blocked p ≡ true
+open_here width height blocked p q is free = subst (λ r. is_unblocked width height blocked r ≡ true) (point_one free.0 p (free.1 ∙ sym is)) free.2
 
 -- one step on
-pub step_on : (p : Pos) (way : Dir) (n : ℕ) (start : Point) → HasNeighbours p → point_of p ≡ stepped n way start → point_of (adjacent_pos p way) ≡ stepped (n + 1) way start
-unfolding stepped
+pub step_on : (p : Pos) (way : Dir) (n : ℕ) (start : Point) → HasNeighbours p → point_of p ≡ point_after n way start → point_of (adjacent_pos p way) ≡ point_after (n + 1) way start
+unfolding point_after
 step_on p way n start has here = rw (add-one n) (adjacent_pos_table p way has.from_left has.from_top ∙ ap (λ q. adjacent_point q way) here)
 
-pub step_none : (way : Dir) (start : Point) → start ≡ stepped 0 way start
-unfolding stepped
+pub step_none : (way : Dir) (start : Point) → start ≡ point_after 0 way start
+unfolding point_after
 step_none way start = refl
 
 -- one position more
-pub line_more : (width height : ℕ) (blocked : List Bool) (p : Pos) (start : Point) (way : Dir) (n : ℕ) → point_of p ≡ stepped n way start → is_open width height blocked p ≡ true
+pub line_more : (width height : ℕ) (blocked : List Bool) (p : Pos) (start : Point) (way : Dir) (n : ℕ) → point_of p ≡ point_after n way start → is_unblocked width height blocked p ≡ true
     → LineIsOpen width height blocked start way n → LineIsOpen width height blocked start way (n + 1)
 line_more width height blocked p start way n here free before j below =
     elim (cases_lt j n) [
       | inl h ↦ before j h
-      | inr h ↦ let same : n ≡ j = omega arith in subst (λ k. IsOpen width height blocked (stepped k way start)) same (p, here, free)
+      | inr h ↦ let same : n ≡ j = omega arith in subst (λ k. IsOpen width height blocked (point_after k way start)) same (p, here, free)
     ]
 
 -- one line more
-pub lines_more : (width height : ℕ) (blocked : List Bool) (start : Pos) (corner : Point) (first : Dir) (n : ℕ) → point_of start ≡ stepped n first corner
+pub lines_more : (width height : ℕ) (blocked : List Bool) (start : Pos) (corner : Point) (first : Dir) (n : ℕ) → point_of start ≡ point_after n first corner
     → LineIsOpen width height blocked (point_of start) (turned_by first Right) 5 → LinesAreOpen width height blocked corner first n → LinesAreOpen width height blocked corner first (n + 1)
 lines_more width height blocked start corner first n here free before i below =
     elim (cases_lt i n) [
       | inl h ↦ before i h
       | inr h ↦
           let same : n ≡ i = omega arith in
-          subst (λ k. LineIsOpen width height blocked (stepped k first corner) (turned_by first Right) 5) same
+          subst (λ k. LineIsOpen width height blocked (point_after k first corner) (turned_by first Right) 5) same
           (subst (λ q. LineIsOpen width height blocked q (turned_by first Right) 5) here free)
     ]
 
@@ -67,20 +67,20 @@ lines_blob width height blocked corner first n five free q cell =
     let wide = cell.is_wide in
     subst (IsOpen width height blocked) cell.is (free cell.along (omega arith) cell.beside (omega arith))
 
-pub blob_line : (width height : ℕ) (blocked : List Bool) (start : Pos) (corner : Point) (first : Dir) (n : ℕ) → n < 5 → point_of start ≡ stepped n first corner
+pub blob_line : (width height : ℕ) (blocked : List Bool) (start : Pos) (corner : Point) (first : Dir) (n : ℕ) → n < 5 → point_of start ≡ point_after n first corner
     → BlobIsOpen width height blocked corner first → LineIsOpen width height blocked (point_of start) (turned_by first Right) 5
 blob_line width height blocked start corner first n low here free j below =
-    subst (λ q. IsOpen width height blocked (stepped j (turned_by first Right) q)) (sym here)
-    (free (stepped j (turned_by first Right) (stepped n first corner)) (record { along = n; beside = j; is_long = omega arith; is_wide = omega arith; is = refl }))
+    subst (λ q. IsOpen width height blocked (point_after j (turned_by first Right) q)) (sym here)
+    (free (point_after j (turned_by first Right) (point_after n first corner)) (record { along = n; beside = j; is_long = omega arith; is_wide = omega arith; is = refl }))
 
 -- the start of an open line is open
-pub line_start : (width height : ℕ) (blocked : List Bool) (start : Pos) (way : Dir) → LineIsOpen width height blocked (point_of start) way 5 → is_open width height blocked start ≡ true
+pub line_start : (width height : ℕ) (blocked : List Bool) (start : Pos) (way : Dir) → LineIsOpen width height blocked (point_of start) way 5 → is_unblocked width height blocked start ≡ true
 line_start width height blocked start way free =
-    open_here width height blocked start (stepped 0 way (point_of start)) (step_none way (point_of start)) (free 0 (omega arith))
+    open_here width height blocked start (point_after 0 way (point_of start)) (step_none way (point_of start)) (free 0 (omega arith))
 
 -- where all positions on the way have neighbours, steps over positions are steps over places
-pub walked_is : (n : ℕ) (d : Dir) (p : Pos) (q : Point) → point_of p ≡ q → ((k : ℕ) → k < n → HasRound (stepped k d q)) → point_of (walked n d p) ≡ stepped n d q
-unfolding walked stepped
+pub walked_is : (n : ℕ) (d : Dir) (p : Pos) (q : Point) → point_of p ≡ q → ((k : ℕ) → k < n → HasRound (point_after k d q)) → point_of (walked n d p) ≡ point_after n d q
+unfolding walked point_after
 walked_is zero d p q is has = is
 walked_is (suc n) d p q is has =
     let before = walked_is n d p q is (λ k h. has k (omega arith)) in
@@ -89,14 +89,14 @@ walked_is (suc n) d p q is has =
     adjacent_pos_table (walked n d p) d around.from_left around.from_top ∙ ap (λ r. adjacent_point r d) before
 
 module _ (corner : Pos) (first : Dir) (all : (q : Point) → IsInBlob (point_of corner) first q → (p : Pos) × (point_of p ≡ q) × HasNeighbours p) where
-  in_blob : (i j : ℕ) → i < 5 → j < 5 → IsInBlob (point_of corner) first (stepped j (turned_by first Right) (stepped i first (point_of corner)))
+  in_blob : (i j : ℕ) → i < 5 → j < 5 → IsInBlob (point_of corner) first (point_after j (turned_by first Right) (point_after i first (point_of corner)))
   in_blob i j hi hj = record { along = i; beside = j; is_long = omega arith; is_wide = omega arith; is = refl }
 
-  start_is : (i : ℕ) → i < 5 → point_of (walked i first corner) ≡ stepped i first (point_of corner)
-  start_is i hi = walked_is i first corner (point_of corner) refl (λ k h. let found = all _ (in_blob k 0 (omega arith) (omega arith)) in (found.0, found.1 ∙ sym (step_none (turned_by first Right) (stepped k first (point_of corner))), found.2))
+  start_is : (i : ℕ) → i < 5 → point_of (walked i first corner) ≡ point_after i first (point_of corner)
+  start_is i hi = walked_is i first corner (point_of corner) refl (λ k h. let found = all _ (in_blob k 0 (omega arith) (omega arith)) in (found.0, found.1 ∙ sym (step_none (turned_by first Right) (point_after k first (point_of corner))), found.2))
 
-  cell_is : (i j : ℕ) → i < 5 → j < 5 → point_of (walked j (turned_by first Right) (walked i first corner)) ≡ stepped j (turned_by first Right) (stepped i first (point_of corner))
-  cell_is i j hi hj = walked_is j (turned_by first Right) (walked i first corner) (stepped i first (point_of corner)) (start_is i hi) (λ k h. all _ (in_blob i k hi (omega arith)))
+  cell_is : (i j : ℕ) → i < 5 → j < 5 → point_of (walked j (turned_by first Right) (walked i first corner)) ≡ point_after j (turned_by first Right) (point_after i first (point_of corner))
+  cell_is i j hi hj = walked_is j (turned_by first Right) (walked i first corner) (point_after i first (point_of corner)) (start_is i hi) (λ k h. all _ (in_blob i k hi (omega arith)))
 
   pub blob_neighbours : BlobHasNeighbours corner first
   blob_neighbours i hi j hj =

@@ -8,8 +8,8 @@ use Rattle.world_gen.proofs.Bares.{bare_hills, bare_yard}
 use Rattle.world_gen.proofs.Follows.{follow_more, goes_as, goes_fits, hills_step, none_as, paint_fed}
 use Rattle.world_gen.proofs.Steps.{fits_open, open_fits, yard_more}
 use Rattle.world_gen.specs.Elements.{count_of, element_of}
-use Rattle.world_gen.specs.Fitting.{Fits}
-use Rattle.world_gen.specs.Inner.Answers.{IsMade, IsPut, IsStep}
+use Rattle.world_gen.specs.Fitting.{IsFreeSpot}
+use Rattle.world_gen.specs.Inner.Answers.{IsGeneratedGrid, IsElementPut, IsStep}
 use Rattle.world_gen.specs.Inner.Open.{AllOpen}
 use Rattle.world_gen.specs.Inner.Yards.{IsBegun, bare_blocked, bare_kinds}
 use Rattle.world_gen.specs.Placing.{Goes, HasNone, HasNoRoom}
@@ -36,18 +36,18 @@ begun_none seed shape blocked kinds g narrow low is_blocked is_kinds zero =
 
 -- one element more, in a yard of the shape's sizes
 module _ (seed : ℕ) (shape : Shape) (n g after : ℕ) (blocked now : List Bool) (kinds paint : List Kind) (begun : IsBegun seed shape n blocked kinds g) where
-  goes_there : (spot : Spot) → Goes (AllOpen shape.width shape.height blocked) seed shape.width shape.height (element_of shape n) g spot after → Goes (Fits shape.width shape.height begun.placed) seed shape.width shape.height (element_of shape n) g spot after
+  goes_there : (spot : Spot) → Goes (AllOpen shape.width shape.height blocked) seed shape.width shape.height (element_of shape n) g spot after → Goes (IsFreeSpot shape.width shape.height begun.placed) seed shape.width shape.height (element_of shape n) g spot after
   goes_there spot goes =
-      goes_as (AllOpen shape.width shape.height blocked) (Fits shape.width shape.height begun.placed) (λ s open_all. open_fits shape.width shape.height begun.placed blocked kinds s begun.yard open_all) (λ s fits. fits_open shape.width shape.height begun.placed blocked kinds s begun.yard fits)
+      goes_as (AllOpen shape.width shape.height blocked) (IsFreeSpot shape.width shape.height begun.placed) (λ s open_all. open_fits shape.width shape.height begun.placed blocked kinds s begun.yard open_all) (λ s fits. fits_open shape.width shape.height begun.placed blocked kinds s begun.yard fits)
       seed shape.width shape.height (element_of shape n) g spot after goes
 
-  step : (spot : Spot) → Goes (AllOpen shape.width shape.height blocked) seed shape.width shape.height (element_of shape n) g spot after → IsPut spot shape.width shape.height blocked now kinds paint → IsBegun seed shape (n + 1) now paint after
+  step : (spot : Spot) → Goes (AllOpen shape.width shape.height blocked) seed shape.width shape.height (element_of shape n) g spot after → IsElementPut spot shape.width shape.height blocked now kinds paint → IsBegun seed shape (n + 1) now paint after
   step spot goes put =
       let there = goes_there spot goes in
-      let fits = goes_fits (Fits shape.width shape.height begun.placed) seed shape.width shape.height (element_of shape n) g spot after there in
+      let fits = goes_fits (IsFreeSpot shape.width shape.height begun.placed) seed shape.width shape.height (element_of shape n) g spot after there in
       record {
         placed = begun.placed ++ spot ∷ [];
-        follow = follow_more seed shape [] 0 begun.placed g spot after begun.follow (subst (λ m. Goes (Fits shape.width shape.height begun.placed) seed shape.width shape.height (element_of shape m) g spot after) (sym begun.count) there);
+        follow = follow_more seed shape [] 0 begun.placed g spot after begun.follow (subst (λ m. Goes (IsFreeSpot shape.width shape.height begun.placed) seed shape.width shape.height (element_of shape m) g spot after) (sym begun.count) there);
         count = length_push begun.placed spot ∙ ap (λ m. m + 1) begun.count;
         yard = yard_more shape.width shape.height begun.placed blocked now kinds paint spot put.cells begun.yard fits put.lists put.stamped (paint_fed spot.form);
         few = hills_step (AllOpen shape.width shape.height blocked) seed shape n g spot after (hill_count kinds) (hill_count paint) (length put.cells) goes begun.few put.few put.stamped.hills;
@@ -60,20 +60,20 @@ module _ (seed : ℕ) (shape : Shape) (n g after : ℕ) (blocked now : List Bool
     follow = begun.follow;
     before = begun.count;
     low = low;
-    none = none_as (AllOpen shape.width shape.height blocked) (Fits shape.width shape.height begun.placed) (λ s fits. fits_open shape.width shape.height begun.placed blocked kinds s begun.yard fits) seed shape.width shape.height (element_of shape n) g none;
+    none = none_as (AllOpen shape.width shape.height blocked) (IsFreeSpot shape.width shape.height begun.placed) (λ s fits. fits_open shape.width shape.height begun.placed blocked kinds s begun.yard fits) seed shape.width shape.height (element_of shape n) g none;
   }
 
 -- where the sizes, the seed and the element are those of the shape
 pub begun_more : (seed : ℕ) (shape : Shape) (n width height seed_now g after : ℕ) (e : Element) (blocked now : List Bool) (kinds paint : List Kind) → width ≡ shape.width → height ≡ shape.height → seed_now ≡ seed → e ≡ element_of shape n
-    → IsBegun seed shape n blocked kinds g → (spot : Spot) × Goes (AllOpen width height blocked) seed_now width height e g spot after × IsPut spot width height blocked now kinds paint
+    → IsBegun seed shape n blocked kinds g → (spot : Spot) × Goes (AllOpen width height blocked) seed_now width height e g spot after × IsElementPut spot width height blocked now kinds paint
     → IsBegun seed shape (n + 1) now paint after
 begun_more seed shape n width height seed_now g after e blocked now kinds paint wide high same_seed element begun (spot, goes, put) =
     let a : Goes (AllOpen shape.width height blocked) seed_now shape.width height e g spot after = subst (λ w. Goes (AllOpen w height blocked) seed_now w height e g spot after) wide goes in
     let b : Goes (AllOpen shape.width shape.height blocked) seed_now shape.width shape.height e g spot after = subst (λ h. Goes (AllOpen shape.width h blocked) seed_now shape.width h e g spot after) high a in
     let d : Goes (AllOpen shape.width shape.height blocked) seed shape.width shape.height e g spot after = subst (λ s. Goes (AllOpen shape.width shape.height blocked) s shape.width shape.height e g spot after) same_seed b in
     let f : Goes (AllOpen shape.width shape.height blocked) seed shape.width shape.height (element_of shape n) g spot after = subst (λ (x : Element). Goes (AllOpen shape.width shape.height blocked) seed shape.width shape.height x g spot after) element d in
-    let p : IsPut spot shape.width height blocked now kinds paint = subst (λ w. IsPut spot w height blocked now kinds paint) wide put in
-    let q : IsPut spot shape.width shape.height blocked now kinds paint = subst (λ h. IsPut spot shape.width h blocked now kinds paint) high p in
+    let p : IsElementPut spot shape.width height blocked now kinds paint = subst (λ w. IsElementPut spot w height blocked now kinds paint) wide put in
+    let q : IsElementPut spot shape.width shape.height blocked now kinds paint = subst (λ h. IsElementPut spot shape.width h blocked now kinds paint) high p in
     step seed shape n g after blocked now kinds paint begun spot f q
 
 pub refusal : (seed : ℕ) (shape : Shape) (n width height seed_now g : ℕ) (e : Element) (blocked : List Bool) (kinds : List Kind) → width ≡ shape.width → height ≡ shape.height → seed_now ≡ seed → e ≡ element_of shape n
@@ -87,7 +87,7 @@ refusal seed shape n width height seed_now g e blocked kinds wide high same_seed
 
 -- all elements are placed
 pub begun_whole : (seed : ℕ) (shape : Shape) (n width height : ℕ) (blocked : List Bool) (kinds : List Kind) (g : ℕ) → width ≡ shape.width → height ≡ shape.height → IsBegun seed shape n blocked kinds g → n ≡ count_of shape
-    → IsMade seed shape width height kinds
+    → IsGeneratedGrid seed shape width height kinds
 begun_whole seed shape n width height blocked kinds g wide high begun all = record {
   wide = wide;
   high = high;

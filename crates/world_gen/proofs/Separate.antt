@@ -6,7 +6,7 @@ use Rattle.std.proofs.lemmas.List.Quantifiers.{all_pairs_push}
 use Rattle.std.specs.Prelude.{Contains}
 use Rattle.world_gen.proofs.Follows.{goes_fits}
 use Rattle.world_gen.specs.Elements.{IsCell, element_of}
-use Rattle.world_gen.specs.Fitting.{Fits}
+use Rattle.world_gen.specs.Fitting.{IsFreeSpot}
 use Rattle.world_gen.specs.Placing.{Follow}
 use Rattle.world_gen.specs.PlacingLaws.{AreApart, ElementsLieApart, IsSeparated}
 use Rattle.world_gen.specs.declared.shape.Shape.{Shape}
@@ -19,7 +19,7 @@ apart_none : (width height : ℕ) → IsSeparated width height []
 apart_none width height = record { off_rim = λ spot q among cell. absurd (no_member spot among); apart = λ i j d before within. absurd (omega arith) }
 
 -- one that fits is apart from all before it
-apart_more : (width height : ℕ) (placed : List Spot) (spot : Spot) → IsSeparated width height placed → Fits width height placed spot → IsSeparated width height (placed ++ spot ∷ [])
+apart_more : (width height : ℕ) (placed : List Spot) (spot : Spot) → IsSeparated width height placed → IsFreeSpot width height placed spot → IsSeparated width height (placed ++ spot ∷ [])
 apart_more width height placed spot before fits = record {
   off_rim = λ other q among cell.
       elim (Contains-push_cases placed spot other among) [
@@ -32,7 +32,7 @@ apart_more width height placed spot before fits = record {
 follow_apart : (seed : ℕ) (shape : Shape) (placed : List Spot) (g : ℕ) (rest : List Spot) (after : ℕ) → Follow seed shape placed g rest after → IsSeparated shape.width shape.height placed → IsSeparated shape.width shape.height (placed ++ rest)
 follow_apart seed shape placed g [] after follow before = subst (IsSeparated shape.width shape.height) (sym (append-nil placed)) before
 follow_apart seed shape placed g (spot ∷ rest) after follow before =
-    let fits = goes_fits (Fits shape.width shape.height placed) seed shape.width shape.height (element_of shape (length placed)) g spot follow.0 follow.1 in
+    let fits = goes_fits (IsFreeSpot shape.width shape.height placed) seed shape.width shape.height (element_of shape (length placed)) g spot follow.0 follow.1 in
     subst (IsSeparated shape.width shape.height) (append_assoc placed (spot ∷ []) rest)
     (follow_apart seed shape (placed ++ spot ∷ []) follow.0 rest after follow.2 (apart_more shape.width shape.height placed spot before fits))
 

@@ -7,7 +7,7 @@ use Rattle.std.proofs.Math.ListN.{set, length-set}
 use Rattle.std.proofs.lemmas.Bool.{cases_Bool, eqb-false, eqb-true}
 use Rattle.std.specs.Prelude.{◌⊎◌, ◌==◌}
 use Rattle.world_gen.proofs.Indexes.{index_below, index_one}
-use Rattle.world_gen.specs.Inner.Sets.{Sets}
+use Rattle.world_gen.specs.Inner.Sets.{SetsWhere}
 
 -- setting a value keeps it where it is
 set_stays : {X : Type 0} (xs : List X) (i j : ℕ) (v d : X) → i < length xs → get_or xs j d ≡ v → get_or (set xs i v) j d ≡ v
@@ -18,11 +18,11 @@ set_stays xs i j v d within is =
     ]
 
 -- nothing is set
-pub sets_none : {X : Type 0} (width height : ℕ) (v : X) (S : Pos → Type 0) (xs : List X) → ((p : Pos) → S p → ⊥) → Sets width height v S xs xs
+pub sets_none : {X : Type 0} (width height : ℕ) (v : X) (S : Pos → Type 0) (xs : List X) → ((p : Pos) → S p → ⊥) → SetsWhere width height v S xs xs
 sets_none width height v S xs none = record { same_length = refl; on = λ p d inside here. absurd (none p here); stay = λ p d inside is. is; off = λ p d inside other. refl }
 
 -- one entry is set
-pub sets_one : {X : Type 0} (width height : ℕ) (v : X) (q : Pos) (xs : List X) → length xs ≡ width * height → IsInside width height q → Sets width height v (λ p. q ≡ p) xs (set xs (index_of width q) v)
+pub sets_one : {X : Type 0} (width height : ℕ) (v : X) (q : Pos) (xs : List X) → length xs ≡ width * height → IsInside width height q → SetsWhere width height v (λ p. q ≡ p) xs (set xs (index_of width q) v)
 sets_one {X} width height v q xs full inside =
     let within : index_of width q < length xs = subst (λ n. index_of width q < n) (sym full) (index_below width height q inside) in
     let at_q : (d : X) → get_or (set xs (index_of width q) v) (index_of width q) d ≡ v = λ d. rw get_or-set_same refl in
@@ -38,8 +38,8 @@ sets_one {X} width height v q xs full inside =
     }
 
 -- and then others
-pub sets_both : {X : Type 0} (width height : ℕ) (v : X) (S T U : Pos → Type 0) (xs ys zs : List X) → Sets width height v S xs ys → Sets width height v T ys zs
-    → ((p : Pos) → U p → S p ⊎ T p) → ((p : Pos) → S p → U p) → ((p : Pos) → T p → U p) → Sets width height v U xs zs
+pub sets_both : {X : Type 0} (width height : ℕ) (v : X) (S T U : Pos → Type 0) (xs ys zs : List X) → SetsWhere width height v S xs ys → SetsWhere width height v T ys zs
+    → ((p : Pos) → U p → S p ⊎ T p) → ((p : Pos) → S p → U p) → ((p : Pos) → T p → U p) → SetsWhere width height v U xs zs
 sets_both width height v S T U xs ys zs first second split left right = record {
   same_length = second.same_length ∙ first.same_length;
   on = λ p d inside here. elim (split p here) [ inl s ↦ second.stay p d inside (first.on p d inside s) | inr t ↦ second.on p d inside t ];
@@ -48,7 +48,7 @@ sets_both width height v S T U xs ys zs first second split left right = record {
 }
 
 -- the same cells, said otherwise
-pub sets_as : {X : Type 0} (width height : ℕ) (v : X) (S U : Pos → Type 0) (xs ys : List X) → Sets width height v S xs ys → ((p : Pos) → U p → S p) → ((p : Pos) → S p → U p) → Sets width height v U xs ys
+pub sets_as : {X : Type 0} (width height : ℕ) (v : X) (S U : Pos → Type 0) (xs ys : List X) → SetsWhere width height v S xs ys → ((p : Pos) → U p → S p) → ((p : Pos) → S p → U p) → SetsWhere width height v U xs ys
 sets_as width height v S U xs ys sets into back = record {
   same_length = sets.same_length;
   on = λ p d inside here. sets.on p d inside (into p here);

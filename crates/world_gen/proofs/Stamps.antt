@@ -16,14 +16,14 @@ use Rattle.std.proofs.lemmas.List.{length_push, take_more}
 use Rattle.std.proofs.lemmas.List.Elements.{All-set, Contains-append_left, Contains-push, Contains-push_cases}
 use Rattle.std.specs.Prelude.{Bool, Contains, ◌⊎◌}
 use Rattle.world_gen.proofs.SetLists.{sets_as, sets_both, sets_none, sets_one}
-use Rattle.world_gen.specs.Inner.Sets.{IsRound, IsRoundAny, IsRoundBelow, Sets}
+use Rattle.world_gen.specs.Inner.Sets.{IsRound, IsRoundAny, IsRoundBelow, SetsWhere}
 use Rattle.world_gen.specs.Inner.Yards.{IsStamped}
 
 no_member : {X : Type 0} (z : X) → Contains [] z → ⊥
 no_member z found = let h = found.1 in omega arith
 
 -- the cell alone is blocked
-pub round_first : (width height : ℕ) (p : Pos) (xs : List Bool) → length xs ≡ width * height → IsInside width height p → Sets width height true (IsRoundBelow p 0) xs (set xs (index_of width p) true)
+pub round_first : (width height : ℕ) (p : Pos) (xs : List Bool) → length xs ≡ width * height → IsInside width height p → SetsWhere width height true (IsRoundBelow p 0) xs (set xs (index_of width p) true)
 round_first width height p xs full inside =
     sets_as width height true (λ q. p ≡ q) (IsRoundBelow p 0) xs (set xs (index_of width p) true) (sets_one width height true p xs full inside)
     (λ q here. elim here [ inl e ↦ e | inr far ↦ let h = far.1 in absurd (omega arith) ])
@@ -40,8 +40,8 @@ later_one p q n k below e =
 split_one : (p q : Pos) (n : ℕ) → IsRoundBelow p (n + 1) q → IsRoundBelow p n q ⊎ (adjacent_pos p (dir_of n) ≡ q)
 split_one p q n here = elim here [ inl e ↦ inl (inl e) | inr near ↦ later_one p q n near.0 near.1 near.2 ]
 
-pub round_more : (width height : ℕ) (p next : Pos) (n : ℕ) (xs ys : List Bool) → Sets width height true (IsRoundBelow p n) xs ys → length xs ≡ width * height → next ≡ adjacent_pos p (dir_of n) → IsInside width height next
-    → Sets width height true (IsRoundBelow p (n + 1)) xs (set ys (index_of width next) true)
+pub round_more : (width height : ℕ) (p next : Pos) (n : ℕ) (xs ys : List Bool) → SetsWhere width height true (IsRoundBelow p n) xs ys → length xs ≡ width * height → next ≡ adjacent_pos p (dir_of n) → IsInside width height next
+    → SetsWhere width height true (IsRoundBelow p (n + 1)) xs (set ys (index_of width next) true)
 round_more width height p next n xs ys sets full is inside =
     sets_both width height true (IsRoundBelow p n) (λ q. next ≡ q) (IsRoundBelow p (n + 1)) xs ys (set ys (index_of width next) true)
     sets (sets_one width height true next ys (sets.same_length ∙ full) inside)
@@ -50,7 +50,7 @@ round_more width height p next n xs ys sets full is inside =
     (λ q e. inr (n, omega arith, sym is ∙ e))
 
 -- the six directions are all neighbours
-pub round_all : (width height : ℕ) (p : Pos) (n : ℕ) (xs ys : List Bool) → n ≡ 6 → Sets width height true (IsRoundBelow p n) xs ys → Sets width height true (IsRound p) xs ys
+pub round_all : (width height : ℕ) (p : Pos) (n : ℕ) (xs ys : List Bool) → n ≡ 6 → SetsWhere width height true (IsRoundBelow p n) xs ys → SetsWhere width height true (IsRound p) xs ys
 round_all width height p n xs ys six sets =
     sets_as width height true (IsRoundBelow p n) (IsRound p) xs ys sets
     (λ q here. elim here [
@@ -82,7 +82,7 @@ stamped_none width height kind blocked kinds = record {
 
 -- one cell more
 pub stamped_more : (width height : ℕ) (done : List Pos) (cell : Pos) (kind : Kind) (blocked mid now : List Bool) (kinds paint : List Kind)
-    → IsStamped width height done kind blocked mid kinds paint → Sets width height true (IsRound cell) mid now → length kinds ≡ width * height → IsInside width height cell
+    → IsStamped width height done kind blocked mid kinds paint → SetsWhere width height true (IsRound cell) mid now → length kinds ≡ width * height → IsInside width height cell
     → IsStamped width height (done ++ cell ∷ []) kind blocked now kinds (set paint (index_of width cell) kind)
 stamped_more width height done cell kind blocked mid now kinds paint before round full inside = record {
   blocks = sets_both width height true (IsRoundAny done) (IsRound cell) (IsRoundAny (done ++ cell ∷ [])) blocked mid now before.blocks round
@@ -116,12 +116,12 @@ written_back xs ys n is = ap (λ k. take k (xs ++ ys)) is ∙ take_front xs ys
 -- the next cell of a list is stamped, where the lists were lent and are written back
 pub stamped_on : (width height : ℕ) (cells : List Pos) (i : ℕ) (kind : Kind) (blocked mid lent now rest : List Bool) (n : ℕ) (kinds paint lent_kinds kinds_now rest_kinds : List Kind) (m : ℕ)
     → IsStamped width height (take i cells) kind blocked mid kinds paint → i < length cells → IsInside width height (get_or cells i (record { x = 0; y = 0 })) → length kinds ≡ width * height
-    → lent ≡ mid → Sets width height true (IsRound (get_or cells i (record { x = 0; y = 0 }))) lent now → n ≡ length mid
+    → lent ≡ mid → SetsWhere width height true (IsRound (get_or cells i (record { x = 0; y = 0 }))) lent now → n ≡ length mid
     → lent_kinds ≡ paint → kinds_now ≡ set lent_kinds (index_of width (get_or cells i (record { x = 0; y = 0 }))) kind → m ≡ length paint
     → IsStamped width height (take (i + 1) cells) kind blocked (take n (now ++ rest)) kinds (take m (kinds_now ++ rest_kinds))
 stamped_on width height cells i kind blocked mid lent now rest n kinds paint lent_kinds kinds_now rest_kinds m before low inside full is_lent round long is_kinds set_one long_kinds =
     let cell : Pos = get_or cells i (record { x = 0; y = 0 }) in
-    let round_mid : Sets width height true (IsRound cell) mid now = subst (λ (l : List Bool). Sets width height true (IsRound cell) l now) is_lent round in
+    let round_mid : SetsWhere width height true (IsRound cell) mid now = subst (λ (l : List Bool). SetsWhere width height true (IsRound cell) l now) is_lent round in
     let whole : take n (now ++ rest) ≡ now = written_back now rest n (long ∙ sym round_mid.same_length) in
     let painted : kinds_now ≡ set paint (index_of width cell) kind = set_one ∙ ap (λ (l : List Kind). set l (index_of width cell) kind) is_kinds in
     let same : length kinds_now ≡ length paint = ap (λ (l : List Kind). length l) painted ∙ length-set paint (index_of width cell) kind in

@@ -14,8 +14,8 @@ use Rattle.std.proofs.lemmas.List.Elements.{Contains-append_left, Contains-push,
 use Rattle.std.specs.Prelude.{Bool, Contains, pos, ◌⊎◌}
 use Rattle.world_gen.proofs.Bares.{open_free, open_from, open_inside}
 use Rattle.world_gen.specs.Elements.{IsCell}
-use Rattle.world_gen.specs.Fitting.{Fits, IsOffRim, IsTouching}
-use Rattle.world_gen.specs.Inner.Open.{AllOpen, ListsCells, is_open}
+use Rattle.world_gen.specs.Fitting.{IsFreeSpot, IsOffRim, IsTouching}
+use Rattle.world_gen.specs.Inner.Open.{AllOpen, ListsCells, is_unblocked}
 use Rattle.world_gen.specs.Inner.Sets.{IsRound, IsRoundAny}
 use Rattle.world_gen.specs.Inner.Yards.{IsStamped, IsTouched, IsYard}
 use Rattle.world_gen.specs.Painting.{IsPainted, paint_of}
@@ -48,7 +48,7 @@ round_touching width height c p inner round =
     ]
 
 -- a spot fits exactly where all its cells are open
-pub open_fits : (width height : ℕ) (placed : List Spot) (blocked : List Bool) (kinds : List Kind) (spot : Spot) → IsYard width height placed blocked kinds → AllOpen width height blocked spot → Fits width height placed spot
+pub open_fits : (width height : ℕ) (placed : List Spot) (blocked : List Bool) (kinds : List Kind) (spot : Spot) → IsYard width height placed blocked kinds → AllOpen width height blocked spot → IsFreeSpot width height placed spot
 open_fits width height placed blocked kinds spot yard all = record {
   off_rim = λ q cell. let place = all q cell in (place.0, place.1, yard.fenced.rim place.0 place.2);
   apart = λ other q r among cell of touching.
@@ -56,7 +56,7 @@ open_fits width height placed blocked kinds spot yard all = record {
       yard.shut place.0 other (open_inside width height blocked place.0 place.2) among (record { cell = r; of = of; touching = subst (IsTouching r) (sym place.1) touching }) place.2;
 }
 
-pub fits_open : (width height : ℕ) (placed : List Spot) (blocked : List Bool) (kinds : List Kind) (spot : Spot) → IsYard width height placed blocked kinds → Fits width height placed spot → AllOpen width height blocked spot
+pub fits_open : (width height : ℕ) (placed : List Spot) (blocked : List Bool) (kinds : List Kind) (spot : Spot) → IsYard width height placed blocked kinds → IsFreeSpot width height placed spot → AllOpen width height blocked spot
 fits_open width height placed blocked kinds spot yard fits q cell =
     let place = fits.off_rim q cell in
     (place.0, place.1, yard.free place.0 place.2 (λ other among touched. fits.apart other q touched.cell among cell touched.of (subst (IsTouching touched.cell) place.1 touched.touching)))
@@ -66,7 +66,7 @@ among_cases : (placed : List Spot) (spot other : Spot) → Contains (placed ++ s
 among_cases placed spot other among = Contains-push_cases placed spot other among
 
 module _ (width height : ℕ) (placed : List Spot) (blocked now : List Bool) (kinds paint : List Kind) (spot : Spot) (cells : List Pos)
-    (yard : IsYard width height placed blocked kinds) (fits : Fits width height placed spot) (lists : ListsCells spot cells) (stamped : IsStamped width height cells (paint_of spot.form) blocked now kinds paint) where
+    (yard : IsYard width height placed blocked kinds) (fits : IsFreeSpot width height placed spot) (lists : ListsCells spot cells) (stamped : IsStamped width height cells (paint_of spot.form) blocked now kinds paint) where
   cell_inner : (p : Pos) → Contains cells p → IsInner width height p
   cell_inner p among =
       let place = fits.off_rim (point_of p) (lists.each p among) in
@@ -79,7 +79,7 @@ module _ (width height : ℕ) (placed : List Spot) (blocked now : List Bool) (ki
       subst (Contains cells) (point_one place.0 p place.1) place.2
 
   -- what is open now was open before
-  was_open : (p : Pos) → is_open width height now p ≡ true → is_open width height blocked p ≡ true
+  was_open : (p : Pos) → is_unblocked width height now p ≡ true → is_unblocked width height blocked p ≡ true
   was_open p free =
       let inside = open_inside width height now p free in
       let clear : get_or now (index_of width p) true ≡ false = open_free width height now p free in
@@ -87,7 +87,7 @@ module _ (width height : ℕ) (placed : List Spot) (blocked now : List Bool) (ki
       (false_from_ne_true (get_or blocked (index_of width p) true) (λ shut. false≢true (sym clear ∙ stamped.blocks.stay p true inside shut)))
 
   -- what touches the spot is blocked now
-  spot_shut : (p : Pos) → IsInside width height p → IsTouched spot p → is_open width height now p ≡ true → ⊥
+  spot_shut : (p : Pos) → IsInside width height p → IsTouched spot p → is_unblocked width height now p ≡ true → ⊥
   spot_shut p inside touched free =
       let place = lists.every touched.cell touched.of in
       let touching : IsTouching (point_of place.0) (point_of p) = subst (λ q. IsTouching q (point_of p)) (sym place.1) touched.touching in
@@ -99,17 +99,17 @@ module _ (width height : ℕ) (placed : List Spot) (blocked now : List Bool) (ki
   not_round p none near =
       none (record { cell = point_of near.0; of = lists.each near.0 near.1; touching = round_touching width height near.0 p (cell_inner near.0 near.1) near.2 })
 
-  now_shut : (p : Pos) (other : Spot) → IsInside width height p → Contains (placed ++ spot ∷ []) other → IsTouched other p → is_open width height now p ≡ true → ⊥
+  now_shut : (p : Pos) (other : Spot) → IsInside width height p → Contains (placed ++ spot ∷ []) other → IsTouched other p → is_unblocked width height now p ≡ true → ⊥
   now_shut p other inside among touched free =
       elim (among_cases placed spot other among) [
         | inl old ↦ yard.shut p other inside old touched (was_open p free)
         | inr same ↦ spot_shut p inside (subst (λ s. IsTouched s p) (sym same) touched) free
       ]
 
-  now_free : (p : Pos) → IsInner width height p → ((other : Spot) → Contains (placed ++ spot ∷ []) other → IsTouched other p → ⊥) → is_open width height now p ≡ true
+  now_free : (p : Pos) → IsInner width height p → ((other : Spot) → Contains (placed ++ spot ∷ []) other → IsTouched other p → ⊥) → is_unblocked width height now p ≡ true
   now_free p inner none =
       let inside = inner_inside inner in
-      let before : is_open width height blocked p ≡ true = yard.free p inner (λ other among. none other (Contains-append_left placed (spot ∷ []) other among)) in
+      let before : is_unblocked width height blocked p ≡ true = yard.free p inner (λ other among. none other (Contains-append_left placed (spot ∷ []) other among)) in
       let same : get_or now (index_of width p) true ≡ get_or blocked (index_of width p) true = stamped.blocks.off p true inside (not_round p (none spot (Contains-push placed spot))) in
       open_from width height now p inside (same ∙ open_free width height blocked p before)
 

@@ -18,12 +18,12 @@ use Rattle.world_gen.proofs.Indexes.{index_pos_at}
 use Rattle.world_gen.specs.Elements.{IsCell, element_of}
 use Rattle.world_gen.specs.Inner.Yards.{is_rim}
 use Rattle.world_gen.specs.Painting.{IsGenerated, IsPainted}
-use Rattle.world_gen.specs.Fitting.{Fits}
-use Rattle.world_gen.specs.Placing.{Follow, Goes, HasNone, HasNoRoom, IsBarred, IsFound, IsPlacing, IsTaken, after_begun, begun, draws_of, spot_at, try_of}
+use Rattle.world_gen.specs.Fitting.{IsFreeSpot}
+use Rattle.world_gen.specs.Placing.{Follow, Goes, HasNone, HasNoRoom, IsBarred, IsFound, IsPlacing, IsChosenSpot, after_begun, form_begun, draws_of, spot_at, try_of}
 use Rattle.world_gen.specs.PlacingLaws.{PlacingIsOne}
 use Rattle.world_gen.specs.declared.element.Element.{Element}
 use Rattle.world_gen.specs.declared.shape.Shape.{Shape}
-use Rattle.world_gen.specs.declared.spot.Form.{Form}
+use Rattle.world_gen.specs.declared.spot.Figure.{Figure}
 use Rattle.world_gen.specs.declared.spot.Spot.{Spot}
 
 -- of two positions one is before the other, or they are one
@@ -45,9 +45,9 @@ order p q =
       ]
     ]
 
-module _ (fits : Spot → Type 0) (seed width height : ℕ) (form : Form) (g : ℕ) where
+module _ (fits : Spot → Type 0) (seed width height : ℕ) (form : Figure) (g : ℕ) where
   -- the first try that fits is one
-  one_try : (s t : Spot) (a b : ℕ) (x : IsTaken fits seed width height form g s a) (y : IsTaken fits seed width height form g t b) → x.try ≡ y.try
+  one_try : (s t : Spot) (a b : ℕ) (x : IsChosenSpot fits seed width height form g s a) (y : IsChosenSpot fits seed width height form g t b) → x.try ≡ y.try
   one_try s t a b x y =
       elim (cases_lt x.try y.try) [
         | inl h ↦ absurd (y.first x.try h (subst fits x.is x.fitting))
@@ -57,12 +57,12 @@ module _ (fits : Spot → Type 0) (seed width height : ℕ) (form : Form) (g : �
         ]
       ]
 
-  taken_one : (s t : Spot) (a b : ℕ) → IsTaken fits seed width height form g s a → IsTaken fits seed width height form g t b → (s ≡ t) × (a ≡ b)
+  taken_one : (s t : Spot) (a b : ℕ) → IsChosenSpot fits seed width height form g s a → IsChosenSpot fits seed width height form g t b → (s ≡ t) × (a ≡ b)
   taken_one s t a b x y =
       let same = one_try s t a b x y in
       (x.is ∙ ap (try_of seed width height form g) same ∙ sym y.is, x.drew ∙ ap (λ k. g + (k + 1) * draws_of form) same ∙ sym y.drew)
 
-  taken_found : (s t : Spot) (a b : ℕ) → IsTaken fits seed width height form g s a → IsFound fits seed width height form g t b → ⊥
+  taken_found : (s t : Spot) (a b : ℕ) → IsChosenSpot fits seed width height form g s a → IsFound fits seed width height form g t b → ⊥
   taken_found s t a b x y = y.no_try x.try x.below (subst fits x.is x.fitting)
 
   found_one : (s t : Spot) (a b : ℕ) → IsFound fits seed width height form g s a → IsFound fits seed width height form g t b → (s ≡ t) × (a ≡ b)
@@ -77,7 +77,7 @@ module _ (fits : Spot → Type 0) (seed width height : ℕ) (form : Form) (g : �
       ] in
       (x.is ∙ ap (spot_at form) same ∙ sym y.is, x.drew ∙ sym y.drew)
 
-  taken_barred : (s : Spot) (a : ℕ) → IsTaken fits seed width height form g s a → IsBarred fits seed width height form g → ⊥
+  taken_barred : (s : Spot) (a : ℕ) → IsChosenSpot fits seed width height form g s a → IsBarred fits seed width height form g → ⊥
   taken_barred s a x none = none.no_try x.try x.below (subst fits x.is x.fitting)
 
   found_barred : (s : Spot) (a : ℕ) → IsFound fits seed width height form g s a → IsBarred fits seed width height form g → ⊥
@@ -85,7 +85,7 @@ module _ (fits : Spot → Type 0) (seed width height : ℕ) (form : Form) (g : �
 
 goes_one : (fits : Spot → Type 0) (seed width height : ℕ) (e : Element) (g : ℕ) (s t : Spot) (a b : ℕ) → Goes fits seed width height e g s a → Goes fits seed width height e g t b → (s ≡ t) × (a ≡ b)
 goes_one fits seed width height e g s t a b x y =
-    let form = begun seed g e in
+    let form = form_begun seed g e in
     let start = after_begun g e in
     elim x [
       | inl u ↦ elim y [ inl v ↦ taken_one fits seed width height form start s t a b u v | inr v ↦ absurd (taken_found fits seed width height form start s t a b u v) ]
@@ -94,7 +94,7 @@ goes_one fits seed width height e g s t a b x y =
 
 goes_none : (fits : Spot → Type 0) (seed width height : ℕ) (e : Element) (g : ℕ) (s : Spot) (a : ℕ) → Goes fits seed width height e g s a → HasNone fits seed width height e g → ⊥
 goes_none fits seed width height e g s a x none =
-    elim x [ inl u ↦ taken_barred fits seed width height (begun seed g e) (after_begun g e) s a u none | inr u ↦ found_barred fits seed width height (begun seed g e) (after_begun g e) s a u none ]
+    elim x [ inl u ↦ taken_barred fits seed width height (form_begun seed g e) (after_begun g e) s a u none | inr u ↦ found_barred fits seed width height (form_begun seed g e) (after_begun g e) s a u none ]
 
 -- two ways on from one state, as far as the shorter goes, are one
 follow_same : (seed : ℕ) (shape : Shape) (placed : List Spot) (g : ℕ) (xs ys : List Spot) (a b : ℕ) → Follow seed shape placed g xs a → Follow seed shape placed g ys b → length xs ≡ length ys → (xs ≡ ys) × (a ≡ b)
@@ -102,7 +102,7 @@ follow_same seed shape placed g [] [] a b x y same = (refl, sym x ∙ y)
 follow_same seed shape placed g [] (t ∷ ys) a b x y same = absurd (omega arith)
 follow_same seed shape placed g (s ∷ xs) [] a b x y same = absurd (omega arith)
 follow_same seed shape placed g (s ∷ xs) (t ∷ ys) a b x y same =
-    let one = goes_one (Fits shape.width shape.height placed) seed shape.width shape.height (element_of shape (length placed)) g s t x.0 y.0 x.1 y.1 in
+    let one = goes_one (IsFreeSpot shape.width shape.height placed) seed shape.width shape.height (element_of shape (length placed)) g s t x.0 y.0 x.1 y.1 in
     let moved : Follow seed shape (placed ++ s ∷ []) y.0 ys b = subst (λ (u : Spot). Follow seed shape (placed ++ u ∷ []) y.0 ys b) (sym one.0) y.2 in
     let moved_too : Follow seed shape (placed ++ s ∷ []) x.0 ys b = subst (λ n. Follow seed shape (placed ++ s ∷ []) n ys b) (sym one.1) moved in
     let rest = follow_same seed shape (placed ++ s ∷ []) x.0 xs ys a b x.2 moved_too (omega arith) in
@@ -110,25 +110,25 @@ follow_same seed shape placed g (s ∷ xs) (t ∷ ys) a b x y same =
 
 -- a way on that is longer than one which ends where an element has no room is none
 follow_barred : (seed : ℕ) (shape : Shape) (placed : List Spot) (g : ℕ) (xs ys : List Spot) (a b : ℕ) → Follow seed shape placed g xs a → Follow seed shape placed g ys b → length ys < length xs
-    → HasNone (Fits shape.width shape.height (placed ++ ys)) seed shape.width shape.height (element_of shape (length (placed ++ ys))) b → ⊥
+    → HasNone (IsFreeSpot shape.width shape.height (placed ++ ys)) seed shape.width shape.height (element_of shape (length (placed ++ ys))) b → ⊥
 follow_barred seed shape placed g [] ys a b x y longer none = omega arith
 follow_barred seed shape placed g (s ∷ xs) [] a b x y longer none =
-    let here : HasNone (Fits shape.width shape.height placed) seed shape.width shape.height (element_of shape (length placed)) b =
-    subst (λ l. HasNone (Fits shape.width shape.height l) seed shape.width shape.height (element_of shape (length l)) b) (append-nil placed) none in
-    goes_none (Fits shape.width shape.height placed) seed shape.width shape.height (element_of shape (length placed)) g s x.0 x.1
-    (subst (λ n. HasNone (Fits shape.width shape.height placed) seed shape.width shape.height (element_of shape (length placed)) n) (sym y) here)
+    let here : HasNone (IsFreeSpot shape.width shape.height placed) seed shape.width shape.height (element_of shape (length placed)) b =
+    subst (λ l. HasNone (IsFreeSpot shape.width shape.height l) seed shape.width shape.height (element_of shape (length l)) b) (append-nil placed) none in
+    goes_none (IsFreeSpot shape.width shape.height placed) seed shape.width shape.height (element_of shape (length placed)) g s x.0 x.1
+    (subst (λ n. HasNone (IsFreeSpot shape.width shape.height placed) seed shape.width shape.height (element_of shape (length placed)) n) (sym y) here)
 follow_barred seed shape placed g (s ∷ xs) (t ∷ ys) a b x y longer none =
-    let one = goes_one (Fits shape.width shape.height placed) seed shape.width shape.height (element_of shape (length placed)) g s t x.0 y.0 x.1 y.1 in
+    let one = goes_one (IsFreeSpot shape.width shape.height placed) seed shape.width shape.height (element_of shape (length placed)) g s t x.0 y.0 x.1 y.1 in
     let moved : Follow seed shape (placed ++ t ∷ []) x.0 xs a = subst (λ (u : Spot). Follow seed shape (placed ++ u ∷ []) x.0 xs a) one.0 x.2 in
     let moved_too : Follow seed shape (placed ++ t ∷ []) y.0 xs a = subst (λ n. Follow seed shape (placed ++ t ∷ []) n xs a) one.1 moved in
-    let none_on : HasNone (Fits shape.width shape.height ((placed ++ t ∷ []) ++ ys)) seed shape.width shape.height (element_of shape (length ((placed ++ t ∷ []) ++ ys))) b =
-    subst (λ l. HasNone (Fits shape.width shape.height l) seed shape.width shape.height (element_of shape (length l)) b) (sym (append_assoc placed (t ∷ []) ys)) none in
+    let none_on : HasNone (IsFreeSpot shape.width shape.height ((placed ++ t ∷ []) ++ ys)) seed shape.width shape.height (element_of shape (length ((placed ++ t ∷ []) ++ ys))) b =
+    subst (λ l. HasNone (IsFreeSpot shape.width shape.height l) seed shape.width shape.height (element_of shape (length l)) b) (sym (append_assoc placed (t ∷ []) ys)) none in
     follow_barred seed shape (placed ++ t ∷ []) y.0 xs ys a b moved_too y.2 (omega arith) none_on
 
 barred_here : (seed : ℕ) (shape : Shape) (number : ℕ) (none : HasNoRoom seed shape number)
-    → HasNone (Fits shape.width shape.height none.placed) seed shape.width shape.height (element_of shape (length none.placed)) none.after
+    → HasNone (IsFreeSpot shape.width shape.height none.placed) seed shape.width shape.height (element_of shape (length none.placed)) none.after
 barred_here seed shape number none =
-    subst (λ n. HasNone (Fits shape.width shape.height none.placed) seed shape.width shape.height (element_of shape n) none.after) (sym none.before) none.none
+    subst (λ n. HasNone (IsFreeSpot shape.width shape.height none.placed) seed shape.width shape.height (element_of shape n) none.after) (sym none.before) none.none
 
 placing_barred : (seed : ℕ) (shape : Shape) (placed : List Spot) (number : ℕ) → IsPlacing seed shape placed → HasNoRoom seed shape number → ⊥
 placing_barred seed shape placed number placing none =

@@ -7,10 +7,10 @@ use Rattle.hex_geometry.specs.declared.direction.Dir.TheVariants.{SouthEast, Sou
 use Rattle.hex_geometry.specs.declared.position.Pos.{Pos}
 use Rattle.std.proofs.Common.{◌≡◌, ℕ, [], ◌∷◌, map, refl}
 use Rattle.std.specs.Prelude.{pos}
-use Rattle.world_gen.specs.Elements.{element_of, stepped}
-use Rattle.world_gen.specs.Placing.{after_begun, begun, try_of}
+use Rattle.world_gen.specs.Elements.{element_of, point_after}
+use Rattle.world_gen.specs.Placing.{after_begun, form_begun, try_of}
 use Rattle.world_gen.specs.declared.element.Element.TheVariants as element
-use Rattle.world_gen.specs.declared.spot.Form.TheVariants.{Hill, Rock, Blob}
+use Rattle.world_gen.specs.declared.spot.Figure.TheVariants.{Hill, Rock, Blob}
 
 abbrev pub place : ℕ → ℕ → Pos
 place x y = record { x = x; y = y }
@@ -19,30 +19,30 @@ abbrev point : ℕ → ℕ → Point
 point x y = record { x = pos x; y = pos y }
 
 -- the first three elements of 64 by 64 cells without rocks, at their first tries
-pub red_hill : try_of 12345 64 64 (begun 12345 0 (element.Hill Red)) (after_begun 0 (element.Hill Red)) 0 ≡ record { form = Hill Red; place = place 25 52 }
+pub red_hill : try_of 12345 64 64 (form_begun 12345 0 (element.Hill Red)) (after_begun 0 (element.Hill Red)) 0 ≡ record { form = Hill Red; place = place 25 52 }
 unfolding state_at random_at drawn
 red_hill = refl
 
-pub black_hill : try_of 12345 64 64 (begun 12345 2 (element.Hill Black)) (after_begun 2 (element.Hill Black)) 0 ≡ record { form = Hill Black; place = place 18 7 }
+pub black_hill : try_of 12345 64 64 (form_begun 12345 2 (element.Hill Black)) (after_begun 2 (element.Hill Black)) 0 ≡ record { form = Hill Black; place = place 18 7 }
 unfolding state_at random_at drawn
 black_hill = refl
 
-pub blob : try_of 12345 64 64 (begun 12345 4 element.Blob) (after_begun 4 element.Blob) 0 ≡ record { form = Blob SouthEast; place = place 36 40 }
+pub blob : try_of 12345 64 64 (form_begun 12345 4 element.Blob) (after_begun 4 element.Blob) 0 ≡ record { form = Blob SouthEast; place = place 36 40 }
 unfolding state_at random_at drawn
 blob = refl
 
--- a rock that is begun at place 0 of the stream has radius 2 in all its tries, the first of which draws from place 1 on and the next from 3
-pub rock_tries : map (try_of 12345 150 150 (begun 12345 0 element.Rock) (after_begun 0 element.Rock)) (0 ∷ 1 ∷ []) ≡ record { form = Rock 2; place = place 82 36 } ∷ record { form = Rock 2; place = place 25 100 } ∷ []
+-- a rock that is form_begun at place 0 of the stream has radius 2 in all its tries, the first of which draws from place 1 on and the next from 3
+pub rock_tries : map (try_of 12345 150 150 (form_begun 12345 0 element.Rock) (after_begun 0 element.Rock)) (0 ∷ 1 ∷ []) ≡ record { form = Rock 2; place = place 82 36 } ∷ record { form = Rock 2; place = place 25 100 } ∷ []
 unfolding state_at random_at drawn
 rock_tries = refl
 
 -- the blob's side in its first direction, and the side at the end of that in its second
-pub blob_sides : map (λ (n : ℕ). stepped n SouthEast (point 36 40)) (1 ∷ 2 ∷ 3 ∷ 4 ∷ []) ≡ point 36 41 ∷ point 37 42 ∷ point 37 43 ∷ point 38 44 ∷ []
-unfolding stepped adjacent_point
+pub blob_sides : map (λ (n : ℕ). point_after n SouthEast (point 36 40)) (1 ∷ 2 ∷ 3 ∷ 4 ∷ []) ≡ point 36 41 ∷ point 37 42 ∷ point 37 43 ∷ point 38 44 ∷ []
+unfolding point_after adjacent_point
 blob_sides = refl
 
-pub blob_far_side : map (λ (n : ℕ). stepped n SouthWest (stepped 4 SouthEast (point 36 40))) (1 ∷ 2 ∷ 3 ∷ 4 ∷ []) ≡ point 37 45 ∷ point 37 46 ∷ point 36 47 ∷ point 36 48 ∷ []
-unfolding stepped adjacent_point
+pub blob_far_side : map (λ (n : ℕ). point_after n SouthWest (point_after 4 SouthEast (point 36 40))) (1 ∷ 2 ∷ 3 ∷ 4 ∷ []) ≡ point 37 45 ∷ point 37 46 ∷ point 36 47 ∷ point 36 48 ∷ []
+unfolding point_after adjacent_point
 blob_far_side = refl
 
 -- the elements in their order

@@ -17,13 +17,13 @@ use Rattle.std.specs.Prelude.{ℤ, pos, negsuc, ◌+ℤ◌, ◌-ℤ◌}
 use Rattle.world_gen.proofs.Balls.{off_rim_within}
 use Rattle.world_gen.proofs.Separate.{no_member}
 use Rattle.world_gen.proofs.Worked.{black_hill, blob, place, red_hill}
-use Rattle.world_gen.specs.Elements.{IsCell, stepped}
-use Rattle.world_gen.specs.Fitting.{Fits, IsOffRim, IsTouching}
+use Rattle.world_gen.specs.Elements.{IsCell, point_after}
+use Rattle.world_gen.specs.Fitting.{IsFreeSpot, IsOffRim, IsTouching}
 use Rattle.world_gen.specs.Food.{food_on}
 use Rattle.world_gen.specs.Placing.{HasNoRoom, IsPlacing, try_of}
 use Rattle.world_gen.specs.PlacingLaws.{AreApart}
 use Rattle.world_gen.specs.declared.shape.Shape.{Shape}
-use Rattle.world_gen.specs.declared.spot.Form.TheVariants.{Hill, Blob}
+use Rattle.world_gen.specs.declared.spot.Figure.TheVariants.{Hill, Blob}
 use Rattle.world_gen.specs.declared.spot.Spot.{Spot}
 use lib.Signed.{◌≤ℤ◌}
 
@@ -31,7 +31,7 @@ use lib.Signed.{◌≤ℤ◌}
 abbrev twelve : Shape
 twelve = record { width = 12; height = 12; rocks = 14; blobs = 11 }
 
-no_hill : (p : Pos) → Fits 12 12 [] (record { form = Hill Red; place = p }) → ⊥
+no_hill : (p : Pos) → IsFreeSpot 12 12 [] (record { form = Hill Red; place = p }) → ⊥
 no_hill p fits = let within = off_rim_within 12 12 p 6 fits.off_rim in omega arith
 
 pub no_room : HasNoRoom 1 twelve 0
@@ -76,20 +76,20 @@ record IsDown (p q : Point) (n : ℕ) (left : ℕ) : Type 0 where
   pub column : slant q ≡ slant p -ℤ pos left
   pub row : q.y ≡ p.y +ℤ pos n
 
-south_east : (n : ℕ) (p : Point) → IsDown p (stepped n SouthEast p) n 0
-unfolding stepped
+south_east : (n : ℕ) (p : Point) → IsDown p (point_after n SouthEast p) n 0
+unfolding point_after
 south_east zero p = record { column = omega (arith, ints); row = omega (arith, ints) }
 south_east (suc n) p =
     let before = south_east n p in
-    let s = step_is (stepped n SouthEast p) SouthEast in
+    let s = step_is (point_after n SouthEast p) SouthEast in
     record { column = omega (arith, ints); row = omega (arith, ints) }
 
-south_west : (n : ℕ) (p : Point) → IsDown p (stepped n SouthWest p) n n
-unfolding stepped
+south_west : (n : ℕ) (p : Point) → IsDown p (point_after n SouthWest p) n n
+unfolding point_after
 south_west zero p = record { column = omega (arith, ints); row = omega (arith, ints) }
 south_west (suc n) p =
     let before = south_west n p in
-    let s = step_is (stepped n SouthWest p) SouthWest in
+    let s = step_is (point_after n SouthWest p) SouthWest in
     record { column = omega (arith, ints); row = omega (arith, ints) }
 
 record IsThird (q : Point) : Type 0 where
@@ -103,10 +103,10 @@ unfolding half turned_by
 third_within q cell =
     let corner : Point = record { x = pos 36; y = pos 40 } in
     let along = south_east cell.along corner in
-    let beside = south_west cell.beside (stepped cell.along SouthEast corner) in
+    let beside = south_west cell.beside (point_after cell.along SouthEast corner) in
     let long = cell.is_long in
     let wide = cell.is_wide in
-    let there : IsThird (stepped cell.beside SouthWest (stepped cell.along SouthEast corner)) =
+    let there : IsThird (point_after cell.beside SouthWest (point_after cell.along SouthEast corner)) =
     record { left = omega (arith, ints); right = omega (arith, ints); top = omega (arith, ints); bottom = omega (arith, ints) } in
     subst IsThird cell.is there
 
@@ -118,14 +118,14 @@ touching_within p q touching =
       | inr way ↦ within_one p q way
     ]
 
-first_fits : Fits 64 64 [] first
+first_fits : IsFreeSpot 64 64 [] first
 unfolding half
 first_fits = record {
   off_rim = λ q cell. let w = first_within q cell in let h = halved q.y in off_rim_at q.x q.y (omega (arith, ints)) (omega (arith, ints)) (omega (arith, ints)) (omega (arith, ints));
   apart = λ other q r among. absurd (no_member other among);
 }
 
-second_fits : Fits 64 64 (first ∷ []) second
+second_fits : IsFreeSpot 64 64 (first ∷ []) second
 unfolding half
 second_fits = record {
   off_rim = λ q cell. let w = second_within q cell in let h = halved q.y in off_rim_at q.x q.y (omega (arith, ints)) (omega (arith, ints)) (omega (arith, ints)) (omega (arith, ints));
@@ -139,7 +139,7 @@ second_fits = record {
   ];
 }
 
-third_fits : Fits 64 64 (first ∷ second ∷ []) third
+third_fits : IsFreeSpot 64 64 (first ∷ second ∷ []) third
 unfolding half
 third_fits = record {
   off_rim = λ q cell. let w = third_within q cell in let h = halved q.y in off_rim_at q.x q.y (omega (arith, ints)) (omega (arith, ints)) (omega (arith, ints)) (omega (arith, ints));

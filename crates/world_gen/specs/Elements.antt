@@ -10,8 +10,8 @@ use Rattle.hex_geometry.specs.declared.direction.Side.TheVariants.{Right}
 use Rattle.world_gen.specs.declared.element.Element.{Element}
 use Rattle.world_gen.specs.declared.element.Element.TheVariants as element
 use Rattle.world_gen.specs.declared.shape.Shape.{Shape}
-use Rattle.world_gen.specs.declared.spot.Form.{Form}
-use Rattle.world_gen.specs.declared.spot.Form.TheVariants.{Hill, Rock, Blob}
+use Rattle.world_gen.specs.declared.spot.Figure.{Figure}
+use Rattle.world_gen.specs.declared.spot.Figure.TheVariants.{Hill, Rock, Blob}
 use Rattle.world_gen.specs.declared.spot.Spot.{Spot}
 
 -- how many elements there are: two hills, the rocks and the blobs
@@ -25,9 +25,9 @@ element_of shape (suc zero) = element.Hill Black
 element_of shape (suc (suc n)) = cond (nat_lt n shape.rocks) element.Rock element.Blob
 
 -- so many steps in one direction
-unfoldable pub stepped : ℕ → Dir → Point → Point
-stepped zero d p = p
-stepped (suc n) d p = adjacent_point (stepped n d p) d
+unfoldable pub point_after : ℕ → Dir → Point → Point
+point_after zero d p = p
+point_after (suc n) d p = adjacent_point (point_after n d p) d
 
 -- up to four steps from the corner in one direction, and then up to four in the next
 pub record IsInBlob (corner : Point) (first : Dir) (q : Point) : Type 0 where
@@ -35,10 +35,10 @@ pub record IsInBlob (corner : Point) (first : Dir) (q : Point) : Type 0 where
   pub beside : ℕ
   pub is_long : along ≤ 4
   pub is_wide : beside ≤ 4
-  pub is : stepped beside (turned_by first Right) (stepped along first corner) ≡ q
+  pub is : point_after beside (turned_by first Right) (point_after along first corner) ≡ q
 
 -- a cell of an element of this form at this place: a hill is a ball of radius 6
-abbrev pub IsCellOf : Form → Point → Point → Type 0
+abbrev pub IsCellOf : Figure → Point → Point → Type 0
 IsCellOf (Hill colour) place q = IsInBall place 6 q
 IsCellOf (Rock radius) place q = IsInBall place radius q
 IsCellOf (Blob first) place q = IsInBlob place first q

@@ -15,6 +15,6 @@ abbrev pub IsTouching : Point → Point → Type 0
 IsTouching p q = (p ≡ q) ⊎ IsAdjacent p q
 
 -- each cell of the element is off the rim, and none touches a cell of an element that was placed before
-pub record Fits (width height : ℕ) (placed : List Spot) (spot : Spot) : Type 0 where
+pub record IsFreeSpot (width height : ℕ) (placed : List Spot) (spot : Spot) : Type 0 where
   pub off_rim : (q : Point) → IsCell spot q → IsOffRim width height q
   pub apart : (other : Spot) (q r : Point) → Contains placed other → IsCell spot q → IsCell other r → IsTouching r q → ⊥

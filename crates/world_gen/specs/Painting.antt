@@ -14,8 +14,8 @@ use Rattle.world_gen.specs.Placing.{HasNoRoom, IsPlacing}
 use Rattle.world_gen.specs.declared.generator.GenFault.{GenFault}
 use Rattle.world_gen.specs.declared.generator.GenFault.TheVariants.{NoRoom, OutOfMemory}
 use Rattle.world_gen.specs.declared.shape.Shape.{Shape}
-use Rattle.world_gen.specs.declared.spot.Form.{Form}
-use Rattle.world_gen.specs.declared.spot.Form.TheVariants.{Hill, Rock, Blob}
+use Rattle.world_gen.specs.declared.spot.Figure.{Figure}
+use Rattle.world_gen.specs.declared.spot.Figure.TheVariants.{Hill, Rock, Blob}
 use Rattle.world_gen.specs.declared.spot.Spot.{Spot}
 
 -- the kind of a hill's cells
@@ -24,7 +24,7 @@ hill_kind Red = kind.RedHill
 hill_kind Black = kind.BlackHill
 
 -- what an element's cells are: a blob's have 5 food particles each
-abbrev pub paint_of : Form → Kind
+abbrev pub paint_of : Figure → Kind
 paint_of (Hill colour) = hill_kind colour
 paint_of (Rock radius) = kind.Rock
 paint_of (Blob first) = kind.Food 5

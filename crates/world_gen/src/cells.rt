@@ -5,7 +5,7 @@ ghost use Rattle.cell_world.specs.Opening.{is_hill};
 ghost use Rattle.world_gen.specs.Inner.Open.{AllHaveNeighbours, BlobHasNeighbours, LineHasNeighbours, ListsCells, line_from, lines_from};
 ghost use Rattle.world_gen.specs.Painting.{paint_of};
 
-use crate::spot::{Form, HILL_RADIUS, Spot};
+use crate::spot::{Figure, HILL_RADIUS, Spot};
 use hex_geometry::{Dir, OutOfMemory, Pos, Side, adjacent, ball, turned};
 use std::alloc::Global;
 
@@ -16,9 +16,9 @@ pub fn cells_of(alloc: Global, spot: Spot) -> Result<Vec<Pos>, OutOfMemory>
     ensures few { IfOk result (λ cells. one_if (is_hill (paint_of spot.form)) * length cells.items ≤ 127) }
 {
     match spot.form {
-        Form::Hill(_) => ball(alloc, spot.place, HILL_RADIUS),
-        Form::Rock(radius) => ball(alloc, spot.place, radius as u16),
-        Form::Blob(first) => blob(alloc, spot.place, first),
+        Figure::Hill(_) => ball(alloc, spot.place, HILL_RADIUS),
+        Figure::Rock(radius) => ball(alloc, spot.place, radius as u16),
+        Figure::Blob(first) => blob(alloc, spot.place, first),
     }
 }
 

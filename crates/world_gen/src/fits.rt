@@ -2,9 +2,9 @@
 ghost use Rattle.hex_geometry.specs.Position.{point_of};
 ghost use Rattle.std.specs.Bool.{Decides};
 ghost use Rattle.std.specs.Prelude.{◌+◌, ◌*◌, ◌≤◌};
-ghost use Rattle.world_gen.specs.Inner.Open.{AllOpen, BallIsOpen, BlobIsOpen, IsFenced, IsShut, IsWithin, LineIsOpen, RowIsOpen};
+ghost use Rattle.world_gen.specs.Inner.Open.{AllOpen, BallIsOpen, BlobIsOpen, IsFenced, IsShut, IsBallWithin, LineIsOpen, RowIsOpen};
 
-use crate::spot::{Form, HILL_RADIUS, Spot};
+use crate::spot::{Figure, HILL_RADIUS, Spot};
 use crate::yard::Yard;
 use hex_geometry::{Dir, Pos, Side, adjacent, distance, turned};
 
@@ -15,9 +15,9 @@ impl Yard {
         ensures { Decides result (AllOpen self.now.width self.now.height self.now.blocked.items spot) }
     {
         match spot.form {
-            Form::Hill(_) => self.ball_is_open(spot.place, HILL_RADIUS),
-            Form::Rock(radius) => self.ball_is_open(spot.place, radius as u16),
-            Form::Blob(first) => self.blob_is_open(spot.place, first),
+            Figure::Hill(_) => self.ball_is_open(spot.place, HILL_RADIUS),
+            Figure::Rock(radius) => self.ball_is_open(spot.place, radius as u16),
+            Figure::Blob(first) => self.blob_is_open(spot.place, first),
         }
     }
 
@@ -42,7 +42,7 @@ impl Yard {
     // Whether the ball ends before the rim on all sides.
     fn is_within(&self, centre: Pos, radius: u16) -> bool
         requires small { radius ≤ 255 }
-        ensures { Decides result (IsWithin self.now.width self.now.height centre radius) }
+        ensures { Decides result (IsBallWithin self.now.width self.now.height centre radius) }
     {
         let (x, y, reach) = (centre.x as u32, centre.y as u32, radius as u32);
         reach < x
@@ -54,7 +54,7 @@ impl Yard {
     // Whether those positions of a row that are in the ball are open. The ball ends before the rim.
     fn row_is_open(&self, centre: Pos, radius: u16, y: u16) -> bool
         requires fence { IsFenced self.now.width self.now.height self.now.blocked.items }
-        requires within { IsWithin self.now.width self.now.height centre radius }
+        requires within { IsBallWithin self.now.width self.now.height centre radius }
         ensures { Decides result (RowIsOpen self.now.width self.now.height self.now.blocked.items centre radius y (2 * radius + 1)) }
     {
         for column in 0..2 * radius as u32 + 1 {

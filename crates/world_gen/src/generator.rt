@@ -1,6 +1,6 @@
 // The whole procedure.
 ghost use Rattle.std.specs.Prelude.{◌≡◌, ◌+◌, ◌*◌, ◌<◌, ◌≤◌, IfErr, IfOk, length};
-ghost use Rattle.world_gen.specs.Inner.Answers.{IsMade, IsStep};
+ghost use Rattle.world_gen.specs.Inner.Answers.{IsGeneratedGrid, IsStep};
 ghost use Rattle.world_gen.specs.Inner.Open.{IsFenced};
 ghost use Rattle.world_gen.specs.Painting.{IsAnswer, IsRefusal, IsShape};
 
@@ -52,7 +52,7 @@ impl Yard {
     // The yard in which all elements of the shape are placed.
     fn of_shape(alloc: Global, seed: u32, shape: Shape) -> Result<Yard, GenFault>
         requires { IsShape shape }
-        ensures made { IfOk result (λ yard. IsMade seed shape yard.width yard.height yard.kinds.items) }
+        ensures made { IfOk result (λ yard. IsGeneratedGrid seed shape yard.width yard.height yard.kinds.items) }
         ensures refused { IfErr result (λ fault. IsRefusal seed shape fault) }
     {
         let mut yard = Yard::bare(alloc, shape.width, shape.height)?;

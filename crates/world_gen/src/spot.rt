@@ -10,7 +10,7 @@ pub const HILL_RADIUS: u16 = 6;
 
 // An element with all that is drawn of it but its place.
 #[derive(Clone, Copy, Debug, PartialEq, Eq)]
-pub enum Form {
+pub enum Figure {
     // The hill of a colour.
     Hill(Colour),
     // A rock of a radius, from 1 to 4.
@@ -22,20 +22,20 @@ pub enum Form {
 // An element at a place: the centre of a hill or a rock, or a blob's corner.
 #[derive(Clone, Copy, Debug, PartialEq, Eq)]
 pub struct Spot {
-    pub form: Form,
+    pub form: Figure,
     pub place: Pos,
 }
 
-impl Form {
+impl Figure {
     // What its cells are painted as.
     pub fn kind(self) -> Kind
         ensures { result ≡ paint_of self }
     {
         match self {
-            Form::Hill(Colour::Red) => Kind::RedHill,
-            Form::Hill(Colour::Black) => Kind::BlackHill,
-            Form::Rock(_) => Kind::Rock,
-            Form::Blob(_) => Kind::Food(5),
+            Figure::Hill(Colour::Red) => Kind::RedHill,
+            Figure::Hill(Colour::Black) => Kind::BlackHill,
+            Figure::Rock(_) => Kind::Rock,
+            Figure::Blob(_) => Kind::Food(5),
         }
     }
 }

@@ -3,10 +3,10 @@ ghost use Rattle.std.specs.Prelude.{◌≡◌, ◌+◌, ◌<◌, ◌≤◌};
 ghost use Rattle.hex_geometry.specs.Position.{IsInside};
 ghost use Rattle.world_gen.specs.Inner.Answers.{IsChosen, IsInRow, IsSearched, IsTried};
 ghost use Rattle.world_gen.specs.Inner.Open.{AllOpen, IsFenced};
-ghost use Rattle.world_gen.specs.Placing.{after_begun, begun, draws_of, tried_at, tried_form};
+ghost use Rattle.world_gen.specs.Placing.{after_begun, form_begun, draws_of, tried_at, tried_form};
 
 use crate::element::Element;
-use crate::spot::{Form, Spot};
+use crate::spot::{Figure, Spot};
 use crate::yard::Yard;
 use ant_random::Stream;
 use hex_geometry::{Dir, Pos};
@@ -33,7 +33,7 @@ impl Yard {
     }
 
     // The first of 50 tries that fits.
-    fn try_spots(&self, stream: &mut Stream, form: Form) -> Option<Spot>
+    fn try_spots(&self, stream: &mut Stream, form: Figure) -> Option<Spot>
         requires fence { IsFenced self.now.width self.now.height self.now.blocked.items }
         requires wide { 1 ≤ self.now.width }
         requires high { 1 ≤ self.now.height }
@@ -52,7 +52,7 @@ impl Yard {
     }
 
     // The spot of the next try.
-    fn draw_spot(&self, stream: &mut Stream, form: Form) -> Spot
+    fn draw_spot(&self, stream: &mut Stream, form: Figure) -> Spot
         requires wide { 1 ≤ self.now.width }
         requires high { 1 ≤ self.now.height }
         requires early { stream.old.place < 1000200 }
@@ -68,7 +68,7 @@ impl Yard {
     }
 
     // The first place of the grid, in row order, at which it fits.
-    fn first_place(&self, form: Form) -> Option<Spot>
+    fn first_place(&self, form: Figure) -> Option<Spot>
         requires { IsFenced self.now.width self.now.height self.now.blocked.items }
         ensures { IsSearched (AllOpen self.now.width self.now.height self.now.blocked.items) form (IsInside self.now.width self.now.height) result }
     {
@@ -81,7 +81,7 @@ impl Yard {
     }
 
     // The first place of a row at which it fits.
-    fn first_in_row(&self, form: Form, y: u16) -> Option<Spot>
+    fn first_in_row(&self, form: Figure, y: u16) -> Option<Spot>
         requires { IsFenced self.now.width self.now.height self.now.blocked.items }
         ensures { IsSearched (AllOpen self.now.width self.now.height self.now.blocked.items) form (IsInRow self.now.width y) result }
     {
@@ -97,28 +97,28 @@ impl Yard {
 }
 
 // The form of an element before its tries: a rock's radius is drawn now, once, and a blob has direction 0.
-fn begin(stream: &mut Stream, element: Element) -> Form
+fn begin(stream: &mut Stream, element: Element) -> Figure
     requires early { stream.old.place < 1000000 }
     ensures seed { stream.new.seed ≡ stream.old.seed }
     ensures place { stream.new.place ≡ after_begun stream.old.place element }
-    ensures form { result ≡ begun stream.old.seed stream.old.place element }
+    ensures form { result ≡ form_begun stream.old.seed stream.old.place element }
 {
     match element {
-        Element::Hill(colour) => Form::Hill(colour),
-        Element::Rock => Form::Rock(1 + stream.draw(4) as u8),
-        Element::Blob => Form::Blob(Dir::East),
+        Element::Hill(colour) => Figure::Hill(colour),
+        Element::Rock => Figure::Rock(1 + stream.draw(4) as u8),
+        Element::Blob => Figure::Blob(Dir::East),
     }
 }
 
 // The form in a try: a blob's direction is drawn in each.
-fn draw_form(stream: &mut Stream, form: Form) -> Form
+fn draw_form(stream: &mut Stream, form: Figure) -> Figure
     requires early { stream.old.place < 1000202 }
     ensures seed { stream.new.seed ≡ stream.old.seed }
     ensures place { stream.new.place + 2 ≡ stream.old.place + draws_of form }
     ensures form { result ≡ tried_form stream.old.seed stream.old.place form }
 {
     match form {
-        Form::Blob(_) => Form::Blob(Dir::new(stream.draw(3) as u8)),
+        Figure::Blob(_) => Figure::Blob(Dir::new(stream.draw(3) as u8)),
         other => other,
     }
 }

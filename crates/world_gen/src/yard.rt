@@ -4,8 +4,8 @@ ghost use Rattle.cell_world.specs.Limits.{most_size};
 ghost use Rattle.cell_world.specs.World.{pos_at};
 ghost use Rattle.hex_geometry.specs.Position.{IsInner};
 ghost use Rattle.std.specs.Prelude.{◌≡◌, ◌+◌, ◌*◌, ◌++◌, ◌∷◌, [], ◌<◌, ◌≤◌, true, Contains, IfOk, OnOk, length, slice_set};
-ghost use Rattle.world_gen.specs.Inner.Open.{is_open};
-ghost use Rattle.world_gen.specs.Inner.Sets.{IsRound, Sets};
+ghost use Rattle.world_gen.specs.Inner.Open.{is_unblocked};
+ghost use Rattle.world_gen.specs.Inner.Sets.{IsRound, SetsWhere};
 ghost use Rattle.world_gen.specs.Inner.Yards.{IsStamped, bare_blocked, bare_kind, bare_kinds, is_rim};
 
 use cell_world::Kind;
@@ -51,7 +51,8 @@ impl Yard {
         ensures width { self.new.width ≡ self.old.width }
         ensures height { self.new.height ≡ self.old.height }
         ensures blocked { OnOk result (self.new.blocked.items ≡ self.old.blocked.items ++ is_rim self.old.width self.old.height (pos_at self.old.width number) ∷ []) }
-        ensures kinds { OnOk result (self.new.kinds.items ≡ self.old.kinds.items ++ bare_kind (is_rim self.old.width self.old.height (pos_at self.old.width number)) ∷ []) }
+        ensures kinds { OnOk result (self.new.kinds.items ≡ self.old.kinds.items ++ bare_kind
+            (is_rim self.old.width self.old.height (pos_at self.old.width number)) ∷ []) }
     {
         let rim = is_rim(self.width, self.height, number);
         let kind = bare_kind(rim);
@@ -64,7 +65,7 @@ impl Yard {
     #[inline]
     pub fn is_open(&self, p: Pos) -> bool
         requires { length self.now.blocked.items ≡ self.now.width * self.now.height }
-        ensures { result ≡ is_open self.now.width self.now.height self.now.blocked.items p }
+        ensures { result ≡ is_unblocked self.now.width self.now.height self.now.blocked.items p }
     {
         p.x < self.width && p.y < self.height && !self.blocked[index_of(self.width, p)]
     }
@@ -133,7 +134,7 @@ fn block_round(blocked: &mut [bool], width: u16, height: u16, p: Pos)
     requires narrow { width ≤ most_size }
     requires low { height ≤ most_size }
     requires inner { IsInner width height p }
-    ensures { Sets width height true (IsRound p) blocked.old blocked.new }
+    ensures { SetsWhere width height true (IsRound p) blocked.old blocked.new }
 {
     block(blocked, width, p);
     for number in 0..6u8 {

@@ -30,8 +30,8 @@ stands-digit byte digit =
     stands byte (Food (byte - 48)) same (least, most)
 
 -- the kind for which a byte stands has that byte
-pub kind_of-known : (byte : ℕ) (kind : Kind) → kind_of byte ≡ Some kind → Spells byte kind
-kind_of-known byte =
+pub command_kind_of-known : (byte : ℕ) (kind : Kind) → kind_of byte ≡ Some kind → Spells byte kind
+command_kind_of-known byte =
     cond_both (eqb byte 35) _ _ (Stands byte) (λ e. stands byte Rock (eqb-true byte 35 e) tt) λ _.
     cond_both (eqb byte 46) _ _ (Stands byte) (λ e. stands byte Clear (eqb-true byte 46 e) tt) λ _.
     cond_both (eqb byte 43) _ _ (Stands byte) (λ e. stands byte RedHill (eqb-true byte 43 e) tt) λ _.

@@ -8,8 +8,8 @@ use Rattle.std.specs.List.{flat_map, range_with_len}
 use Rattle.std.specs.Fmt.{decimal}
 use Rattle.ant_base.specs.Layout.{numbered}
 use Rattle.ant_base.specs.Lines.{has_no_lf, is_blank, is_lf, is_separator, lines_of}
-use Rattle.ant_base.specs.Number.{number_of}
-use Rattle.ant_base.proofs.Digits.{number_of-decimal}
+use Rattle.ant_base.specs.Number.{decimal_value}
+use Rattle.ant_base.proofs.Digits.{decimal_value-decimal}
 use Rattle.ant_base.proofs.Linewise.{has_no_lf-append, has_no_lf-decimal, lines_of-joined, lines_of-line, trimmed-decimal}
 use Rattle.ant_base.proofs.Numbered.{numbered-list, numbered-same}
 use Rattle.cell_world.specs.declared.kind.Kind.{Kind}
@@ -150,8 +150,8 @@ IsWorldText-canonical width height kinds plan =
           lines_of-line (decimal width) (decimal height ++ 10 ∷ rows) (has_no_lf-decimal width (omega (arith, plan.narrow)))
           ∙ ap (λ lines. decimal width ∷ lines) (lines_of-line (decimal height) rows (has_no_lf-decimal height (omega (arith, plan.low))))
           ∙ ap (λ lines. decimal width ∷ decimal height ∷ lines) (lines_of-rows width height kinds);
-      is_width = ap number_of (trimmed-decimal width (omega (arith, plan.narrow))) ∙ number_of-decimal width (omega (arith, plan.narrow));
-      is_height = ap number_of (trimmed-decimal height (omega (arith, plan.low))) ∙ number_of-decimal height (omega (arith, plan.low));
+      is_width = ap decimal_value (trimmed-decimal width (omega (arith, plan.narrow))) ∙ decimal_value-decimal width (omega (arith, plan.narrow));
+      is_height = ap decimal_value (trimmed-decimal height (omega (arith, plan.low))) ∙ decimal_value-decimal height (omega (arith, plan.low));
       as_many = length-map (range_with_len 0 height) (row_line width kinds) ∙ length-range_with_len 0 height;
       are_rows = subst (AreRows width (row_lines width height kinds)) (ap (λ n. drop n kinds) none) (are_rows-from width kinds 0 height (plan.full ∙ ap (λ n. width * n) all));
       blank = All-nil (λ line. is_blank line ≡ true);

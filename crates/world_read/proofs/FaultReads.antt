@@ -18,7 +18,7 @@ use Rattle.world_read.specs.Bytes.{byte_of, spelled}
 use Rattle.world_read.specs.Inner.Reading.{kind_of}
 use Rattle.world_read.specs.Faulty.{BeginsWith, BeginsWithNoSize, HasRows, HasRowFault, HasSize, IsCellFault, HasWholeRows, IsNoCell, IsRowFault, IsWorldFault}
 use Rattle.world_read.specs.Grammar.{AreRows}
-use Rattle.world_read.specs.Inner.Reading.{Rows, after_height, after_width, cell_of, ended, first_size, is_open_at, limited, open_rim, plan_of, row_from, row_of, rows_from, with_cell, with_row}
+use Rattle.world_read.specs.Inner.Reading.{Rows, after_height, after_width, cell_of, rows_ended, first_size, is_open_at, limited, open_rim, plan_of, row_from, row_of, rows_from, with_cell, with_row}
 use Rattle.world_read.proofs.BytesLemmas.{Spells, kind_of-byte_of}
 use Rattle.world_read.proofs.ScanLemmas.{IsInner-closed, first_of-none, is_open-closed, open_rim-known, pos_at-within, rim-closed}
 use Rattle.world_read.proofs.RowReads.{IsRow, cell_of-known, row_from-known, rows_from-known}
@@ -318,7 +318,7 @@ module _ (text first second : List ℕ) (lines : List (List ℕ)) (width height 
         subst (IsWorldFault text) one
         (record { width = width; height = height; kinds = kinds; complete = whole; rim = rim-closed width height kinds f; is = refl; wrong = leb-false (hill_count kinds) most_ants e })
 
-  rows_fault : (fault : WorldFault) → ended width height (rows_from width 0 height lines) ≡ Err fault → IsWorldFault text fault
+  rows_fault : (fault : WorldFault) → rows_ended width height (rows_from width 0 height lines) ≡ Err fault → IsWorldFault text fault
   rows_fault fault is = go (rows_from width 0 height lines) refl is where
     blank : (rows : Rows) → rows_from width 0 height lines ≡ Ok rows → (end : Bool) → list_all is_blank rows.rest ≡ end → cond end (limited width height rows.kinds (open_rim width height rows.kinds)) (Err ExtraRow) ≡ Err fault → IsWorldFault text fault
     blank rows told false e is =
@@ -326,7 +326,7 @@ module _ (text first second : List ℕ) (lines : List (List ℕ)) (width height 
         subst (IsWorldFault text) one (extra_row rows told (not_all_blank rows.rest e))
     blank rows told true e is = limits_fault rows.kinds fault (complete rows told e) is
 
-    go : (rows : Result Rows WorldFault) → rows_from width 0 height lines ≡ rows → ended width height rows ≡ Err fault → IsWorldFault text fault
+    go : (rows : Result Rows WorldFault) → rows_from width 0 height lines ≡ rows → rows_ended width height rows ≡ Err fault → IsWorldFault text fault
     go (Err other) told is =
         let one : other ≡ fault = cc in
         subst (IsWorldFault text) one (world_fault-row text other (row_at_fault other (rows_from-fault width 0 height lines other told)))

@@ -8,7 +8,7 @@ use Rattle.cell_world.specs.Limits.{most_ants}
 use Rattle.cell_world.specs.Opening.{IsPlan, hill_count}
 use Rattle.world_read.specs.declared.fault.WorldFault.TheVariants.{BadWidth, BadHeight, TooManyAnts}
 use Rattle.world_read.specs.Grammar.{Plan}
-use Rattle.world_read.specs.Inner.Reading.{AreSizes, Rows, after_height, after_width, ended, first_size, limited, open_rim, opened, plan_of, rows_from, world_of_text}
+use Rattle.world_read.specs.Inner.Reading.{AreSizes, Rows, after_height, after_width, rows_ended, first_size, limited, open_rim, opened, plan_of, rows_from, world_of_text}
 use Rattle.world_read.proofs.ScanLemmas.{rim-closed}
 use Rattle.world_read.proofs.RowReads.{length-AreRows, rows_from-known}
 
@@ -27,14 +27,14 @@ world_of_text-height text lines after width are wide next none =
     ∙ ap (λ o. opened (after_height width o (drop 1 after))) (sym none)
 
 -- a text with both sizes
-pub world_of_text-rows : (text : List ℕ) (lines after rest : List (List ℕ)) (width height : ℕ) → lines ≡ lines_of text → Some width ≡ first_size lines → after ≡ drop 1 lines → Some height ≡ first_size after → rest ≡ drop 1 after → world_of_text text ≡ opened (ended width height (rows_from width 0 height rest))
+pub world_of_text-rows : (text : List ℕ) (lines after rest : List (List ℕ)) (width height : ℕ) → lines ≡ lines_of text → Some width ≡ first_size lines → after ≡ drop 1 lines → Some height ≡ first_size after → rest ≡ drop 1 after → world_of_text text ≡ opened (rows_ended width height (rows_from width 0 height rest))
 unfolding world_of_text plan_of
 world_of_text-rows text lines after rest width height are wide next tall left =
     ap (λ ls. opened (after_width (first_size ls) (drop 1 ls))) (sym are)
     ∙ ap (λ o. opened (after_width o (drop 1 lines))) (sym wide)
     ∙ ap (λ ls. opened (after_height width (first_size ls) (drop 1 ls))) (sym next)
     ∙ ap (λ o. opened (after_height width o (drop 1 after))) (sym tall)
-    ∙ ap (λ ls. opened (ended width height (rows_from width 0 height ls))) (sym left)
+    ∙ ap (λ ls. opened (rows_ended width height (rows_from width 0 height ls))) (sym left)
 
 -- kinds that keep the limits
 pub record IsLimited (width height : ℕ) (kinds : List Kind) (found : Option Pos) (plan : Plan) : Type 0 where

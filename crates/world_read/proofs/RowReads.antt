@@ -12,7 +12,7 @@ use Rattle.world_read.specs.Bytes.{byte_of, spelled}
 use Rattle.world_read.specs.Inner.Reading.{kind_of}
 use Rattle.world_read.specs.Grammar.{AreRows}
 use Rattle.world_read.specs.Inner.Reading.{Rows, cell_of, onto_row, row_from, row_of, rows_from, with_cell, with_row}
-use Rattle.world_read.proofs.BytesLemmas.{Spells, kind_of-known, kind_of-byte_of}
+use Rattle.world_read.proofs.BytesLemmas.{Spells, command_kind_of-known, kind_of-byte_of}
 
 -- kinds in front of a row are in front of all that follows
 pub with_row-onto : (kinds : List Kind) (row : Result (List Kind) WorldFault) (below : Result Rows WorldFault) → with_row (Ok kinds) (with_row row below) ≡ with_row (onto_row kinds row) below
@@ -49,7 +49,7 @@ cell_of-known width y column byte kind is = go (ltb column width) refl (kind_of 
   go true e None t is = absurd (cc)
   go true e (Some other) t is =
       let one : other ≡ kind = cc in
-      record { within = ltb-true column width e; spells = kind_of-known byte kind (t ∙ ap Some one) }
+      record { within = ltb-true column width e; spells = command_kind_of-known byte kind (t ∙ ap Some one) }
 
 onto_row-none : (row : Result (List Kind) WorldFault) → onto_row [] row ≡ row
 onto_row-none (Err fault) = refl

@@ -4,7 +4,7 @@ use Rattle.std.proofs.lemmas.Bool.{and_from, and_parts, cond-true, le-leb, leb-t
 use Rattle.std.proofs.lemmas.List.Sums.{AllPass-from_list_all, list_all-from_AllPass}
 use Rattle.std.specs.List.{list_all}
 use Rattle.ant_base.specs.Lines.{lines_of, is_blank, trimmed}
-use Rattle.ant_base.specs.Number.{number_of, within}
+use Rattle.ant_base.specs.Number.{decimal_value, within}
 use Rattle.cell_world.specs.declared.kind.Kind.{Kind}
 use Rattle.cell_world.specs.Limits.{least_size, most_size, most_ants}
 use Rattle.cell_world.specs.Opening.{hill_count}
@@ -12,22 +12,22 @@ use Rattle.world_read.specs.declared.fault.WorldFault.{WorldFault}
 use Rattle.world_read.specs.declared.fault.WorldFault.TheVariants.{ExtraRow, TooManyAnts}
 use Rattle.world_read.specs.Faulty.{HasSize}
 use Rattle.world_read.specs.Grammar.{IsSizeLine, IsWorldText, Plan}
-use Rattle.world_read.specs.Inner.Reading.{AreSizes, Rows, after_height, after_width, ended, first_size, limited, open_rim, plan_of, rows_from, size_of}
+use Rattle.world_read.specs.Inner.Reading.{AreSizes, Rows, after_height, after_width, rows_ended, first_size, limited, open_rim, plan_of, rows_from, size_of}
 use Rattle.world_read.proofs.PlanReads.{IsPlan-read, limited-known}
 use Rattle.world_read.proofs.ScanLemmas.{open_rim-closed}
 use Rattle.world_read.proofs.RowReads.{rows_from-known, rows_from-rows}
 
 -- the size that is read from a line is that line's
 pub size_of-known : (line : List ℕ) (size : ℕ) → size_of line ≡ Some size → HasSize line size
-size_of-known line size is = go (number_of (trimmed line)) refl is where
-  inside : (n : ℕ) → number_of (trimmed line) ≡ Some n → (in' : Bool) → (leb least_size n && leb n most_size) ≡ in' → cond in' (Some n) None ≡ Some size → HasSize line size
+size_of-known line size is = go (decimal_value (trimmed line)) refl is where
+  inside : (n : ℕ) → decimal_value (trimmed line) ≡ Some n → (in' : Bool) → (leb least_size n && leb n most_size) ≡ in' → cond in' (Some n) None ≡ Some size → HasSize line size
   inside n told false e is = absurd (cc)
   inside n told true e is =
       let one : n ≡ size = cc in
       let both = and_parts (leb least_size n) (leb n most_size) e in
       subst (HasSize line) one (record { is = told; least = leb-true least_size n both.0; most = leb-true n most_size both.1 })
 
-  go : (told : Option ℕ) → number_of (trimmed line) ≡ told → within least_size most_size told ≡ Some size → HasSize line size
+  go : (told : Option ℕ) → decimal_value (trimmed line) ≡ told → within least_size most_size told ≡ Some size → HasSize line size
   go None told is = absurd (cc)
   go (Some n) told is = inside n told (leb least_size n && leb n most_size) refl is
 
@@ -58,13 +58,13 @@ text_ended text first second lines width height rows plan are wide tall told bla
       plan = IsPlan-read width height lines rows plan sizes told within;
     })
 
-text_rows : (text first second : List ℕ) (lines : List (List ℕ)) (width height : ℕ) (plan : Plan) → lines_of text ≡ first ∷ second ∷ lines → size_of first ≡ Some width → size_of second ≡ Some height → ended width height (rows_from width 0 height lines) ≡ Ok plan → IsWorldText text plan.width plan.height plan.kinds
+text_rows : (text first second : List ℕ) (lines : List (List ℕ)) (width height : ℕ) (plan : Plan) → lines_of text ≡ first ∷ second ∷ lines → size_of first ≡ Some width → size_of second ≡ Some height → rows_ended width height (rows_from width 0 height lines) ≡ Ok plan → IsWorldText text plan.width plan.height plan.kinds
 text_rows text first second lines width height plan are wide tall is = go (rows_from width 0 height lines) refl is where
   blank : (rows : Rows) → rows_from width 0 height lines ≡ Ok rows → (end : Bool) → list_all is_blank rows.rest ≡ end → cond end (limited width height rows.kinds (open_rim width height rows.kinds)) (Err ExtraRow) ≡ Ok plan → IsWorldText text plan.width plan.height plan.kinds
   blank rows told false e is = absurd (cc)
   blank rows told true e is = text_ended text first second lines width height rows plan are wide tall told e is
 
-  go : (rows : Result Rows WorldFault) → rows_from width 0 height lines ≡ rows → ended width height rows ≡ Ok plan → IsWorldText text plan.width plan.height plan.kinds
+  go : (rows : Result Rows WorldFault) → rows_from width 0 height lines ≡ rows → rows_ended width height rows ≡ Ok plan → IsWorldText text plan.width plan.height plan.kinds
   go (Err fault) told is = absurd (cc)
   go (Ok rows) told is = blank rows told (list_all is_blank rows.rest) refl is
 
@@ -97,7 +97,7 @@ plan_of-text text width height kinds t =
     ap (λ ls. after_width (first_size ls) (drop 1 ls)) t.lines
     ∙ ap (λ o. after_width o (t.second ∷ lines)) (size_of-line t.first width t.is_width t.plan.wide t.plan.narrow)
     ∙ ap (λ o. after_height width o lines) (size_of-line t.second height t.is_height t.plan.tall t.plan.low)
-    ∙ ap (ended width height) read
+    ∙ ap (rows_ended width height) read
     ∙ cond-true (list_all is_blank t.rest) (limited width height kinds (open_rim width height kinds)) (Err ExtraRow) (list_all-from_AllPass is_blank t.rest t.blank)
     ∙ ap (limited width height kinds) (open_rim-closed width height kinds (omega (arith, t.plan.wide)) t.plan.rim)
     ∙ cond-true (leb (hill_count kinds) most_ants) (Ok (record { width = width; height = height; kinds = kinds })) (Err (TooManyAnts (hill_count kinds))) (le-leb (hill_count kinds) most_ants t.plan.few)

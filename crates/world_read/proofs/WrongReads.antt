@@ -18,9 +18,9 @@ use Rattle.world_read.specs.Inner.Reading.{kind_of}
 use Rattle.world_read.specs.Bytes.{spelled}
 use Rattle.world_read.specs.Faulty.{BeginsWithNoSize, HasExtraRow, HasNoHeight, HasOpenRim, HasRowFault, HasRows, HasTooManyAnts, IsCellFault, HasWholeRows, IsNoCell, IsRowFault, IsWorldFault}
 use Rattle.world_read.specs.Grammar.{Plan}
-use Rattle.world_read.specs.Inner.Reading.{after_height, after_width, cell_of, ended, first_size, is_open_at, limited, onto_row, open_rim, plan_of, row_from, rows_from, size_of, with_cell, with_row}
+use Rattle.world_read.specs.Inner.Reading.{after_height, after_width, cell_of, rows_ended, first_size, is_open_at, limited, onto_row, open_rim, plan_of, row_from, rows_from, size_of, with_cell, with_row}
 use Rattle.world_read.specs.Inner.Scan.{IsClosedBefore}
-use Rattle.world_read.proofs.BytesLemmas.{kind_of-known}
+use Rattle.world_read.proofs.BytesLemmas.{command_kind_of-known}
 use Rattle.world_read.proofs.ScanLemmas.{IsInner-closed, first_of-closed, is_open-closed, open_rim-closed, open_rim-first, pos_at-within}
 use Rattle.world_read.proofs.RowReads.{row_from-cells, rows_from-front, rows_from-rows}
 use Rattle.world_read.proofs.TextReads.{size_of-known, size_of-line}
@@ -30,7 +30,7 @@ kind_of-none : (byte : ℕ) → IsNoCell byte → kind_of byte ≡ None
 kind_of-none byte never = go (kind_of byte) refl where
   go : (told : Option Kind) → kind_of byte ≡ told → told ≡ None
   go None told = refl
-  go (Some kind) told = let spells = kind_of-known byte kind told in absurd (never kind spells.fed spells.is)
+  go (Some kind) told = let spells = command_kind_of-known byte kind told in absurd (never kind spells.fed spells.is)
 
 -- what is wrong with the bytes of a row is its fault
 row_from-wrong : (width y column : ℕ) (bytes : List ℕ) (fault : WorldFault) → IsCellFault width y column bytes fault → row_from width y column bytes ≡ Err fault
@@ -97,7 +97,7 @@ first_size-none (line ∷ lines) none = go (size_of line) refl where
   go (Some size) told = absurd (none size (size_of-known line size told))
 
 -- a text with both sizes is read as its rows are
-plan_of-rows : (text : List ℕ) (width height count : ℕ) (kinds : List Kind) (rest : List (List ℕ)) (r : HasRows text width height count kinds rest) → plan_of text ≡ ended width height (rows_from width 0 height (r.rows ++ rest))
+plan_of-rows : (text : List ℕ) (width height count : ℕ) (kinds : List Kind) (rest : List (List ℕ)) (r : HasRows text width height count kinds rest) → plan_of text ≡ rows_ended width height (rows_from width 0 height (r.rows ++ rest))
 unfolding plan_of
 plan_of-rows text width height count kinds rest r =
     ap (λ ls. after_width (first_size ls) (drop 1 ls)) r.are
@@ -112,17 +112,17 @@ row_wrong text fault h =
     let many : h.height ≡ length r.rows + suc left = omega (arith, r.as_many, h.within) in
     let here : 0 + length r.rows ≡ h.row = omega (arith, r.as_many) in
     plan_of-rows text h.width h.height h.row h.kinds h.rest r
-    ∙ ap (λ n. ended h.width h.height (rows_from h.width 0 n (r.rows ++ h.rest))) many
-    ∙ ap (ended h.width h.height) (rows_from-front h.width 0 (suc left) r.rows h.rest h.kinds r.are_rows r.fed)
-    ∙ ap (λ n. ended h.width h.height (with_row (Ok h.kinds) (rows_from h.width n (suc left) h.rest))) here
-    ∙ ap (λ rows. ended h.width h.height (with_row (Ok h.kinds) rows)) (rows_from-wrong h.width h.row left h.rest fault h.wrong)
+    ∙ ap (λ n. rows_ended h.width h.height (rows_from h.width 0 n (r.rows ++ h.rest))) many
+    ∙ ap (rows_ended h.width h.height) (rows_from-front h.width 0 (suc left) r.rows h.rest h.kinds r.are_rows r.fed)
+    ∙ ap (λ n. rows_ended h.width h.height (with_row (Ok h.kinds) (rows_from h.width n (suc left) h.rest))) here
+    ∙ ap (λ rows. rows_ended h.width h.height (with_row (Ok h.kinds) rows)) (rows_from-wrong h.width h.row left h.rest fault h.wrong)
 
 -- a text all of whose rows are whole
-plan_of-whole : (text : List ℕ) (width height : ℕ) (kinds : List Kind) (rest : List (List ℕ)) → HasRows text width height height kinds rest → plan_of text ≡ ended width height (Ok (record { kinds = kinds; rest = rest }))
+plan_of-whole : (text : List ℕ) (width height : ℕ) (kinds : List Kind) (rest : List (List ℕ)) → HasRows text width height height kinds rest → plan_of text ≡ rows_ended width height (Ok (record { kinds = kinds; rest = rest }))
 plan_of-whole text width height kinds rest r =
     plan_of-rows text width height height kinds rest r
-    ∙ ap (λ n. ended width height (rows_from width 0 n (r.rows ++ rest))) (sym r.as_many)
-    ∙ ap (ended width height) (rows_from-rows width 0 r.rows rest kinds r.are_rows r.fed)
+    ∙ ap (λ n. rows_ended width height (rows_from width 0 n (r.rows ++ rest))) (sym r.as_many)
+    ∙ ap (rows_ended width height) (rows_from-rows width 0 r.rows rest kinds r.are_rows r.fed)
 
 extra_wrong : (text : List ℕ) → HasExtraRow text → plan_of text ≡ Err ExtraRow
 extra_wrong text h =

@@ -174,6 +174,6 @@ IsWorldFault text (TooManyAnts count) = HasTooManyAnts text count
 IsWorldFault text OutOfMemory = ⊥
 
 -- the verdict on a text: the sizes and kinds of the world of which it is a text, or what is wrong with it
-abbrev pub IsVerdict : List ℕ → Result Plan WorldFault → Type 0
-IsVerdict text (Ok plan) = IsWorldText text plan.width plan.height plan.kinds
-IsVerdict text (Err fault) = IsWorldFault text fault
+abbrev pub IsPlanVerdict : List ℕ → Result Plan WorldFault → Type 0
+IsPlanVerdict text (Ok plan) = IsWorldText text plan.width plan.height plan.kinds
+IsPlanVerdict text (Err fault) = IsWorldFault text fault

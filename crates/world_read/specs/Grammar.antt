@@ -1,7 +1,7 @@
 -- Which texts are worlds (the task's world files).
 use Rattle.std.specs.Prelude.{◌≡◌, ℕ, true, List, [], ◌∷◌, ◌++◌, length, map, Some, All}
 use Rattle.ant_base.specs.Lines.{lines_of, trimmed, is_blank}
-use Rattle.ant_base.specs.Number.{number_of}
+use Rattle.ant_base.specs.Number.{decimal_value}
 use Rattle.cell_world.specs.declared.kind.Kind.{Kind}
 use Rattle.cell_world.specs.Opening.{IsPlan}
 use Rattle.world_read.specs.Bytes.{byte_of, spelled}
@@ -14,7 +14,7 @@ pub record Plan : Type 0 where
 
 -- a line of a size has the number alone, before and after which separators may stand
 abbrev pub IsSizeLine : List ℕ → ℕ → Type 0
-IsSizeLine line size = number_of (trimmed line) ≡ Some size
+IsSizeLine line size = decimal_value (trimmed line) ≡ Some size
 
 -- the lines of rows spell these kinds, row by row: each without its separators is the bytes of as many kinds as the width
 abbrev pub AreRows : ℕ → List (List ℕ) → List Kind → Type 0

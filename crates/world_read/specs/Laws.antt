@@ -5,15 +5,15 @@ use Rattle.cell_world.specs.Grid.{Grid}
 use Rattle.cell_world.specs.Opening.{IsPlan}
 use Rattle.world_read.specs.declared.fault.WorldFault.{WorldFault}
 use Rattle.world_read.specs.Canonical.{canonical_text}
-use Rattle.world_read.specs.Faulty.{IsVerdict}
+use Rattle.world_read.specs.Faulty.{IsPlanVerdict}
 use Rattle.world_read.specs.Grammar.{IsWorldText, Plan}
 use Rattle.world_read.specs.Opened.{IsOpeningWorld, OpensAs, kinds_of}
 
 -- every text is that of one world or has one fault, and never both
 abbrev pub EveryTextHasOneVerdict : Type 0
 EveryTextHasOneVerdict =
-    (text : List ℕ) → (verdict : Result Plan WorldFault) × IsVerdict text verdict
-    × ((other : Result Plan WorldFault) → IsVerdict text other → other ≡ verdict)
+    (text : List ℕ) → (verdict : Result Plan WorldFault) × IsPlanVerdict text verdict
+    × ((other : Result Plan WorldFault) → IsPlanVerdict text other → other ≡ verdict)
 
 -- the canonical text of the kinds of a world is a text of that world
 abbrev pub CanonicalTextIsReadBack : Type 0

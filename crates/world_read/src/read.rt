@@ -6,7 +6,7 @@ ghost use Rattle.world_read.specs.Answers.{AnswersFault, AnswersWorld, IsFaultOf
 ghost use Rattle.world_read.specs.Faulty.{IsWorldFault};
 ghost use Rattle.world_read.specs.Opened.{IsOpeningWorld, OpensAs};
 ghost use Rattle.world_read.specs.declared.fault.WorldFault.{WorldFault};
-ghost use Rattle.world_read.specs.Inner.Reading.{AreSizes, ReadsAs, ended, opened, rows_from, world_of_text};
+ghost use Rattle.world_read.specs.Inner.Reading.{AreSizes, ReadsAs, rows_ended, opened, rows_from, world_of_text};
 
 use crate::fault::WorldFault;
 use crate::limits::check_limits;
@@ -57,7 +57,7 @@ fn open_world(
 ) -> Result<World, WorldFault>
     requires sizes { AreSizes width height }
     requires none { kinds.old.items ≡ [] }
-    ensures { ReadsAs (opened (ended width height (rows_from width 0 height lines.old))) result }
+    ensures { ReadsAs (opened (rows_ended width height (rows_from width 0 height lines.old))) result }
 {
     read_rows(lines, width, height, kinds)?;
     if !are_blank(lines) {

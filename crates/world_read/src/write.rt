@@ -25,19 +25,19 @@ pub fn write_world<K: Sink>(world: &World, sink: &mut K) -> Result<(), Failed>
         "\n",
         world.height(),
         "\n",
-        Each(Rows { world })
+        Each(GridRows { world })
     )
     .push_to(sink)
 }
 
 // The rows of a world, on each of whose cells the food is one digit.
 #[derive(Clone, Copy)]
-struct Rows<'w> {
+struct GridRows<'w> {
     world: &'w World,
     ghost light: { (p : Pos) → ((world_of world.now).cells p).food ≤ 9 },
 }
 
-impl Parts for Rows<'_> {
+impl Parts for GridRows<'_> {
     ghost count = { λ rows. rows.world.now.height };
 
     ghost part = { λ rows y. line_of_row rows.world.now.width (kinds_of rows.world.now) y };
@@ -52,20 +52,20 @@ impl Parts for Rows<'_> {
         let rows = world.height();
         prove!(at < rows as usize);
         let y = at as u16;
-        layout!(Space(y % 2 == 1), Each(Row { world, y }), "\n").push_to(sink)
+        layout!(Space(y % 2 == 1), Each(GridRow { world, y }), "\n").push_to(sink)
     }
 }
 
 // The cells of a row that is below the height.
 #[derive(Clone, Copy)]
-struct Row<'w> {
+struct GridRow<'w> {
     world: &'w World,
     y: u16,
     ghost inside: { y < world.now.height },
     ghost light: { (p : Pos) → ((world_of world.now).cells p).food ≤ 9 },
 }
 
-impl Parts for Row<'_> {
+impl Parts for GridRow<'_> {
     ghost count = { λ row. row.world.now.width };
 
     ghost part = { λ row x. cell_text x (byte_of (slice_index_or (kinds_of row.world.now) (row.y * row.world.now.width + x) Rock)) };

@@ -22,14 +22,14 @@ taken_of (Ok (suc n)) = Ok (suc n)
 taken_of (Err error) = taken_at (error_kind error)
 
 -- why a failed open or read gives no content
-abbrev pub fault_at : ErrorKind → FetchFault
-fault_at OutOfMemory = fault.OutOfMemory
-fault_at _ = fault.Failed
+abbrev pub fetch_fault_at : ErrorKind → FetchFault
+fetch_fault_at OutOfMemory = fault.OutOfMemory
+fetch_fault_at _ = fault.Failed
 
 -- how many bytes a failed read gave: none where it was interrupted, which is no fault
 abbrev pub given_at : ErrorKind → Result (Option ℕ) FetchFault
 given_at Interrupted = Ok None
-given_at kind = Err (fault_at kind)
+given_at kind = Err (fetch_fault_at kind)
 
 -- how many bytes a read gave
 abbrev pub given_of : Result ℕ Error → Result (Option ℕ) FetchFault

@@ -1,4 +1,6 @@
 // Sinks over writers that take what they like, and over the standard streams.
+ghost use Rattle.std.specs.Prelude.{◌≡◌, true};
+
 use super::*;
 use std::alloc::Global;
 use std::io;
@@ -57,15 +59,58 @@ impl Write for Slow {
     }
 }
 
-// What a writer of tests holds back isn't told.
-impl Stream for Slow {
-    ghost use Rattle.std.specs.Prelude.{[]};
+// What a writer of tests holds back isn't told, nor is it sure.
+impl Writer for Slow {
+    ghost use Rattle.std.specs.Prelude.{[], false};
 
     ghost waiting = { λ _. [] };
+
+    ghost sure = { λ _. false };
+
+    fn take(&mut self, piece: &[u8]) -> io::Result<usize> {
+        self.write(piece)
+    }
 
     fn send(&mut self) -> io::Result<()> {
         self.flush()
     }
+}
+
+// A writer that drops all that it gets never fails.
+impl Writer for io::Sink {
+    ghost use Rattle.std.specs.Prelude.{[], true};
+
+    ghost waiting = { λ _. [] };
+
+    ghost sure = { λ _. true };
+
+    fn take(&mut self, piece: &[u8]) -> io::Result<usize> {
+        self.write(piece)
+    }
+
+    fn send(&mut self) -> io::Result<()> {
+        self.flush()
+    }
+}
+
+// A push to a sink over it is done: its clause says so.
+fn push_to_nowhere(sink: &mut StreamSink<io::Sink>, piece: &[u8])
+    requires { sink.old.sure ≡ true }
+    ensures { sink.new.sure ≡ true }
+{
+    match sink.push(piece) {
+        Ok(()) => {}
+        Err(_) => unreachable!(),
+    }
+}
+
+#[test]
+fn a_push_fails_only_where_the_stream_does(rt: HostRuntime) {
+    let mut sink = StreamSink::new(io::sink());
+    push_to_nowhere(&mut sink, b"");
+    push_to_nowhere(&mut sink, b"a");
+    push_to_nowhere(&mut sink, b"a line\n");
+    assert!(rt; sink.faults() == 0);
 }
 
 // A sink over such a writer.

@@ -9,7 +9,7 @@ use Rattle.cell_world.specs.Valid.{Valid}
 use Rattle.cell_world.specs.World.{World}
 
 -- this ant stands at p, on this cell of a world, which is clear, not on the rim and holds no more food than a world weighs
-pub record Stands (w : World) (p : Pos) (cell : Cell) (ant : Ant) : Type 0 where
+pub record StandsAt (w : World) (p : Pos) (cell : Cell) (ant : Ant) : Type 0 where
   pub valid : Valid w
   pub here : cell ≡ w.cells p
   pub holds : cell.ant ≡ Some ant

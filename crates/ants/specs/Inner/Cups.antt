@@ -31,7 +31,7 @@ pub record AreReady (worlds : List Grid) (players : List (List Instr)) : Type 0 
   pub sound : AllByRecursion (λ (player : List Instr). 1 ≤ length player) players
 
 -- a game that can be played: its world and its players are there, and fit
-pub record IsPlayable (worlds : List Grid) (players : List (List Instr)) (rounds world red black : ℕ) : Type 0 where
+pub record CanBePlayed (worlds : List Grid) (players : List (List Instr)) (rounds world red black : ℕ) : Type 0 where
   pub world_there : world < length worlds
   pub red_there : red < length players
   pub black_there : black < length players

@@ -13,10 +13,10 @@ use Rattle.world_gen.specs.declared.shape.Shape.{Shape}
 use Rattle.world_gen.specs.Painting.{IsGenerated}
 use Rattle.world_gen.specs.Placing.{HasNoRoom}
 use Rattle.ants.specs.declared.run.Setting.{Setting}
-use Rattle.ants.specs.declared.stop.Stop.{Stop}
-use Rattle.ants.specs.declared.stop.Stop.TheVariants as stop
-use Rattle.ants.specs.Files.{Content}
-use Rattle.ants.specs.Files.Content.{WorldContent, BrainContent}
+use Rattle.ants.specs.declared.stop.CommandStop.{CommandStop}
+use Rattle.ants.specs.declared.stop.CommandStop.TheVariants as stop
+use Rattle.ants.specs.Files.{FileContent}
+use Rattle.ants.specs.Files.FileContent.{WorldContent, BrainContent}
 use Rattle.ants.specs.Jobs.{chosen_rounds, sheet_named}
 
 -- the plan is what the words say
@@ -37,22 +37,22 @@ abbrev pub IsSheetOf : RunSetup → Sheet → Type 0
 IsSheetOf setup sheet = sheet_of sheet ≡ sheet_named setup
 
 -- the stop of a play that stopped
-abbrev pub stop_of : PlayFault → Stop
+abbrev pub stop_of : PlayFault → CommandStop
 stop_of play.WriteFault = stop.Write
 stop_of play.OutOfMemory = stop.Memory
 
 -- a plan was made; only memory can be wanting
-abbrev pub IsPlanned : RunSetup → Result Plan Stop → Type 0
+abbrev pub IsPlanned : RunSetup → Result Plan CommandStop → Type 0
 IsPlanned setup (Ok plan) = Plans setup plan
 IsPlanned setup (Err reason) = reason ≡ stop.Memory
 
 -- a world was generated, or why not
-abbrev pub IsGenerating : ℕ → Shape → Result Grid Stop → Type 0
+abbrev pub IsGenerating : ℕ → Shape → Result Grid CommandStop → Type 0
 IsGenerating seed shape (Ok world) = IsGenerated seed shape world
 IsGenerating seed shape (Err (stop.NoRoom element)) = HasNoRoom seed shape element
 IsGenerating seed shape (Err stop.Memory) = Unit {0}
 IsGenerating seed shape (Err other) = ⊥
 
 -- what the files of a game were read as
-abbrev pub setting_contents : Setting → List Content
+abbrev pub setting_contents : Setting → List FileContent
 setting_contents setting = WorldContent setting.world ∷ BrainContent setting.red ∷ BrainContent setting.black ∷ []

@@ -14,8 +14,8 @@ use Rattle.command_words.specs.Command.{PlainCommand}
 use Rattle.world_read.specs.declared.fault.WorldFault.{WorldFault}
 use Rattle.world_read.specs.declared.fault.WorldFault.TheVariants as world
 use Rattle.ants.specs.declared.stop.FileFault.TheVariants.{TooLong, World, Brain, Breaks}
-use Rattle.ants.specs.declared.stop.Stop.{Stop}
-use Rattle.ants.specs.Files.{File, FileKind, Content, AreAccepted, AreBegun, Reads, Refuses, StopsAt}
+use Rattle.ants.specs.declared.stop.CommandStop.{CommandStop}
+use Rattle.ants.specs.Files.{File, FileKind, FileContent, AreAccepted, AreBegun, Reads, Refuses, StopsAt}
 use Rattle.ants.specs.Judged.{IsRefusedAs}
 use Rattle.ants.specs.Performing.{EndsBy, IsUnsure}
 use Rattle.ants.specs.Running.{Ends}
@@ -23,12 +23,12 @@ use Rattle.ants.specs.Stopping.{Reason, reason_of}
 use Rattle.ants.specs.Stopping.Reason.{AtWord, AtFile, AtOutput, AtInput, AtRoom, AtMemory}
 
 -- what the reading of some files came to: their contents, or why it stopped
-pub data Outcome : Type 0 where
-  Contents : List Content → Outcome
-  Stopped : Reason → Outcome
+pub data ReadOutcome : Type 0 where
+  Contents : List FileContent → ReadOutcome
+  Stopped : Reason → ReadOutcome
 
 -- the outcome of a call that gives a value read of some files
-abbrev pub outcome_of : {A : Type 0} → (A → List Content) → Result A Stop → Outcome
+abbrev pub outcome_of : {A : Type 0} → (A → List FileContent) → Result A CommandStop → ReadOutcome
 outcome_of contents_of (Ok value) = Contents (contents_of value)
 outcome_of contents_of (Err stop) = Stopped (reason_of stop)
 
@@ -47,18 +47,18 @@ ReadingStops shelf new_shelf files fetches (AtRoom element) = ⊥
 ReadingStops shelf new_shelf files fetches AtMemory = AreBegun files fetches
 
 -- the reading of files came to this
-abbrev pub ComesTo : ShelfState → ShelfState → List File → List Fetched → Outcome → Type 0
+abbrev pub ComesTo : ShelfState → ShelfState → List File → List Fetched → ReadOutcome → Type 0
 ComesTo shelf new_shelf files fetches (Contents contents) = AreAccepted files fetches contents
 ComesTo shelf new_shelf files fetches (Stopped reason) = ReadingStops shelf new_shelf files fetches reason
 
 -- these files were fetched and read, and it came to this
-pub record ReadsFiles (shelf new_shelf : ShelfState) (files : List File) (outcome : Outcome) : Type 0 where
+pub record ReadsFiles (shelf new_shelf : ShelfState) (files : List File) (outcome : ReadOutcome) : Type 0 where
   pub fetches : List Fetched
   pub fetched : FetchesEach shelf new_shelf fetches
   pub comes : ComesTo shelf new_shelf files fetches outcome
 
 -- a file of any kind was fetched, or its reading stops at that
-abbrev pub FetchesFile : {A : Type 0} → ShelfState → ShelfState → List ℕ → Result (Vec ℕ A) Stop → Type 0
+abbrev pub FetchesFile : {A : Type 0} → ShelfState → ShelfState → List ℕ → Result (Vec ℕ A) CommandStop → Type 0
 FetchesFile {A} shelf new_shelf name (Ok bytes) = Fetches {A = A} shelf new_shelf name (Ok bytes)
 FetchesFile shelf new_shelf name (Err stop) = (kind : FileKind) → ReadsFiles shelf new_shelf (record { name = name; kind = kind } ∷ []) (Stopped (reason_of stop))
 
@@ -93,12 +93,12 @@ TextStops kind bytes name (AtRoom element) = ⊥
 TextStops kind bytes name AtMemory = Unit {0}
 
 -- what the reading of the bytes of a file gave: its content, or why it stopped
-abbrev pub ReadsText : {A : Type 0} → (A → Content) → FileKind → List ℕ → List ℕ → Result A Stop → Type 0
+abbrev pub ReadsText : {A : Type 0} → (A → FileContent) → FileKind → List ℕ → List ℕ → Result A CommandStop → Type 0
 ReadsText content_of kind bytes name (Ok value) = Reads kind bytes (content_of value)
 ReadsText content_of kind bytes name (Err stop) = TextStops kind bytes name (reason_of stop)
 
 -- how a result ends the program
-abbrev pub ending_of : {U : Type 0} → Result U Stop → Option Reason
+abbrev pub ending_of : {U : Type 0} → Result U CommandStop → Option Reason
 ending_of (Ok done) = None
 ending_of (Err stop) = Some (reason_of stop)
 

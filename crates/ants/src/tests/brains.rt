@@ -1,8 +1,11 @@
 // The command `brain`.
 use crate::status::Status;
-use crate::tests::{Given, Job, NO_JOB, check_over, check_rows};
+use crate::tests::{Ending, Given, Job, NO_JOB, check, check_over, check_rows, done, stopped};
 use ant_base::{Files, NoGate};
+use std::alloc::Global;
+use std::process::Abort;
 use std::test::Fail;
+use std::thread::Threads;
 
 // The sample brain of the contest's task.
 const SAMPLE: &str = "Sense Ahead 1 3 Food\n\
@@ -130,30 +133,48 @@ fn a_brain_at_fault_is_named_with_its_first_fault(rt: HostRuntime) -> Result<(),
     )
 }
 
+// Asserts that a brain of so many instructions is printed as it is.
+fn check_many<R: Threads + Sync + Abort>(rt: &R, alloc: Global, count: usize) -> Result<(), Fail> {
+    let brain = "Drop 9999\n".repeat(alloc, count)?;
+    check(rt, alloc, &PRINT.with(Given::Black, &brain), done(&brain))
+}
+
+// Asserts with which line a brain of so many instructions is refused.
+fn check_too_many<R: Threads + Sync + Abort>(
+    rt: &R,
+    alloc: Global,
+    count: usize,
+    line: &str,
+) -> Result<(), Fail> {
+    let brain = "Drop 9999\n".repeat(alloc, count)?;
+    let job = PRINT.with(Given::Black, &brain);
+    check(rt, alloc, &job, stopped(Status::Input, line))
+}
+
+// Asserts what comes of a brain of one instruction and so many spaces.
+fn check_blank<R: Threads + Sync + Abort>(
+    rt: &R,
+    alloc: Global,
+    spaces: usize,
+    wanted: Ending<'_>,
+) -> Result<(), Fail> {
+    let blank = " ".repeat(alloc, spaces)?;
+    let brain = format!(in alloc; "Drop 0{blank}")?;
+    check(rt, alloc, &PRINT.with(Given::Black, &brain), wanted)
+}
+
 #[test]
-fn a_brain_has_up_to_10000_instructions_and_4194304_bytes(rt: HostRuntime) -> Result<(), Fail> {
-    let most = "Drop 9999\n".repeat(rt.alloc(), 10000)?;
-    let more = "Drop 9999\n".repeat(rt.alloc(), 10001)?;
-    let blank = " ".repeat(rt.alloc(), 4194298)?;
-    let longest = format!(in rt.alloc(); "Drop 0{blank}")?;
-    let longer = format!(in rt.alloc(); "Drop 0{blank} ")?;
-    let printed = [(most.as_str(), most.as_str()), (&longest, "Drop 0\n")];
-    check_rows(&rt, rt.alloc(), PRINT, Given::Black, Status::Done, &printed)?;
-    let refused = [
-        (
-            more.as_str(),
-            "ants: b: line 10001: too many instructions\n",
-        ),
-        (&longer, "ants: b: too long\n"),
-    ];
-    check_rows(
-        &rt,
-        rt.alloc(),
-        PRINT,
-        Given::Black,
-        Status::Input,
-        &refused,
-    )
+fn a_brain_has_up_to_10000_instructions(rt: HostRuntime) -> Result<(), Fail> {
+    check_many(&rt, rt.alloc(), 10000)?;
+    let line = "ants: b: line 10001: too many instructions\n";
+    check_too_many(&rt, rt.alloc(), 10001, line)
+}
+
+#[test]
+fn a_brain_has_up_to_4194304_bytes(rt: HostRuntime) -> Result<(), Fail> {
+    check_blank(&rt, rt.alloc(), 4194298, done("Drop 0\n"))?;
+    let longer = stopped(Status::Input, "ants: b: too long\n");
+    check_blank(&rt, rt.alloc(), 4194299, longer)
 }
 
 // Brains with a byte that is no character, and the line that names the first fault of each.
@@ -163,23 +184,24 @@ const NO_TEXT: [(&[u8], &str); 3] = [
     (b"Drop x \x80", "ants: b: line 1: bad number\n"),
 ];
 
-#[test]
-fn a_file_may_have_any_bytes(rt: HostRuntime) -> Result<(), Fail> {
-    for (bytes, line) in NO_TEXT {
-        let mut files = Files::new(rt.alloc());
+// Asserts with which line each brain of these bytes is refused.
+fn check_bytes<R: Threads + Sync + Abort>(
+    rt: &R,
+    alloc: Global,
+    rows: &[(&[u8], &str)],
+) -> Result<(), Fail> {
+    for (bytes, line) in rows {
+        let mut files = Files::new(alloc);
         files.add("b", bytes)?;
-        check_over(
-            &rt,
-            rt.alloc(),
-            &PRINT,
-            files,
-            &NoGate,
-            Status::Input,
-            "",
-            line,
-        )?;
+        let wanted = stopped(Status::Input, line);
+        check_over(rt, alloc, &PRINT, files, &NoGate, wanted)?;
     }
     Ok(())
+}
+
+#[test]
+fn a_file_may_have_any_bytes(rt: HostRuntime) -> Result<(), Fail> {
+    check_bytes(&rt, rt.alloc(), &NO_TEXT)
 }
 
 // Brains, and what is told of them minimised.
@@ -206,17 +228,26 @@ const UNMINIMISED: [(&str, &str); 8] = [
     ("Drop 0\nMove 0 2\n", "ants: b: line 2: no such state 2\n"),
 ];
 
+// The command, over any brain.
+const MINIMISE: Job<'static> = Job {
+    line: "minimise b",
+    ..NO_JOB
+};
+
 #[test]
 fn a_brain_is_told_minimised(rt: HostRuntime) -> Result<(), Fail> {
-    let job = Job {
-        line: "minimise b",
-        ..NO_JOB
-    };
-    check_rows(&rt, rt.alloc(), job, Given::Black, Status::Done, &MINIMISED)?;
     check_rows(
         &rt,
         rt.alloc(),
-        job,
+        MINIMISE,
+        Given::Black,
+        Status::Done,
+        &MINIMISED,
+    )?;
+    check_rows(
+        &rt,
+        rt.alloc(),
+        MINIMISE,
         Given::Black,
         Status::Input,
         &UNMINIMISED,

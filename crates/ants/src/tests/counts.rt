@@ -1,156 +1,158 @@
 // The counts of `run`.
-use crate::status::Status;
-use crate::tests::runs::{EMPTY, KILLED, KILLING, NEIGHBOURS};
-use crate::tests::{CLOSING, Job, NO_JOB, check};
+use crate::tests::runs::{EMPTY, KILLED, NEIGHBOURS};
+use crate::tests::{CLOSING, Job, NO_JOB, check, done};
+use std::alloc::Global;
+use std::process::Abort;
 use std::test::Fail;
+use std::thread::Threads;
 
 // A red ant, and a black one below it.
 const BELOW: &str = "4\n4\n# # # #\n # + . #\n# - . #\n # # # #\n";
 
-// Words that ask for counts, the text of the same words without them, and the line of the counts.
+// A game whose counts are asked for, the text of the same words without them, and the line of the counts.
 #[derive(Clone, Copy)]
-struct Counted {
-    job: Job<'static>,
-    text: &'static str,
-    counts: &'static str,
+struct Counted<'t> {
+    line: &'t str,
+    world: &'t str,
+    red: &'t str,
+    black: &'t str,
+    text: &'t str,
+    counts: &'t str,
 }
-
-// A red ant steps among black ones, of which it kills one.
-const STEPPING: Job<'static> = Job {
-    world: NEIGHBOURS,
-    red: "Move 0 0",
-    black: "Drop 0",
-    ..NO_JOB
-};
-
-// A red ant marks its cell.
-const MARKING: Job<'static> = Job {
-    line: "run w r b --seed 7 --rounds 1 --stats",
-    world: BELOW,
-    red: "Mark 0 0",
-    ..NO_JOB
-};
 
 const STEPPED: &str = "random seed: 1\n\nscore: red 0 black 3\n";
 
 const MARKED: &str = "random seed: 7\n\nscore: red 0 black 0\n";
 
-const COUNTED: [Counted; 13] = [
+// A red ant dies among four black ones, or steps among them and one dies, or marks its cell beside a black one.
+const COUNTED: [Counted<'static>; 13] = [
     Counted {
-        job: Job {
-            line: "run w r b --seed 7 --rounds 5 --stats",
-            world: EMPTY,
-            red: "Drop 0",
-            black: "Drop 0",
-            ..NO_JOB
-        },
+        line: "run w r b --seed 7 --rounds 5 --stats",
+        world: EMPTY,
+        red: "Drop 0",
+        black: "Drop 0",
         text: MARKED,
         counts: "turns 0 taken 0 redone 0\n",
     },
     Counted {
-        job: Job {
-            line: "run w r b --seed 12345 --rounds 1 --dump 1 --stats",
-            ..KILLING
-        },
+        line: "run w r b --seed 12345 --rounds 1 --dump 1 --stats",
+        world: CLOSING,
+        red: "Flip 2 0 0",
+        black: "Move 0 0",
         text: KILLED,
         counts: "turns 7 taken 5 redone 2\n",
     },
     Counted {
-        job: Job {
-            line: "run w r b --seed 12345 --rounds 1 --dump 1 --stats --window 1",
-            ..KILLING
-        },
+        line: "run w r b --seed 12345 --rounds 1 --dump 1 --stats --window 1",
+        world: CLOSING,
+        red: "Flip 2 0 0",
+        black: "Move 0 0",
         text: KILLED,
         counts: "turns 7 taken 7 redone 0\n",
     },
     Counted {
-        job: Job {
-            line: "run w r b --seed 12345 --rounds 1 --surround 6 --stats",
-            world: CLOSING,
-            ..KILLING
-        },
+        line: "run w r b --seed 12345 --rounds 1 --surround 6 --stats",
+        world: CLOSING,
+        red: "Flip 2 0 0",
+        black: "Move 0 0",
         text: "random seed: 12345\n\nscore: red 0 black 0\n",
         counts: "turns 7 taken 7 redone 0\n",
     },
     Counted {
-        job: Job {
-            line: "run w r b --seed 1 --rounds 1 --stats",
-            ..STEPPING
-        },
+        line: "run w r b --seed 1 --rounds 1 --stats",
+        world: NEIGHBOURS,
+        red: "Move 0 0",
+        black: "Drop 0",
         text: STEPPED,
         counts: "turns 10 taken 9 redone 1\n",
     },
     Counted {
-        job: Job {
-            line: "run w r b --seed 1 --window 3 --rounds 1 --stats",
-            ..STEPPING
-        },
+        line: "run w r b --seed 1 --window 3 --rounds 1 --stats",
+        world: NEIGHBOURS,
+        red: "Move 0 0",
+        black: "Drop 0",
         text: STEPPED,
         counts: "turns 10 taken 10 redone 0\n",
     },
     Counted {
-        job: Job {
-            line: "run w r b --stats --seed 1 --rounds 1 --window 4",
-            ..STEPPING
-        },
+        line: "run w r b --stats --seed 1 --rounds 1 --window 4",
+        world: NEIGHBOURS,
+        red: "Move 0 0",
+        black: "Drop 0",
         text: STEPPED,
         counts: "turns 10 taken 9 redone 1\n",
     },
     Counted {
-        job: Job {
-            line: "run w r b --seed 1 --rounds 1 --surround 4 --stats",
-            ..STEPPING
-        },
+        line: "run w r b --seed 1 --rounds 1 --surround 4 --stats",
+        world: NEIGHBOURS,
+        red: "Move 0 0",
+        black: "Drop 0",
         text: "random seed: 1\n\nscore: red 3 black 3\n",
         counts: "turns 10 taken 8 redone 2\n",
     },
     Counted {
-        job: Job {
-            line: "run w r b --seed 1 --rounds 1 --corpse 0 --stats",
-            ..STEPPING
-        },
+        line: "run w r b --seed 1 --rounds 1 --corpse 0 --stats",
+        world: NEIGHBOURS,
+        red: "Move 0 0",
+        black: "Drop 0",
         text: "random seed: 1\n\nscore: red 0 black 0\n",
         counts: "turns 10 taken 9 redone 1\n",
     },
     Counted {
-        job: Job {
-            line: "run w r b --seed 1 --rounds 1 --corpse 9 --stats",
-            ..STEPPING
-        },
+        line: "run w r b --seed 1 --rounds 1 --corpse 9 --stats",
+        world: NEIGHBOURS,
+        red: "Move 0 0",
+        black: "Drop 0",
         text: "random seed: 1\n\nscore: red 0 black 9\n",
         counts: "turns 10 taken 9 redone 1\n",
     },
     Counted {
-        job: Job {
-            black: "Sense LeftAhead 0 0 Food",
-            ..MARKING
-        },
+        line: "run w r b --seed 7 --rounds 1 --stats",
+        world: BELOW,
+        red: "Mark 0 0",
+        black: "Sense LeftAhead 0 0 Food",
         text: MARKED,
         counts: "turns 2 taken 2 redone 0\n",
     },
     Counted {
-        job: Job {
-            black: "Sense LeftAhead 0 0 FoeMarker",
-            ..MARKING
-        },
+        line: "run w r b --seed 7 --rounds 1 --stats",
+        world: BELOW,
+        red: "Mark 0 0",
+        black: "Sense LeftAhead 0 0 FoeMarker",
         text: MARKED,
         counts: "turns 2 taken 1 redone 1\n",
     },
     Counted {
-        job: Job {
-            black: "Sense LeftAhead 0 0 Home",
-            ..MARKING
-        },
+        line: "run w r b --seed 7 --rounds 1 --stats",
+        world: BELOW,
+        red: "Mark 0 0",
+        black: "Sense LeftAhead 0 0 Home",
         text: MARKED,
         counts: "turns 2 taken 2 redone 0\n",
     },
 ];
 
-#[test]
-fn a_run_ends_with_its_counts(rt: HostRuntime) -> Result<(), Fail> {
-    for Counted { job, text, counts } in COUNTED {
-        let whole = format!(in rt.alloc(); "{text}{counts}")?;
-        check(&rt, rt.alloc(), &job, Status::Done, &whole, "")?;
+// Asserts that each game ends with its counts.
+fn check_counts<R: Threads + Sync + Abort>(
+    rt: &R,
+    alloc: Global,
+    games: &[Counted<'_>],
+) -> Result<(), Fail> {
+    for game in games {
+        let job = Job {
+            line: game.line,
+            world: game.world,
+            red: game.red,
+            black: game.black,
+            ..NO_JOB
+        };
+        let whole = format!(in alloc; "{}{}", game.text, game.counts)?;
+        check(rt, alloc, &job, done(&whole))?;
     }
     Ok(())
+}
+
+#[test]
+fn a_run_ends_with_its_counts(rt: HostRuntime) -> Result<(), Fail> {
+    check_counts(&rt, rt.alloc(), &COUNTED)
 }

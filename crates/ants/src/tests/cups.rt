@@ -1,6 +1,6 @@
 // The command `cup`.
 use crate::status::Status;
-use crate::tests::{CLOSED, CLOSING, Given, Job, NO_JOB, check, check_rows};
+use crate::tests::{CLOSED, CLOSING, Given, Job, NO_JOB, check, check_rows, done};
 use std::test::Fail;
 
 // A world on which the player that draws numbers wins as red and draws as black against one that steps ahead: the worlds w and -. On the
@@ -106,32 +106,31 @@ const REFUSED: [(&str, &str); 10] = [
     ),
 ];
 
+// A cup of which a player is the file -.
+const DASH: Job<'static> = Job {
+    line: "cup --worlds f --brains b - --seed 12345 --rounds 1",
+    world: "Flip 2 0 0",
+    red: "Flip 2 0 0",
+    black: "Move 0 0",
+    more: &[("f", CLOSING)],
+    ..NO_JOB
+};
+
 #[test]
 fn a_cup_prints_its_standing_with_any_number_of_workers(rt: HostRuntime) -> Result<(), Fail> {
     check_rows(&rt, rt.alloc(), CUP, Given::Line, Status::Done, &PLAYED)?;
-    let dash = Job {
-        line: "cup --worlds f --brains b - --seed 12345 --rounds 1",
-        more: &[("f", CLOSING)],
-        world: "Flip 2 0 0",
-        ..CUP
-    };
     let text = "3 points: - (1 won, 1 drawn, 0 lost)\n1 points: b (0 won, 1 drawn, 1 lost)\n";
-    check(&rt, rt.alloc(), &dash, Status::Done, text, "")
+    check(&rt, rt.alloc(), &DASH, done(text))
 }
+
+// Words that name a file that isn't there before one that is at fault.
+const UNREAD: [(&str, &str); 1] = [(
+    "cup --worlds w y --brains none c --seed 1 --rounds 1",
+    "ants: y: not read\n",
+)];
 
 #[test]
 fn the_first_file_of_a_cup_that_is_at_fault_is_named(rt: HostRuntime) -> Result<(), Fail> {
     check_rows(&rt, rt.alloc(), CUP, Given::Line, Status::Input, &REFUSED)?;
-    let job = CUP.with(
-        Given::Line,
-        "cup --worlds w y --brains none c --seed 1 --rounds 1",
-    );
-    check(
-        &rt,
-        rt.alloc(),
-        &job,
-        Status::Read,
-        "",
-        "ants: y: not read\n",
-    )
+    check_rows(&rt, rt.alloc(), CUP, Given::Line, Status::Read, &UNREAD)
 }

@@ -57,11 +57,25 @@ impl<C: Crew + Drop> Crew for Refusing<C> {
     }
 }
 
+// The brains of a game.
+#[derive(Drop)]
+pub struct Players {
+    red: Brain,
+    black: Brain,
+}
+
 // The brain of a text.
-pub fn brain_of<R: Abort>(rt: &R, alloc: Global, text: &str) -> Result<Brain, Fail> {
+fn brain_of<R: Abort>(rt: &R, alloc: Global, text: &str) -> Result<Brain, Fail> {
     let bytes = text.as_bytes();
     assert!(rt; bytes.len() <= MOST_BYTES);
     Ok(read_brain(alloc, bytes)?)
+}
+
+// The brains of the game in which a surrounded ant dies.
+pub fn killing_players<R: Abort>(rt: &R, alloc: Global) -> Result<Players, Fail> {
+    let red = brain_of(rt, alloc, KILLING.red)?;
+    let black = brain_of(rt, alloc, KILLING.black)?;
+    Ok(Players { red, black })
 }
 
 // A whole field with the world of a text, at the start of a seed's random numbers.
@@ -84,76 +98,142 @@ fn field_on<'b>(
 pub fn killing_field<'b, R: Abort>(
     rt: &R,
     alloc: Global,
-    red: &'b Brain,
-    black: &'b Brain,
+    players: &'b Players,
 ) -> Result<Field<'b>, Fail>
     ensures { IfOk result (λ field. (field.whole ≡ true) × (field.place ≡ 0)) }
 {
     let bytes = KILLING.world.as_bytes();
     assert!(rt; bytes.len() <= MOST_BYTES);
     let brains = Brains {
-        red,
-        black,
+        red: &players.red,
+        black: &players.black,
         sheet: Sheet::contest(),
     };
     field_on(alloc, bytes, brains, SEED)
 }
 
-// Asserts what came of the turns of a game so far, and how many rounds are done.
-fn check_game<R: Abort>(rt: &R, game: &Game<'_>, done: u32, totals: (u64, u64, u64)) {
+// What a game has come to: how many rounds are done, what came of its turns, the place in the stream of random numbers, whether a round is
+// at its end, and how many turns its crew says it played.
+#[derive(Clone, Copy, Debug, PartialEq, Eq)]
+struct Stage {
+    done: u32,
+    turns: u64,
+    taken: u64,
+    redone: u64,
+    place: u64,
+    at_round_end: bool,
+    played: u64,
+}
+
+// What a game has come to.
+fn stage_of<C: Crew>(game: &Game<'_>, crew: &C) -> Stage {
     let Totals {
         turns,
         taken,
         redone,
     } = game.totals();
-    assert_eq!(rt; (turns, taken, redone), totals);
-    assert_eq!(rt; game.done(), done);
+    Stage {
+        done: game.done(),
+        turns,
+        taken,
+        redone,
+        place: game.place(),
+        at_round_end: game.at_round_end(),
+        played: crew.turns(),
+    }
+}
+
+// Plays a round, and asserts what comes of it.
+fn check_round<R: Abort, C: Crew>(
+    rt: &R,
+    alloc: Global,
+    game: &mut Game<'_>,
+    crew: &mut C,
+    wanted: Result<(), OutOfMemory>,
+    stage: Stage,
+)
+    requires { C.ready crew.old }
+    ensures { C.ready crew.new }
+{
+    assert!(rt; game.done() < MOST_ROUNDS);
+    let round = game.round(alloc, crew);
+    assert_eq!(rt; (round, stage_of(game, crew)), (wanted, stage));
+}
+
+// The game after its first round.
+const FIRST: Stage = Stage {
+    done: 1,
+    turns: 7,
+    taken: 6,
+    redone: 1,
+    place: 1,
+    at_round_end: true,
+    played: 7,
+};
+
+// The game after its second round.
+const SECOND: Stage = Stage {
+    done: 2,
+    turns: 14,
+    taken: 13,
+    redone: 1,
+    place: 2,
+    at_round_end: true,
+    played: 14,
+};
+
+// The game after the first window of its first round, at the death of the red ant.
+const BROKEN_OFF: Stage = Stage {
+    done: 0,
+    turns: 3,
+    taken: 2,
+    redone: 1,
+    place: 0,
+    at_round_end: false,
+    played: 3,
+};
+
+// Asserts that a game is played in windows of three turns, by the numbers of the seed.
+fn check_made<R: Abort>(rt: &R, game: &Game<'_>) {
+    assert_eq!(rt; (game.window(), game.field().seed()), (3, SEED));
 }
 
 #[test]
 fn a_game_is_played_by_any_crew(rt: HostRuntime) -> Result<(), Fail> {
-    let red = brain_of(&rt, rt.alloc(), KILLING.red)?;
-    let black = brain_of(&rt, rt.alloc(), KILLING.black)?;
-    let mut game = Game::begin(killing_field(&rt, rt.alloc(), &red, &black)?, 3);
+    let players = killing_players(&rt, rt.alloc())?;
+    let mut game = Game::begin(killing_field(&rt, rt.alloc(), &players)?, 3);
     let mut crew = SoloCrew::new();
-    assert!(rt; game.done() < MOST_ROUNDS);
-    game.round(rt.alloc(), &mut crew)?;
-    check_game(&rt, &game, 1, (7, 6, 1));
-    assert_eq!(rt; game.place(), 1);
-    assert!(rt; game.done() < MOST_ROUNDS);
-    game.round(rt.alloc(), &mut crew)?;
-    check_game(&rt, &game, 2, (14, 13, 1));
-    assert_eq!(rt; game.place(), 2);
-    assert!(rt; game.at_round_end());
-    assert_eq!(rt; game.window(), 3);
-    assert_eq!(rt; game.field().seed(), SEED);
-    assert_eq!(rt; crew.turns(), 14);
+    check_round(&rt, rt.alloc(), &mut game, &mut crew, Ok(()), FIRST);
+    check_round(&rt, rt.alloc(), &mut game, &mut crew, Ok(()), SECOND);
+    check_made(&rt, &game);
+    Ok(())
+}
+
+// Asserts that the red ant of id 2 is dead.
+fn check_dead<R: Abort>(rt: &R, game: &Game<'_>) {
+    assert_eq!(rt; game.world().ant_place(2), None);
+}
+
+// Asserts that the world of a game is that of the dump after the round in which the red ant dies.
+fn check_killed<R: Abort>(rt: &R, alloc: Global, game: &Game<'_>) -> Result<(), Fail> {
+    let mut sink = MemSink::with_room(alloc, ROOM, Calls::new(alloc))?;
+    push_dump(game.world(), 1, &mut sink)?;
+    assert!(rt; KILLED.contains(str::from_utf8(sink.held())?));
     Ok(())
 }
 
 #[test]
 fn a_round_that_was_refused_goes_on(rt: HostRuntime) -> Result<(), Fail> {
-    let red = brain_of(&rt, rt.alloc(), KILLING.red)?;
-    let black = brain_of(&rt, rt.alloc(), KILLING.black)?;
-    let mut game = Game::begin(killing_field(&rt, rt.alloc(), &red, &black)?, 3);
+    let players = killing_players(&rt, rt.alloc())?;
+    let mut game = Game::begin(killing_field(&rt, rt.alloc(), &players)?, 3);
     let mut crew = Refusing {
         crew: SoloCrew::new(),
         calls: 0,
         refused: 2,
     };
-    assert!(rt; game.done() < MOST_ROUNDS);
-    assert_eq!(rt; game.round(rt.alloc(), &mut crew), Err(OutOfMemory));
-    check_game(&rt, &game, 0, (3, 2, 1));
-    assert!(rt; !game.at_round_end());
-    assert_eq!(rt; game.world().ant_place(2), None);
-    assert_eq!(rt; crew.turns(), 3);
-    assert!(rt; game.done() < MOST_ROUNDS);
-    game.round(rt.alloc(), &mut crew)?;
-    check_game(&rt, &game, 1, (7, 6, 1));
-    assert!(rt; game.at_round_end());
-    let mut sink = MemSink::with_room(rt.alloc(), ROOM, Calls::new(rt.alloc()))?;
-    push_dump(game.world(), 1, &mut sink)?;
-    assert!(rt; KILLED.contains(str::from_utf8(sink.held())?));
-    assert_eq!(rt; crew.turns(), 7);
-    Ok(())
+    let refused = Err(OutOfMemory);
+    check_round(&rt, rt.alloc(), &mut game, &mut crew, refused, BROKEN_OFF);
+    check_dead(&rt, &game);
+    check_round(&rt, rt.alloc(), &mut game, &mut crew, Ok(()), FIRST);
+    check_killed(&rt, rt.alloc(), &game)
 }

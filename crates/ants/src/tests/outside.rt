@@ -3,7 +3,9 @@ use crate::status::Status;
 use crate::tests::runs::{KILLED, KILLING, UNPLAYED};
 use crate::tests::shown::SHOWN;
 use crate::tests::workloads::UNTOUCHED;
-use crate::tests::{CLOSED, Given, Job, NO_JOB, answer, check, check_rows};
+use crate::tests::{
+    CLOSED, Ending, Given, Job, NO_JOB, answer, check, check_rows, cut, done, ending_of, stopped,
+};
 use std::alloc::Global;
 use std::process::Abort;
 use std::test::Fail;
@@ -56,6 +58,57 @@ fn the_first_file_that_is_not_read_or_at_fault_is_named(rt: HostRuntime) -> Resu
     )
 }
 
+// Words, the line where the fetch of each file fails, in the order in which the files are fetched, and the text where none does.
+type Fetching<'t> = (&'t str, &'t [&'t str], &'t str);
+
+const FETCHED: [Fetching<'static>; 6] = [
+    (
+        "run w r b --seed 7 --rounds 0",
+        &[
+            "ants: w: not read\n",
+            "ants: r: not read\n",
+            "ants: b: not read\n",
+        ],
+        UNPLAYED,
+    ),
+    (
+        "run w b b --seed 7 --rounds 0",
+        &[
+            "ants: w: not read\n",
+            "ants: b: not read\n",
+            "ants: b: not read\n",
+        ],
+        UNPLAYED,
+    ),
+    ("brain b", &["ants: b: not read\n"], "Drop 0\n"),
+    (
+        "minimise b",
+        &["ants: b: not read\n"],
+        "; 1 states, 1 kept\nDrop 0\n",
+    ),
+    (
+        "view w r b k --seed 7 --rounds 0",
+        &[
+            "ants: w: not read\n",
+            "ants: r: not read\n",
+            "ants: b: not read\n",
+            "ants: k: not read\n",
+        ],
+        "random seed: 7\nno stop in 0 rounds\n",
+    ),
+    (
+        "cup --worlds w - w --brains b r --seed 7 --rounds 0",
+        &[
+            "ants: w: not read\n",
+            "ants: -: not read\n",
+            "ants: w: not read\n",
+            "ants: b: not read\n",
+            "ants: r: not read\n",
+        ],
+        "6 points: b (0 won, 6 drawn, 0 lost)\n6 points: r (0 won, 6 drawn, 0 lost)\n",
+    ),
+];
+
 // Asserts that the command fetches its files in this order and nothing more: of each the line where its fetch fails.
 fn check_fetches<R: Threads + Sync + Abort>(
     rt: &R,
@@ -70,59 +123,32 @@ fn check_fetches<R: Threads + Sync + Abort>(
             failing_fetch: next,
             ..job
         };
-        check(rt, alloc, &failing, Status::Read, "", line)?;
+        check(rt, alloc, &failing, stopped(Status::Read, line))?;
         next = next.saturating_add(1);
     }
     let whole = Job {
         failing_fetch: next,
         ..job
     };
-    check(rt, alloc, &whole, Status::Done, text, "")
+    check(rt, alloc, &whole, done(text))
+}
+
+// Asserts of each row how its files are fetched.
+fn check_fetchings<R: Threads + Sync + Abort>(
+    rt: &R,
+    alloc: Global,
+    rows: &[Fetching<'_>],
+) -> Result<(), Fail> {
+    for (line, lines, text) in rows {
+        let job = UNPLAYED_GAME.with(Given::Line, line);
+        check_fetches(rt, alloc, job, lines, text)?;
+    }
+    Ok(())
 }
 
 #[test]
 fn each_file_is_fetched_once_in_the_order_of_its_word(rt: HostRuntime) -> Result<(), Fail> {
-    let lines = [
-        "ants: w: not read\n",
-        "ants: r: not read\n",
-        "ants: b: not read\n",
-    ];
-    check_fetches(&rt, rt.alloc(), UNPLAYED_GAME, &lines, UNPLAYED)?;
-    let twice = UNPLAYED_GAME.with(Given::Line, "run w b b --seed 7 --rounds 0");
-    let lines = [
-        "ants: w: not read\n",
-        "ants: b: not read\n",
-        "ants: b: not read\n",
-    ];
-    check_fetches(&rt, rt.alloc(), twice, &lines, UNPLAYED)?;
-    let brain = UNPLAYED_GAME.with(Given::Line, "brain b");
-    let lines = ["ants: b: not read\n"];
-    check_fetches(&rt, rt.alloc(), brain, &lines, "Drop 0\n")?;
-    let minimise = UNPLAYED_GAME.with(Given::Line, "minimise b");
-    let text = "; 1 states, 1 kept\nDrop 0\n";
-    check_fetches(&rt, rt.alloc(), minimise, &lines, text)?;
-    let view = UNPLAYED_GAME.with(Given::Line, "view w r b k --seed 7 --rounds 0");
-    let lines = [
-        "ants: w: not read\n",
-        "ants: r: not read\n",
-        "ants: b: not read\n",
-        "ants: k: not read\n",
-    ];
-    let text = "random seed: 7\nno stop in 0 rounds\n";
-    check_fetches(&rt, rt.alloc(), view, &lines, text)?;
-    let cup = UNPLAYED_GAME.with(
-        Given::Line,
-        "cup --worlds w - w --brains b r --seed 7 --rounds 0",
-    );
-    let lines = [
-        "ants: w: not read\n",
-        "ants: -: not read\n",
-        "ants: w: not read\n",
-        "ants: b: not read\n",
-        "ants: r: not read\n",
-    ];
-    let text = "6 points: b (0 won, 6 drawn, 0 lost)\n6 points: r (0 won, 6 drawn, 0 lost)\n";
-    check_fetches(&rt, rt.alloc(), cup, &lines, text)
+    check_fetchings(&rt, rt.alloc(), &FETCHED)
 }
 
 // Asserts that output with room for so many bytes of the command's text gets these, and fails.
@@ -138,29 +164,59 @@ fn check_room<R: Threads + Sync + Abort>(
         room: room as u64,
         ..job
     };
-    let line = "ants: output failed\n";
-    check(rt, alloc, &full, Status::Write, front, line)
+    check(rt, alloc, &full, cut(front, "ants: output failed\n"))
+}
+
+// Asserts the same of each room that is smaller than the text, and that the command is done where the room is as large as the text.
+fn check_rooms<R: Threads + Sync + Abort>(
+    rt: &R,
+    alloc: Global,
+    job: Job<'_>,
+    text: &str,
+) -> Result<(), Fail> {
+    for room in 0..text.len() {
+        check_room(rt, alloc, job, text, room)?;
+    }
+    let whole = Job {
+        room: text.len() as u64,
+        ..job
+    };
+    check(rt, alloc, &whole, done(text))
+}
+
+// The room of the errors, in bytes, and what they hold of the line of an output that failed.
+const TOLD: [(u64, &str); 2] = [(0, ""), (8, "ants: ou")];
+
+// Asserts of each row what errors with this room hold, where the output has room for five bytes.
+fn check_err_rooms<R: Threads + Sync + Abort>(
+    rt: &R,
+    alloc: Global,
+    rows: &[(u64, &str)],
+) -> Result<(), Fail> {
+    for (err_room, line) in rows {
+        let job = Job {
+            room: 5,
+            err_room: *err_room,
+            ..UNPLAYED_GAME
+        };
+        check(rt, alloc, &job, cut("rando", line))?;
+    }
+    Ok(())
 }
 
 #[test]
 fn output_that_is_full_holds_the_front_of_the_text(rt: HostRuntime) -> Result<(), Fail> {
-    for room in 0..37 {
-        check_room(&rt, rt.alloc(), UNPLAYED_GAME, UNPLAYED, room)?;
-    }
-    let whole = Job {
-        room: 37,
-        ..UNPLAYED_GAME
-    };
-    check(&rt, rt.alloc(), &whole, Status::Done, UNPLAYED, "")?;
-    for (err_room, line) in [(0, ""), (8, "ants: ou")] {
-        let job = Job {
-            room: 5,
-            err_room,
-            ..UNPLAYED_GAME
-        };
-        check(&rt, rt.alloc(), &job, Status::Write, "rando", line)?;
-    }
-    Ok(())
+    check_rooms(&rt, rt.alloc(), UNPLAYED_GAME, UNPLAYED)?;
+    check_err_rooms(&rt, rt.alloc(), &TOLD)
+}
+
+// Asserts that the text of a command whose output failed is a front of it.
+fn check_front<R: Abort>(rt: &R, ending: Ending<'_>, text: &str, failing_push: u64) {
+    assert_eq!(rt; ending.status, Status::Write);
+    assert!(rt;
+        text.starts_with(ending.out),
+        "at {failing_push}: {ending:?}"
+    );
 }
 
 // Asserts that each push that fails ends the text of a command, which has fewer than 10,000 pushes: the output gets a front of it.
@@ -176,13 +232,12 @@ fn check_pushes<R: Threads + Sync + Abort>(
             ..job
         };
         let outcome = answer(rt, alloc, &failing)?;
-        let out = str::from_utf8(outcome.out.held())?;
-        if outcome.status == Status::Done {
-            assert_eq!(rt; out, text);
+        let ending = ending_of(&outcome)?;
+        if ending.status == Status::Done {
+            assert_eq!(rt; ending, done(text));
             return Ok(());
         }
-        assert_eq!(rt; outcome.status, Status::Write);
-        assert!(rt; text.starts_with(out), "at {failing_push}: {out:?}");
+        check_front(rt, ending, text, failing_push);
     }
     Err(Fail::new("the text has 10,000 pushes or more"))
 }
@@ -203,20 +258,31 @@ const WRITTEN: [(&str, &str); 6] = [
     ("workload 12345 0 4", UNTOUCHED),
 ];
 
-#[test]
-fn a_push_that_fails_ends_the_text(rt: HostRuntime) -> Result<(), Fail> {
-    let game = Job {
-        line: "run w r b --seed 12345 --rounds 1 --dump 1 --stats",
-        ..KILLING
-    };
-    let text = format!(in rt.alloc(); "{KILLED}turns 7 taken 5 redone 2\n")?;
-    check_pushes(&rt, rt.alloc(), game, &text)?;
-    for (line, text) in WRITTEN {
+// Asserts of each command what its output gets where a push fails, and where its room is nothing, one byte, or all but one.
+fn check_written<R: Threads + Sync + Abort>(
+    rt: &R,
+    alloc: Global,
+    rows: &[(&str, &str)],
+) -> Result<(), Fail> {
+    for (line, text) in rows {
         let job = UNPLAYED_GAME.with(Given::Line, line);
-        check_pushes(&rt, rt.alloc(), job, text)?;
-        for room in [0, 1, text.len().saturating_sub(1)] {
-            check_room(&rt, rt.alloc(), job, text, room)?;
-        }
+        check_pushes(rt, alloc, job, text)?;
+        check_room(rt, alloc, job, text, 0)?;
+        check_room(rt, alloc, job, text, 1)?;
+        check_room(rt, alloc, job, text, text.len().saturating_sub(1))?;
     }
     Ok(())
+}
+
+// Asserts the same of the pushes of the game in which an ant dies, with its counts.
+fn check_killing_pushes<R: Threads + Sync + Abort>(rt: &R, alloc: Global) -> Result<(), Fail> {
+    let line = "run w r b --seed 12345 --rounds 1 --dump 1 --stats";
+    let text = format!(in alloc; "{KILLED}turns 7 taken 5 redone 2\n")?;
+    check_pushes(rt, alloc, KILLING.with(Given::Line, line), &text)
+}
+
+#[test]
+fn a_push_that_fails_ends_the_text(rt: HostRuntime) -> Result<(), Fail> {
+    check_killing_pushes(&rt, rt.alloc())?;
+    check_written(&rt, rt.alloc(), &WRITTEN)
 }

@@ -1,8 +1,12 @@
 // The command `run`.
 use crate::status::Status;
-use crate::tests::{CLOSED, CLOSING, Given, Job, NO_JOB, check_rows, check_text};
+use crate::tests::{
+    CLOSED, CLOSING, Ending, Given, Job, NO_JOB, Told, check, check_rows, check_text, done, stopped,
+};
 use std::alloc::Global;
+use std::process::Abort;
 use std::test::Fail;
+use std::thread::Threads;
 
 // A red ant with an open cell before it.
 const OPEN: &str = "4\n3\n# # # #\n # + . #\n# # # #\n";
@@ -139,23 +143,15 @@ fn a_run_prints_its_seed_its_dumps_and_its_score(rt: HostRuntime) -> Result<(), 
     check_rows(&rt, rt.alloc(), TURNING, Given::Line, Status::Done, &BARE)?;
     let empty = TURNING.with(Given::World, EMPTY);
     check_rows(&rt, rt.alloc(), empty, Given::Line, Status::Done, &BARE)?;
-    let killing = [(KILLING.line, KILLED)];
-    check_rows(
-        &rt,
-        rt.alloc(),
-        KILLING,
-        Given::Line,
-        Status::Done,
-        &killing,
-    )
+    check(&rt, rt.alloc(), &KILLING, done(KILLED))
 }
 
 #[test]
 fn a_thousand_rounds_are_listed(rt: HostRuntime) -> Result<(), Fail> {
     let later = ",1000000".repeat(rt.alloc(), 997)?;
     let line = format!(in rt.alloc(); "run w r b --seed 12345 --rounds 1 --dump 9,1{later},0")?;
-    let rows = [(line.as_str(), TURNED)];
-    check_rows(&rt, rt.alloc(), TURNING, Given::Line, Status::Done, &rows)
+    let job = TURNING.with(Given::Line, &line);
+    check(&rt, rt.alloc(), &job, done(TURNED))
 }
 
 // The text of a world without a hill, as wide as high, whose cells are clear but for the rim, and so many in each row.
@@ -168,29 +164,37 @@ fn clear(alloc: Global, cells: u16) -> Result<String, Fail> {
     Ok(format!(in alloc; "{size}\n{size}\n{rim}\n{rows}{rim}")?)
 }
 
+// Asserts what comes of five rounds on a world without a hill, with so many clear cells in each row.
+fn check_clear<R: Threads + Sync + Abort>(
+    rt: &R,
+    alloc: Global,
+    cells: u16,
+    wanted: Ending<'_>,
+) -> Result<(), Fail> {
+    let world = clear(alloc, cells)?;
+    let job = TURNING.with(Given::Line, "run w r b --seed 7 --rounds 5");
+    check(rt, alloc, &job.with(Given::World, &world), wanted)
+}
+
 #[test]
 fn a_world_has_up_to_512_by_512_cells(rt: HostRuntime) -> Result<(), Fail> {
-    let most = clear(rt.alloc(), 510)?;
-    let job = TURNING.with(Given::Line, "run w r b --seed 7 --rounds 5");
-    let rows = [(most.as_str(), UNPLAYED)];
-    check_rows(&rt, rt.alloc(), job, Given::World, Status::Done, &rows)?;
-    let more = clear(rt.alloc(), 511)?;
-    let rows = [(more.as_str(), "ants: w: bad width\n")];
-    check_rows(&rt, rt.alloc(), job, Given::World, Status::Input, &rows)
+    check_clear(&rt, rt.alloc(), 510, done(UNPLAYED))?;
+    let more = stopped(Status::Input, "ants: w: bad width\n");
+    check_clear(&rt, rt.alloc(), 511, more)
 }
 
 // A game, lines of its text in their order, others between them, and the end of its text.
 #[derive(Clone, Copy)]
-struct Game {
-    line: &'static str,
-    world: &'static str,
-    red: &'static str,
-    black: &'static str,
-    lines: &'static str,
-    score: &'static str,
+struct Game<'t> {
+    line: &'t str,
+    world: &'t str,
+    red: &'t str,
+    black: &'t str,
+    lines: &'t str,
+    score: &'t str,
 }
 
-const GAMES: [Game; 13] = [
+const GAMES: [Game<'static>; 13] = [
     Game {
         line: "run w r b --seed 1 --rounds 16 --dump 1,15,16",
         world: OPEN,
@@ -324,25 +328,31 @@ const GAMES: [Game; 13] = [
     },
 ];
 
-#[test]
-fn a_run_follows_the_rules_of_the_world(rt: HostRuntime) -> Result<(), Fail> {
-    for game in GAMES {
-        let Game {
-            line,
-            world,
-            red,
-            black,
-            lines,
-            score,
-        } = game;
+// Asserts of each game that it is played, and how its text is told.
+fn check_games<R: Threads + Sync + Abort>(
+    rt: &R,
+    alloc: Global,
+    games: &[Game<'_>],
+) -> Result<(), Fail> {
+    for game in games {
         let job = Job {
-            line,
-            world,
-            red,
-            black,
+            line: game.line,
+            world: game.world,
+            red: game.red,
+            black: game.black,
             ..NO_JOB
         };
-        check_text(&rt, rt.alloc(), &job, "", lines, score)?;
+        let told = Told {
+            start: "",
+            lines: game.lines,
+            end: game.score,
+        };
+        check_text(rt, alloc, &job, told)?;
     }
     Ok(())
+}
+
+#[test]
+fn a_run_follows_the_rules_of_the_world(rt: HostRuntime) -> Result<(), Fail> {
+    check_games(&rt, rt.alloc(), &GAMES)
 }

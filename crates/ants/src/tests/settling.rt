@@ -1,36 +1,17 @@
 // A window of turns, settled by looks that were made at guesses.
-ghost use Rattle.std.specs.Prelude.{◌≡◌, ◌+◌, ◌-◌, ◌<◌, OnOk};
+ghost use Rattle.std.specs.Prelude.{◌≡◌, ◌-◌, ◌≤◌, OnOk};
 ghost use Rattle.cell_world.specs.Grid.{world_of};
 ghost use Rattle.spec_record.specs.Guess.{guesses_of};
 ghost use Rattle.round_book.specs.Book.{CanBegin, IsSameWindow, StandsOn, window_of};
-ghost use Rattle.round_book.specs.Window.{look_for};
 
-use crate::tests::games::{brain_of, killing_field};
-use crate::tests::runs::KILLING;
+use crate::tests::games::{killing_field, killing_players};
 use cell_world::Part;
 use hex_geometry::{OutOfMemory, Pos};
-use round_book::{Book, Cause, Counts, Field};
-use spec_record::{Look, guesses, look};
+use round_book::{Book, Cause, Counts, Field, advance};
+use spec_record::{guesses, look};
 use std::alloc::Global;
+use std::process::Abort;
 use std::test::Fail;
-
-// Settles the next turn by the look at it, and executes it anew where the look doesn't hold; says why it doesn't.
-fn settle_next(book: &mut Book, field: &Field<'_>, look: Look) -> Option<Cause>
-    requires stands { StandsOn field.now book.old }
-    requires left { book.old.next < book.old.to }
-    requires look { look ≡ look_for (window_of field.now book.old.from book.old.to) book.old.next }
-    ensures stands { StandsOn field.now book.new }
-    ensures next { book.new.next ≡ book.old.next + 1 }
-    ensures same { IsSameWindow book.old book.new }
-{
-    match book.settle(look) {
-        None => None,
-        Some(cause) => {
-            book.redo(field.brains(), cause);
-            Some(cause)
-        }
-    }
-}
 
 // Settles all turns of a window by looks at these guesses, and lists what became of each.
 fn settle_window(
@@ -49,7 +30,7 @@ fn settle_window(
     for guess in guesses {
         let id = book.next();
         let look = look(field.world(), field.brains(), field.seed(), *guess, id);
-        let cause = settle_next(book, field, look);
+        let cause = advance(book, field, &look);
         causes.push(cause)?;
     }
     Ok(())
@@ -78,43 +59,73 @@ fn play_by_looks(
     Ok(field.finish(book))
 }
 
-// A black ant kills the red ant of id 2 in its turn, and the red ant of id 4 draws the number that was guessed to be that one's.
-#[test]
-fn the_looks_of_a_killed_ant_and_of_the_next_flip_do_not_hold(rt: HostRuntime) -> Result<(), Fail> {
-    let red = brain_of(&rt, rt.alloc(), KILLING.red)?;
-    let black = brain_of(&rt, rt.alloc(), KILLING.black)?;
-    let mut field = killing_field(&rt, rt.alloc(), &red, &black)?;
-    assert!(rt; field.world().ant_count() >= 7);
-    assert!(rt; field.place() == 0);
-    let mut causes = Vec::new(rt.alloc());
-    let counts = play_by_looks(rt.alloc(), &mut field, 0, 7, &mut causes)?;
-    assert_eq!(rt; (counts.taken(), counts.redone()), (5, 2));
-    assert_eq!(rt; causes.len(), 7);
-    for (id, cause) in causes.iter().enumerate() {
-        match id {
-            2 => assert!(rt; is_of_the_killed(cause)),
-            4 => assert_eq!(rt;
-                *cause,
-                Some(Cause::Place {
-                    guessed: 1,
-                    actual: 0
-                })
-            ),
-            _ => assert_eq!(rt; *cause, None),
-        }
-    }
-    Ok(())
+// What became of the look at a turn of that game.
+#[derive(Clone, Copy, Debug, PartialEq, Eq)]
+enum Fate {
+    Taken,
+    // Redone, since the ant on (3, 3) is another, or in another mind.
+    OfTheKilled,
+    // Redone, since its random number is the one at place 0, where that at place 1 was guessed.
+    OfTheFlip,
+    Other,
 }
 
-// Whether a look didn't hold since the ant on (3, 3) is another, or in another mind.
-fn is_of_the_killed(cause: &Option<Cause>) -> bool {
+// What became of a look.
+fn fate_of(cause: &Option<Cause>) -> Fate {
     match cause {
+        None => Fate::Taken,
         Some(
             Cause::Part {
                 at: Pos { x: 3, y: 3 },
                 part: Part::Who | Part::Mind,
             },
-        ) => true,
-        _ => false,
+        ) => Fate::OfTheKilled,
+        Some(
+            Cause::Place {
+                guessed: 1,
+                actual: 0,
+            },
+        ) => Fate::OfTheFlip,
+        Some(_) => Fate::Other,
     }
+}
+
+// A black ant kills the red ant of id 2 in its turn, and the red ant of id 4 draws the number that was guessed to be that one's.
+const FATES: [Fate; 7] = [
+    Fate::Taken,
+    Fate::Taken,
+    Fate::OfTheKilled,
+    Fate::Taken,
+    Fate::OfTheFlip,
+    Fate::Taken,
+    Fate::Taken,
+];
+
+// Asserts what became of each look.
+fn check_fates<R: Abort>(rt: &R, causes: &[Option<Cause>], wanted: &[Fate]) {
+    assert_eq!(rt; causes.len(), wanted.len());
+    for (cause, fate) in causes.iter().zip(wanted) {
+        assert_eq!(rt; fate_of(cause), *fate, "{cause:?}");
+    }
+}
+
+// Asserts that a field is that of seven ants, of which none has drawn a number.
+fn check_beginning<R: Abort>(rt: &R, field: &Field<'_>)
+    ensures ids { 7 ≤ field.now.world.ids }
+    ensures place { field.now.place ≡ 0 }
+{
+    assert!(rt; field.world().ant_count() >= 7);
+    assert!(rt; field.place() == 0);
+}
+
+#[test]
+fn the_looks_of_a_killed_ant_and_of_the_next_flip_do_not_hold(rt: HostRuntime) -> Result<(), Fail> {
+    let players = killing_players(&rt, rt.alloc())?;
+    let mut field = killing_field(&rt, rt.alloc(), &players)?;
+    check_beginning(&rt, &field);
+    let mut causes = Vec::new(rt.alloc());
+    let counts = play_by_looks(rt.alloc(), &mut field, 0, 7, &mut causes)?;
+    assert_eq!(rt; (counts.taken(), counts.redone()), (5, 2));
+    check_fates(&rt, &causes, &FATES);
+    Ok(())
 }

@@ -1,8 +1,10 @@
 // The command `show`.
 use crate::status::Status;
-use crate::tests::{CLOSED, Given, Job, NO_JOB, check_rows, check_text};
+use crate::tests::{CLOSED, Given, Job, NO_JOB, Told, check, check_rows, check_text, stopped};
 use std::alloc::Global;
+use std::process::Abort;
 use std::test::Fail;
+use std::thread::Threads;
 
 // The seed 12345, and the world of one red ant between rocks.
 pub const SHOWN: &str = "random seed: 12345\n\
@@ -84,21 +86,39 @@ fn hill(alloc: Global, cells: u8) -> Result<String, Fail> {
     Ok(format!(in alloc; "{width}\n130\n{rim}\n{rows}{rim}")?)
 }
 
+// Asserts that a world with a hill of so many cells in each row is shown, and how its text is told.
+fn check_hill<R: Threads + Sync + Abort>(
+    rt: &R,
+    alloc: Global,
+    cells: u8,
+    told: Told<'_>,
+) -> Result<(), Fail> {
+    let world = hill(alloc, cells)?;
+    check_text(rt, alloc, &SHOW.with(Given::World, &world), told)
+}
+
+// Asserts with which line such a world is refused.
+fn check_no_hill<R: Threads + Sync + Abort>(
+    rt: &R,
+    alloc: Global,
+    cells: u8,
+    line: &str,
+) -> Result<(), Fail> {
+    let world = hill(alloc, cells)?;
+    let job = SHOW.with(Given::World, &world);
+    check(rt, alloc, &job, stopped(Status::Input, line))
+}
+
+// The last ant of the largest hill.
+const CROWDED: Told<'static> = Told {
+    start: "random seed: 12345\n",
+    lines: "cell (128, 128): red hill; red ant of id 16383, dir 0, food 0, state 0, resting 0\n",
+    end: "rock\n",
+};
+
 #[test]
 fn a_world_holds_up_to_16384_ants(rt: HostRuntime) -> Result<(), Fail> {
-    let most = hill(rt.alloc(), 128)?;
-    let job = SHOW.with(Given::World, &most);
-    let last =
-        "cell (128, 128): red hill; red ant of id 16383, dir 0, food 0, state 0, resting 0\n";
-    check_text(
-        &rt,
-        rt.alloc(),
-        &job,
-        "random seed: 12345\n",
-        last,
-        "rock\n",
-    )?;
-    let more = hill(rt.alloc(), 129)?;
-    let refused = [(more.as_str(), "ants: w: too many ants, 16512\n")];
-    check_rows(&rt, rt.alloc(), SHOW, Given::World, Status::Input, &refused)
+    check_hill(&rt, rt.alloc(), 128, CROWDED)?;
+    let line = "ants: w: too many ants, 16512\n";
+    check_no_hill(&rt, rt.alloc(), 129, line)
 }

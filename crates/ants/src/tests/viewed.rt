@@ -1,7 +1,9 @@
 // The command `view`.
 use crate::status::Status;
-use crate::tests::runs::{KILLED, KILLING};
-use crate::tests::{Given, Job, check, check_rows, check_text};
+use crate::tests::runs::KILLED;
+use crate::tests::{
+    CLOSING, Ending, Given, Job, NO_JOB, Told, check, check_rows, check_text, done, stopped,
+};
 use std::alloc::Global;
 use std::process::Abort;
 use std::test::Fail;
@@ -11,7 +13,10 @@ use std::thread::Threads;
 // ants stay where they are.
 const VIEW: Job<'static> = Job {
     line: "view w r b k --seed 12345 --rounds 5",
-    ..KILLING
+    world: CLOSING,
+    red: "Flip 2 0 0",
+    black: "Move 0 0",
+    ..NO_JOB
 };
 
 // Breaks, each alone, and the second line of the view: the turn after which each first holds.
@@ -102,28 +107,40 @@ const EARLIER: [(Given, &str, &str); 6] = [
     ),
 ];
 
-#[test]
-fn a_file_of_a_view_at_fault_is_named_before_its_breaks(rt: HostRuntime) -> Result<(), Fail> {
+// Asserts of each row the line with which the view stops.
+fn check_earlier<R: Threads + Sync + Abort>(
+    rt: &R,
+    alloc: Global,
+    rows: &[(Given, &str, &str)],
+) -> Result<(), Fail> {
     let job = VIEW.with(Given::Breaks, "Killed");
-    for (given, text, line) in EARLIER {
-        let job = job.with(given, text);
-        check(&rt, rt.alloc(), &job, Status::Input, "", line)?;
+    for (given, text, line) in rows {
+        let wanted = stopped(Status::Input, line);
+        check(rt, alloc, &job.with(*given, text), wanted)?;
     }
     Ok(())
 }
 
 #[test]
-fn a_view_stops_after_the_first_turn_at_which_a_break_holds(rt: HostRuntime) -> Result<(), Fail> {
+fn a_file_of_a_view_at_fault_is_named_before_its_breaks(rt: HostRuntime) -> Result<(), Fail> {
+    check_earlier(&rt, rt.alloc(), &EARLIER)
+}
+
+// The text of the view that stops at the death of the red ant: its cells are those of the dump after the same round.
+fn killed_view(alloc: Global) -> Result<String, Fail> {
     let (_, dump) = KILLED.split_once("After round 1...\n").ok_or("no dump")?;
     let (cells, _) = dump.split_once("\nscore").ok_or("no score")?;
-    let text = format!(in rt.alloc();
-        "random seed: 12345\nstop: round 1, ant 1, break 1\n{cells}"
-    )?;
-    let job = VIEW.with(Given::Breaks, "Killed 2");
-    check(&rt, rt.alloc(), &job, Status::Done, text.as_str(), "")?;
-    let job = VIEW.with(Given::Breaks, "Round 9");
-    let text = "random seed: 12345\nno stop in 5 rounds\n";
-    check(&rt, rt.alloc(), &job, Status::Done, text, "")
+    Ok(format!(in alloc; "random seed: 12345\nstop: round 1, ant 1, break 1\n{cells}")?)
+}
+
+// The text of the view that doesn't stop.
+const NO_STOP: &str = "random seed: 12345\nno stop in 5 rounds\n";
+
+#[test]
+fn a_view_stops_after_the_first_turn_at_which_a_break_holds(rt: HostRuntime) -> Result<(), Fail> {
+    let text = killed_view(rt.alloc())?;
+    let rows = [("Killed 2", text.as_str()), ("Round 9", NO_STOP)];
+    check_rows(&rt, rt.alloc(), VIEW, Given::Breaks, Status::Done, &rows)
 }
 
 // Asserts of each text of breaks the second line of its view.
@@ -134,7 +151,12 @@ fn check_stops<R: Threads + Sync + Abort>(
 ) -> Result<(), Fail> {
     for (breaks, wanted) in rows {
         let start = format!(in alloc; "random seed: 12345\n{wanted}\n")?;
-        check_text(rt, alloc, &VIEW.with(Given::Breaks, breaks), &start, "", "")?;
+        let told = Told {
+            start: &start,
+            lines: "",
+            end: "",
+        };
+        check_text(rt, alloc, &VIEW.with(Given::Breaks, breaks), told)?;
     }
     Ok(())
 }
@@ -145,15 +167,19 @@ fn each_kind_of_break_holds_when_it_says(rt: HostRuntime) -> Result<(), Fail> {
     check_stops(&rt, rt.alloc(), &TOGETHER)
 }
 
+// The view of a world without ants.
+const NO_ANTS: Job<'static> = Job {
+    line: "view w r b k --seed 12345 --rounds 5",
+    world: "4\n4\n# # # #\n # . . #\n# . . #\n # # # #\n",
+    red: "Flip 2 0 0",
+    black: "Move 0 0",
+    breaks: "Round 1\nFood 1 1 0\n",
+    ..NO_JOB
+};
+
 #[test]
 fn a_world_without_ants_has_no_turn_to_stop_after(rt: HostRuntime) -> Result<(), Fail> {
-    let job = Job {
-        world: "4\n4\n# # # #\n # . . #\n# . . #\n # # # #\n",
-        breaks: "Round 1\nFood 1 1 0\n",
-        ..VIEW
-    };
-    let text = "random seed: 12345\nno stop in 5 rounds\n";
-    check(&rt, rt.alloc(), &job, Status::Done, text, "")
+    check(&rt, rt.alloc(), &NO_ANTS, done(NO_STOP))
 }
 
 #[test]
@@ -165,13 +191,23 @@ fn breaks_at_fault_are_named_with_their_first_fault(rt: HostRuntime) -> Result<(
         Given::Breaks,
         Status::Input,
         &REFUSED,
-    )?;
-    let most = "Round 9\n".repeat(rt.alloc(), 256)?;
-    let job = VIEW.with(Given::Breaks, most.as_str());
-    let text = "random seed: 12345\nno stop in 5 rounds\n";
-    check(&rt, rt.alloc(), &job, Status::Done, text, "")?;
-    let more = "Round 9\n".repeat(rt.alloc(), 257)?;
-    let job = VIEW.with(Given::Breaks, more.as_str());
+    )
+}
+
+// Asserts what comes of so many breaks.
+fn check_many<R: Threads + Sync + Abort>(
+    rt: &R,
+    alloc: Global,
+    count: usize,
+    wanted: Ending<'_>,
+) -> Result<(), Fail> {
+    let breaks = "Round 9\n".repeat(alloc, count)?;
+    check(rt, alloc, &VIEW.with(Given::Breaks, &breaks), wanted)
+}
+
+#[test]
+fn a_view_has_up_to_256_breaks(rt: HostRuntime) -> Result<(), Fail> {
+    check_many(&rt, rt.alloc(), 256, done(NO_STOP))?;
     let line = "ants: k: line 257: too many breaks\n";
-    check(&rt, rt.alloc(), &job, Status::Input, "", line)
+    check_many(&rt, rt.alloc(), 257, stopped(Status::Input, line))
 }

@@ -1,9 +1,8 @@
 // Runs by any number of workers; and looks that two workers make at the same time, each of them once.
-use crate::status::Status;
-use crate::tests::games::{brain_of, killing_field};
+use crate::tests::games::{killing_field, killing_players};
 use crate::tests::runs::{KILLED, KILLING};
-use crate::tests::{Job, check, check_by};
-use ant_base::Gate;
+use crate::tests::{Given, check_over, done, files_of};
+use ant_base::{Gate, NoGate};
 use round_book::Counts;
 use round_workers::{BoardCrew, PieceCrew};
 use std::alloc::Global;
@@ -91,50 +90,73 @@ fn meets(own: &AtomicBool, other: &AtomicBool) -> bool {
     false
 }
 
-#[test]
-fn any_number_of_workers_writes_the_same_bytes(rt: HostRuntime) -> Result<(), Fail> {
-    for (line, counts) in [
-        (
-            "run w r b --seed 12345 --rounds 1 --dump 1 --stats --workers 1",
-            "turns 7 taken 5 redone 2\n",
-        ),
-        (
-            "run w r b --seed 12345 --rounds 1 --dump 1 --stats --workers 2",
-            "turns 7 taken 5 redone 2\n",
-        ),
-        (
-            "run w r b --seed 12345 --rounds 1 --dump 1 --stats --workers 7",
-            "turns 7 taken 5 redone 2\n",
-        ),
-        (
-            "run w r b --seed 12345 --rounds 1 --dump 1 --stats --workers 16",
-            "turns 7 taken 5 redone 2\n",
-        ),
-        (
-            "run w r b --workers 2 --window 1 --seed 12345 --rounds 1 --dump 1 --stats",
-            "turns 7 taken 7 redone 0\n",
-        ),
-    ] {
-        let job = Job { line, ..KILLING };
-        let whole = format!(in rt.alloc(); "{KILLED}{counts}")?;
-        check(&rt, rt.alloc(), &job, Status::Done, &whole, "")?;
+// Words of the round in which a surrounded ant dies, and its counts.
+const COUNTED: [(&str, &str); 5] = [
+    (
+        "run w r b --seed 12345 --rounds 1 --dump 1 --stats --workers 1",
+        "turns 7 taken 5 redone 2\n",
+    ),
+    (
+        "run w r b --seed 12345 --rounds 1 --dump 1 --stats --workers 2",
+        "turns 7 taken 5 redone 2\n",
+    ),
+    (
+        "run w r b --seed 12345 --rounds 1 --dump 1 --stats --workers 7",
+        "turns 7 taken 5 redone 2\n",
+    ),
+    (
+        "run w r b --seed 12345 --rounds 1 --dump 1 --stats --workers 16",
+        "turns 7 taken 5 redone 2\n",
+    ),
+    (
+        "run w r b --workers 2 --window 1 --seed 12345 --rounds 1 --dump 1 --stats",
+        "turns 7 taken 7 redone 0\n",
+    ),
+];
+
+// Asserts what is written of that round with these words, by workers that call this gate.
+fn check_killing<R: Threads + Sync + Abort, G: Gate>(
+    rt: &R,
+    alloc: Global,
+    line: &str,
+    gate: &G,
+    counts: &str,
+) -> Result<(), Fail> {
+    let job = KILLING.with(Given::Line, line);
+    let whole = format!(in alloc; "{KILLED}{counts}")?;
+    let files = files_of(alloc, &job)?;
+    check_over(rt, alloc, &job, files, gate, done(&whole))
+}
+
+// Asserts what is written of that round with the words of each row.
+fn check_workers<R: Threads + Sync + Abort>(
+    rt: &R,
+    alloc: Global,
+    rows: &[(&str, &str)],
+) -> Result<(), Fail> {
+    for (line, counts) in rows {
+        check_killing(rt, alloc, line, &NoGate, counts)?;
     }
     Ok(())
 }
 
-// Asserts what came of the round of the game in which a surrounded ant dies: its counts, the turns that a crew of two says it played and the
-// place to which it came; and that the two met.
+#[test]
+fn any_number_of_workers_writes_the_same_bytes(rt: HostRuntime) -> Result<(), Fail> {
+    check_workers(&rt, rt.alloc(), &COUNTED)
+}
+
+// Asserts what came of that round: its counts, the turns that a crew of two says it played and the place to which it came; and that the
+// two met.
 fn check_round<R: Abort>(rt: &R, counts: Counts, turns: u64, place: u64, meeting: &Meeting) {
-    assert_eq!(rt; (counts.taken(), counts.redone()), (5, 2));
-    assert_eq!(rt; (turns, place), (7, 1));
+    let told = (counts.taken(), counts.redone(), turns, place);
+    assert_eq!(rt; told, (5, 2, 7, 1));
     meeting.check(rt);
 }
 
 #[test]
 fn a_crew_of_two_looks_at_the_same_time(rt: HostRuntime) -> Result<(), Fail> {
-    let red = brain_of(&rt, rt.alloc(), KILLING.red)?;
-    let black = brain_of(&rt, rt.alloc(), KILLING.black)?;
-    let mut field = killing_field(&rt, rt.alloc(), &red, &black)?;
+    let players = killing_players(&rt, rt.alloc())?;
+    let mut field = killing_field(&rt, rt.alloc(), &players)?;
     let meeting = Meeting::new();
     let mut crew = PieceCrew::new(&rt, 2, &meeting);
     let ids = field.world().ant_count();
@@ -145,9 +167,8 @@ fn a_crew_of_two_looks_at_the_same_time(rt: HostRuntime) -> Result<(), Fail> {
 
 #[test]
 fn a_crew_of_two_with_a_board_looks_at_the_same_time(rt: HostRuntime) -> Result<(), Fail> {
-    let red = brain_of(&rt, rt.alloc(), KILLING.red)?;
-    let black = brain_of(&rt, rt.alloc(), KILLING.black)?;
-    let mut field = killing_field(&rt, rt.alloc(), &red, &black)?;
+    let players = killing_players(&rt, rt.alloc())?;
+    let mut field = killing_field(&rt, rt.alloc(), &players)?;
     let meeting = Meeting::new();
     let mut crew = BoardCrew::new(&rt, 2, &meeting);
     let ids = field.world().ant_count();
@@ -163,9 +184,7 @@ fn check_run<R: Threads + Sync + Abort>(
     line: &str,
     meeting: &Meeting,
 ) -> Result<(), Fail> {
-    let job = Job { line, ..KILLING };
-    let whole = format!(in alloc; "{KILLED}turns 7 taken 5 redone 2\n")?;
-    check_by(rt, alloc, &job, meeting, Status::Done, &whole, "")?;
+    check_killing(rt, alloc, line, meeting, "turns 7 taken 5 redone 2\n")?;
     meeting.check(rt);
     Ok(())
 }

@@ -7,17 +7,17 @@ use Rattle.round_book.specs.Machine.{times}
 use Rattle.round_book.specs.Window.{Window, look_for}
 use Rattle.round_workers.specs.declared.board.seat.Board.{Board}
 use Rattle.round_workers.specs.BoardPlays.{has_put}
-use Rattle.round_workers.specs.BoardSeats.{basis_of, known, window_of}
+use Rattle.round_workers.specs.BoardSeats.{basis_of, known, board_window}
 use Rattle.round_workers.proofs.BoardWorking.{look-again, look-turn, window_at}
 use Rattle.board_steps.specs.Seats.{IsFor}
 use Rattle.board_steps.proofs.put.Goals as goal
 
 module _ (field : FieldValue) (board : Board) (lent : IsFor field board) (look : LookValue) (t : ℕ) (at : look ≡ look_for (books.window_of field 0 7) t) where
-  look-is : look ≡ look_for (window_of board) t
-  look-is = at ∙ ap (λ (w : Window). look_for w t) (window_at field (window_of board) lent.lent 0 7 (sym lent.from) (sym lent.to))
+  look-is : look ≡ look_for (board_window board) t
+  look-is = at ∙ ap (λ (w : Window). look_for w t) (window_at field (board_window board) lent.lent 0 7 (sym lent.from) (sym lent.to))
 
   turn-is : look.turn ≡ t
-  turn-is = look-turn (window_of board) look t look-is
+  turn-is = look-turn (board_window board) look t look-is
 
   ticket-is : look.turn - (basis_of board).from ≡ t
   ticket-is = let a : look.turn ≡ t = turn-is in let b : (basis_of board).from ≡ 0 = lent.from in omega arith
@@ -37,7 +37,7 @@ put-requires-clause-unput c =
 
 pub put-requires-clause-look : goal.put-requires-clause-look
 put-requires-clause-look c =
-    look-again (window_of c.args.board.now) c.look_at-look.result c.args.turn (look-is c.args.field.now c.args.board.now c.requires.field c.look_at-look.result c.args.turn c.look_at-look.ensures)
+    look-again (board_window c.args.board.now) c.look_at-look.result c.args.turn (look-is c.args.field.now c.args.board.now c.requires.field c.look_at-look.result c.args.turn c.look_at-look.ensures)
 
 pub returns-clause-put : goal.returns-clause-put
 returns-clause-put c =

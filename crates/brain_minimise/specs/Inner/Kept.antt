@@ -1,13 +1,13 @@
 -- The instructions of the kept states.
 use Rattle.std.specs.Prelude.{◌≡◌, ℕ, ◌<◌, ◌≤◌, List, length, slice_get, Option, Some}
 use Rattle.brain_read.specs.declared.instr.Instr.{Instr}
-use Rattle.ant_turn.specs.Renumber.{number_of, redirected}
+use Rattle.ant_turn.specs.Renumber.{state_number, redirected}
 use Rattle.ant_turn.specs.Turn.{instruction_at}
-use Rattle.brain_minimise.specs.Minimised.{number_in}
+use Rattle.brain_minimise.specs.Minimised.{new_number}
 
 -- the instruction at each number is that of a state that has it, with its successors renumbered
 pub record AreKept (brain : List Instr) (numbers : List (Option ℕ)) (kept : List Instr) : Type 0 where
   pub few : length kept ≤ length brain
-  pub below : (state number : ℕ) → number_in numbers state ≡ Some number → number < length kept
-  pub from : (number : ℕ) → number < length kept → (state : ℕ) × (number_in numbers state ≡ Some number)
-      × (slice_get kept number ≡ Some (redirected (number_of (number_in numbers)) (instruction_at brain state)))
+  pub below : (state number : ℕ) → new_number numbers state ≡ Some number → number < length kept
+  pub from : (number : ℕ) → number < length kept → (state : ℕ) × (new_number numbers state ≡ Some number)
+      × (slice_get kept number ≡ Some (redirected (state_number (new_number numbers)) (instruction_at brain state)))

@@ -6,23 +6,23 @@ use Rattle.brain_read.specs.declared.fault.BrainFault.TheVariants.{OutOfMemory}
 use Rattle.brain_read.specs.declared.instr.Instr.{Instr}
 use Rattle.brain_read.specs.declared.read.DraftLine.{DraftLine}
 use Rattle.brain_read.specs.Inner.Draft.{drafted}
-use Rattle.brain_read.specs.Inner.Verdict.{Placed, Judged}
+use Rattle.brain_read.specs.Inner.Verdict.{Placed, Judgement}
 
 -- the instruction of a draft, beside its line
 abbrev pub placed_of : DraftLine → Placed
 placed_of d = record { line = d.line; instruction = drafted d.draft }
 
 -- a fault that is answered is the one that was judged; want of memory says nothing
-abbrev pub FailsAs : {A : Type 0} → BrainFault → Judged A → Type 0
+abbrev pub FailsAs : {A : Type 0} → BrainFault → Judgement A → Type 0
 FailsAs OutOfMemory judged = Unit {0}
 FailsAs fault judged = judged ≡ Err fault
 
 -- an answer, seen by view, is what was judged
-abbrev pub Gives : {X A : Type 0} → (X → A) → Result X BrainFault → Judged A → Type 0
+abbrev pub Gives : {X A : Type 0} → (X → A) → Result X BrainFault → Judgement A → Type 0
 Gives view (Ok x) judged = judged ≡ Ok (view x)
 Gives view (Err fault) judged = FailsAs fault judged
 
 -- what a reader of a line answered
-abbrev pub as_judged : Result Draft BrainFault → Judged Instr
+abbrev pub as_judged : Result Draft BrainFault → Judgement Instr
 as_judged (Ok draft) = Ok (drafted draft)
 as_judged (Err fault) = Err fault

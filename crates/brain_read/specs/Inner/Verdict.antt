@@ -16,16 +16,16 @@ pub record Placed : Type 0 where
   pub instruction : Instr
 
 -- what is read of a text, or its fault
-abbrev pub Judged : Type 0 → Type 0
-Judged A = Result A BrainFault
+abbrev pub Judgement : Type 0 → Type 0
+Judgement A = Result A BrainFault
 
 -- an instruction beside the number of its line
-abbrev pub with_number : ℕ → Instr → Placed
-with_number line instruction = record { line = line; instruction = instruction }
+abbrev pub placed_at : ℕ → Instr → Placed
+placed_at line instruction = record { line = line; instruction = instruction }
 
 -- how the lines of a brain are read
 abbrev pub brain_reader : Reader Instr Placed BrainFault
-brain_reader = record { most = most_states; beyond = TooMany; read = read_line; refused = refusal_at; keep = with_number }
+brain_reader = record { most = most_states; beyond = TooMany; read = read_line; refused = refusal_at; keep = placed_at }
 
 -- an instruction, unless there is a state that it may not name
 abbrev pub or_state : Option ℕ → Instr → Result Instr ℕ
@@ -33,29 +33,29 @@ or_state None instruction = Ok instruction
 or_state (Some state) instruction = Err state
 
 -- an instruction whose states are below n, or the first of them that isn't
-abbrev pub settled : ℕ → Instr → Result Instr ℕ
-settled n instruction = or_state (first_not_below n (states_of instruction)) instruction
+abbrev pub draft_settled : ℕ → Instr → Result Instr ℕ
+draft_settled n instruction = or_state (first_not_below n (states_of instruction)) instruction
 
 -- an instruction, and then those after it
-abbrev pub settled_then : ℕ → Result Instr ℕ → Judged (List Instr) → Judged (List Instr)
+abbrev pub settled_then : ℕ → Result Instr ℕ → Judgement (List Instr) → Judgement (List Instr)
 settled_then line (Ok instruction) later = put_before instruction later
 settled_then line (Err state) later = Err (NoSuchState line state)
 
 -- the instructions, where all their states are below n
-abbrev pub settle_all : ℕ → List Placed → Judged (List Instr)
+abbrev pub settle_all : ℕ → List Placed → Judgement (List Instr)
 settle_all n [] = Ok []
-settle_all n (placed ∷ list) = settled_then placed.line (settled n placed.instruction) (settle_all n list)
+settle_all n (placed ∷ list) = settled_then placed.line (draft_settled n placed.instruction) (settle_all n list)
 
 -- the brain of the instructions that were read
-abbrev pub settle : List Placed → Judged (List Instr)
+abbrev pub settle : List Placed → Judgement (List Instr)
 settle [] = Err Empty
 settle (placed ∷ list) = settle_all (length (placed ∷ list)) (placed ∷ list)
 
 -- the brain of what was read
-abbrev pub settle_read : Judged (List Placed) → Judged (List Instr)
+abbrev pub settle_read : Judgement (List Placed) → Judgement (List Instr)
 settle_read (Ok list) = settle list
 settle_read (Err fault) = Err fault
 
 -- the brain of a text, or its fault
-unfoldable pub read_text : List ℕ → Judged (List Instr)
+unfoldable pub read_text : List ℕ → Judgement (List Instr)
 read_text text = settle_read (read_lines brain_reader 0 (lines_with_tokens text))

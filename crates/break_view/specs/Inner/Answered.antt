@@ -3,14 +3,14 @@ use Rattle.std.specs.Prelude.{◌≡◌, List, Result, Ok, Err}
 use Rattle.break_view.specs.declared.breaks.Break.{Break}
 use Rattle.break_view.specs.declared.fault.BreakFault.{BreakFault}
 use Rattle.break_view.specs.declared.fault.BreakFault.TheVariants.{OutOfMemory}
-use Rattle.break_view.specs.Inner.Verdict.{Judged}
+use Rattle.break_view.specs.Inner.Verdict.{Judgement}
 
 -- a fault that is answered is the one that was judged; want of memory says nothing
-abbrev pub FailsAs : BreakFault → Judged (List Break) → Type 0
+abbrev pub FailsAs : BreakFault → Judgement (List Break) → Type 0
 FailsAs OutOfMemory judged = Unit {0}
 FailsAs fault judged = judged ≡ Err fault
 
 -- an answer is what was judged
-abbrev pub Gives : Result (List Break) BreakFault → Judged (List Break) → Type 0
+abbrev pub Gives : Result (List Break) BreakFault → Judgement (List Break) → Type 0
 Gives (Ok list) judged = judged ≡ Ok list
 Gives (Err fault) judged = FailsAs fault judged

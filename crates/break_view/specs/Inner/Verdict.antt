@@ -11,8 +11,8 @@ use Rattle.break_view.specs.Grammar.{most_breaks}
 use Rattle.break_view.specs.Inner.Reading.{read_line}
 
 -- what is read of a text, or its fault
-abbrev pub Judged : Type 0 → Type 0
-Judged A = Result A BreakFault
+abbrev pub Judgement : Type 0 → Type 0
+Judgement A = Result A BreakFault
 
 -- the fault of a line that is refused, whatever bytes its token has
 abbrev pub fault_at : ℕ → LineFault → BreakFault
@@ -29,5 +29,5 @@ abbrev pub break_reader : Reader Break Break BreakFault
 break_reader = record { most = most_breaks; beyond = TooMany; read = read_line; refused = refusal_at; keep = λ line item. item }
 
 -- the breaks of a text, or its fault
-unfoldable pub read_text : List ℕ → Judged (List Break)
+unfoldable pub read_text : List ℕ → Judgement (List Break)
 read_text text = read_lines break_reader 0 (lines_with_tokens text)

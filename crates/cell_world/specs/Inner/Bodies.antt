@@ -11,9 +11,9 @@ IsKnown ids None = Unit {0}
 IsKnown ids (Some ant) = ant.id < ids
 
 -- the id, if there is one, is below this number
-abbrev pub IsMade : ℕ → Option ℕ → Type 0
-IsMade ids None = Unit {0}
-IsMade ids (Some t) = t < ids
+abbrev pub IsMadeBody : ℕ → Option ℕ → Type 0
+IsMadeBody ids None = Unit {0}
+IsMadeBody ids (Some t) = t < ids
 
 -- the body of id t when the ant that was on the cell is nowhere
 abbrev pub gone : ℕ → Option ℕ → Body → Body

@@ -60,8 +60,8 @@ cell_from bodies tile = record {
 }
 
 -- the id of the ant, where there is one
-abbrev pub id_of : Option Ant → Option ℕ
-id_of ant = option_map (λ (it : Ant). it.id) ant
+abbrev pub stored_id : Option Ant → Option ℕ
+stored_id ant = option_map (λ (it : Ant). it.id) ant
 
 -- what is kept of a cell
 abbrev pub tile_of : Cell → Tile
@@ -72,8 +72,8 @@ abbrev pub grid_from : ℕ → ℕ → List Tile → List Body → Grid
 grid_from width height tiles bodies = record { width = width; height = height; ids = length bodies; cells = map (cell_from bodies) tiles }
 
 -- where each ant stands, by id
-abbrev pub places_of : List Body → List (Option Pos)
-places_of bodies = map (λ (body : Body). body.place) bodies
+abbrev pub stored_places : List Body → List (Option Pos)
+stored_places bodies = map (λ (body : Body). body.place) bodies
 
 -- whether it is the body of an ant of this colour that is alive
 abbrev pub is_living : Colour → Body → Bool

@@ -1,9 +1,9 @@
 // A world as a ground: its tiles in row order, changed together with the bodies of its ants.
 ghost use Rattle.std.specs.Prelude.{◌≡◌, length};
 ghost use Rattle.cell_world.specs.Grid.{world_of};
-ghost use Rattle.cell_world.specs.Inner.Bodies.{IsKnown, IsMade, Moved};
+ghost use Rattle.cell_world.specs.Inner.Bodies.{IsKnown, IsMadeBody, Moved};
 
-use crate::ant::{Ant, Standing};
+use crate::ant::{Ant, PlacedAnt};
 use crate::body::Body;
 use crate::cell::Cell;
 use crate::ground::Ground;
@@ -39,10 +39,10 @@ impl Ground for World {
     }
 
     #[inline]
-    fn ant_of(&mut self, id: u32) -> Option<Standing> {
+    fn ant_of(&mut self, id: u32) -> Option<PlacedAnt> {
         let body = self.bodies[id as usize];
         let place = body.place?;
-        Some(Standing {
+        Some(PlacedAnt {
             place,
             ant: body.ant(id),
         })
@@ -60,7 +60,7 @@ impl Ground for World {
 // Notes in the bodies that at `p` there was the ant of the one id and is the other ant.
 #[inline]
 fn note_change(bodies: &mut [Body], p: Pos, before: Option<u16>, after: Option<Ant>)
-    requires before { IsMade (length bodies.old) before }
+    requires before { IsMadeBody (length bodies.old) before }
     requires after { IsKnown (length bodies.old) after }
     ensures { Moved bodies.old bodies.new p before after }
 {

@@ -25,8 +25,8 @@ use Rattle.command_words.specs.Command.PlainCommand.{ShowCommand, BrainCommand, 
 use Rattle.command_words.specs.Words.{plain}
 
 -- the known command of this first word
-unfoldable pub kind_of : List ℕ → Option CommandKind
-kind_of word = find (λ kind. bytes_eq (word_of kind) word) kinds
+unfoldable pub command_kind_of : List ℕ → Option CommandKind
+command_kind_of word = find (λ kind. bytes_eq (word_of kind) word) kinds
 
 -- the command's option of this word
 unfoldable pub choice_of : CommandKind → List ℕ → Option Choice
@@ -228,7 +228,7 @@ read_kind words (Some kind) = finish kind words (walk kind (drop 1 words) (place
 -- the command that the words are, or the number of the refused word
 abbrev pub read_of : List (List ℕ) → Result PlainCommand ℕ
 read_of [] = Err 1
-read_of (word ∷ words) = read_kind (word ∷ words) (kind_of word)
+read_of (word ∷ words) = read_kind (word ∷ words) (command_kind_of word)
 
 -- what was read, without addresses
 abbrev pub plain_result : Result Command Refused → Result PlainCommand ℕ

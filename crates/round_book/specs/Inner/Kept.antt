@@ -8,7 +8,7 @@ use Rattle.round_book.specs.declared.workspace.Workspace.{Workspace}
 use Rattle.round_book.specs.Inner.Workspace.{AreMarked}
 
 -- a workspace that has an equal world, and in which nothing is written yet
-pub record IsReady (world : Grid) (work : Workspace) : Type 0 where
+pub record IsWorkspaceReady (world : Grid) (work : Workspace) : Type 0 where
   pub same : work.world ≡ world
   pub marks : AreMarked world work.marked.items []
   pub none_written : work.written.items ≡ []
@@ -18,10 +18,10 @@ pub record IsReady (world : Grid) (work : Workspace) : Type 0 where
 pub record IsFieldKept (world : Grid) (minds : Minds) (workspace : Option Workspace) : Type 0 where
   pub fits : Fits (world_of world) minds
   pub sound : AreSound minds
-  pub ready : ForSome workspace (IsReady world)
+  pub ready : ForSome workspace (IsWorkspaceReady world)
 
 -- a turn of the window or its end, a stream that lasts for the turns that are left, and room for what they write and for their verdicts
-pub record IsBookKept (from to next place : ℕ) (work : Workspace) : Type 0 where
+pub record IsWorkspaceKept (from to next place : ℕ) (work : Workspace) : Type 0 where
   pub begun : from ≤ next
   pub left : next ≤ to
   pub ids : to ≤ work.world.ids

@@ -8,10 +8,10 @@ use Rattle.round_workers.specs.declared.board.crew.Laid.{Laid}
 use Rattle.round_workers.specs.declared.board.seat.Board.{Board}
 use Rattle.round_workers.specs.declared.board.seat.Seat.{Seat}
 use Rattle.round_workers.specs.declared.board.worker.Worker.{Worker}
-use Rattle.round_workers.specs.declared.board.view.Place.{Place}
-use Rattle.round_workers.specs.declared.board.view.Place.TheVariants.{Nothing}
+use Rattle.round_workers.specs.declared.board.view.BoardSlot.{BoardSlot}
+use Rattle.round_workers.specs.declared.board.view.BoardSlot.TheVariants.{Nothing}
 use Rattle.round_workers.specs.Inner.BoardPlaces.{look_in}
-use Rattle.round_workers.specs.BoardSeats.{IsSeatOf, basis_of, known, window_of}
+use Rattle.round_workers.specs.BoardSeats.{IsSeatOf, basis_of, known, board_window}
 use Rattle.round_workers.specs.BoardTotals.{once_below}
 use Rattle.round_workers.specs.BoardView.{first_seat}
 use Rattle.round_workers.specs.BoardWorker.{turns_in}
@@ -21,8 +21,8 @@ use Rattle.round_workers.specs.BoardWorker.{turns_in}
 pub record IsHired (board : Board) (worker : Worker) : Type 0 where
   pub seat : IsSeatOf board worker.seat
   pub opened : (known worker.seat).opened ≡ true
-  pub early : AllByRecursion (λ ticket. ticket < turns_in (window_of board)) (known worker.seat).drawn
-  pub room : turns_in (window_of board) ≤ vec_capacity worker.made
+  pub early : AllByRecursion (λ ticket. ticket < turns_in (board_window board)) (known worker.seat).drawn
+  pub room : turns_in (board_window board) ≤ vec_capacity worker.made
 
 -- a worker has worked: its seat is of the board still, with its number
 pub record HasWorked (board : Board) (old new : Worker) : Type 0 where
@@ -48,7 +48,7 @@ pub record IsRoom {A : Type 0} (turns : ℕ) (room : Vec ℕ A) : Type 0 where
 
 -- all that a window takes memory for: a board with its first seat, the lists of the workers, and room for the workers
 pub record IsLaid (for_window : Window) (laid : Laid) : Type 0 where
-  pub window : window_of laid.board ≡ for_window
+  pub window : board_window laid.board ≡ for_window
   pub seat : IsSeatOf laid.board laid.first
   pub first : known laid.first ≡ first_seat (basis_of laid.board)
   pub lists : All (IsRoom (turns_in for_window)) laid.lists.items
@@ -57,7 +57,7 @@ pub record IsLaid (for_window : Window) (laid : Laid) : Type 0 where
   pub wide : vec_len laid.lists ≤ vec_capacity laid.workers
 
 -- the looks of a window that wait in these places, by ticket, are those at its turns
-abbrev pub AreLooks : Window → List Place → Type 0
+abbrev pub AreLooks : Window → List BoardSlot → Type 0
 AreLooks window places =
     (ticket : ℕ) → ticket < turns_in window
     → IfSome (look_in (slice_index_or places ticket Nothing)) (λ look. look ≡ look_for window (window.from + ticket))

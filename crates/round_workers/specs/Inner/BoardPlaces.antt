@@ -4,32 +4,32 @@ use mathlib.Core.Option as maybe
 use lib.ListN.{get_elem?}
 use Rattle.spec_record.specs.Look.{LookValue}
 use Rattle.round_book.specs.Book.{BookValue}
-use Rattle.round_workers.specs.declared.board.view.Place.{Place}
-use Rattle.round_workers.specs.declared.board.view.Place.TheVariants.{Nothing, OneLook, Spare, TheBook}
+use Rattle.round_workers.specs.declared.board.view.BoardSlot.{BoardSlot}
+use Rattle.round_workers.specs.declared.board.view.BoardSlot.TheVariants.{Nothing, OneLook, Spare, TheBook}
 
 -- what the room of the book has in it
-abbrev pub book_room : Place → Option (Option BookValue)
+abbrev pub book_room : BoardSlot → Option (Option BookValue)
 book_room Nothing = None
 book_room (TheBook content) = Some content
 book_room (Spare old) = None
 book_room (OneLook content) = None
 
 -- the book in a place, if it is there
-abbrev pub book_in : Place → Option BookValue
+abbrev pub book_in : BoardSlot → Option BookValue
 book_in Nothing = None
 book_in (TheBook content) = content
 book_in (Spare old) = None
 book_in (OneLook content) = None
 
 -- the look in a place, if one is there
-abbrev pub look_in : Place → Option LookValue
+abbrev pub look_in : BoardSlot → Option LookValue
 look_in Nothing = None
 look_in (TheBook content) = None
 look_in (Spare old) = None
 look_in (OneLook content) = content
 
 -- what the room of a look has in it
-abbrev pub look_room : Place → Option (Option LookValue)
+abbrev pub look_room : BoardSlot → Option (Option LookValue)
 look_room Nothing = None
 look_room (TheBook content) = None
 look_room (Spare old) = Some old
@@ -41,7 +41,7 @@ pub record AreTaken (n count : ℕ) (filled : List Bool) : Type 0 where
   pub there : (k : ℕ) → n ≤ k → k < count → slice_index_or filled k false ≡ true
 
 -- the slots with which a board begins: the book's room without the book, and a look's for each turn
-pub record AreBare (turns : ℕ) (slots : List Place) : Type 0 where
+pub record AreBare (turns : ℕ) (slots : List BoardSlot) : Type 0 where
   pub long : length slots ≡ turns + 1
   pub book : get_elem? slots 0 ≡ maybe.some (TheBook None)
   pub spares : (j : ℕ) → j < turns → (old : Option LookValue) × (get_elem? slots (j + 1) ≡ maybe.some (Spare old))

@@ -1,11 +1,11 @@
 // The book of a board: it is opened, taken and given.
 ghost use Rattle.std.specs.Prelude.{◌≡◌, ◌+◌, ◌≤◌, ◌∷◌, true, false, Some, IfSome, IfNone, IsSomeAnd, OnSome};
 ghost use Rattle.atomic_table.specs.Table.{rest};
-ghost use Rattle.round_workers.specs.declared.board.view.Place.TheVariants.{Nothing};
+ghost use Rattle.round_workers.specs.declared.board.view.BoardSlot.TheVariants.{Nothing};
 ghost use Rattle.round_workers.specs.declared.board.view.Try.TheVariants.{OfBook};
 ghost use Rattle.round_workers.specs.BoardPlays.{after_try, has_seen, with_book, without_book};
 ghost use Rattle.round_workers.specs.BoardRule.{StandsFor};
-ghost use Rattle.round_workers.specs.BoardSeats.{IsSeatOf, basis_of, known, window_of};
+ghost use Rattle.round_workers.specs.BoardSeats.{IsSeatOf, basis_of, known, board_window};
 ghost use Rattle.round_workers.specs.BoardView.{book_out};
 ghost use Rattle.round_workers.specs.BoardWorker.{IsLentFor, IsSameButTook};
 
@@ -13,7 +13,7 @@ use crate::board::law::{GivesBook, Opened, Opens, TakesBook};
 use crate::board::places::book_room;
 use crate::board::room::Room;
 use crate::board::seat::{Board, Seat};
-use crate::board::view::{Place, View};
+use crate::board::view::{BoardSlot, View};
 use round_book::{Book, Field};
 
 // The word of the book, and what it says (`book_home` and `book_out` of `BoardView`).
@@ -33,17 +33,17 @@ impl Board {
         requires board { IsSeatOf self.now seat.old }
         requires first { (known seat.old).number ≡ 0 }
         requires unopened { (known seat.old).opened ≡ false }
-        requires stands { StandsFor (window_of self.now) book }
+        requires stands { StandsFor (board_window self.now) book }
         requires begins { book.next ≡ book.from }
         ensures board { IsSeatOf self.now seat.new }
         ensures opened { known seat.new ≡ has_seen (known seat.old) }
     {
         let table = &self.table.shared;
         table.compare_exchange::<Opens>(&mut seat.hand, WORD, HOME, OUT);
-        let place = table.exchange(&mut seat.hand, SLOT, Place::Nothing);
+        let place = table.exchange(&mut seat.hand, SLOT, BoardSlot::Nothing);
         let mut room = book_room(place);
         room.put(book);
-        table.exchange(&mut seat.hand, SLOT, Place::TheBook(room));
+        table.exchange(&mut seat.hand, SLOT, BoardSlot::TheBook(room));
         table.swap::<Opened>(&mut seat.hand, WORD, HOME);
     }
 
@@ -55,7 +55,7 @@ impl Board {
         requires opened { (known seat.old).opened ≡ true }
         requires free { (known seat.old).holds ≡ false }
         ensures board { IsSeatOf self.now seat.new }
-        ensures stands { IfSome result (StandsFor (window_of self.now)) }
+        ensures stands { IfSome result (StandsFor (board_window self.now)) }
         ensures taken { OnSome result (known seat.new ≡ with_book (known seat.old)) }
         ensures held_by_another { IfNone result (known seat.new ≡ after_try (known seat.old) (OfBook book_out)) }
     {
@@ -65,7 +65,7 @@ impl Board {
         let book = room.take();
         self.table
             .shared
-            .exchange(&mut seat.hand, SLOT, Place::TheBook(room));
+            .exchange(&mut seat.hand, SLOT, BoardSlot::TheBook(room));
         book
     }
 
@@ -73,14 +73,14 @@ impl Board {
     pub fn give_book(&self, seat: &mut Seat, book: Book)
         requires board { IsSeatOf self.now seat.old }
         requires holds { (known seat.old).holds ≡ true }
-        requires stands { StandsFor (window_of self.now) book }
+        requires stands { StandsFor (board_window self.now) book }
         ensures board { IsSeatOf self.now seat.new }
         ensures given { known seat.new ≡ without_book (known seat.old) }
     {
         let place = self
             .table
             .shared
-            .exchange(&mut seat.hand, SLOT, Place::Nothing);
+            .exchange(&mut seat.hand, SLOT, BoardSlot::Nothing);
         let mut room = book_room(place);
         room.put(book);
         self.end_book(&mut seat.hand, room);
@@ -93,7 +93,7 @@ impl Board {
         requires board { IsSeatOf self.now seat.old }
         requires opened { (known seat.old).opened ≡ true }
         requires free { (known seat.old).holds ≡ false }
-        requires field { IsLentFor field.now (window_of self.now) }
+        requires field { IsLentFor field.now (board_window self.now) }
         ensures board { IsSeatOf self.now seat.new }
         ensures same { IsSameButTook (known seat.old) (known seat.new) }
         ensures tried { (known seat.old).tries + 1 ≤ (known seat.new).tries }
@@ -107,13 +107,13 @@ impl Board {
 
     // Tries to get the room of the book, with the book.
     #[inline]
-    fn begin_book(&self, hand: &mut atomic_table::Seat<Place, View>) -> Option<Room<Book>>
+    fn begin_book(&self, hand: &mut atomic_table::Seat<BoardSlot, View>) -> Option<Room<Book>>
         requires table { hand.old.table_id ≡ self.now.table.shared.table_id }
         requires knows { hand.old.me.0.about ≡ Some (basis_of self.now) }
         requires opened { hand.old.me.0.opened ≡ true }
         requires free { hand.old.me.0.holds ≡ false }
         ensures table { hand.new.table_id ≡ hand.old.table_id }
-        ensures stands { IfSome result (λ room. IsSomeAnd room (StandsFor (window_of self.now))) }
+        ensures stands { IfSome result (λ room. IsSomeAnd room (StandsFor (board_window self.now))) }
         ensures takes { OnSome result (hand.new.me ≡ (with_book hand.old.me.0, (0, Nothing) ∷ hand.old.me.1)) }
         ensures held_by_another { IfNone result (hand.new.me ≡ (after_try hand.old.me.0 (OfBook book_out), hand.old.me.1)) }
     {
@@ -122,22 +122,22 @@ impl Board {
         if found != HOME {
             return None;
         }
-        Some(book_room(table.exchange(hand, SLOT, Place::Nothing)))
+        Some(book_room(table.exchange(hand, SLOT, BoardSlot::Nothing)))
     }
 
     // Gives the room back, with the book.
     #[inline]
-    fn end_book(&self, hand: &mut atomic_table::Seat<Place, View>, room: Room<Book>)
+    fn end_book(&self, hand: &mut atomic_table::Seat<BoardSlot, View>, room: Room<Book>)
         requires table { hand.old.table_id ≡ self.now.table.shared.table_id }
         requires knows { hand.old.me.0.about ≡ Some (basis_of self.now) }
         requires holds { hand.old.me.0.holds ≡ true }
         requires out { hand.old.me.1 ≡ (0, Nothing) ∷ rest hand.old.me.1 }
-        requires stands { IsSomeAnd room (StandsFor (window_of self.now)) }
+        requires stands { IsSomeAnd room (StandsFor (board_window self.now)) }
         ensures table { hand.new.table_id ≡ hand.old.table_id }
         ensures gives { hand.new.me ≡ (without_book hand.old.me.0, rest hand.old.me.1) }
     {
         let table = &self.table.shared;
-        table.exchange(hand, SLOT, Place::TheBook(room));
+        table.exchange(hand, SLOT, BoardSlot::TheBook(room));
         table.swap::<GivesBook>(hand, WORD, HOME);
     }
 }

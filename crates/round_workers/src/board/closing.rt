@@ -2,18 +2,18 @@
 ghost use Rattle.std.specs.Prelude.{◌≡◌, ◌+◌, ◌-◌, ◌<◌, ◌≤◌, ℕ, true, false, [], length, map, slice_index_or, None};
 ghost use Rattle.std.specs.Mem.Slots.{slots_filled, slots_items, slots_len};
 ghost use Rattle.std.specs.Vec.{vec_capacity, vec_len};
-ghost use Rattle.round_workers.specs.declared.board.view.Place.TheVariants.{Nothing};
+ghost use Rattle.round_workers.specs.declared.board.view.BoardSlot.TheVariants.{Nothing};
 ghost use mathlib.Core.Option.{some};
 ghost use lib.ListN.{get_elem?};
 ghost use Rattle.round_book.specs.Machine.{times};
 ghost use Rattle.round_workers.specs.Inner.BoardPlaces.{AreTaken, look_in};
 ghost use Rattle.round_workers.specs.BoardRule.{StandsFor};
 ghost use Rattle.round_workers.specs.BoardTotals.{once_below};
-ghost use Rattle.round_workers.specs.BoardSeats.{IsSeatOf, basis_of, known, left_look, window_of};
+ghost use Rattle.round_workers.specs.BoardSeats.{IsSeatOf, basis_of, known, left_look, board_window};
 
 use crate::board::places::{book_in, look_out_of};
 use crate::board::seat::{Board, Seat};
-use crate::board::view::Place;
+use crate::board::view::BoardSlot;
 use round_book::Book;
 use spec_record::Look;
 use std::alloc::Global;
@@ -39,10 +39,11 @@ impl Board {
         requires whole { (k : ℕ) → k ≤ (known seat).made → 1 ≤ times k (known seat).parts }
         requires opened { (known seat).opened ≡ true }
         requires free { (known seat).holds ≡ false }
-        ensures book { StandsFor (window_of self) result.book }
+        ensures book { StandsFor (board_window self) result.book }
         ensures drawn { (k : ℕ) → times k (known seat).drawn ≡ once_below k result.drawn }
         ensures turns { length result.looks.items ≡ (basis_of self).to - (basis_of self).from }
-        ensures looks { (k : ℕ) → k < (basis_of self).to - (basis_of self).from → slice_index_or result.looks.items k None ≡ left_look (window_of self) (known seat) k }
+        ensures looks { (k : ℕ) → k < (basis_of self).to - (basis_of self).from
+            → slice_index_or result.looks.items k None ≡ left_look (board_window self) (known seat) k }
     {
         let Ended {
             book,
@@ -64,10 +65,11 @@ impl Board {
         requires whole { (k : ℕ) → k ≤ (known seat).made → 1 ≤ times k (known seat).parts }
         requires opened { (known seat).opened ≡ true }
         requires free { (known seat).holds ≡ false }
-        ensures book { StandsFor (window_of self) result.book }
+        ensures book { StandsFor (board_window self) result.book }
         ensures drawn { (k : ℕ) → times k (known seat).drawn ≡ once_below k result.drawn }
         ensures turns { length result.places.items ≡ (basis_of self).to - (basis_of self).from }
-        ensures looks { (k : ℕ) → k < (basis_of self).to - (basis_of self).from → look_in (slice_index_or result.places.items k Nothing) ≡ left_look (window_of self) (known seat) k }
+        ensures looks { (k : ℕ) → k < (basis_of self).to - (basis_of self).from
+            → look_in (slice_index_or result.places.items k Nothing) ≡ left_look (board_window self) (known seat) k }
         ensures bare { result.room.items ≡ [] }
         ensures roomy { (basis_of self).to - (basis_of self).from ≤ vec_capacity result.room }
     {
@@ -101,13 +103,13 @@ impl Board {
 #[derive(Drop)]
 pub(crate) struct Ended {
     pub(crate) book: Book,
-    pub(crate) places: Vec<Place>,
+    pub(crate) places: Vec<BoardSlot>,
     pub(crate) room: Vec<Option<Look>>,
     pub(crate) drawn: u32,
 }
 
 // The looks in these places, in order, in a room for them.
-fn looks_out_of(places: Vec<Place>, mut room: Vec<Option<Look>>) -> Vec<Option<Look>>
+fn looks_out_of(places: Vec<BoardSlot>, mut room: Vec<Option<Look>>) -> Vec<Option<Look>>
     requires bare { room.items ≡ [] }
     requires roomy { vec_len places ≤ vec_capacity room }
     ensures { result.items ≡ map look_in places.items }
@@ -120,7 +122,7 @@ fn looks_out_of(places: Vec<Place>, mut room: Vec<Option<Look>>) -> Vec<Option<L
 }
 
 // Takes what lies in a slot, where those before it are taken.
-fn take_slot(closed: &mut atomic_table::Closed<Place, Global>, i: usize) -> Place
+fn take_slot(closed: &mut atomic_table::Closed<BoardSlot, Global>, i: usize) -> BoardSlot
     requires inside { i < slots_len closed.old.slots }
     requires taken { AreTaken i (slots_len closed.old.slots) (slots_filled closed.old.slots) }
     ensures value { get_elem? (slots_items closed.old.slots) i ≡ some result }

@@ -7,20 +7,19 @@ ghost use Rattle.round_workers.specs.declared.board.worker.Worker.{Worker};
 ghost use Rattle.round_workers.specs.Inner.BoardCrew.{AreLooks, HasWorked, IsHired, IsLaid, IsManned, IsRoom};
 ghost use Rattle.round_workers.specs.BoardPlays.{newcomer};
 ghost use Rattle.round_workers.specs.BoardRule.{StandsFor};
-ghost use Rattle.round_workers.specs.BoardSeats.{IsSeatOf, known, window_of};
+ghost use Rattle.round_workers.specs.BoardSeats.{IsSeatOf, known, board_window};
 ghost use Rattle.round_workers.specs.BoardWorker.{IsLentFor, guesses_for, turns_in};
 
-use crate::alone::play_alone;
 use crate::board::closing::Ended;
 use crate::board::looking::look_at;
-use crate::board::places::{look_in, room_of};
+use crate::board::places::{keep, look_in};
 use crate::board::room::Room;
 use crate::board::seat::{Board, Seat};
-use crate::board::view::Place;
+use crate::board::view::BoardSlot;
 use crate::board::worker::Worker;
 use ant_base::Gate;
 use hex_geometry::OutOfMemory;
-use round_book::{Book, Counts, Field, advance};
+use round_book::{Book, Counts, Field, advance, play_window};
 use spec_record::{Look, guesses};
 use std::alloc::Global;
 use std::marker::Model;
@@ -131,7 +130,7 @@ fn play<R: Threads + Sync, G: Gate>(
     ensures unchanged { OnErr result (field.new ≡ field.old) }
 {
     if workers.min(to - from) <= 1 {
-        play_alone(gate, alloc, field, from, to)
+        play_window(gate, alloc, field, from, to)
     } else {
         play_on_board(rt, gate, alloc, rooms, workers, field, from, to)
     }
@@ -276,7 +275,7 @@ fn settle<R: Threads + Sync, G: Gate>(
 fn hire(board: &Board, first: &mut Seat, workers: &mut Vec<Worker>, mut lists: Vec<Vec<u32>>)
     requires manned { IsManned board.now first.old workers.old.items }
     requires hired { All (IsHired board.now) workers.old.items }
-    requires lists { All (IsRoom (turns_in (window_of board.now))) lists.items }
+    requires lists { All (IsRoom (turns_in (board_window board.now))) lists.items }
     requires few { (known first.old).made + vec_len lists ≤ 16 }
     requires counted { vec_len workers.old ≤ (known first.old).made }
     requires wide { vec_len workers.old + vec_len lists ≤ vec_capacity workers.old }
@@ -316,8 +315,8 @@ fn work_all<R: Threads + Sync, G: Gate>(
 )
     requires threads { 0 < threads }
     requires hired { All (IsHired board.now) workers.old }
-    requires field { IsLentFor field.now (window_of board.now) }
-    requires guesses { guesses.now ≡ guesses_for (window_of board.now) }
+    requires field { IsLentFor field.now (board_window board.now) }
+    requires guesses { guesses.now ≡ guesses_for (board_window board.now) }
     ensures worked { (i : ℕ) (d : Worker) → i < length workers.old → HasWorked board.now (slice_index_or workers.old i d) (slice_index_or workers.new i d) }
     ensures len { length workers.new ≡ length workers.old }
 {
@@ -327,8 +326,8 @@ fn work_all<R: Threads + Sync, G: Gate>(
         threads,
         &|_: usize, worker: &mut Worker|
             requires hired { IsHired board.now worker.now }
-            requires field { IsLentFor field.now (window_of board.now) }
-            requires guesses { guesses.now ≡ guesses_for (window_of board.now) }
+            requires field { IsLentFor field.now (board_window board.now) }
+            requires guesses { guesses.now ≡ guesses_for (board_window board.now) }
             ensures { HasWorked board.entry.now worker.entry.now worker.exit.now }
         { worker.work(board, field, guesses, gate) },
     );
@@ -397,21 +396,12 @@ fn settle_left(
     book
 }
 
-// Keeps the rooms of looks in these places for another window, as far as there is memory for their list.
-fn keep(rooms: &mut Vec<Room<Look>>, mut places: Vec<Place>) {
-    while let Some(place) = places.pop() {
-        if let Some(room) = room_of(place) {
-            let _ = rooms.push(room);
-        }
-    }
-}
-
 // Settles the next turn.
 fn settle_next(
     book: &mut Book,
     field: &Field<'_>,
     guesses: &[u64],
-    places: &[Place],
+    places: &[BoardSlot],
     from: u32,
     to: u32,
 )
@@ -431,5 +421,5 @@ fn settle_next(
     match look_in(&places[ticket as usize]) {
         Some(look) => advance(book, field, look),
         None => advance(book, field, &look_at(field, guesses, from, to, ticket)),
-    }
+    };
 }

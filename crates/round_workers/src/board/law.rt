@@ -1,10 +1,10 @@
 // The rule of a board, and what its steps tell. These types are for proofs alone.
-use crate::board::view::{Basis, Place, View};
+use crate::board::view::{Basis, BoardSlot, View};
 use atomic_table::{Join, Play, Split, TableRule};
 
 pub(crate) struct Law;
 
-impl TableRule<Place, View, Basis> for Law {
+impl TableRule<BoardSlot, View, Basis> for Law {
     ghost use Rattle.round_workers.specs.BoardRule.{IsKept};
     ghost use Rattle.round_workers.specs.BoardView.{first_seat};
 
@@ -15,7 +15,7 @@ impl TableRule<Place, View, Basis> for Law {
 
 pub(crate) struct Draws;
 
-impl Play<Place, View> for Draws {
+impl Play<BoardSlot, View> for Draws {
     ghost use Rattle.round_workers.specs.BoardPlays.{tells_draw};
 
     ghost then = { tells_draw };
@@ -34,17 +34,17 @@ impl Split<View> for Splits {
 pub(crate) struct Joins;
 
 impl Join<View> for Joins {
-    ghost use Rattle.round_workers.specs.BoardPlays.{joined};
+    ghost use Rattle.round_workers.specs.BoardPlays.{views_joined};
     ghost use Rattle.round_workers.specs.BoardView.{spent_seat};
 
-    ghost both = { joined };
+    ghost both = { views_joined };
 
     ghost spent = { spent_seat };
 }
 
 pub(crate) struct Opens;
 
-impl Play<Place, View> for Opens {
+impl Play<BoardSlot, View> for Opens {
     ghost use Rattle.round_workers.specs.BoardPlays.{tells_open};
 
     ghost then = { tells_open };
@@ -52,7 +52,7 @@ impl Play<Place, View> for Opens {
 
 pub(crate) struct Opened;
 
-impl Play<Place, View> for Opened {
+impl Play<BoardSlot, View> for Opened {
     ghost use Rattle.round_workers.specs.BoardPlays.{tells_opened};
 
     ghost then = { tells_opened };
@@ -60,7 +60,7 @@ impl Play<Place, View> for Opened {
 
 pub(crate) struct TakesBook;
 
-impl Play<Place, View> for TakesBook {
+impl Play<BoardSlot, View> for TakesBook {
     ghost use Rattle.round_workers.specs.BoardPlays.{tells_take_book};
 
     ghost then = { tells_take_book };
@@ -68,7 +68,7 @@ impl Play<Place, View> for TakesBook {
 
 pub(crate) struct GivesBook;
 
-impl Play<Place, View> for GivesBook {
+impl Play<BoardSlot, View> for GivesBook {
     ghost use Rattle.round_workers.specs.BoardPlays.{tells_give_book};
 
     ghost then = { tells_give_book };
@@ -76,7 +76,7 @@ impl Play<Place, View> for GivesBook {
 
 pub(crate) struct Puts;
 
-impl Play<Place, View> for Puts {
+impl Play<BoardSlot, View> for Puts {
     ghost use Rattle.round_workers.specs.BoardPlays.{tells_put};
 
     ghost then = { tells_put };
@@ -84,7 +84,7 @@ impl Play<Place, View> for Puts {
 
 pub(crate) struct HasPut;
 
-impl Play<Place, View> for HasPut {
+impl Play<BoardSlot, View> for HasPut {
     ghost use Rattle.round_workers.specs.BoardPlays.{tells_has_put};
 
     ghost then = { tells_has_put };
@@ -92,7 +92,7 @@ impl Play<Place, View> for HasPut {
 
 pub(crate) struct TakesLook;
 
-impl Play<Place, View> for TakesLook {
+impl Play<BoardSlot, View> for TakesLook {
     ghost use Rattle.round_workers.specs.BoardPlays.{tells_take_look};
 
     ghost then = { tells_take_look };
@@ -100,7 +100,7 @@ impl Play<Place, View> for TakesLook {
 
 pub(crate) struct HasTaken;
 
-impl Play<Place, View> for HasTaken {
+impl Play<BoardSlot, View> for HasTaken {
     ghost use Rattle.round_workers.specs.BoardPlays.{tells_has_taken};
 
     ghost then = { tells_has_taken };
@@ -108,7 +108,7 @@ impl Play<Place, View> for HasTaken {
 
 pub(crate) struct SeesEachOnce;
 
-impl Play<Place, View> for SeesEachOnce {
+impl Play<BoardSlot, View> for SeesEachOnce {
     ghost use Rattle.round_workers.specs.BoardPlays.{tells_each_once};
 
     ghost then = { tells_each_once };

@@ -8,17 +8,17 @@ ghost use Rattle.round_book.specs.Book.{IsSameWindow, StandsOn};
 ghost use Rattle.round_book.specs.Machine.{times};
 ghost use Rattle.round_book.specs.Window.{guess_for, look_for};
 ghost use Rattle.round_workers.specs.declared.board.view.Phase.TheVariants.{Resting, Putting, Taking};
-ghost use Rattle.round_workers.specs.declared.board.view.Place.TheVariants.{Nothing};
+ghost use Rattle.round_workers.specs.declared.board.view.BoardSlot.TheVariants.{Nothing};
 ghost use Rattle.round_workers.specs.BoardPlays.{has_put, has_taken, puts_now, takes_now, took_look};
 ghost use Rattle.round_workers.specs.BoardRule.{StandsFor, turns_of};
-ghost use Rattle.round_workers.specs.BoardSeats.{IsMiss, IsSeatOf, basis_of, known, window_of};
+ghost use Rattle.round_workers.specs.BoardSeats.{IsMiss, IsSeatOf, basis_of, known, board_window};
 ghost use Rattle.round_workers.specs.BoardWorker.{IsLentFor};
 
 use crate::board::law::{HasPut, HasTaken, Puts, TakesLook};
 use crate::board::places::look_room;
 use crate::board::room::Room;
 use crate::board::seat::{Board, Seat};
-use crate::board::view::{Place, View};
+use crate::board::view::{BoardSlot, View};
 use ant_random::Stream;
 use round_book::{Book, Field, advance};
 use spec_record::Look;
@@ -46,7 +46,7 @@ impl Board {
         requires before_to { look.turn < (basis_of self.now).to }
         requires drew { 1 ≤ times (look.turn - (basis_of self.now).from) (known seat.old).drawn }
         requires unput { times (look.turn - (basis_of self.now).from) (known seat.old).put ≡ 0 }
-        requires look { look ≡ look_for (window_of self.now) look.turn }
+        requires look { look ≡ look_for (board_window self.now) look.turn }
         ensures board { IsSeatOf self.now seat.new }
         ensures put { known seat.new ≡ has_put (known seat.old) (look.turn - (basis_of self.now).from) }
     {
@@ -61,7 +61,7 @@ impl Board {
         requires ticket { ticket < turns_of (basis_of self.now) }
         requires drew { 1 ≤ times ticket (known seat.old).drawn }
         requires unput { times ticket (known seat.old).put ≡ 0 }
-        requires look { look ≡ look_for (window_of self.now) ((basis_of self.now).from + ticket) }
+        requires look { look ≡ look_for (board_window self.now) ((basis_of self.now).from + ticket) }
         ensures board { IsSeatOf self.now seat.new }
         ensures put { known seat.new ≡ has_put (known seat.old) ticket }
     {
@@ -80,12 +80,12 @@ impl Board {
         ticket: u32,
     )
         requires board { IsSeatOf self.now seat.old }
-        requires field { IsLentFor field.now (window_of self.now) }
+        requires field { IsLentFor field.now (board_window self.now) }
         requires ticket { ticket < turns_of (basis_of self.now) }
         requires drew { 1 ≤ times ticket (known seat.old).drawn }
         requires unput { times ticket (known seat.old).put ≡ 0 }
-        requires seed { stream.old.seed ≡ (window_of self.now).seed }
-        requires guess { stream.old.place ≡ guess_for (window_of self.now) ((basis_of self.now).from + ticket) }
+        requires seed { stream.old.seed ≡ (board_window self.now).seed }
+        requires guess { stream.old.place ≡ guess_for (board_window self.now) ((basis_of self.now).from + ticket) }
         ensures board { IsSeatOf self.now seat.new }
         ensures put { known seat.new ≡ has_put (known seat.old) ticket }
         ensures seed { stream.new.seed ≡ stream.old.seed }
@@ -98,7 +98,7 @@ impl Board {
 
     // Gets the room of the look of a ticket, which has no look.
     #[inline]
-    fn begin_put(&self, hand: &mut atomic_table::Seat<Place, View>, ticket: usize) -> Room<Look>
+    fn begin_put(&self, hand: &mut atomic_table::Seat<BoardSlot, View>, ticket: usize) -> Room<Look>
         requires table { hand.old.table_id ≡ self.now.table.shared.table_id }
         requires knows { hand.old.me.0.about ≡ Some (basis_of self.now) }
         requires ticket { ticket < turns_of (basis_of self.now) }
@@ -110,23 +110,28 @@ impl Board {
     {
         let table = &self.table.shared;
         table.compare_exchange::<Puts>(hand, ticket + FIRST_WORD, EMPTY, IN_HAND);
-        look_room(table.exchange(hand, ticket + FIRST_SLOT, Place::Nothing))
+        look_room(table.exchange(hand, ticket + FIRST_SLOT, BoardSlot::Nothing))
     }
 
     // Gives the room back, with the look of the ticket.
     #[inline]
-    fn end_put(&self, hand: &mut atomic_table::Seat<Place, View>, ticket: usize, room: Room<Look>)
+    fn end_put(
+        &self,
+        hand: &mut atomic_table::Seat<BoardSlot, View>,
+        ticket: usize,
+        room: Room<Look>,
+    )
         requires table { hand.old.table_id ≡ self.now.table.shared.table_id }
         requires knows { hand.old.me.0.about ≡ Some (basis_of self.now) }
         requires ticket { ticket < turns_of (basis_of self.now) }
         requires putting { hand.old.me.0.phase ≡ Putting ticket }
         requires out { hand.old.me.1 ≡ (ticket + 1, Nothing) ∷ rest hand.old.me.1 }
-        requires look { room ≡ Some (look_for (window_of self.now) ((basis_of self.now).from + ticket)) }
+        requires look { room ≡ Some (look_for (board_window self.now) ((basis_of self.now).from + ticket)) }
         ensures table { hand.new.table_id ≡ hand.old.table_id }
         ensures has_put { hand.new.me ≡ (has_put hand.old.me.0 ticket, rest hand.old.me.1) }
     {
         let table = &self.table.shared;
-        table.exchange(hand, ticket + FIRST_SLOT, Place::OneLook(room));
+        table.exchange(hand, ticket + FIRST_SLOT, BoardSlot::OneLook(room));
         table.swap::<HasPut>(hand, ticket + FIRST_WORD, FULL);
     }
 
@@ -139,7 +144,7 @@ impl Board {
         requires after_from { (basis_of self.now).from ≤ turn }
         requires before_to { turn < (basis_of self.now).to }
         ensures board { IsSeatOf self.now seat.new }
-        ensures look { IfSome result (λ look. look ≡ look_for (window_of self.now) turn) }
+        ensures look { IfSome result (λ look. look ≡ look_for (board_window self.now) turn) }
         ensures taken { OnSome result (known seat.new ≡ took_look (known seat.old) (turn - (basis_of self.now).from)) }
         ensures not_full { IfNone result (IsMiss (turn - (basis_of self.now).from) (known seat.old) (known seat.new)) }
     {
@@ -152,7 +157,7 @@ impl Board {
         requires board { IsSeatOf self.now seat.old }
         requires ticket { ticket < turns_of (basis_of self.now) }
         ensures board { IsSeatOf self.now seat.new }
-        ensures look { IfSome result (λ look. look ≡ look_for (window_of self.now) ((basis_of self.now).from + ticket)) }
+        ensures look { IfSome result (λ look. look ≡ look_for (board_window self.now) ((basis_of self.now).from + ticket)) }
         ensures taken { OnSome result (known seat.new ≡ took_look (known seat.old) ticket) }
         ensures not_full { IfNone result (IsMiss ticket (known seat.old) (known seat.new)) }
     {
@@ -168,7 +173,7 @@ impl Board {
     #[inline]
     pub(crate) fn settle_look(
         &self,
-        hand: &mut atomic_table::Seat<Place, View>,
+        hand: &mut atomic_table::Seat<BoardSlot, View>,
         field: &Field<'_>,
         book: &mut Book,
     ) -> bool
@@ -176,12 +181,12 @@ impl Board {
         requires knows { hand.old.me.0.about ≡ Some (basis_of self.now) }
         requires rests { hand.old.me.0.phase ≡ Resting }
         requires holds { hand.old.me.0.holds ≡ true }
-        requires field { IsLentFor field.now (window_of self.now) }
-        requires stands { StandsFor (window_of self.now) book.old }
+        requires field { IsLentFor field.now (board_window self.now) }
+        requires stands { StandsFor (board_window self.now) book.old }
         requires left { book.old.next < (basis_of self.now).to }
         ensures table { hand.new.table_id ≡ hand.old.table_id }
         ensures out { hand.new.me.1 ≡ hand.old.me.1 }
-        ensures stands { StandsFor (window_of self.now) book.new }
+        ensures stands { StandsFor (board_window self.now) book.new }
         ensures taken { result ≡ true → hand.new.me.0 ≡ took_look hand.old.me.0 (book.old.next - (basis_of self.now).from) }
         ensures next { result ≡ true → book.new.next ≡ book.old.next + 1 }
         ensures not_full { result ≡ false → IsMiss (book.old.next - (basis_of self.now).from) hand.old.me.0 hand.new.me.0 }
@@ -199,7 +204,7 @@ impl Board {
     #[inline]
     fn begin_take(
         &self,
-        hand: &mut atomic_table::Seat<Place, View>,
+        hand: &mut atomic_table::Seat<BoardSlot, View>,
         ticket: usize,
     ) -> Option<Room<Look>>
         requires table { hand.old.table_id ≡ self.now.table.shared.table_id }
@@ -207,7 +212,7 @@ impl Board {
         requires ticket { ticket < turns_of (basis_of self.now) }
         requires rests { hand.old.me.0.phase ≡ Resting }
         ensures table { hand.new.table_id ≡ hand.old.table_id }
-        ensures look { IfSome result (λ room. room ≡ Some (look_for (window_of self.now) ((basis_of self.now).from + ticket))) }
+        ensures look { IfSome result (λ room. room ≡ Some (look_for (board_window self.now) ((basis_of self.now).from + ticket))) }
         ensures takes { OnSome result (hand.new.me ≡ (takes_now hand.old.me.0 ticket, (ticket + 1, Nothing) ∷ hand.old.me.1)) }
         ensures not_full { IfNone result (IsMiss ticket hand.old.me.0 hand.new.me.0) }
         ensures nothing { IfNone result (hand.new.me.1 ≡ hand.old.me.1) }
@@ -217,12 +222,17 @@ impl Board {
         if found != FULL {
             return None;
         }
-        Some(look_room(table.exchange(hand, ticket + FIRST_SLOT, Place::Nothing)))
+        Some(look_room(table.exchange(hand, ticket + FIRST_SLOT, BoardSlot::Nothing)))
     }
 
     // Gives the room back, in which no look waits any more.
     #[inline]
-    fn end_take(&self, hand: &mut atomic_table::Seat<Place, View>, ticket: usize, room: Room<Look>)
+    fn end_take(
+        &self,
+        hand: &mut atomic_table::Seat<BoardSlot, View>,
+        ticket: usize,
+        room: Room<Look>,
+    )
         requires table { hand.old.table_id ≡ self.now.table.shared.table_id }
         requires knows { hand.old.me.0.about ≡ Some (basis_of self.now) }
         requires ticket { ticket < turns_of (basis_of self.now) }
@@ -232,7 +242,7 @@ impl Board {
         ensures has_taken { hand.new.me ≡ (has_taken hand.old.me.0 ticket, rest hand.old.me.1) }
     {
         let table = &self.table.shared;
-        table.exchange(hand, ticket + FIRST_SLOT, Place::Spare(room));
+        table.exchange(hand, ticket + FIRST_SLOT, BoardSlot::Spare(room));
         table.swap::<HasTaken>(hand, ticket + FIRST_WORD, EMPTIED);
     }
 }
@@ -250,5 +260,5 @@ fn settle_by(book: &mut Book, field: &Field<'_>, room: &Room<Look>)
     match room.content() {
         Some(look) => advance(book, field, look),
         None => unreachable!(),
-    }
+    };
 }

@@ -4,7 +4,7 @@ ghost use Rattle.std.specs.Vec.{vec_capacity};
 ghost use Rattle.round_workers.specs.BoardView.{IsAtRest};
 
 use crate::board::law::Law;
-use crate::board::view::{Basis, Place, View};
+use crate::board::view::{Basis, BoardSlot, View};
 use atomic_table::Table;
 use spec_record::Look;
 use std::alloc::Global;
@@ -12,15 +12,15 @@ use std::alloc::Global;
 /// What a thread steps with on a board, and what it knows.
 #[derive(Drop)]
 pub struct Seat {
-    pub(crate) hand: atomic_table::Seat<Place, View>,
+    pub(crate) hand: atomic_table::Seat<BoardSlot, View>,
     ghost at_rest: { IsAtRest hand.me },
 }
 
 /// The tickets, the book and the looks of one window of a field, passed between threads.
 #[derive(Drop)]
 pub struct Board {
-    pub(crate) table: Table<Place, View, Basis, Law, Global>,
-    pub(crate) places: Vec<Place>,
+    pub(crate) table: Table<BoardSlot, View, Basis, Law, Global>,
+    pub(crate) places: Vec<BoardSlot>,
     pub(crate) room: Vec<Option<Look>>,
     pub(crate) from: u32,
     pub(crate) to: u32,

@@ -10,7 +10,7 @@ use std::snapshot::Snapshot;
 
 /// What lies in a slot of a board: the room of the book of the board's window, or the room of the look at one turn.
 #[derive(Drop)]
-pub enum Place {
+pub enum BoardSlot {
     /// Nothing: a seat has the room in hand.
     Nothing,
     /// The room of the book, with the book or without it.

@@ -6,14 +6,14 @@ ghost use Rattle.round_book.specs.Machine.{times};
 ghost use Rattle.round_book.specs.Window.{look_for};
 ghost use Rattle.round_workers.specs.declared.board.view.Phase.TheVariants.{Resting};
 ghost use Rattle.round_workers.specs.BoardRule.{StandsFor};
-ghost use Rattle.round_workers.specs.BoardSeats.{IsSeatOf, basis_of, known, window_of};
+ghost use Rattle.round_workers.specs.BoardSeats.{IsSeatOf, basis_of, known, board_window};
 ghost use Rattle.round_workers.specs.BoardTotals.{late_among};
 ghost use Rattle.round_workers.specs.BoardWorker.{HasServed, IsLentFor, IsSameButTook, IsWorker, guesses_for, turns_in};
 
 use crate::board::looking::reach;
 use crate::board::room::Room;
 use crate::board::seat::{Board, Seat};
-use crate::board::view::{Place, View};
+use crate::board::view::{BoardSlot, View};
 use ant_base::Gate;
 use ant_random::Stream;
 use round_book::{Book, Field};
@@ -38,15 +38,15 @@ impl Worker {
     pub fn work<G: Gate>(&mut self, board: &Board, field: &Field<'_>, guesses: &[u64], gate: &G)
         requires board { IsSeatOf board.now self.old.seat }
         requires opened { (known self.old.seat).opened ≡ true }
-        requires early { AllByRecursion (λ k. k < turns_in (window_of board.now)) (known self.old.seat).drawn }
-        requires field { IsLentFor field.now (window_of board.now) }
-        requires guesses { guesses.now ≡ guesses_for (window_of board.now) }
-        requires room { turns_in (window_of board.now) ≤ vec_capacity self.old.made }
+        requires early { AllByRecursion (λ k. k < turns_in (board_window board.now)) (known self.old.seat).drawn }
+        requires field { IsLentFor field.now (board_window board.now) }
+        requires guesses { guesses.now ≡ guesses_for (board_window board.now) }
+        requires room { turns_in (board_window board.now) ≤ vec_capacity self.old.made }
         ensures number { self.new.number ≡ self.old.number }
         ensures board { IsSeatOf board.now self.new.seat }
         ensures seat_number { (known self.new.seat).number ≡ (known self.old.seat).number }
-        ensures late { 1 ≤ late_among (turns_in (window_of board.now)) (known self.new.seat).drawn }
-        ensures put { (k : ℕ) → k < turns_in (window_of board.now) → times k (known self.new.seat).put ≡ times k (known self.new.seat).drawn }
+        ensures late { 1 ≤ late_among (turns_in (board_window board.now)) (known self.new.seat).drawn }
+        ensures put { (k : ℕ) → k < turns_in (board_window board.now) → times k (known self.new.seat).put ≡ times k (known self.new.seat).drawn }
         ensures tries { (known self.old.seat).tries + length (known self.new.seat).put ≤ (known self.new.seat).tries + length (known self.old.seat).put }
     {
         let number = self.number;
@@ -79,14 +79,14 @@ fn serve<G: Gate>(
     requires board { IsSeatOf board.now seat.old }
     requires worker { IsWorker (known seat.old) made.old.items }
     requires opened { (known seat.old).opened ≡ true }
-    requires early { AllByRecursion (λ k. k < turns_in (window_of board.now)) (known seat.old).drawn }
-    requires seed { stream.old.seed ≡ (window_of board.now).seed }
-    requires field { IsLentFor field.now (window_of board.now) }
-    requires guesses { guesses.now ≡ guesses_for (window_of board.now) }
-    requires room { turns_in (window_of board.now) ≤ vec_capacity made.old }
+    requires early { AllByRecursion (λ k. k < turns_in (board_window board.now)) (known seat.old).drawn }
+    requires seed { stream.old.seed ≡ (board_window board.now).seed }
+    requires field { IsLentFor field.now (board_window board.now) }
+    requires guesses { guesses.now ≡ guesses_for (board_window board.now) }
+    requires room { turns_in (board_window board.now) ≤ vec_capacity made.old }
     ensures board { IsSeatOf board.now seat.new }
     ensures worker { IsWorker (known seat.new) made.new.items }
-    ensures served { HasServed (turns_in (window_of board.now)) (known seat.old) (known seat.new) result }
+    ensures served { HasServed (turns_in (board_window board.now)) (known seat.old) (known seat.new) result }
     ensures seed { stream.new.seed ≡ stream.old.seed }
     ensures room { vec_capacity made.new ≡ vec_capacity made.old }
 {
@@ -109,21 +109,21 @@ impl Room<Book> {
     pub(crate) fn settle(
         &mut self,
         board: &Board,
-        hand: &mut atomic_table::Seat<Place, View>,
+        hand: &mut atomic_table::Seat<BoardSlot, View>,
         field: &Field<'_>,
     )
         requires table { hand.old.table_id ≡ board.now.table.shared.table_id }
         requires knows { hand.old.me.0.about ≡ Some (basis_of board.now) }
         requires rests { hand.old.me.0.phase ≡ Resting }
         requires holds { hand.old.me.0.holds ≡ true }
-        requires field { IsLentFor field.now (window_of board.now) }
-        requires stands { IsSomeAnd self.old (StandsFor (window_of board.now)) }
+        requires field { IsLentFor field.now (board_window board.now) }
+        requires stands { IsSomeAnd self.old (StandsFor (board_window board.now)) }
         ensures table { hand.new.table_id ≡ hand.old.table_id }
         ensures rests { hand.new.me.0.phase ≡ Resting }
         ensures out { hand.new.me.1 ≡ hand.old.me.1 }
         ensures same { IsSameButTook hand.old.me.0 hand.new.me.0 }
         ensures tries { hand.old.me.0.tries ≤ hand.new.me.0.tries }
-        ensures stands { IsSomeAnd self.new (StandsFor (window_of board.now)) }
+        ensures stands { IsSomeAnd self.new (StandsFor (board_window board.now)) }
     {
         settle_in(&mut self.content, board, hand, field);
     }
@@ -134,21 +134,21 @@ impl Room<Book> {
 fn settle_in(
     content: &mut Option<Book>,
     board: &Board,
-    hand: &mut atomic_table::Seat<Place, View>,
+    hand: &mut atomic_table::Seat<BoardSlot, View>,
     field: &Field<'_>,
 )
     requires table { hand.old.table_id ≡ board.now.table.shared.table_id }
     requires knows { hand.old.me.0.about ≡ Some (basis_of board.now) }
     requires rests { hand.old.me.0.phase ≡ Resting }
     requires holds { hand.old.me.0.holds ≡ true }
-    requires field { IsLentFor field.now (window_of board.now) }
-    requires stands { IsSomeAnd content.old (StandsFor (window_of board.now)) }
+    requires field { IsLentFor field.now (board_window board.now) }
+    requires stands { IsSomeAnd content.old (StandsFor (board_window board.now)) }
     ensures table { hand.new.table_id ≡ hand.old.table_id }
     ensures rests { hand.new.me.0.phase ≡ Resting }
     ensures out { hand.new.me.1 ≡ hand.old.me.1 }
     ensures same { IsSameButTook hand.old.me.0 hand.new.me.0 }
     ensures tries { hand.old.me.0.tries ≤ hand.new.me.0.tries }
-    ensures stands { IsSomeAnd content.new (StandsFor (window_of board.now)) }
+    ensures stands { IsSomeAnd content.new (StandsFor (board_window board.now)) }
 {
     match content {
         Some(book) => settle_looks(board, hand, field, book),
@@ -160,7 +160,7 @@ fn settle_in(
 #[inline]
 fn settle_looks(
     board: &Board,
-    hand: &mut atomic_table::Seat<Place, View>,
+    hand: &mut atomic_table::Seat<BoardSlot, View>,
     field: &Field<'_>,
     book: &mut Book,
 )
@@ -168,14 +168,14 @@ fn settle_looks(
     requires knows { hand.old.me.0.about ≡ Some (basis_of board.now) }
     requires rests { hand.old.me.0.phase ≡ Resting }
     requires holds { hand.old.me.0.holds ≡ true }
-    requires field { IsLentFor field.now (window_of board.now) }
-    requires stands { StandsFor (window_of board.now) book.old }
+    requires field { IsLentFor field.now (board_window board.now) }
+    requires stands { StandsFor (board_window board.now) book.old }
     ensures table { hand.new.table_id ≡ hand.old.table_id }
     ensures rests { hand.new.me.0.phase ≡ Resting }
     ensures out { hand.new.me.1 ≡ hand.old.me.1 }
     ensures same { IsSameButTook hand.old.me.0 hand.new.me.0 }
     ensures tries { hand.old.me.0.tries ≤ hand.new.me.0.tries }
-    ensures stands { StandsFor (window_of board.now) book.new }
+    ensures stands { StandsFor (board_window board.now) book.new }
 {
     while book.next() < board.end() {
         if !board.settle_look(hand, field, book) {

@@ -15,7 +15,7 @@ use Rattle.ant_turn.specs.Minds.{Minds, mind_of}
 use Rattle.ant_turn.specs.Turn.{has_ant, instruction_at, is_blocked}
 use Rattle.spec_record.specs.Claims.{Sighting}
 use Rattle.spec_record.specs.Reads.{ant_and_food, load_and_food, whole_ant}
-use Rattle.spec_record.specs.Inner.Sightings.{all_sighted, sights}
+use Rattle.spec_record.specs.Inner.Sightings.{all_sighted, sightings_of}
 
 -- onto which cell an ant goes by an instruction, if it goes
 abbrev pub destination : Cells → Pos → Ant → Instr → Option Pos
@@ -56,13 +56,13 @@ fallen cells last p q = flat_map (fallen_at cells last p q) (places_around q)
 abbrev pub going_reads : Cells → Cells → Pos → Pos → List Sighting
 going_reads cells last p q =
     all_sighted
-    (all_sighted ((p, whole_ant, cells p) ∷ []) (sights cells (only part.Who) (seen_from cells p q)))
-    (sights cells load_and_food (fallen cells last p q))
+    (all_sighted ((p, whole_ant, cells p) ∷ []) (sightings_of cells (only part.Who) (seen_from cells p q)))
+    (sightings_of cells load_and_food (fallen cells last p q))
 
 -- and its writes
 abbrev pub going_writes : Cells → Cells → Pos → Pos → List Sighting
 going_writes cells last p q =
-    all_sighted ((p, whole_ant, last p) ∷ (q, whole_ant, last q) ∷ []) (sights last ant_and_food (fallen cells last p q))
+    all_sighted ((p, whole_ant, last p) ∷ (q, whole_ant, last q) ∷ []) (sightings_of last ant_and_food (fallen cells last p q))
 
 -- the ant of p acts in the turn of id t, by an instruction by which it goes to q
 pub record GoesTo (minds : Minds) (w : World) (t : ℕ) (p q : Pos) : Type 0 where

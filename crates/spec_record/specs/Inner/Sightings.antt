@@ -18,10 +18,10 @@ all_sighted sightings [] = sightings
 all_sighted sightings (new ∷ more) = all_sighted (sighted sightings new) more
 
 -- the same parts of the cells at these positions
-abbrev pub sights : Cells → Parts → List Pos → List Sighting
-sights cells parts places = map (λ r. (r, parts, cells r)) places
+abbrev pub sightings_of : Cells → Parts → List Pos → List Sighting
+sightings_of cells parts places = map (λ r. (r, parts, cells r)) places
 
 -- at which number a position is in the list, or how long the list is
-abbrev pub number_of : Pos → List Sighting → ℕ
-number_of p [] = zero
-number_of p (old ∷ sightings) = if same_pos old.0 p then zero else suc (number_of p sightings)
+abbrev pub seen_number : Pos → List Sighting → ℕ
+seen_number p [] = zero
+seen_number p (old ∷ sightings) = if same_pos old.0 p then zero else suc (seen_number p sightings)

@@ -12,7 +12,7 @@ ghost use Rattle.ant_turn.specs.Sheet.{Sheet};
 ghost use Rattle.ant_turn.specs.Turn as turn;
 ghost use Rattle.spec_record.specs.Inner.Going.{GoesTo, destination, fallen, going_reads, going_writes};
 ghost use Rattle.spec_record.specs.Inner.Standing.{blank_look, rested_look, staying_reads, staying_writes};
-ghost use Rattle.spec_record.specs.Claims.{EachOnce, places_of};
+ghost use Rattle.spec_record.specs.Claims.{EachOnce, seen_positions};
 ghost use Rattle.spec_record.specs.Look.{look_of, look_with};
 ghost use Rattle.spec_record.specs.Reads.{who_and_mind};
 ghost use Rattle.spec_record.specs.Trail.{trail_world};
@@ -168,7 +168,7 @@ impl Look {
         requires own { cell.now ≡ (world_of base.now).cells p }
         requires sound { (states : ℕ) × IsSound states instruction }
         requires stays { destination (world_of base.now).cells p ant.now instruction ≡ None }
-        requires reads_once { EachOnce (places_of (staying_reads (world_of base.now).cells p ant.now instruction)) }
+        requires reads_once { EachOnce (seen_positions (staying_reads (world_of base.now).cells p ant.now instruction)) }
         ensures look { (sheet : Sheet) →
             let outcome = turn.execute sheet stream.old.seed (world_of base.now).cells stream.old.place p ant.now instruction in
             self.new ≡ look_with id stream.old.place outcome
@@ -189,7 +189,8 @@ impl Look {
         note_alone(&mut self.writes, p, written, after.cell);
     }
 
-    // Records the ant of `p`, which goes to `q`, by a trail on which it takes its turn.
+    // Records the ant of `p`, which goes to `q`, by a trail on which it takes its turn. Few turns go, and a trail is large: so it is a call.
+    #[inline(never)]
     fn go(&mut self, base: &World, brains: Brains<'_>, stream: &mut Stream, id: u32, p: Pos, q: Pos)
         requires fit { Fits (world_of base.now) (minds_of brains) }
         requires id { id < base.now.ids }
@@ -244,8 +245,8 @@ impl Look {
         requires wide { (trail_world trail.now).width ≡ base.now.width }
         requires high { (trail_world trail.now).height ≡ base.now.height }
         requires reads_room { length (going_reads (world_of base.now).cells (trail_world trail.now).cells p q) ≤ 19 }
-        requires reads_once { EachOnce (places_of (going_reads (world_of base.now).cells (trail_world trail.now).cells p q)) }
-        requires writes_once { EachOnce (places_of (going_writes (world_of base.now).cells (trail_world trail.now).cells p q)) }
+        requires reads_once { EachOnce (seen_positions (going_reads (world_of base.now).cells (trail_world trail.now).cells p q)) }
+        requires writes_once { EachOnce (seen_positions (going_writes (world_of base.now).cells (trail_world trail.now).cells p q)) }
         requires writes_room { length (going_writes (world_of base.now).cells (trail_world trail.now).cells p q) ≤ 7 }
         requires spared { self.old.killed ≡ [] → fallen (world_of base.now).cells (trail_world trail.now).cells p q ≡ [] }
         ensures { self.new ≡ record self.old {

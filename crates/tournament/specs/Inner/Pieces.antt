@@ -3,13 +3,13 @@ use Rattle.std.specs.Prelude.{◌≡◌, ℕ, List, [], map, All}
 use Rattle.std.specs.Bool.{OnFalse}
 use Rattle.std.specs.List.{flat_map}
 use Rattle.cell_world.specs.declared.score.Score.{Score}
-use Rattle.tournament.specs.declared.games.Game.{Game}
+use Rattle.tournament.specs.declared.games.Pairing.{Pairing}
 use Rattle.tournament.specs.declared.games.Played.{Played}
 use Rattle.tournament.specs.declared.pieces.Piece.{Piece}
 use Rattle.tournament.specs.Games.{played_by}
 
 -- the games of all pieces, one after another
-abbrev pub dealt_games : List Piece → List Game
+abbrev pub dealt_games : List Piece → List Pairing
 dealt_games pieces = flat_map (λ piece. piece.games.items) pieces
 
 -- the games with scores of all pieces, one after another
@@ -17,14 +17,14 @@ abbrev pub played_games : List Piece → List Played
 played_games pieces = flat_map (λ piece. piece.played.items) pieces
 
 -- what a referee knows of games holds of each game of the list
-abbrev pub AreKnown : (ℕ → ℕ → ℕ → Type 0) → List Game → Type 0
+abbrev pub AreKnown : (ℕ → ℕ → ℕ → Type 0) → List Pairing → Type 0
 AreKnown knows games = All (λ game. knows game.world game.red game.black) games
 
 -- nothing of the piece was played, and the referee knows its games
-pub record IsReady (knows : ℕ → ℕ → ℕ → Type 0) (piece : Piece) : Type 0 where
+pub record IsPieceReady (knows : ℕ → ℕ → ℕ → Type 0) (piece : Piece) : Type 0 where
   pub fresh : piece.played.items ≡ []
   pub known : AreKnown knows piece.games.items
 
 -- all games of the old piece were played, unless one was refused
-abbrev pub IsDone : (ℕ → ℕ → ℕ → Score) → Piece → Piece → Type 0
-IsDone score old new = OnFalse new.refused (new.played.items ≡ map (played_by score) old.games.items)
+abbrev pub IsPieceDone : (ℕ → ℕ → ℕ → Score) → Piece → Piece → Type 0
+IsPieceDone score old new = OnFalse new.refused (new.played.items ≡ map (played_by score) old.games.items)

@@ -2,7 +2,7 @@
 use Rattle.std.specs.Prelude.{◌≡◌, ℕ, ◌+◌, ◌*◌, ◌<◌, ◌≤◌, Option, Some, None, Bool, List, length, Result, Ok, Err}
 use Rattle.hex_geometry.specs.Distance.{IsBefore}
 use Rattle.hex_geometry.specs.declared.position.Pos.{Pos}
-use Rattle.world_gen.specs.Placing.{Goes, HasNone, IsPlacing, IsTaken, NoTryFits, draws_of, spot_at}
+use Rattle.world_gen.specs.Placing.{Goes, HasNone, IsPlacing, IsChosenSpot, NoTryFits, draws_of, spot_at}
 use Rattle.cell_world.specs.Cell.{one_if}
 use Rattle.cell_world.specs.Opening.{IsFed, hill_count, is_hill}
 use Rattle.cell_world.specs.declared.kind.Kind.{Kind}
@@ -14,16 +14,16 @@ use Rattle.world_gen.specs.declared.generator.GenFault.{GenFault}
 use Rattle.world_gen.specs.declared.generator.GenFault.TheVariants.{NoRoom, OutOfMemory}
 use Rattle.world_gen.specs.declared.element.Element.{Element}
 use Rattle.world_gen.specs.declared.shape.Shape.{Shape}
-use Rattle.world_gen.specs.declared.spot.Form.{Form}
+use Rattle.world_gen.specs.declared.spot.Figure.{Figure}
 use Rattle.world_gen.specs.declared.spot.Spot.{Spot}
 
 -- of 50 tries: the first that fits, or none
-abbrev pub IsTried : (Spot → Type 0) → ℕ → ℕ → ℕ → Form → ℕ → Option Spot → ℕ → Type 0
-IsTried fits seed width height form g (Some spot) after = IsTaken fits seed width height form g spot after
+abbrev pub IsTried : (Spot → Type 0) → ℕ → ℕ → ℕ → Figure → ℕ → Option Spot → ℕ → Type 0
+IsTried fits seed width height form g (Some spot) after = IsChosenSpot fits seed width height form g spot after
 IsTried fits seed width height form g None after = NoTryFits fits seed width height form g 50 × (after ≡ g + 50 * draws_of form)
 
 -- the first of the places at which it fits, among those before which and from which on tell
-pub record IsFirstSpot (fits : Spot → Type 0) (form : Form) (IsAmong : Pos → Type 0) (spot : Spot) : Type 0 where
+pub record IsFirstSpot (fits : Spot → Type 0) (form : Figure) (IsAmong : Pos → Type 0) (spot : Spot) : Type 0 where
   pub place : Pos
   pub among : IsAmong place
   pub is : spot ≡ spot_at form place
@@ -31,7 +31,7 @@ pub record IsFirstSpot (fits : Spot → Type 0) (form : Form) (IsAmong : Pos →
   pub first : (p : Pos) → IsAmong p → IsBefore p place → fits (spot_at form p) → ⊥
 
 -- the first of some places in row order, or none
-abbrev pub IsSearched : (Spot → Type 0) → Form → (Pos → Type 0) → Option Spot → Type 0
+abbrev pub IsSearched : (Spot → Type 0) → Figure → (Pos → Type 0) → Option Spot → Type 0
 IsSearched fits form IsAmong (Some spot) = IsFirstSpot fits form IsAmong spot
 IsSearched fits form IsAmong None = (p : Pos) → IsAmong p → fits (spot_at form p) → ⊥
 
@@ -46,7 +46,7 @@ IsChosen fits seed width height element g (Some spot) after = Goes fits seed wid
 IsChosen fits seed width height element g None after = HasNone fits seed width height element g
 
 -- what the cells of a spot are set to
-pub record IsPut (spot : Spot) (width height : ℕ) (blocked blocked_now : List Bool) (kinds kinds_now : List Kind) : Type 0 where
+pub record IsElementPut (spot : Spot) (width height : ℕ) (blocked blocked_now : List Bool) (kinds kinds_now : List Kind) : Type 0 where
   pub cells : List Pos
   pub lists : ListsCells spot cells
   pub stamped : IsStamped width height cells (paint_of spot.form) blocked blocked_now kinds kinds_now
@@ -55,13 +55,13 @@ pub record IsPut (spot : Spot) (width height : ℕ) (blocked blocked_now : List 
 -- what comes of an element: it goes to its spot, or has no room
 abbrev pub IsStep : ℕ → ℕ → ℕ → Element → ℕ → ℕ → ℕ → List Bool → List Bool → List Kind → List Kind → Result Unit GenFault → Type 0
 IsStep seed width height element number g after blocked blocked_now kinds kinds_now (Ok _) =
-    (spot : Spot) × Goes (AllOpen width height blocked) seed width height element g spot after × IsPut spot width height blocked blocked_now kinds kinds_now
+    (spot : Spot) × Goes (AllOpen width height blocked) seed width height element g spot after × IsElementPut spot width height blocked blocked_now kinds kinds_now
 IsStep seed width height element number g after blocked blocked_now kinds kinds_now (Err (NoRoom n)) =
     (n ≡ number) × HasNone (AllOpen width height blocked) seed width height element g
 IsStep seed width height element number g after blocked blocked_now kinds kinds_now (Err OutOfMemory) = Unit {0}
 
 -- all elements are placed and painted, at most two of them hills
-pub record IsMade (seed : ℕ) (shape : Shape) (width height : ℕ) (kinds : List Kind) : Type 0 where
+pub record IsGeneratedGrid (seed : ℕ) (shape : Shape) (width height : ℕ) (kinds : List Kind) : Type 0 where
   pub wide : width ≡ shape.width
   pub high : height ≡ shape.height
   pub placed : List Spot

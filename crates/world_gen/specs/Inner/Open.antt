@@ -9,24 +9,24 @@ use Rattle.hex_geometry.specs.declared.direction.Dir.{Dir}
 use Rattle.hex_geometry.specs.declared.direction.Side.TheVariants.{Right}
 use Rattle.hex_geometry.specs.Position.{HasNeighbours, IsInner, Point, point_of}
 use Rattle.hex_geometry.specs.declared.position.Pos.{Pos}
-use Rattle.world_gen.specs.Elements.{IsCell, IsInBlob, stepped}
+use Rattle.world_gen.specs.Elements.{IsCell, IsInBlob, point_after}
 use Rattle.world_gen.specs.Fitting.{IsOffRim}
 use Rattle.world_gen.specs.declared.spot.Spot.{Spot}
 
 -- whether the cell at p is inside and not blocked
-abbrev pub is_open : ℕ → ℕ → List Bool → Pos → Bool
-is_open width height blocked p = nat_lt p.x width && (nat_lt p.y height && not (slice_index_or blocked (index_of width p) true))
+abbrev pub is_unblocked : ℕ → ℕ → List Bool → Pos → Bool
+is_unblocked width height blocked p = nat_lt p.x width && (nat_lt p.y height && not (slice_index_or blocked (index_of width p) true))
 
 -- one entry a cell, and the rim is blocked
 pub record IsFenced (width height : ℕ) (blocked : List Bool) : Type 0 where
   pub full : length blocked ≡ width * height
   pub narrow : width ≤ most_size
   pub low : height ≤ most_size
-  pub rim : (p : Pos) → is_open width height blocked p ≡ true → IsInner width height p
+  pub rim : (p : Pos) → is_unblocked width height blocked p ≡ true → IsInner width height p
 
 -- a place that is an open position
 abbrev pub IsOpen : ℕ → ℕ → List Bool → Point → Type 0
-IsOpen width height blocked q = (p : Pos) × (point_of p ≡ q) × (is_open width height blocked p ≡ true)
+IsOpen width height blocked q = (p : Pos) × (point_of p ≡ q) × (is_unblocked width height blocked p ≡ true)
 
 -- each cell of a spot is open
 abbrev pub AllOpen : ℕ → ℕ → List Bool → Spot → Type 0
@@ -37,7 +37,7 @@ abbrev pub BallIsOpen : ℕ → ℕ → List Bool → Point → ℕ → Type 0
 BallIsOpen width height blocked centre radius = (q : Point) → IsInBall centre radius q → IsOpen width height blocked q
 
 -- the ball ends before the rim on all sides
-pub record IsWithin (width height : ℕ) (centre : Pos) (radius : ℕ) : Type 0 where
+pub record IsBallWithin (width height : ℕ) (centre : Pos) (radius : ℕ) : Type 0 where
   pub from_left : radius < centre.x
   pub from_top : radius < centre.y
   pub to_right : centre.x + radius + 1 < width
@@ -45,7 +45,7 @@ pub record IsWithin (width height : ℕ) (centre : Pos) (radius : ℕ) : Type 0 
 
 -- p is in the ball and not open
 abbrev pub IsShut : ℕ → ℕ → List Bool → Pos → ℕ → Pos → Type 0
-IsShut width height blocked centre radius p = IsInBall (point_of centre) radius (point_of p) × (is_open width height blocked p ≡ false)
+IsShut width height blocked centre radius p = IsInBall (point_of centre) radius (point_of p) × (is_unblocked width height blocked p ≡ false)
 
 -- position number j of a row, counted from the ball's first column
 abbrev pub in_row : Pos → ℕ → ℕ → ℕ → Pos
@@ -57,11 +57,11 @@ RowIsOpen width height blocked centre radius y n = (j : ℕ) → j < n → IsShu
 
 -- the first n positions in a direction, from a start on, are open
 abbrev pub LineIsOpen : ℕ → ℕ → List Bool → Point → Dir → ℕ → Type 0
-LineIsOpen width height blocked start way n = (j : ℕ) → j < n → IsOpen width height blocked (stepped j way start)
+LineIsOpen width height blocked start way n = (j : ℕ) → j < n → IsOpen width height blocked (point_after j way start)
 
 -- the first n lines of a blob are open
 abbrev pub LinesAreOpen : ℕ → ℕ → List Bool → Point → Dir → ℕ → Type 0
-LinesAreOpen width height blocked corner first n = (i : ℕ) → i < n → LineIsOpen width height blocked (stepped i first corner) (turned_by first Right) 5
+LinesAreOpen width height blocked corner first n = (i : ℕ) → i < n → LineIsOpen width height blocked (point_after i first corner) (turned_by first Right) 5
 
 -- each cell of a blob is open
 abbrev pub BlobIsOpen : ℕ → ℕ → List Bool → Point → Dir → Type 0

@@ -10,8 +10,8 @@ use Rattle.hex_geometry.specs.Position.{IsInner, IsInside, Point, point_of}
 use Rattle.hex_geometry.specs.declared.position.Pos.{Pos}
 use Rattle.world_gen.specs.Elements.{IsCell}
 use Rattle.world_gen.specs.Fitting.{IsOffRim, IsTouching}
-use Rattle.world_gen.specs.Inner.Open.{IsFenced, is_open}
-use Rattle.world_gen.specs.Inner.Sets.{IsRoundAny, Sets}
+use Rattle.world_gen.specs.Inner.Open.{IsFenced, is_unblocked}
+use Rattle.world_gen.specs.Inner.Sets.{IsRoundAny, SetsWhere}
 use Rattle.world_gen.specs.Painting.{IsPainted}
 use Rattle.world_gen.specs.Placing.{Follow}
 use Rattle.world_gen.specs.declared.shape.Shape.{Shape}
@@ -38,8 +38,8 @@ bare_kinds width height (suc n) = bare_kinds width height n ++ bare_kind (is_rim
 
 -- these cells are painted, and they and their neighbours are blocked
 pub record IsStamped (width height : ℕ) (cells : List Pos) (kind : Kind) (blocked blocked_now : List Bool) (kinds kinds_now : List Kind) : Type 0 where
-  pub blocks : Sets width height true (IsRoundAny cells) blocked blocked_now
-  pub paints : Sets width height kind (Contains cells) kinds kinds_now
+  pub blocks : SetsWhere width height true (IsRoundAny cells) blocked blocked_now
+  pub paints : SetsWhere width height kind (Contains cells) kinds kinds_now
   pub hills : hill_count kinds_now ≤ hill_count kinds + one_if (is_hill kind) * length cells
   pub fed : IsFed kind → All IsFed kinds → All IsFed kinds_now
 
@@ -52,9 +52,9 @@ pub record IsTouched (spot : Spot) (p : Pos) : Type 0 where
 -- what a world in the making keeps: where something stands or touches it is blocked, and nowhere else inside; each cell is painted
 pub record IsYard (width height : ℕ) (placed : List Spot) (blocked : List Bool) (kinds : List Kind) : Type 0 where
   pub fenced : IsFenced width height blocked
-  pub shut : (p : Pos) (other : Spot) → IsInside width height p → Contains placed other → IsTouched other p → is_open width height blocked p ≡ true → ⊥
+  pub shut : (p : Pos) (other : Spot) → IsInside width height p → Contains placed other → IsTouched other p → is_unblocked width height blocked p ≡ true → ⊥
   pub off_rim : (other : Spot) (q : Point) → Contains placed other → IsCell other q → IsOffRim width height q
-  pub free : (p : Pos) → IsInner width height p → ((other : Spot) → Contains placed other → IsTouched other p → ⊥) → is_open width height blocked p ≡ true
+  pub free : (p : Pos) → IsInner width height p → ((other : Spot) → Contains placed other → IsTouched other p → ⊥) → is_unblocked width height blocked p ≡ true
   pub painted : IsPainted width height placed kinds
   pub fed : All IsFed kinds
 

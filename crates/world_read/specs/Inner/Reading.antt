@@ -99,15 +99,15 @@ limited width height kinds None =
     if nat_le (hill_count kinds) most_ants then Ok (record { width = width; height = height; kinds = kinds }) else Err (TooManyAnts (hill_count kinds))
 
 -- rows after which there are blank lines alone
-abbrev pub ended : ℕ → ℕ → Result Rows WorldFault → Result Plan WorldFault
-ended width height (Err fault) = Err fault
-ended width height (Ok rows) =
+abbrev pub rows_ended : ℕ → ℕ → Result Rows WorldFault → Result Plan WorldFault
+rows_ended width height (Err fault) = Err fault
+rows_ended width height (Ok rows) =
     if list_all is_blank rows.rest then limited width height rows.kinds (open_rim width height rows.kinds) else Err ExtraRow
 
 -- the rows of a world whose height is on the line before them
 abbrev pub after_height : ℕ → Option ℕ → List (List ℕ) → Result Plan WorldFault
 after_height width None lines = Err BadHeight
-after_height width (Some height) lines = ended width height (rows_from width 0 height lines)
+after_height width (Some height) lines = rows_ended width height (rows_from width 0 height lines)
 
 -- the height and the rows of a world whose width is on the line before them
 abbrev pub after_width : Option ℕ → List (List ℕ) → Result Plan WorldFault

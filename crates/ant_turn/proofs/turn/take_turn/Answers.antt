@@ -2,7 +2,7 @@
 use Rattle.std.proofs.Common.{◌≡◌, ◌+◌, ◌-◌, Option, Some, slice_get, refl, sym, ◌∙◌, ap, subst, arith, add-zero}
 use Rattle.std.specs.Prelude.{IfSome, option_map}
 use Rattle.hex_geometry.specs.declared.position.Pos.{Pos}
-use Rattle.cell_world.specs.declared.ant.Standing.{Standing}
+use Rattle.cell_world.specs.declared.ant.PlacedAnt.{PlacedAnt}
 use Rattle.cell_world.specs.Valid.{Valid}
 use Rattle.cell_world.specs.World.{World, place_in, with_cells}
 use Rattle.ant_random.specs.Stream.{SeedAndPlace}
@@ -12,7 +12,7 @@ use Rattle.ant_turn.specs.Sheet.{sheet_of}
 use Rattle.ant_turn.specs.Turn.{ant_becomes, execute, with_ant}
 use Rattle.ant_turn.proofs.KeptByTurns.{Keeps-stays, Keeps-execute}
 use Rattle.ant_turn.proofs.OwnCells.{rest_stays}
-use Rattle.ant_turn.proofs.StandsLemmas.{Stands-at, own_thinks}
+use Rattle.ant_turn.proofs.StandsLemmas.{StandsAt-at, own_thinks}
 use Rattle.ant_turn.proofs.Turns.{turn-dead, turn-rests, turn-executes}
 use Rattle.ant_turn.proofs.turn.take_turn.Goals as goal
 
@@ -21,18 +21,18 @@ undrawn : (s : SeedAndPlace) → s ≡ record s { place = s.place + 0 }
 undrawn s = ap (λ n. record s { place = n }) (sym (add-zero s.place))
 
 -- where the ant is that was found
-found : (place : Option Pos) (result : Option Standing) (it : Standing) → option_map (λ (s : Standing). s.place) result ≡ place → result ≡ Some it → place ≡ Some it.place
-found place result it told is = sym told ∙ ap (option_map (λ (s : Standing). s.place)) is
+found : (place : Option Pos) (result : Option PlacedAnt) (it : PlacedAnt) → option_map (λ (s : PlacedAnt). s.place) result ≡ place → result ≡ Some it → place ≡ Some it.place
+found place result it told is = sym told ∙ ap (option_map (λ (s : PlacedAnt). s.place)) is
 
 -- and that it is there
-holds : (w : World) (result : Option Standing) (it : Standing) → IfSome result (λ s. (w.cells s.place).ant ≡ Some s.ant) → result ≡ Some it → (w.cells it.place).ant ≡ Some it.ant
+holds : (w : World) (result : Option PlacedAnt) (it : PlacedAnt) → IfSome result (λ s. (w.cells s.place).ant ≡ Some s.ant) → result ≡ Some it → (w.cells it.place).ant ≡ Some it.ant
 holds w result it told is = subst (λ o. IfSome o (λ s. (w.cells s.place).ant ≡ Some s.ant)) is told
 
 pub returns-in_default : goal.returns-in_default
 returns-in_default g c =
     let w = g.G.Ground.world c.args.ground.now in
     let s = c.args.stream.now in
-    let dead = turn-dead (minds_of c.args.brains) s.seed w s.place c.args.id (sym c.ant_of.ensures.place ∙ ap (option_map (λ (it : Standing). it.place)) c.in_default.is) in
+    let dead = turn-dead (minds_of c.args.brains) s.seed w s.place c.args.id (sym c.ant_of.ensures.place ∙ ap (option_map (λ (it : PlacedAnt). it.place)) c.in_default.is) in
     record {
       world = rw dead c.ant_of.ensures.world;
       stream = rw dead (undrawn s);
@@ -48,7 +48,7 @@ think-requires g c =
     let w = g.G.Ground.world c.args.ground.now in
     let it = c.in-Some.standing in
     rw (c.rested.ensures, c.ant_of.ensures.world)
-    (own_thinks (Stands-at w it.place it.ant (subst Valid c.ant_of.ensures.world c.ant_of.ensures.valid) (holds w c.ant_of.result it c.ant_of.ensures.ant c.in-Some.is)) _ (record it.ant { resting = it.ant.resting - 1 }) (omega (arith, c.ant_of.ensures.room, c.requires.room)) refl refl refl)
+    (own_thinks (StandsAt-at w it.place it.ant (subst Valid c.ant_of.ensures.world c.ant_of.ensures.valid) (holds w c.ant_of.result it c.ant_of.ensures.ant c.in-Some.is)) _ (record it.ant { resting = it.ant.resting - 1 }) (omega (arith, c.ant_of.ensures.room, c.requires.room)) refl refl refl)
 
 pub returns-then-ant-gt0 : goal.returns-then-ant-gt0
 returns-then-ant-gt0 g c =
@@ -79,7 +79,7 @@ execute-requires-clause-stands g c =
     let w = g.G.Ground.world c.args.ground.now in
     let it = c.in-Some.standing in
     rw c.ant_of.ensures.world
-    (Stands-at w it.place it.ant (subst Valid c.ant_of.ensures.world c.ant_of.ensures.valid) (holds w c.ant_of.result it c.ant_of.ensures.ant c.in-Some.is))
+    (StandsAt-at w it.place it.ant (subst Valid c.ant_of.ensures.world c.ant_of.ensures.valid) (holds w c.ant_of.result it c.ant_of.ensures.ant c.in-Some.is))
 
 pub returns : goal.returns
 returns g c =

@@ -3,7 +3,7 @@ use Rattle.std.proofs.Common.{map, take}
 use Rattle.command_words.specs.Words.{texts}
 use Rattle.ants.specs.Inner.Cups.{files_named}
 use Rattle.ants.specs.Inner.Reading.{ReadsFiles}
-use Rattle.ants.specs.Inner.Reading.Outcome.{Contents}
+use Rattle.ants.specs.Inner.Reading.ReadOutcome.{Contents}
 use Rattle.ants.proofs.fetching.read_files.Given as goal
 
 abbrev pub invariant-loop-name : goal.invariant-loop-name

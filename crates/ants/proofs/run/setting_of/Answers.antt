@@ -3,19 +3,19 @@ use Rattle.std.proofs.Common.{◌≡◌, ℕ, List, [], ◌∷◌, subst, Result
 use Rattle.std.specs.Prelude.{Vec}
 use Rattle.ant_base.specs.Shelf.{Fetches, ShelfState}
 use Rattle.brain_read.specs.declared.instr.Instr.{Instr}
-use Rattle.ants.specs.declared.stop.Stop.{Stop}
-use Rattle.ants.specs.Files.Content.{WorldContent, BrainContent}
+use Rattle.ants.specs.declared.stop.CommandStop.{CommandStop}
+use Rattle.ants.specs.Files.FileContent.{WorldContent, BrainContent}
 use Rattle.ants.specs.Files.FileKind.{BrainFile}
 use Rattle.ants.specs.Inner.Planning.{setting_contents}
 use Rattle.ants.specs.Inner.Reading.{ReadsFiles, ReadsText, outcome_of}
-use Rattle.ants.specs.Inner.Reading.Outcome.{Contents}
+use Rattle.ants.specs.Inner.Reading.ReadOutcome.{Contents}
 use Rattle.ants.specs.Jobs.{brain_file, world_file}
 use Rattle.ants.specs.Stopping.{reason_of}
 use Rattle.ants.proofs.Readings.{reads_stopped, reads_text, reads_then, stopped_first, stopped_later}
 use Rattle.ants.proofs.run.setting_of.Goals as goal
 
 -- a brain's file was fetched, and its bytes were read
-brain_read : {A : Type 0} (first second : ShelfState) (name : List ℕ) (bytes : Vec ℕ A) (seen : List ℕ) (result : Result (List Instr) Stop) → seen ≡ bytes.items → Fetches first second name (Ok bytes)
+brain_read : {A : Type 0} (first second : ShelfState) (name : List ℕ) (bytes : Vec ℕ A) (seen : List ℕ) (result : Result (List Instr) CommandStop) → seen ≡ bytes.items → Fetches first second name (Ok bytes)
     → ReadsText BrainContent BrainFile seen name result → ReadsFiles first second (brain_file name ∷ []) (outcome_of (λ list. BrainContent list ∷ []) result)
 brain_read first second name bytes seen result same fetches reads =
     reads_text BrainContent first second (brain_file name) bytes result fetches (subst (λ (b : List ℕ). ReadsText BrainContent BrainFile b name result) same reads)

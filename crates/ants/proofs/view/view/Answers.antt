@@ -5,9 +5,9 @@ use Rattle.ant_turn.specs.Sheet.{contest}
 use Rattle.break_view.specs.Texts.{view_of}
 use Rattle.cell_world.specs.Grid.{world_of}
 use Rattle.command_words.specs.Command.PlainCommand.{ViewCommand}
-use Rattle.ants.specs.Files.Content.{BreakContent}
+use Rattle.ants.specs.Files.FileContent.{BreakContent}
 use Rattle.ants.specs.Inner.Planning.{setting_contents}
-use Rattle.ants.specs.Inner.Reading.Outcome.{Contents}
+use Rattle.ants.specs.Inner.Reading.ReadOutcome.{Contents}
 use Rattle.ants.specs.Jobs.{break_file, game_files}
 use Rattle.ants.proofs.Accepted.{fits_accepted}
 use Rattle.ants.proofs.Readings.{carries_done, carries_failure, carries_stop, reads_stopped, reads_then}

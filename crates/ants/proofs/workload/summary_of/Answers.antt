@@ -1,6 +1,5 @@
 -- what is told is that of the game after its rounds
 use Rattle.std.proofs.Common.{subst}
-use Rattle.ant_turn.specs.Minds.{minds_of}
 use Rattle.ant_turn.specs.Sheet.{sheet_of}
 use Rattle.cell_world.specs.Grid.{world_of}
 use Rattle.command_words.specs.Table.{default_window}

@@ -28,8 +28,16 @@ returns-in-Some-clause-stands c =
     (subst (λ (b : BookValue). IsRedone (minds_of c.brains.result) c.in-Some.cause b c.redo.new.self) back.0 c.redo.ensures.redone)
     (subst (λ (b : BookValue). IsSameWindow b c.redo.new.self) back.0 c.redo.ensures.same)
 
-pub returns-in_default-clause-stands : goal.returns-in_default-clause-stands
-returns-in_default-clause-stands c =
+pub returns-in-None-clause-stands : goal.returns-in-None-clause-stands
+returns-in-None-clause-stands c =
     on-taken c.args.field.now c.args.book.now c.requires.stands c.settle_by.new.self c.args.look.now c.requires.look c.requires.left
-    (settles-none c.args.look.now c.args.book.now c.settle_by.new.self c.settle_by.result c.in_default.is c.settle_by.ensures.settled)
+    (settles-none c.args.look.now c.args.book.now c.settle_by.new.self c.settle_by.result c.in-None.is c.settle_by.ensures.settled)
     c.settle_by.ensures.same
+
+pub returns-in-Some-clause-answer : goal.returns-in-Some-clause-answer
+returns-in-Some-clause-answer c =
+    (settles-some c.args.look.now c.args.book.now c.settle_by.new.self c.settle_by.result c.in-Some.cause c.in-Some.is c.settle_by.ensures.settled).1
+
+pub returns-in-None-clause-answer : goal.returns-in-None-clause-answer
+returns-in-None-clause-answer c =
+    (settles-none c.args.look.now c.args.book.now c.settle_by.new.self c.settle_by.result c.in-None.is c.settle_by.ensures.settled).holds

@@ -1,6 +1,5 @@
 use Rattle.cell_world.specs.Grid.{world_of}
-use Rattle.std.proofs.Common.{List, subst, sym}
-use Rattle.cell_world.specs.World.{with_cells}
+use Rattle.std.proofs.Common.{List, subst}
 use Rattle.spec_record.specs.Claims.{Sighting}
 use Rattle.round_book.specs.Book.{CanTake}
 use Rattle.round_book.proofs.PassLemmas.{CanSetPass-lighter, one_alone, passes-set, second-each, second-set}

@@ -1,5 +1,5 @@
 use Rattle.std.proofs.Common.{◌++◌, ◌∷◌, [], ◌∙◌, ap, arith}
-use Rattle.round_workers.specs.declared.board.view.Place.TheVariants.{TheBook}
+use Rattle.round_workers.specs.declared.board.view.BoardSlot.TheVariants.{TheBook}
 use Rattle.round_workers.proofs.BoardSeating.{bare-first, bare-more}
 use Rattle.round_workers.proofs.board.bare.Goals as goal
 
@@ -8,6 +8,6 @@ loop-init c = record { bare = bare-first _ c.in_ok-book.book c.in_ok-book.ensure
 
 pub loop-preserved : goal.loop-preserved
 loop-preserved c = record {
-  bare = bare-more c.loop.counter c.loop.slots.items _ c.in_ok-room.room c.loop.invariant.bare c.push_reserved-in-loop.ensures.items;
+  bare = bare-more c.loop.counter c.loop.slots.items _ c.in-Ok.room c.loop.invariant.bare c.push_reserved-in-loop.ensures.items;
   wide = (let a = c.push_reserved-in-loop.ensures.capacity in let b = c.loop.invariant.wide in omega arith);
 }

@@ -8,7 +8,7 @@ use Rattle.cell_world.specs.Parts.{only}
 use Rattle.ant_turn.proofs.Foes.{neighbours_of-inside}
 use Rattle.spec_record.specs.Inner.Going.{beyond}
 use Rattle.spec_record.proofs.Noting.{seen_from-beside_room, seen_from-own_room, seen_from-parts}
-use Rattle.spec_record.proofs.Sighting.{sights-flat_next, sights-flat_room}
+use Rattle.spec_record.proofs.Sighting.{sightings_of-flat_next, sightings_of-flat_room}
 use Rattle.spec_record.proofs.going.note_checks.Goals as goal
 
 pub note_read-requires : goal.note_read-requires
@@ -30,10 +30,10 @@ pub note_beyond-requires-clause-room : goal.note_beyond-requires-clause-room
 note_beyond-requires-clause-room c =
     let cells = (world_of c.args.base.now).cells in
     rw c.neighbours-around.ensures
-    (sights-flat_room c.loop-r.list.items _ cells (only part.Who) (beyond cells c.args.p) (neighbours_of c.args.q) c.loop-r.r-index _ 19 (subst (λ n. c.loop-r.r-index < n) (sym (neighbours_of_length c.args.q)) c.loop-r-test.true) c.loop-r.invariant c.requires.room)
+    (sightings_of-flat_room c.loop-r.list.items _ cells (only part.Who) (beyond cells c.args.p) (neighbours_of c.args.q) c.loop-r.r-index _ 19 (subst (λ n. c.loop-r.r-index < n) (sym (neighbours_of_length c.args.q)) c.loop-r-test.true) c.loop-r.invariant c.requires.room)
 
 pub loop-r-preserved : goal.loop-r-preserved
 loop-r-preserved c =
     let cells = (world_of c.args.base.now).cells in
     rw (c.note_beyond.ensures, c.neighbours-around.ensures)
-    (sym (sights-flat_next c.loop-r.list.items cells (only part.Who) (beyond cells c.args.p) (neighbours_of c.args.q) c.loop-r.r-index _ (subst (λ n. c.loop-r.r-index < n) (sym (neighbours_of_length c.args.q)) c.loop-r-test.true)) ∙ c.loop-r.invariant)
+    (sym (sightings_of-flat_next c.loop-r.list.items cells (only part.Who) (beyond cells c.args.p) (neighbours_of c.args.q) c.loop-r.r-index _ (subst (λ n. c.loop-r.r-index < n) (sym (neighbours_of_length c.args.q)) c.loop-r-test.true)) ∙ c.loop-r.invariant)

@@ -8,7 +8,7 @@ use Rattle.spec_record.specs.Inner.Going.{fallen_at}
 use Rattle.spec_record.specs.Reads.{ant_and_food, load_and_food}
 use Rattle.spec_record.specs.Trail.{trail_world}
 use Rattle.spec_record.proofs.Noting.{fallen-own_room, fallen-parts}
-use Rattle.spec_record.proofs.Sighting.{sights-flat_next, sights-flat_room}
+use Rattle.spec_record.proofs.Sighting.{sightings_of-flat_next, sightings_of-flat_room}
 use Rattle.spec_record.proofs.going.note_fallen.Goals as goal
 
 pub note_if_fallen-requires-clause-reads : goal.note_if_fallen-requires-clause-reads
@@ -37,13 +37,13 @@ pub note_if_fallen-requires-in-loop-r-clause-reads : goal.note_if_fallen-require
 note_if_fallen-requires-in-loop-r-clause-reads c =
     let cells = (world_of c.args.base.now).cells in
     rw c.neighbours-around.ensures
-    (sights-flat_room c.loop-r.reads.items _ cells load_and_food (fallen_at cells (trail_world c.args.trail.now).cells c.args.p c.args.q) (neighbours_of c.args.q) c.loop-r.r-index _ 19 (subst (λ n. c.loop-r.r-index < n) (sym (neighbours_of_length c.args.q)) c.loop-r-test.true) c.loop-r.invariant.reads c.requires.reads)
+    (sightings_of-flat_room c.loop-r.reads.items _ cells load_and_food (fallen_at cells (trail_world c.args.trail.now).cells c.args.p c.args.q) (neighbours_of c.args.q) c.loop-r.r-index _ 19 (subst (λ n. c.loop-r.r-index < n) (sym (neighbours_of_length c.args.q)) c.loop-r-test.true) c.loop-r.invariant.reads c.requires.reads)
 
 pub note_if_fallen-requires-in-loop-r-clause-writes : goal.note_if_fallen-requires-in-loop-r-clause-writes
 note_if_fallen-requires-in-loop-r-clause-writes c =
     let last = (trail_world c.args.trail.now).cells in
     rw c.neighbours-around.ensures
-    (sights-flat_room c.loop-r.writes.items _ last ant_and_food (fallen_at (world_of c.args.base.now).cells last c.args.p c.args.q) (neighbours_of c.args.q) c.loop-r.r-index _ 7 (subst (λ n. c.loop-r.r-index < n) (sym (neighbours_of_length c.args.q)) c.loop-r-test.true) c.loop-r.invariant.writes c.requires.writes)
+    (sightings_of-flat_room c.loop-r.writes.items _ last ant_and_food (fallen_at (world_of c.args.base.now).cells last c.args.p c.args.q) (neighbours_of c.args.q) c.loop-r.r-index _ 7 (subst (λ n. c.loop-r.r-index < n) (sym (neighbours_of_length c.args.q)) c.loop-r-test.true) c.loop-r.invariant.writes c.requires.writes)
 
 pub loop-r-preserved : goal.loop-r-preserved
 loop-r-preserved c =
@@ -51,6 +51,6 @@ loop-r-preserved c =
     let last = (trail_world c.args.trail.now).cells in
     let f = fallen_at cells last c.args.p c.args.q in
     record {
-      reads = rw (c.note_if_fallen-in-loop-r.ensures.reads, c.neighbours-around.ensures) (sym (sights-flat_next c.loop-r.reads.items cells load_and_food f (neighbours_of c.args.q) c.loop-r.r-index _ (subst (λ n. c.loop-r.r-index < n) (sym (neighbours_of_length c.args.q)) c.loop-r-test.true)) ∙ c.loop-r.invariant.reads);
-      writes = rw (c.note_if_fallen-in-loop-r.ensures.writes, c.neighbours-around.ensures) (sym (sights-flat_next c.loop-r.writes.items last ant_and_food f (neighbours_of c.args.q) c.loop-r.r-index _ (subst (λ n. c.loop-r.r-index < n) (sym (neighbours_of_length c.args.q)) c.loop-r-test.true)) ∙ c.loop-r.invariant.writes);
+      reads = rw (c.note_if_fallen-in-loop-r.ensures.reads, c.neighbours-around.ensures) (sym (sightings_of-flat_next c.loop-r.reads.items cells load_and_food f (neighbours_of c.args.q) c.loop-r.r-index _ (subst (λ n. c.loop-r.r-index < n) (sym (neighbours_of_length c.args.q)) c.loop-r-test.true)) ∙ c.loop-r.invariant.reads);
+      writes = rw (c.note_if_fallen-in-loop-r.ensures.writes, c.neighbours-around.ensures) (sym (sightings_of-flat_next c.loop-r.writes.items last ant_and_food f (neighbours_of c.args.q) c.loop-r.r-index _ (subst (λ n. c.loop-r.r-index < n) (sym (neighbours_of_length c.args.q)) c.loop-r-test.true)) ∙ c.loop-r.invariant.writes);
     }

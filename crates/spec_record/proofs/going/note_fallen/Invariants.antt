@@ -4,7 +4,7 @@ use Rattle.std.specs.List.{flat_map}
 use Rattle.hex_geometry.specs.Neighbourhood.{neighbours_of}
 use Rattle.cell_world.specs.Grid.{world_of}
 use Rattle.spec_record.specs.Inner.Going.{fallen, fallen_at}
-use Rattle.spec_record.specs.Inner.Sightings.{all_sighted, sights}
+use Rattle.spec_record.specs.Inner.Sightings.{all_sighted, sightings_of}
 use Rattle.spec_record.specs.Reads.{ant_and_food, load_and_food}
 use Rattle.spec_record.specs.Trail.{trail_world}
 use Rattle.spec_record.proofs.going.note_fallen.Given as goal
@@ -15,6 +15,6 @@ invariant-loop-r l =
     let last = (trail_world l.trail).cells in
     let left = flat_map (fallen_at cells last l.fn.p l.fn.q) (drop l.r-index (neighbours_of l.fn.q)) in
     record {
-      reads : all_sighted l.reads.items (sights cells load_and_food left) ≡ all_sighted l.fn.reads.items (sights cells load_and_food (fallen cells last l.fn.p l.fn.q));
-      writes : all_sighted l.writes.items (sights last ant_and_food left) ≡ all_sighted l.fn.writes.items (sights last ant_and_food (fallen cells last l.fn.p l.fn.q));
+      reads : all_sighted l.reads.items (sightings_of cells load_and_food left) ≡ all_sighted l.fn.reads.items (sightings_of cells load_and_food (fallen cells last l.fn.p l.fn.q));
+      writes : all_sighted l.writes.items (sightings_of last ant_and_food left) ≡ all_sighted l.fn.writes.items (sightings_of last ant_and_food (fallen cells last l.fn.p l.fn.q));
     }

@@ -1,7 +1,7 @@
 -- a position that was noted, and one that wasn't
 use Rattle.std.proofs.Common.{◌≡◌, ◌≤◌, ◌<◌, [], ◌∷◌, ◌++◌, length, length-append, sym, ◌∙◌, ap, arith}
 use Rattle.spec_record.specs.Claims.{Sighting}
-use Rattle.spec_record.specs.Inner.Sightings.{number_of, sighted}
+use Rattle.spec_record.specs.Inner.Sightings.{seen_number, sighted}
 use Rattle.spec_record.proofs.Sighting.{sighted-first, sighted-written}
 use Rattle.spec_record.proofs.sightings.note_read.Goals as goal
 use Rattle.spec_record.proofs.sightings.note_read.Goals.{After-len}
@@ -11,8 +11,8 @@ abbrev new : After-len → Sighting
 new c = (c.args.p, c.args.parts, c.args.cell)
 
 -- where it is in the list
-there : (c : After-len) → c.number_of-number.result ≡ number_of c.args.p c.args.list.now.items
-there c = c.number_of-number.ensures ∙ ap (number_of c.args.p) c.as_slice.ensures.value
+there : (c : After-len) → c.number_of-number.result ≡ seen_number c.args.p c.args.list.now.items
+there c = c.number_of-number.ensures ∙ ap (seen_number c.args.p) c.as_slice.ensures.value
 
 -- it isn't there
 last : (c : After-len) → c.len.result ≤ c.number_of-number.result → sighted c.args.list.now.items (new c) ≡ c.args.list.now.items ++ new c ∷ []
@@ -31,7 +31,7 @@ returns-then-number-len c =
     let items = c.args.list.now.items in
     let here = there at in
     let long = c.len.ensures.value in
-    let below : number_of c.args.p items < length items = omega (arith, c.if-number-len.true) in
+    let below : seen_number c.args.p items < length items = omega (arith, c.if-number-len.true) in
     sighted-written items c.deref_mut.result.now c.deref.result.now c.number_of-number.result c.union.result (new at) _ c.deref_mut.ensures.value c.deref.ensures.0 here c.union.ensures below
 
 pub returns-else-number-len : goal.returns-else-number-len

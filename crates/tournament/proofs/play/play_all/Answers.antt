@@ -2,7 +2,7 @@ use Rattle.std.proofs.Common.{IfOk, length, map, ap, subst, ◌∙◌, arith}
 use Rattle.std.proofs.lemmas.List.{length-map}
 use Rattle.std.proofs.lemmas.List.Elements.{All-same}
 use Rattle.tournament.specs.Games.{games_of, played_by}
-use Rattle.tournament.specs.Inner.Pieces.{IsReady, dealt_games}
+use Rattle.tournament.specs.Inner.Pieces.{IsPieceReady, dealt_games}
 use Rattle.tournament.specs.Standing.{Ranks}
 use Rattle.tournament.proofs.GamesLemmas.{IsGame, All-games_of, length-games_of}
 use Rattle.tournament.proofs.PiecesLemmas.{ready}
@@ -17,7 +17,7 @@ dealt-requires-clause-few g c =
 pub played_together-requires-clause-ready : goal.played_together-requires-clause-ready
 played_together-requires-clause-ready g c = λ κs outlives.
     let all = All-same (IsGame c.args.players c.args.worlds) _ _ (c.deref.ensures.value ∙ c.in_ok-games.ensures) (All-games_of c.args.players c.args.worlds) in
-    All-same (IsReady (g.F.Referee.knows c.args.referee.now)) _ _ c.deref_mut.ensures.value
+    All-same (IsPieceReady (g.F.Referee.knows c.args.referee.now)) _ _ c.deref_mut.ensures.value
     (ready (g.F.Referee.knows c.args.referee.now) c.args.players c.args.worlds c.deref.result.now c.in_ok-pieces.pieces.items c.requires.known all c.in_ok-pieces.ensures.games c.in_ok-pieces.ensures.fresh)
 
 pub standing_of-requires : goal.standing_of-requires

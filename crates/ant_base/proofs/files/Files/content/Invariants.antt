@@ -1,7 +1,7 @@
-use Rattle.std.proofs.Common.{◌≡◌, drop}
-use Rattle.ant_base.specs.Inner.Entries.{named_bytes}
+use Rattle.std.proofs.Common.{◌≡◌, drop, length}
+use Rattle.ant_base.specs.Inner.Entries.{bytes_in, files_in}
 use Rattle.ant_base.specs.MemShelf.{content_of}
 use Rattle.ant_base.proofs.files.Files.content.Given as goal
 
-abbrev pub invariant-loop-entry : goal.invariant-loop-entry
-invariant-loop-entry l = content_of (named_bytes (drop l.entry-index l.entry-items)) l.name ≡ content_of l.self l.name
+abbrev pub invariant-loop-sizes : goal.invariant-loop-sizes
+invariant-loop-sizes l = (content_of (files_in (drop l.sizes-index l.sizes-items) l.rest) l.name ≡ content_of l.self.files l.name) × (bytes_in (drop l.sizes-index l.sizes-items) ≡ length l.rest)

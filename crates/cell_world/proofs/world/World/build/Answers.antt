@@ -2,9 +2,9 @@
 use Rattle.std.proofs.Common.{sym, subst, ◌∙◌, ap}
 use Rattle.cell_world.specs.Grid.{Grid, IsWorld}
 use Rattle.cell_world.specs.Inner.Index.{IsIndex}
-use Rattle.cell_world.specs.Inner.Stored.{places_of}
+use Rattle.cell_world.specs.Inner.Stored.{stored_places}
 use Rattle.cell_world.proofs.OpeningPlaces.{IsIndex-opening}
-use Rattle.cell_world.proofs.OpeningStores.{places_of-opening, same_opening}
+use Rattle.cell_world.proofs.OpeningStores.{stored_places-opening, same_opening}
 use Rattle.cell_world.proofs.OpeningValid.{IsWorld-opening}
 use Rattle.cell_world.proofs.world.World.build.Goals as goal
 
@@ -18,7 +18,7 @@ invariant_of-result c =
     let same = same_opening w h kinds tiles bodies c.requires.few c.in_ok-parts.ensures.tiles c.in_ok-parts.ensures.bodies in
     record {
       world = subst IsWorld (sym same) (IsWorld-opening w h kinds c.requires);
-      index = subst (λ (g : Grid). IsIndex g (places_of bodies)) (sym same) (subst (IsIndex _) (sym (ap places_of c.in_ok-parts.ensures.bodies ∙ places_of-opening w 0 kinds)) (IsIndex-opening w h kinds c.requires));
+      index = subst (λ (g : Grid). IsIndex g (stored_places bodies)) (sym same) (subst (IsIndex _) (sym (ap stored_places c.in_ok-parts.ensures.bodies ∙ stored_places-opening w 0 kinds)) (IsIndex-opening w h kinds c.requires));
     }
 
 pub returns : goal.returns

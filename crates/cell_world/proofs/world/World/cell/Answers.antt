@@ -7,7 +7,7 @@ use Rattle.std.specs.Prelude.{Option}
 use Rattle.hex_geometry.specs.declared.position.Pos.{Pos}
 use Rattle.cell_world.specs.Grid.{Grid, cell_in}
 use Rattle.cell_world.specs.Inner.Inside.{grid_of}
-use Rattle.cell_world.specs.Inner.Bodies.{IsMade}
+use Rattle.cell_world.specs.Inner.Bodies.{IsMadeBody}
 use Rattle.cell_world.specs.Inner.Stored.{ant_named, cell_from}
 use Rattle.cell_world.proofs.StoredLemmas.{cell_in-tile_is, tile-made}
 use Rattle.cell_world.proofs.world.World.cell.Goals as goal
@@ -19,8 +19,8 @@ inside g now p same within = subst (λ (h : Grid). IsInside h.width h.height p) 
 pub ant_named-requires : goal.ant_named-requires
 ant_named-requires c =
     let fields = c.self.inside in
-    subst (λ bodies. IsMade (length bodies) c.id.result) (sym c.deref.ensures.value)
-    (subst (IsMade (length fields.bodies.items)) (sym c.id.ensures)
+    subst (λ bodies. IsMadeBody (length bodies) c.id.result) (sym c.deref.ensures.value)
+    (subst (IsMadeBody (length fields.bodies.items)) (sym c.id.ensures)
     (tile-made fields.width fields.height fields.tiles.items fields.bodies.items c.args.p c.index-tile.result.now c.self.invariant.world (inside (grid_of fields) c.args.self.now c.args.p c.self.view_is c.requires) c.index-tile.ensures))
 
 pub returns-clause-content : goal.returns-clause-content

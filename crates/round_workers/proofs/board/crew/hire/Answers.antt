@@ -3,14 +3,14 @@ use Rattle.std.specs.List.{AllByRecursion}
 use Rattle.std.specs.Vec.{vec_capacity}
 use Rattle.round_workers.specs.declared.board.view.View.{View}
 use Rattle.round_workers.specs.Inner.BoardCrew.{IsRoom}
-use Rattle.round_workers.specs.BoardSeats.{window_of}
+use Rattle.round_workers.specs.BoardSeats.{board_window}
 use Rattle.round_workers.specs.BoardWorker.{turns_in}
 use Rattle.round_workers.proofs.BoardCrewing.{all-front, all-last, hired-more, manned-more}
 use Rattle.round_workers.proofs.board.crew.hire.Goals as goal
 
 pub loop-made-preserved : goal.loop-made-preserved
 loop-made-preserved c =
-    let board = c.args.board.now in let n : ℕ = turns_in (window_of board) in let old = c.loop-made.invariant in let w = c.worker.result in
+    let board = c.args.board.now in let n : ℕ = turns_in (board_window board) in let old = c.loop-made.invariant in let w = c.worker.result in
     let new = c.worker.ensures.seat ∙ c.split-seat.ensures.newcomer in
     let room = all-last (IsRoom n) c.loop-made.lists.items c.pop.new.self.items c.in-Some.made c.in-Some.ensures.items old.lists in
     record {

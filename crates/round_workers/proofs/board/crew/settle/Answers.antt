@@ -5,7 +5,7 @@ use Rattle.round_workers.specs.declared.board.view.View.{View}
 use Rattle.round_workers.specs.declared.board.worker.Worker.{Worker}
 use Rattle.round_workers.specs.Inner.BoardCrew.{AreLooks, IsHired, IsManned, IsRoom}
 use Rattle.round_workers.specs.BoardPlays.{has_seen}
-use Rattle.round_workers.specs.BoardSeats.{IsSeatOf, basis_of, known, window_of}
+use Rattle.round_workers.specs.BoardSeats.{IsSeatOf, basis_of, known, board_window}
 use Rattle.round_workers.specs.BoardWorker.{guesses_for, turns_in}
 use Rattle.round_workers.proofs.BoardCrewing.{book-for, lent-for, looks-left, manned-first, manned-worked, refilled, seats-worked, worked-so}
 use Rattle.round_workers.proofs.BoardWorking.{on-for}
@@ -18,7 +18,7 @@ pub open_book-requires-clause-unopened : goal.open_book-requires-clause-unopened
 open_book-requires-clause-unopened g c = ap (λ (v : View). v.opened) c.requires.laid.first
 
 pub open_book-requires-clause-stands : goal.open_book-requires-clause-stands
-open_book-requires-clause-stands g c = book-for c.args.field.now c.args.from c.args.to (window_of c.args.laid.board) c.requires.laid.window c.args.book c.requires.stands c.requires.from c.requires.to
+open_book-requires-clause-stands g c = book-for c.args.field.now c.args.from c.args.to (board_window c.args.laid.board) c.requires.laid.window c.args.book c.requires.stands c.requires.from c.requires.to
 
 pub open_book-requires-clause-begins : goal.open_book-requires-clause-begins
 open_book-requires-clause-begins g c = c.requires.next ∙ sym c.requires.from
@@ -26,7 +26,7 @@ open_book-requires-clause-begins g c = c.requires.next ∙ sym c.requires.from
 pub hire-requires-clause-manned : goal.hire-requires-clause-manned
 hire-requires-clause-manned g c =
     let board = c.args.laid.board in let field = c.args.field.now in let laid = c.requires.laid in
-    let lent = lent-for field c.args.from c.args.to (window_of board) laid.window c.requires.stands.lent in
+    let lent = lent-for field c.args.from c.args.to (board_window board) laid.window c.requires.stands.lent in
     subst (IsManned board c.open_book.new.seat) (sym laid.bare) (manned-first board c.open_book.new.seat (basis_of board) c.open_book.ensures.board (c.open_book.ensures.opened ∙ ap has_seen laid.first))
 
 pub hire-requires-clause-hired : goal.hire-requires-clause-hired
@@ -38,7 +38,7 @@ hire-requires-clause-lists g c = subst (λ (w : Window). All (IsRoom (turns_in w
 pub work_all-requires-clause-field : goal.work_all-requires-clause-field
 work_all-requires-clause-field g c κs within =
     let board = c.args.laid.board in let field = c.args.field.now in let laid = c.requires.laid in
-    let lent = lent-for field c.args.from c.args.to (window_of board) laid.window c.requires.stands.lent in
+    let lent = lent-for field c.args.from c.args.to (board_window board) laid.window c.requires.stands.lent in
     lent
 
 pub work_all-requires-clause-guesses : goal.work_all-requires-clause-guesses
@@ -47,8 +47,8 @@ work_all-requires-clause-guesses g c κs within = c.requires.guesses ∙ ap gues
 pub settle_left-requires-clause-stands : goal.settle_left-requires-clause-stands
 settle_left-requires-clause-stands g c =
     let board = c.args.laid.board in let field = c.args.field.now in let laid = c.requires.laid in
-    let lent = lent-for field c.args.from c.args.to (window_of board) laid.window c.requires.stands.lent in
-    on-for field (window_of board) lent c.take_apart-ended.result.book c.take_apart-ended.ensures.book
+    let lent = lent-for field c.args.from c.args.to (board_window board) laid.window c.requires.stands.lent in
+    on-for field (board_window board) lent c.take_apart-ended.result.book c.take_apart-ended.ensures.book
 
 pub settle_left-requires-clause-from : goal.settle_left-requires-clause-from
 settle_left-requires-clause-from g c = c.take_apart-ended.ensures.book.stands.from ∙ ap (λ (w : Window). w.from) c.requires.laid.window
@@ -59,8 +59,8 @@ settle_left-requires-clause-to g c = c.take_apart-ended.ensures.book.stands.to �
 pub settle_left-requires-clause-looks : goal.settle_left-requires-clause-looks
 settle_left-requires-clause-looks g c =
     let board = c.args.laid.board in let field = c.args.field.now in let laid = c.requires.laid in
-    let lent = lent-for field c.args.from c.args.to (window_of board) laid.window c.requires.stands.lent in
-    subst (λ (w : Window). AreLooks w c.take_apart-ended.result.places.items) laid.window (looks-left (window_of board) (known c.gather.new.first) c.take_apart-ended.result.places.items c.take_apart-ended.ensures.looks)
+    let lent = lent-for field c.args.from c.args.to (board_window board) laid.window c.requires.stands.lent in
+    subst (λ (w : Window). AreLooks w c.take_apart-ended.result.places.items) laid.window (looks-left (board_window board) (known c.gather.new.first) c.take_apart-ended.result.places.items c.take_apart-ended.ensures.looks)
 
 pub gather-requires-clause-manned : goal.gather-requires-clause-manned
 gather-requires-clause-manned g c =

@@ -1,7 +1,7 @@
 use Rattle.std.proofs.Common.{◌≡◌, ◌-◌, ◌≤◌}
 use Rattle.round_workers.specs.declared.board.view.Phase.TheVariants.{Resting}
 use Rattle.round_workers.specs.BoardRule.{StandsFor}
-use Rattle.round_workers.specs.BoardSeats.{window_of}
+use Rattle.round_workers.specs.BoardSeats.{board_window}
 use Rattle.round_workers.specs.BoardWorker.{IsSameButTook}
 use Rattle.round_workers.proofs.board.worker.settle_looks.Given as goal
 
@@ -12,7 +12,7 @@ invariant-loop-hand l = record {
   out : l.hand.me.1 ≡ l.fn.hand.me.1;
   same : IsSameButTook l.fn.hand.me.0 l.hand.me.0;
   tries : l.fn.hand.me.0.tries ≤ l.hand.me.0.tries;
-  stands : StandsFor (window_of l.board) l.book;
+  stands : StandsFor (board_window l.board) l.book;
 }
 
 abbrev pub decreases-loop-hand : goal.decreases-loop-hand

@@ -1,5 +1,5 @@
 -- the look at an ant that executes its instruction and stays, or goes
-use Rattle.std.proofs.Common.{◌≡◌, refl, sym, ◌∙◌, ap}
+use Rattle.std.proofs.Common.{refl, sym, ◌∙◌, ap}
 use Rattle.cell_world.specs.Grid.{world_of}
 use Rattle.cell_world.specs.World.{Cells}
 use Rattle.ant_turn.specs.Minds.{minds_of}

@@ -5,7 +5,7 @@ use Rattle.std.proofs.lemmas.Bool.{false≢true}
 use Rattle.world_gen.proofs.Lines.{line_more, open_here, step_none, step_on}
 use Rattle.world_gen.proofs.Lines.{open_neighbours}
 use Rattle.world_gen.proofs.yard.Yard.line_is_open.Goals as goal
-use Rattle.world_gen.specs.Inner.Open.{LineIsOpen, is_open}
+use Rattle.world_gen.specs.Inner.Open.{LineIsOpen, is_unblocked}
 
 pub loop-beside-init : goal.loop-beside-init
 loop-beside-init c = record { here = step_none c.args.way (point_of c.args.start); free = λ j h. absurd (omega arith) }
@@ -14,7 +14,7 @@ pub returns-then-not-is_open : goal.returns-then-not-is_open
 returns-then-not-is_open c = (
   λ e. absurd (false≢true e),
   λ all.
-      let free : is_open c.args.self.now.width c.args.self.now.height c.args.self.now.blocked.items c.loop-beside.p ≡ true =
+      let free : is_unblocked c.args.self.now.width c.args.self.now.height c.args.self.now.blocked.items c.loop-beside.p ≡ true =
       open_here c.args.self.now.width c.args.self.now.height c.args.self.now.blocked.items c.loop-beside.p _ c.loop-beside.invariant.here (all c.loop-beside.beside (omega arith)) in
       let shut : c.is_open.result ≡ false = c.if-not-is_open.true in
       absurd (false≢true (sym shut ∙ c.is_open.ensures ∙ free)),
@@ -23,7 +23,7 @@ returns-then-not-is_open c = (
 pub loop-beside-preserved : goal.loop-beside-preserved
 loop-beside-preserved c =
     let result : c.is_open.result ≡ true = c.if-not-is_open.false in
-    let free : is_open c.args.self.now.width c.args.self.now.height c.args.self.now.blocked.items c.loop-beside.p ≡ true = sym c.is_open.ensures ∙ result in
+    let free : is_unblocked c.args.self.now.width c.args.self.now.height c.args.self.now.blocked.items c.loop-beside.p ≡ true = sym c.is_open.ensures ∙ result in
     let has = open_neighbours c.args.self.now.width c.args.self.now.height c.args.self.now.blocked.items c.loop-beside.p c.requires free in
     record {
       here = ap point_of c.adjacent-p.ensures.neighbour ∙ step_on c.loop-beside.p c.args.way c.loop-beside.beside (point_of c.args.start) has c.loop-beside.invariant.here;

@@ -1,7 +1,7 @@
 -- the ant and its place are those of its body
 use Rattle.std.proofs.Common.{◌≡◌, ◌∙◌, ◌<◌, length, ap, subst, sym}
 use Rattle.std.specs.Prelude.{Some, option_map}
-use Rattle.cell_world.specs.declared.ant.Standing.{Standing}
+use Rattle.cell_world.specs.declared.ant.PlacedAnt.{PlacedAnt}
 use Rattle.cell_world.specs.Grid.{Grid, cell_in, world_of}
 use Rattle.cell_world.specs.Inner.Inside.{grid_of}
 use Rattle.cell_world.specs.World.{place_in}
@@ -24,7 +24,7 @@ now_is c = place_is c ∙ ap (λ (g : Grid). place_in (world_of g) c.args.id) c.
 
 pub returns-in_err-place-clause-place : goal.returns-in_err-place-clause-place
 returns-in_err-place-clause-place c =
-    ap (option_map (λ (it : Standing). it.place)) c.from_residual.ensures ∙ sym c.in_err-place.was ∙ now_is (goal.at.returns-in_err-place-clause-place c).After-index
+    ap (option_map (λ (it : PlacedAnt). it.place)) c.from_residual.ensures ∙ sym c.in_err-place.was ∙ now_is (goal.at.returns-in_err-place-clause-place c).After-index
 
 pub returns-clause-place : goal.returns-clause-place
 returns-clause-place c = sym c.in_ok-place.was ∙ now_is (goal.at.returns-clause-place c).After-index

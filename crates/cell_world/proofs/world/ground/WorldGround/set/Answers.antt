@@ -4,7 +4,7 @@ use Rattle.hex_geometry.specs.declared.position.Pos.{Pos}
 use Rattle.cell_world.specs.declared.cell.Cell.{Cell}
 use Rattle.cell_world.specs.Grid.{Grid, world_of}
 use Rattle.cell_world.specs.Inner.Inside.{grid_of}
-use Rattle.cell_world.specs.Inner.Bodies.{IsMade}
+use Rattle.cell_world.specs.Inner.Bodies.{IsMadeBody}
 use Rattle.cell_world.specs.Valid.{CanSet}
 use Rattle.cell_world.specs.World.{put}
 use Rattle.cell_world.proofs.InsideLemmas.{FieldsChanged, fields_set, fields_set-changed, merged_tile}
@@ -21,8 +21,8 @@ pub note_change-requires-clause-before : goal.note_change-requires-clause-before
 note_change-requires-clause-before c =
     let fields = c.self.inside in
     let old = c.index_mut-here.result.now in
-    subst (λ bodies. IsMade (length bodies) c.id-before.result) (sym c.deref_mut.ensures.value)
-    (subst (IsMade (length fields.bodies.items)) (sym c.id-before.ensures) (tile-made fields.width fields.height fields.tiles.items fields.bodies.items c.args.p old c.self.invariant.world (can_set (grid_of fields) c.args.self.now c.args.p c.args.cell c.self.view_is c.requires).inside c.index_mut-here.ensures.value))
+    subst (λ bodies. IsMadeBody (length bodies) c.id-before.result) (sym c.deref_mut.ensures.value)
+    (subst (IsMadeBody (length fields.bodies.items)) (sym c.id-before.ensures) (tile-made fields.width fields.height fields.tiles.items fields.bodies.items c.args.p old c.self.invariant.world (can_set (grid_of fields) c.args.self.now c.args.p c.args.cell c.self.view_is c.requires).inside c.index_mut-here.ensures.value))
 
 -- the change that was made of the fields
 changed : (c : After-note_change) → FieldsChanged c.self.inside (fields_set c.self.inside c.args.p (merged_tile c.index_mut-here.result.now c.args.cell c.of-here.result) c.note_change.new.bodies) c.args.p c.args.cell

@@ -1,9 +1,9 @@
 use Rattle.std.proofs.Common.{Some, arith, sym, ap, ◌∙◌, subst}
 use Rattle.std.specs.Prelude.{IsSomeAnd}
-use Rattle.round_workers.specs.declared.board.view.Place.TheVariants.{Nothing, TheBook}
+use Rattle.round_workers.specs.declared.board.view.BoardSlot.TheVariants.{Nothing, TheBook}
 use Rattle.round_workers.specs.Inner.BoardPlaces.{book_room}
 use Rattle.round_workers.specs.BoardRule.{StandsFor}
-use Rattle.round_workers.specs.BoardSeats.{basis_of, window_of}
+use Rattle.round_workers.specs.BoardSeats.{basis_of, board_window}
 use Rattle.round_workers.specs.BoardView.{window_about}
 use Rattle.round_workers.proofs.BoardBook.{takes-book}
 use Rattle.round_workers.proofs.BoardMoves.{lay-in, slot-held, some-same, some-there, swapped}
@@ -32,7 +32,7 @@ returns-clause-table c = c.exchange.ensures.0 ∙ c.compare_exchange-found.ensur
 pub returns-clause-stands : goal.returns-clause-stands
 returns-clause-stands c = let it = c.compare_exchange-found.ensures.2.home c.if-found-ne-HOME.false in
     let there = ap book_room (sym (lay-in _ _ 0 (TheBook (Some it.0)) _ _ _ it.2 c.exchange.ensures.2)) in
-    subst (λ content. IsSomeAnd content (StandsFor (window_of c.args.self.now))) (sym (some-same _ _ _ c.book_room.ensures there)) (subst (λ z. StandsFor (window_about z) it.0) c.requires.knows it.1)
+    subst (λ content. IsSomeAnd content (StandsFor (board_window c.args.self.now))) (sym (some-same _ _ _ c.book_room.ensures there)) (subst (λ z. StandsFor (window_about z) it.0) c.requires.knows it.1)
 
 pub returns-clause-takes : goal.returns-clause-takes
 returns-clause-takes c = let it = c.compare_exchange-found.ensures.2.home c.if-found-ne-HOME.false in swapped _ _ _ 0 _ Nothing c.args.hand.now.me.1 it.2 c.exchange.ensures.3

@@ -1,5 +1,5 @@
 use Rattle.std.proofs.Common.{◌+◌, arith, sym, ap, refl, ◌∙◌}
-use Rattle.round_workers.specs.declared.board.view.Place.TheVariants.{Nothing, Spare}
+use Rattle.round_workers.specs.declared.board.view.BoardSlot.TheVariants.{Nothing, Spare}
 use Rattle.round_workers.specs.Inner.BoardPlaces.{look_room}
 use Rattle.round_workers.specs.BoardSeats.{basis_of}
 use Rattle.round_workers.proofs.BoardLooks.{puts}

@@ -1,6 +1,6 @@
 use Rattle.std.proofs.Common.{◌+◌, arith, sym, ap, refl, ◌∙◌, Some}
 use Rattle.round_book.specs.Window.{look_for}
-use Rattle.round_workers.specs.declared.board.view.Place.TheVariants.{Nothing, OneLook}
+use Rattle.round_workers.specs.declared.board.view.BoardSlot.TheVariants.{Nothing, OneLook}
 use Rattle.round_workers.specs.Inner.BoardPlaces.{look_room}
 use Rattle.round_workers.specs.BoardPlays.{look_at_ticket}
 use Rattle.round_workers.specs.BoardSeats.{basis_of}

@@ -1,7 +1,7 @@
 use Rattle.std.proofs.Common.{ℕ, ◌+◌, arith, sym, ap, refl, ◌∙◌, subst}
 use mathlib.Core.Option as maybe
 use Rattle.atomic_table.specs.Table.{Allows, rest, step}
-use Rattle.round_workers.specs.declared.board.view.Place.TheVariants.{Nothing}
+use Rattle.round_workers.specs.declared.board.view.BoardSlot.TheVariants.{Nothing}
 use Rattle.round_workers.specs.BoardPlays.{has_put, tells_has_put}
 use Rattle.round_workers.specs.BoardRule.{IsKept}
 use Rattle.round_workers.specs.BoardSeats.{basis_of}

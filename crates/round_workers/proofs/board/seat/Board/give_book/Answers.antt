@@ -1,9 +1,9 @@
 use Rattle.std.proofs.Common.{None, sym, ap, ◌∙◌, [], subst}
 use Rattle.std.specs.Prelude.{IsSomeAnd}
-use Rattle.round_workers.specs.declared.board.view.Place.TheVariants.{Nothing, TheBook}
+use Rattle.round_workers.specs.declared.board.view.BoardSlot.TheVariants.{Nothing, TheBook}
 use Rattle.round_workers.specs.Inner.BoardPlaces.{book_room}
 use Rattle.round_workers.specs.BoardRule.{StandsFor}
-use Rattle.round_workers.specs.BoardSeats.{window_of}
+use Rattle.round_workers.specs.BoardSeats.{board_window}
 use Rattle.round_workers.specs.BoardView.{out_with}
 use Rattle.round_workers.proofs.BoardMoves.{At, lay-in, slot-held, some-there, swapped}
 use Rattle.round_workers.proofs.board.seat.Board.give_book.Goals as goal
@@ -32,4 +32,4 @@ end_book-requires-clause-out c = let me = c.args.seat.now.hand.me in let out = c
     slot-held _ me.0 0 Nothing [] (swapped _ _ me.0 0 (TheBook None) Nothing [] (λ i. (me.0, out i)) c.exchange-place.ensures.3)
 
 pub end_book-requires-clause-stands : goal.end_book-requires-clause-stands
-end_book-requires-clause-stands c = subst (λ content. IsSomeAnd content (StandsFor (window_of c.args.self.now))) (sym c.put.ensures) c.requires.stands
+end_book-requires-clause-stands c = subst (λ content. IsSomeAnd content (StandsFor (board_window c.args.self.now))) (sym c.put.ensures) c.requires.stands

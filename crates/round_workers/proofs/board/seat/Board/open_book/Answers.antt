@@ -1,7 +1,7 @@
 use Rattle.std.proofs.Common.{◌∷◌, None, arith, sym, refl, ap, ◌∙◌, subst}
 use mathlib.Core.Option as maybe
 use Rattle.atomic_table.specs.Table.{Allows, step}
-use Rattle.round_workers.specs.declared.board.view.Place.TheVariants.{Nothing, TheBook}
+use Rattle.round_workers.specs.declared.board.view.BoardSlot.TheVariants.{Nothing, TheBook}
 use Rattle.round_workers.specs.Inner.BoardPlaces.{book_room}
 use Rattle.round_workers.specs.BoardPlays.{opens_now, tells_opened}
 use Rattle.round_workers.specs.BoardRule.{IsKept}

@@ -1,8 +1,6 @@
-use Rattle.std.proofs.Common.{ℕ, Some, ◌+◌, ap, refl, ◌∙◌}
-use Rattle.atomic_table.specs.Table.{rest}
-use Rattle.round_workers.specs.declared.board.view.Place.TheVariants.{Nothing}
-use Rattle.round_workers.specs.BoardPlays.{has_put}
-use Rattle.round_workers.proofs.BoardMoves.{At, at-rest-so, slot-held}
+use Rattle.std.proofs.Common.{Some, ◌+◌, ap, ◌∙◌}
+use Rattle.round_workers.specs.declared.board.view.BoardSlot.TheVariants.{Nothing}
+use Rattle.round_workers.proofs.BoardMoves.{At, put-done, put-rests, slot-held}
 use Rattle.round_workers.proofs.board.seat.Board.put_at.Goals as goal
 
 pub end_put-requires-clause-knows : goal.end_put-requires-clause-knows
@@ -18,14 +16,13 @@ pub end_put-requires-clause-look : goal.end_put-requires-clause-look
 end_put-requires-clause-look c = c.put.ensures ∙ ap Some c.requires.look
 
 pub invariant_of-seat : goal.invariant_of-seat
-invariant_of-seat c = let me = c.args.seat.now.hand.me in let j : ℕ = c.args.ticket in
-    let done = c.end_put.ensures.has_put ∙ ap (λ (m : At). (has_put m.0 j, rest m.1)) c.begin_put-room.ensures.puts in
-    record { at_rest = at-rest-so me _ (has_put me.0 j) done refl refl refl c.args.seat.now.at_rest }
+invariant_of-seat c = record { at_rest = put-rests c.args.seat.now.hand.me _ _ c.args.ticket c.begin_put-room.ensures.puts c.end_put.ensures.has_put c.args.seat.now.at_rest }
 
 pub returns-clause-board : goal.returns-clause-board
-returns-clause-board c = let j : ℕ = c.args.ticket in
-    let done = c.end_put.ensures.has_put ∙ ap (λ (m : At). (has_put m.0 j, rest m.1)) c.begin_put-room.ensures.puts in
-    record { table = c.end_put.ensures.table ∙ (c.begin_put-room.ensures.table ∙ c.requires.board.table); knows = ap (λ (m : At). m.0.about) done ∙ c.requires.board.knows }
+returns-clause-board c = record {
+  table = c.end_put.ensures.table ∙ (c.begin_put-room.ensures.table ∙ c.requires.board.table);
+  knows = ap (λ (m : At). m.0.about) (put-done c.args.seat.now.hand.me _ _ c.args.ticket c.begin_put-room.ensures.puts c.end_put.ensures.has_put) ∙ c.requires.board.knows;
+}
 
 pub returns-clause-put : goal.returns-clause-put
-returns-clause-put c = let j : ℕ = c.args.ticket in ap (λ (m : At). m.0) (c.end_put.ensures.has_put ∙ ap (λ (m : At). (has_put m.0 j, rest m.1)) c.begin_put-room.ensures.puts)
+returns-clause-put c = ap (λ (m : At). m.0) (put-done c.args.seat.now.hand.me _ _ c.args.ticket c.begin_put-room.ensures.puts c.end_put.ensures.has_put)

@@ -2,7 +2,7 @@ use Rattle.std.proofs.Common.{◌≡◌, ℕ, ◌+◌, ◌-◌, ◌<◌, ◌≤�
 use lib.ListN.{get_elem?}
 use Rattle.std.specs.Vec.{vec_capacity}
 use Rattle.std.specs.Mem.Slots.{slots_len}
-use Rattle.round_workers.specs.BoardSeats.{basis_of, known, window_of}
+use Rattle.round_workers.specs.BoardSeats.{basis_of, known, board_window}
 use Rattle.round_workers.specs.BoardTotals.{once_below}
 use Rattle.round_workers.proofs.BoardClosing.{book-at-slot, index-at, lasts, look-at-slot, places-more, stands-so}
 use Rattle.round_workers.proofs.board.seat.Board.take_apart.Goals as goal
@@ -23,7 +23,7 @@ pub returns-clause-book : goal.returns-clause-book
 returns-clause-book c =
     let key = basis_of c.args.self in let v = known c.args.seat in
     let last = lasts key c.args.seat.hand.id v c.requires.board.knows c.requires.first c.requires.whole c.args.seat.at_rest.resting c.requires.opened c.requires.free _ _ c.close_with-closed.ensures.values.2 in
-    let it = book-at-slot key v _ _ c.take_slot.result last c.take_slot.ensures.value in stands-so (window_of c.args.self) c.book_in.result it.0 c.in-Some.book (c.book_in.ensures ∙ it.1) c.in-Some.is it.2
+    let it = book-at-slot key v _ _ c.take_slot.result last c.take_slot.ensures.value in stands-so (board_window c.args.self) c.book_in.result it.0 c.in-Some.book (c.book_in.ensures ∙ it.1) c.in-Some.is it.2
 
 pub returns-clause-drawn : goal.returns-clause-drawn
 returns-clause-drawn c =
@@ -49,7 +49,7 @@ loop-ticket-preserved c =
       taken = c.take_slot-in-loop-ticket.ensures.taken;
       placed = omega arith;
       capacity = c.push_reserved.ensures.capacity ∙ old.capacity;
-      looks = places-more (window_of c.args.self) v _ _ t c.take_slot-in-loop-ticket.result was c.push_reserved.ensures.items (look-at-slot key v _ _ t _ last (omega arith) here) old.looks;
+      looks = places-more (board_window c.args.self) v _ _ t c.take_slot-in-loop-ticket.result was c.push_reserved.ensures.items (look-at-slot key v _ _ t _ last (omega arith) here) old.looks;
     }
 
 pub returns-clause-turns : goal.returns-clause-turns

@@ -2,8 +2,8 @@ use Rattle.std.proofs.Common.{◌≡◌, ℕ, ◌+◌, ◌<◌, length, slice_in
 use Rattle.std.specs.Mem.Slots.{slots_filled, slots_items, slots_len}
 use Rattle.std.specs.Vec.{vec_capacity}
 use Rattle.round_workers.specs.Inner.BoardPlaces.{AreTaken, look_in}
-use Rattle.round_workers.specs.declared.board.view.Place.TheVariants.{Nothing}
-use Rattle.round_workers.specs.BoardSeats.{known, left_look, window_of}
+use Rattle.round_workers.specs.declared.board.view.BoardSlot.TheVariants.{Nothing}
+use Rattle.round_workers.specs.BoardSeats.{known, left_look, board_window}
 use Rattle.round_workers.proofs.board.seat.Board.take_apart.Given as goal
 
 abbrev pub invariant-loop-ticket : goal.invariant-loop-ticket
@@ -13,5 +13,5 @@ invariant-loop-ticket l = record {
   taken : AreTaken (l.ticket + 1) (slots_len l.closed.slots) (slots_filled l.closed.slots);
   placed : length l.places.items ≡ l.ticket;
   capacity : vec_capacity l.places ≡ vec_capacity l.initial.places;
-  looks : (k : ℕ) → k < l.ticket → look_in (slice_index_or l.places.items k Nothing) ≡ left_look (window_of l.fn.self) (known l.fn.seat) k;
+  looks : (k : ℕ) → k < l.ticket → look_in (slice_index_or l.places.items k Nothing) ≡ left_look (board_window l.fn.self) (known l.fn.seat) k;
 }

@@ -1,6 +1,6 @@
 use Rattle.std.proofs.Common.{ℕ, ◌+◌, ap, refl, ◌∙◌}
 use Rattle.atomic_table.specs.Table.{rest}
-use Rattle.round_workers.specs.declared.board.view.Place.TheVariants.{Nothing}
+use Rattle.round_workers.specs.declared.board.view.BoardSlot.TheVariants.{Nothing}
 use Rattle.round_workers.specs.BoardPlays.{has_taken, took_look}
 use Rattle.round_workers.proofs.BoardMoves.{At, at-rest-so, if-none, if-some, on-some, slot-held}
 use Rattle.round_workers.proofs.board.seat.Board.take_at.Goals as goal

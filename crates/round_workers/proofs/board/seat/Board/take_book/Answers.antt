@@ -1,5 +1,5 @@
 use Rattle.std.proofs.Common.{None, sym, ap, ◌∙◌, ◌∷◌, subst}
-use Rattle.round_workers.specs.declared.board.view.Place.TheVariants.{Nothing, TheBook}
+use Rattle.round_workers.specs.declared.board.view.BoardSlot.TheVariants.{Nothing, TheBook}
 use Rattle.round_workers.specs.BoardPlays.{with_book}
 use Rattle.round_workers.specs.BoardView.{IsAtRest, out_with}
 use Rattle.round_workers.proofs.BoardMoves.{At, slot-held, swapped}

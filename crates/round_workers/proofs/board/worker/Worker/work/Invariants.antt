@@ -1,7 +1,7 @@
 use Rattle.std.proofs.Common.{◌≡◌, ◌+◌, ◌-◌, ◌<◌, ◌≤◌, true, length}
 use Rattle.std.specs.List.{AllByRecursion}
 use Rattle.std.specs.Vec.{vec_capacity}
-use Rattle.round_workers.specs.BoardSeats.{IsSeatOf, known, window_of}
+use Rattle.round_workers.specs.BoardSeats.{IsSeatOf, known, board_window}
 use Rattle.round_workers.specs.BoardWorker.{turns_in}
 use Rattle.round_workers.proofs.board.worker.Worker.work.Given as goal
 
@@ -11,11 +11,11 @@ invariant-loop-stream g l = record {
   number : l.self.number ≡ l.fn.self.number;
   seat_number : (known l.self.seat).number ≡ (known l.fn.self.seat).number;
   opened : (known l.self.seat).opened ≡ true;
-  early : AllByRecursion (λ k. k < turns_in (window_of l.board)) (known l.self.seat).drawn;
-  seed : l.stream.seed ≡ (window_of l.board).seed;
-  room : turns_in (window_of l.board) ≤ vec_capacity l.self.made;
+  early : AllByRecursion (λ k. k < turns_in (board_window l.board)) (known l.self.seat).drawn;
+  seed : l.stream.seed ≡ (board_window l.board).seed;
+  room : turns_in (board_window l.board) ≤ vec_capacity l.self.made;
   tries : (known l.fn.self.seat).tries + length (known l.self.seat).put ≤ (known l.self.seat).tries + length (known l.fn.self.seat).put;
 }
 
 abbrev pub decreases-loop-stream : goal.decreases-loop-stream
-decreases-loop-stream g l = turns_in (window_of l.board) + 1 - length (known l.self.seat).drawn
+decreases-loop-stream g l = turns_in (board_window l.board) + 1 - length (known l.self.seat).drawn

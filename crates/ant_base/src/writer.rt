@@ -1,0 +1,59 @@
+// Writers that may hold back what they took.
+ghost use Rattle.std.specs.Prelude.{◌≡◌, ◌≢◌, [], List, ℕ, Bool, true, false, IsOk, OnOk};
+ghost use Rattle.std.specs.Io.{WritesAtMost};
+ghost use Rattle.std.specs.Io.KnownBytes.{Keeps, WriteAppends};
+ghost use Rattle.ant_base.specs.Streams.{TakesSome};
+
+use std::io::{self, BufWriter, Stderr, Write};
+
+/// A writer that may hold back some of what it took.
+pub trait Writer: Write {
+    /// The bytes that wait in the writer's buffer, the first first.
+    ghost waiting: { Self → List ℕ };
+
+    /// Whether no write and no sending on of this writer fails. It is known of no stream of the system.
+    ghost sure: { Self → Bool };
+
+    /// Takes a prefix of the piece, and answers how many bytes that is: `Write::write`, and what a writer that is sure answers to it.
+    fn take(&mut self, piece: &[u8]) -> io::Result<usize>
+        ensures bound { WritesAtMost result piece.now }
+        ensures taken { WriteAppends (Self.contents self.old) (Self.contents self.new) result piece.now }
+        ensures sure { sure self.old ≡ true → piece.now ≢ [] → TakesSome result × (sure self.new ≡ true) };
+
+    /// Sends on what waits.
+    fn send(&mut self) -> io::Result<()>
+        ensures kept { Keeps (Self.contents self.old) (Self.contents self.new) }
+        ensures sent { OnOk result (waiting self.new ≡ []) }
+        ensures sure { sure self.old ≡ true → IsOk result × (sure self.new ≡ true) };
+}
+
+impl<W: Write + Drop> Writer for BufWriter<W> {
+    ghost use Rattle.std.specs.Io.Buffered.{writer_buffer};
+
+    ghost waiting = { writer_buffer };
+
+    ghost sure = { λ _. false };
+
+    fn take(&mut self, piece: &[u8]) -> io::Result<usize> {
+        self.write(piece)
+    }
+
+    fn send(&mut self) -> io::Result<()> {
+        self.flush()
+    }
+}
+
+// It has no buffer.
+impl Writer for Stderr {
+    ghost waiting = { λ _. [] };
+
+    ghost sure = { λ _. false };
+
+    fn take(&mut self, piece: &[u8]) -> io::Result<usize> {
+        self.write(piece)
+    }
+
+    fn send(&mut self) -> io::Result<()> {
+        self.flush()
+    }
+}

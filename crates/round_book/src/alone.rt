@@ -1,0 +1,63 @@
+// A window played on one thread: each look is settled as soon as it is made, so that one room is enough for all looks.
+ghost use Rattle.std.specs.Prelude.{◌≡◌, IfOk, OnOk, OnErr};
+ghost use Rattle.round_book.specs.Book.{CanBegin, IsPlayed, IsSameWindow, StandsOn, window_of};
+ghost use Rattle.round_book.specs.Counts.{counts_of};
+
+use crate::advancing::advance;
+use crate::book::Book;
+use crate::counts::Counts;
+use crate::field::Field;
+use ant_base::Gate;
+use ant_random::Stream;
+use hex_geometry::OutOfMemory;
+use spec_record::look_by;
+use std::alloc::Global;
+
+// The number of a worker that works alone.
+const ALONE: u32 = 0;
+
+/// Plays the turns of the ids from `from` up to, and not including, `to` on the caller's thread, which calls the gate as worker 0 before
+/// each look that it makes. The field is whole, `from` is at most `to`, `to` at most the number of ids, and the place with the number of
+/// turns is below 2^63. The field is whole afterwards, its world and place are those to which the turns lead in order, and the answer counts
+/// the looks that were taken and the turns that were executed anew. It is refused for want of memory alone; the field is as before then.
+pub fn play_window<G: Gate>(
+    gate: &G,
+    alloc: Global,
+    field: &mut Field<'_>,
+    from: u32,
+    to: u32,
+) -> Result<Counts, OutOfMemory>
+    requires { CanBegin field.old from to }
+    ensures played { OnOk result (IsPlayed field.old from to field.new) }
+    ensures counts { IfOk result (λ counts. counts ≡ counts_of (window_of field.old from to)) }
+    ensures unchanged { OnErr result (field.new ≡ field.old) }
+{
+    let mut book = field.begin(alloc, from, to)?;
+    settle_alone(&mut book, field, gate, from, to);
+    Ok(field.finish(book))
+}
+
+// Settles the turns of a window by looks that are made one after another, in one room and off one stream.
+fn settle_alone<G: Gate>(book: &mut Book, field: &Field<'_>, gate: &G, from: u32, to: u32)
+    requires stands { StandsOn field.now book.old }
+    requires from { book.old.from ≡ from }
+    requires next { book.old.next ≡ from }
+    requires to { book.old.to ≡ to }
+    ensures stands { StandsOn field.now book.new }
+    ensures next { book.new.next ≡ to }
+    ensures same { IsSameWindow book.old book.new }
+{
+    let place = field.place();
+    if from >= to {
+        return;
+    }
+    let mut stream = Stream::at_place_uncounted(field.seed(), place);
+    gate.before_look(ALONE, from);
+    let mut look = look_by(field.world(), field.brains(), &mut stream, from);
+    advance(book, field, &look);
+    for id in from + 1..to {
+        gate.before_look(ALONE, id);
+        look.renew(field.world(), field.brains(), &mut stream, id);
+        advance(book, field, &look);
+    }
+}
