@@ -10,7 +10,7 @@ use Rattle.cell_world.specs.Limits.{most_ants}
 use Rattle.cell_world.specs.Score.{score_of}
 use Rattle.cell_world.specs.World.{World}
 use Rattle.cell_world.specs.declared.score.Score.{Score}
-use Rattle.match_run.specs.Inner.Sequential.{opening_moment}
+use Rattle.match_run.specs.Inner.Sequential.{moment_from}
 use Rattle.match_run.proofs.SequentialLemmas.{IsTaken, IsAfter, IsAfter-none, IsAfter-more, IsAfter-world}
 use Rattle.break_view.specs.declared.breaks.Break.{Break}
 use Rattle.break_view.specs.declared.stop.Stop.{Stop}
@@ -34,11 +34,11 @@ quiet-more minds seed m items r n quiet none = λ t below. go t below (nat_lt t 
 pub record IsWatching (minds : Minds) (items : List Break) (r : ℕ) (first : Grid) (start : SeedAndPlace) (turns : ℕ) (grid : Grid) (stream : SeedAndPlace) (score : Score) : Type 0 where
   pub scored : score ≡ score_of (world_of grid)
   pub taken : IsTaken minds first start turns grid stream
-  pub quiet : IsQuiet minds start.seed (opening_moment first start) items r turns
+  pub quiet : IsQuiet minds start.seed (moment_from first start) items r turns
 
 -- which break holds in the world after a turn
 pub met-taken : {minds : Minds} {first : Grid} {start : SeedAndPlace} {grid : Grid} {stream : SeedAndPlace} → (items : List Break) (r id : ℕ) → IsTaken minds first start (id + 1) grid stream
-    → met_in_round minds start.seed (opening_moment first start) items r id ≡ first_met 1 items (world_of grid) r id
+    → met_in_round minds start.seed (moment_from first start) items r id ≡ first_met 1 items (world_of grid) r id
 unfolding world_in_round
 met-taken items r id taken = ap (λ (m : Moment). first_met 1 items m.world r id) (sym taken.moment)
 
@@ -62,19 +62,19 @@ module _ {minds : Minds} {seed : ℕ} {w : World} {items : List Break} {round : 
   ids_kept = ap (λ (m : Moment). m.world.ids) watched.after.moment ∙ after_rounds-ids minds seed (start_of w) round
 
   -- the world after a turn of the round that begins now
-  world_here : (t : ℕ) → world_at minds seed w (round + 1) t ≡ world_in_round minds stream.seed (opening_moment grid stream) t
+  world_here : (t : ℕ) → world_at minds seed w (round + 1) t ≡ world_in_round minds stream.seed (moment_from grid stream) t
   world_here t =
       let back : (round + 1) - 1 ≡ round = omega arith in
       ap (λ (k : ℕ). world_in_round minds seed (after_rounds minds seed (start_of w) k) t) back
       ∙ ap (λ (m : Moment). world_in_round minds seed m t) (sym watched.after.moment)
-      ∙ ap (λ (s : ℕ). world_in_round minds s (opening_moment grid stream) t) (sym watched.after.same_seed)
+      ∙ ap (λ (s : ℕ). world_in_round minds s (moment_from grid stream) t) (sym watched.after.same_seed)
 
   -- which break holds after a turn of the round that begins now
-  met_here : (r t : ℕ) → r ≡ round + 1 → met_at minds seed w items r t ≡ met_in_round minds stream.seed (opening_moment grid stream) items (round + 1) t
+  met_here : (r t : ℕ) → r ≡ round + 1 → met_at minds seed w items r t ≡ met_in_round minds stream.seed (moment_from grid stream) items (round + 1) t
   met_here r t now = ap (λ (k : ℕ). met_at minds seed w items k t) now ∙ ap (λ (v : World). first_met 1 items v (round + 1) t) (world_here t)
 
   -- one round more without a stop
-  pub watched-more : (next : Grid) (later : SeedAndPlace) (now : Score) → Passes minds stream.seed (opening_moment grid stream) items (round + 1) (opening_moment next later)
+  pub watched-more : (next : Grid) (later : SeedAndPlace) (now : Score) → Passes minds stream.seed (moment_from grid stream) items (round + 1) (moment_from next later)
       → later.seed ≡ stream.seed → later.place ≤ stream.place + most_ants → Fits (world_of next) minds → now ≡ score_of (world_of next) → IsWatched minds seed w items (round + 1) next later now
   watched-more next later now passes same few fits scored = record {
     scored = scored;
@@ -92,7 +92,7 @@ module _ {minds : Minds} {seed : ℕ} {w : World} {items : List Break} {round : 
           met_here r t now ∙ passes.quiet t made
 
   -- the stop of the round that begins now is the game's first
-  pub first_stop : (rounds : ℕ) (stop : Stop) (end : Moment) → round + 1 ≤ rounds → StopsIn minds stream.seed (opening_moment grid stream) items (round + 1) stop end → EndsAt minds seed rounds w items (Some stop) end.world
+  pub first_stop : (rounds : ℕ) (stop : Stop) (end : Moment) → round + 1 ≤ rounds → StopsIn minds stream.seed (moment_from grid stream) items (round + 1) stop end → EndsAt minds seed rounds w items (Some stop) end.world
   unfolding world_in_round
   first_stop rounds stop end some stops = (
     record { turn = turn; met = met_here stop.round stop.id stops.round ∙ stops.met; none_before = λ r t other before. earlier r t other before },
@@ -111,12 +111,12 @@ module _ {minds : Minds} {seed : ℕ} {w : World} {items : List Break} {round : 
       earlier r t other (inr before) = met_here r t (before.0 ∙ stops.round) ∙ stops.quiet t before.1
 
   -- a round that ends with a stop
-  pub ends_stopped : (rounds : ℕ) (stop : Option Stop) (end : Moment) → round + 1 ≤ rounds → is_some stop ≡ true → RoundEnds minds stream.seed (opening_moment grid stream) items (round + 1) stop end → EndsAt minds seed rounds w items stop end.world
+  pub ends_stopped : (rounds : ℕ) (stop : Option Stop) (end : Moment) → round + 1 ≤ rounds → is_some stop ≡ true → RoundEnds minds stream.seed (moment_from grid stream) items (round + 1) stop end → EndsAt minds seed rounds w items stop end.world
   ends_stopped rounds None end some is ends = absurd (let never : false ≡ true = is in cc)
   ends_stopped rounds (Some stop) end some is ends = first_stop rounds stop end some ends
 
   -- a round that ends without a stop
-  pub ends_passed : (stop : Option Stop) (end : Moment) → is_some stop ≡ false → RoundEnds minds stream.seed (opening_moment grid stream) items (round + 1) stop end → Passes minds stream.seed (opening_moment grid stream) items (round + 1) end
+  pub ends_passed : (stop : Option Stop) (end : Moment) → is_some stop ≡ false → RoundEnds minds stream.seed (moment_from grid stream) items (round + 1) stop end → Passes minds stream.seed (moment_from grid stream) items (round + 1) end
   ends_passed None end is ends = ends
   ends_passed (Some stop) end is ends = absurd (let never : true ≡ false = is in cc)
 

@@ -4,7 +4,7 @@ ghost use Rattle.ant_turn.specs.Minds.{Fits, minds_of};
 ghost use Rattle.cell_world.specs.Grid.{world_of};
 ghost use Rattle.cell_world.specs.Limits.{most_ants};
 ghost use Rattle.cell_world.specs.Score.{score_of};
-ghost use Rattle.match_run.specs.Inner.Sequential.{LastsARound, opening_moment};
+ghost use Rattle.match_run.specs.Inner.Sequential.{LastsARound, moment_from};
 ghost use Rattle.match_run.specs.Run.{most_rounds};
 ghost use Rattle.break_view.specs.Grammar.{most_breaks};
 ghost use Rattle.break_view.specs.Stops.{EndsAt};
@@ -75,7 +75,7 @@ fn stop_in_round(
     requires place { LastsARound stream.old }
     requires few { length items.now ≤ most_breaks }
     requires score { score.old ≡ score_of (world_of world.old) }
-    ensures end { RoundEnds (minds_of brains.entry) stream.old.seed (opening_moment world.old stream.old) items.now round result (opening_moment world.new stream.new) }
+    ensures end { RoundEnds (minds_of brains.entry) stream.old.seed (moment_from world.old stream.old) items.now round result (moment_from world.new stream.new) }
     ensures seed { stream.new.seed ≡ stream.old.seed }
     ensures place { stream.new.place ≤ stream.old.place + most_ants }
     ensures fit { Fits (world_of world.new) (minds_of brains.entry) }

@@ -10,7 +10,7 @@ use Rattle.ant_turn.specs.Rounds.{Moment, after_turn, after_turns, after_round, 
 use Rattle.ant_turn.specs.Turn.{turn}
 use Rattle.ant_turn.proofs.KeptByRounds.{after_rounds-more, after_turns-ids, after_turns-more, after_turns-place}
 use Rattle.match_run.specs.Run.{world_after}
-use Rattle.match_run.specs.Inner.Sequential.{opening_moment}
+use Rattle.match_run.specs.Inner.Sequential.{moment_from}
 
 -- the moment of a world and a place
 abbrev moment_at : World → ℕ → Moment
@@ -18,7 +18,7 @@ moment_at w place = record { world = w; place = place }
 
 -- a world and a stream are those after so many turns of a round that starts with others
 pub record IsTaken (minds : Minds) (first : Grid) (start : SeedAndPlace) (turns : ℕ) (grid : Grid) (stream : SeedAndPlace) : Type 0 where
-  pub moment : opening_moment grid stream ≡ after_turns minds start.seed (opening_moment first start) 0 turns
+  pub moment : moment_from grid stream ≡ after_turns minds start.seed (moment_from first start) 0 turns
   pub seed : stream.seed ≡ start.seed
   pub fits : Fits (world_of grid) minds
 
@@ -29,19 +29,19 @@ IsTaken-none minds first start fits = record { moment = refl; seed = refl; fits 
 -- a turn takes one number at most
 pub IsTaken-place : {minds : Minds} {first : Grid} {start : SeedAndPlace} {turns : ℕ} {grid : Grid} {stream : SeedAndPlace} → IsTaken minds first start turns grid stream → stream.place ≤ start.place + turns
 IsTaken-place {minds} {first} {start} {turns} {grid} {stream} taken =
-    let within = after_turns-place minds start.seed (opening_moment first start) 0 turns in
+    let within = after_turns-place minds start.seed (moment_from first start) 0 turns in
     rw (ap (λ (m : Moment). m.place) taken.moment) within.to
 
 -- turns make no id
 pub IsTaken-ids : {minds : Minds} {first : Grid} {start : SeedAndPlace} {turns : ℕ} {grid : Grid} {stream : SeedAndPlace} → IsTaken minds first start turns grid stream → grid.ids ≡ first.ids
 IsTaken-ids {minds} {first} {start} {turns} {grid} {stream} taken =
-    ap (λ (m : Moment). m.world.ids) taken.moment ∙ after_turns-ids minds start.seed (opening_moment first start) 0 turns
+    ap (λ (m : Moment). m.world.ids) taken.moment ∙ after_turns-ids minds start.seed (moment_from first start) 0 turns
 
 -- what a turn makes of a world and a stream is what it makes of their moment
 moment-turn : (minds : Minds) (grid next : Grid) (stream later : SeedAndPlace) (t : ℕ)
     → world_of next ≡ with_cells (world_of grid) (turn minds stream.seed (world_of grid) stream.place t).cells
     → later ≡ record stream { place = stream.place + one_if (turn minds stream.seed (world_of grid) stream.place t).drew }
-    → opening_moment next later ≡ after_turn minds stream.seed (opening_moment grid stream) t
+    → moment_from next later ≡ after_turn minds stream.seed (moment_from grid stream) t
 unfolding after_turn
 moment-turn minds grid next stream later t world place = ap₂ moment_at world (ap (λ (s : SeedAndPlace). s.place) place)
 
@@ -52,26 +52,26 @@ pub IsTaken-more : {minds : Minds} {first : Grid} {start : SeedAndPlace} {turns 
     → Fits (world_of next) minds → IsTaken minds first start (turns + 1) next later
 IsTaken-more {minds} {first} {start} {turns} {grid} {stream} taken next later world place fits =
     let from_zero : turns ≡ 0 + turns = omega arith in
-    let earlier : Moment = after_turns minds start.seed (opening_moment first start) 0 turns in
+    let earlier : Moment = after_turns minds start.seed (moment_from first start) 0 turns in
     record {
       moment =
           moment-turn minds grid next stream later turns world place
-          ∙ ap (λ (seed : ℕ). after_turn minds seed (opening_moment grid stream) turns) taken.seed
+          ∙ ap (λ (seed : ℕ). after_turn minds seed (moment_from grid stream) turns) taken.seed
           ∙ ap (λ (m : Moment). after_turn minds start.seed m turns) taken.moment
           ∙ ap (after_turn minds start.seed earlier) from_zero
-          ∙ sym (after_turns-more minds start.seed (opening_moment first start) 0 turns);
+          ∙ sym (after_turns-more minds start.seed (moment_from first start) 0 turns);
       seed = ap (λ (s : SeedAndPlace). s.seed) place ∙ taken.seed;
       fits = fits;
     }
 
 -- the round is over where each id had its turn
-pub IsTaken-all : {minds : Minds} {first : Grid} {start : SeedAndPlace} {turns : ℕ} {grid : Grid} {stream : SeedAndPlace} → IsTaken minds first start turns grid stream → turns ≡ first.ids → opening_moment grid stream ≡ after_round minds start.seed (opening_moment first start)
+pub IsTaken-all : {minds : Minds} {first : Grid} {start : SeedAndPlace} {turns : ℕ} {grid : Grid} {stream : SeedAndPlace} → IsTaken minds first start turns grid stream → turns ≡ first.ids → moment_from grid stream ≡ after_round minds start.seed (moment_from first start)
 unfolding after_round
-IsTaken-all {minds} {first} {start} taken all = taken.moment ∙ ap (after_turns minds start.seed (opening_moment first start) 0) all
+IsTaken-all {minds} {first} {start} taken all = taken.moment ∙ ap (after_turns minds start.seed (moment_from first start) 0) all
 
 -- a world and a stream are those after so many rounds of a game that starts in w
 pub record IsAfter (minds : Minds) (seed : ℕ) (w : World) (round : ℕ) (grid : Grid) (stream : SeedAndPlace) : Type 0 where
-  pub moment : opening_moment grid stream ≡ after_rounds minds seed (start_of w) round
+  pub moment : moment_from grid stream ≡ after_rounds minds seed (start_of w) round
   pub same_seed : stream.seed ≡ seed
   pub place : stream.place ≤ round * most_ants
   pub fits : Fits (world_of grid) minds
@@ -87,14 +87,14 @@ IsAfter-none minds seed grid stream same begins fits = record {
 
 -- one round more is played
 pub IsAfter-more : {minds : Minds} {seed : ℕ} {w : World} {round : ℕ} {grid : Grid} {stream : SeedAndPlace} → IsAfter minds seed w round grid stream → (next : Grid) (later : SeedAndPlace)
-    → opening_moment next later ≡ after_round minds stream.seed (opening_moment grid stream)
+    → moment_from next later ≡ after_round minds stream.seed (moment_from grid stream)
     → later.seed ≡ stream.seed → later.place ≤ stream.place + most_ants → Fits (world_of next) minds → IsAfter minds seed w (round + 1) next later
 IsAfter-more {minds} {seed} {w} {round} {grid} {stream} after next later played same few fits =
     let so_far : stream.place ≤ round * most_ants = after.place in
     record {
       moment =
           played
-          ∙ ap (λ (s : ℕ). after_round minds s (opening_moment grid stream)) after.same_seed
+          ∙ ap (λ (s : ℕ). after_round minds s (moment_from grid stream)) after.same_seed
           ∙ ap (after_round minds seed) after.moment
           ∙ sym (after_rounds-more minds seed (start_of w) round);
       same_seed = same ∙ after.same_seed;

@@ -67,7 +67,13 @@ fn game_of<'b>(
 ) -> Result<Game<'b>, OutOfMemory>
     requires fit { Fits (world_of world) (minds_of brains) }
     requires sized { 1 ≤ plan.now.window }
-    ensures { IfOk result (λ game. game ≡ beginning (record { world = world; minds = minds_of brains.entry; seed = plan.now.seed; place = 0; whole = true }) plan.now.window) }
+    ensures { IfOk result (λ game. game ≡ beginning (record {
+      world = world;
+      minds = minds_of brains.entry;
+      seed = plan.now.seed;
+      place = 0;
+      whole = true;
+    }) plan.now.window) }
 {
     let field = Field::new(alloc, world, brains, plan.seed, 0)?;
     Ok(Game::begin(field, plan.window))

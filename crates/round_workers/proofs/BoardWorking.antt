@@ -32,7 +32,7 @@ ascends-snoc least t [] le up all = and_from (nat_le least t) true (le-leb least
 ascends-snoc least t (x ∷ xs) le up all =
     let both = and_both (nat_le least x) (ascends (x + 1) xs) up in and_from (nat_le least x) (ascends (x + 1) (xs ++ t ∷ [])) both.0 (ascends-snoc (x + 1) t xs (let l : x < t = all.0 in omega arith) both.1 all.1)
 
--- numbers in order that are those_below t are no more than t
+-- numbers in order that are below t are no more than t
 ascends-length : (least t : ℕ) (xs : List ℕ) → least ≤ t → ascends least xs ≡ true → AllByRecursion (λ k. k < t) xs → length xs + least ≤ t
 ascends-length least t [] le up all = omega arith
 ascends-length least t (x ∷ xs) le up all =
@@ -51,7 +51,7 @@ keep-times : (b : Bool) (x k n : ℕ) (l : List ℕ) → times k l ≤ n → tim
 keep-times true x k n l le = omega arith
 keep-times false x k n l le = omega arith
 
--- of a list and one more, those those_below n
+-- of a list and one more, those below n
 those_below-early : (n t : ℕ) (xs : List ℕ) → t < n → those_below n (xs ++ t ∷ []) ≡ those_below n xs ++ t ∷ []
 those_below-early n t [] h = ap (λ (b : Bool). cond b (t ∷ []) []) (lt-ltb t n h)
 those_below-early n t (x ∷ xs) h = keep-snoc (nat_lt x n) x t (those_below n (xs ++ t ∷ [])) (those_below n xs) (those_below-early n t xs h)

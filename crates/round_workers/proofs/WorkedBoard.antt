@@ -75,7 +75,7 @@ module _ (window : Window) (ticket word : ℕ) (home : maybe.Option (maybe.Optio
 pub left_looks : (look : LookValue) → (left_if 0 0 look ∷ left_if 1 0 look ∷ left_if 1 1 look ∷ []) ≡ None ∷ Some look ∷ None ∷ []
 left_looks look = refl
 
--- totals, and numbers those_below or from 3 on
+-- totals, and numbers below or from 3 on
 pub totals : (summed (λ (n : ℕ). n + 1) (2 ∷ 0 ∷ 5 ∷ []) ∷ once_below 2 3 ∷ once_below 3 3 ∷ late_among 3 (1 ∷ 3 ∷ 5 ∷ []) ∷ []) ≡ 10 ∷ 1 ∷ 0 ∷ 2 ∷ []
 totals = refl
 

@@ -48,7 +48,7 @@ only_if false n = 0
 abbrev pub has_opened : View → ℕ
 has_opened v = only_if v.opened (is_first v)
 
--- 1 in the midst of phase_opening the book, else 0
+-- 1 in the midst of opening the book, else 0
 abbrev pub phase_opening : Phase → ℕ
 phase_opening Resting = 0
 phase_opening Opening = 1
@@ -113,7 +113,7 @@ HasBook home window = (book : BookValue) × HasHome home (TheBook (Some book)) �
 abbrev pub IsSpare : maybe.Option (maybe.Option BoardSlot) → Type 0
 IsSpare home = (old : Option LookValue) × HasHome home (Spare old)
 
--- the book, by its word and what its slot has at home: so many seats hold it, are phase_opening it, opened it, and have seen it opened
+-- the book, by its word and what its slot has at home: so many seats hold it, are opening it, opened it, and have seen it opened
 pub record IsBookKept (window : Window) (word : ℕ) (home : maybe.Option (maybe.Option BoardSlot)) (held opens opened seen : ℕ) : Type 0 where
   pub out : word ≡ held + opens
   pub bit : word ≤ 1

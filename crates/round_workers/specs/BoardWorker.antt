@@ -8,7 +8,7 @@ use Rattle.round_workers.specs.declared.board.view.View.{View}
 use Rattle.round_workers.specs.BoardTotals.{late_among}
 use Rattle.round_workers.specs.BoardView.{window_about}
 
--- the numbers of a list that are those_below n
+-- the numbers of a list that are below n
 abbrev pub those_below : ℕ → List ℕ → List ℕ
 those_below n [] = []
 those_below n (x ∷ xs) = cond (nat_lt x n) (x ∷ those_below n xs) (those_below n xs)

@@ -49,7 +49,7 @@ module _ (seed : ℕ) (shape : Shape) (n g after : ℕ) (blocked now : List Bool
         placed = begun.placed ++ spot ∷ [];
         follow = follow_more seed shape [] 0 begun.placed g spot after begun.follow (subst (λ m. Goes (IsFreeSpot shape.width shape.height begun.placed) seed shape.width shape.height (element_of shape m) g spot after) (sym begun.count) there);
         count = length_push begun.placed spot ∙ ap (λ m. m + 1) begun.count;
-        yard = yard_more shape.width shape.height begun.placed blocked now kinds paint spot put.cells begun.yard fits put.lists put.stamped (paint_fed spot.form);
+        yard = yard_more shape.width shape.height begun.placed blocked now kinds paint spot put.cells begun.yard fits put.lists put.stamped (paint_fed spot.figure);
         few = hills_step (AllOpen shape.width shape.height blocked) seed shape n g spot after (hill_count kinds) (hill_count paint) (length put.cells) goes begun.few put.few put.stamped.hills;
       }
 

@@ -66,7 +66,7 @@ among_cases : (placed : List Spot) (spot other : Spot) → Contains (placed ++ s
 among_cases placed spot other among = Contains-push_cases placed spot other among
 
 module _ (width height : ℕ) (placed : List Spot) (blocked now : List Bool) (kinds paint : List Kind) (spot : Spot) (cells : List Pos)
-    (yard : IsYard width height placed blocked kinds) (fits : IsFreeSpot width height placed spot) (lists : ListsCells spot cells) (stamped : IsStamped width height cells (paint_of spot.form) blocked now kinds paint) where
+    (yard : IsYard width height placed blocked kinds) (fits : IsFreeSpot width height placed spot) (lists : ListsCells spot cells) (stamped : IsStamped width height cells (paint_of spot.figure) blocked now kinds paint) where
   cell_inner : (p : Pos) → Contains cells p → IsInner width height p
   cell_inner p among =
       let place = fits.off_rim (point_of p) (lists.each p among) in
@@ -124,13 +124,13 @@ module _ (width height : ℕ) (placed : List Spot) (blocked now : List Bool) (ki
   not_among : (p : Pos) (other : Spot) → Contains placed other → IsCell other (point_of p) → Contains cells p → ⊥
   not_among p other old cell among = fits.apart other (point_of p) (point_of p) old (lists.each p among) cell (inl refl)
 
-  now_cell : (p : Pos) (other : Spot) → Contains (placed ++ spot ∷ []) other → IsCell other (point_of p) → kind_at width paint p ≡ paint_of other.form
+  now_cell : (p : Pos) (other : Spot) → Contains (placed ++ spot ∷ []) other → IsCell other (point_of p) → kind_at width paint p ≡ paint_of other.figure
   now_cell p other among cell =
       let place = now_off_rim other (point_of p) among cell in
       let inner : IsInner width height p = subst (IsInner width height) (point_one place.0 p place.1) place.2 in
       elim (among_cases placed spot other among) [
         | inl old ↦ stamped.paints.off p kind.Rock (inner_inside inner) (not_among p other old cell) ∙ yard.painted.cell p other old cell
-        | inr same ↦ stamped.paints.on p kind.Rock (inner_inside inner) (cell_among p (subst (λ s. IsCell s (point_of p)) (sym same) cell)) ∙ ap (λ (s : Spot). paint_of s.form) same
+        | inr same ↦ stamped.paints.on p kind.Rock (inner_inside inner) (cell_among p (subst (λ s. IsCell s (point_of p)) (sym same) cell)) ∙ ap (λ (s : Spot). paint_of s.figure) same
       ]
 
   now_painted : IsPainted width height (placed ++ spot ∷ []) paint
@@ -143,7 +143,7 @@ module _ (width height : ℕ) (placed : List Spot) (blocked now : List Bool) (ki
         ∙ yard.painted.floor p inner (λ other among. none other (Contains-append_left placed (spot ∷ []) other among));
   }
 
-  pub yard_more : IsFed (paint_of spot.form) → IsYard width height (placed ++ spot ∷ []) now paint
+  pub yard_more : IsFed (paint_of spot.figure) → IsYard width height (placed ++ spot ∷ []) now paint
   yard_more fed = record {
     fenced = record {
       full = stamped.blocks.same_length ∙ yard.fenced.full;

@@ -19,7 +19,7 @@ use Rattle.world_gen.specs.Elements.{IsCell, element_of}
 use Rattle.world_gen.specs.Inner.Yards.{is_rim}
 use Rattle.world_gen.specs.Painting.{IsGenerated, IsPainted}
 use Rattle.world_gen.specs.Fitting.{IsFreeSpot}
-use Rattle.world_gen.specs.Placing.{Follow, Goes, HasNone, HasNoRoom, IsBarred, IsFound, IsPlacing, IsChosenSpot, after_begun, form_begun, draws_of, spot_at, try_of}
+use Rattle.world_gen.specs.Placing.{Follow, Goes, HasNone, HasNoRoom, IsBarred, IsFound, IsPlacing, IsChosenSpot, after_begun, figure_begun, draws_of, spot_at, try_of}
 use Rattle.world_gen.specs.PlacingLaws.{PlacingIsOne}
 use Rattle.world_gen.specs.declared.element.Element.{Element}
 use Rattle.world_gen.specs.declared.shape.Shape.{Shape}
@@ -45,9 +45,9 @@ order p q =
       ]
     ]
 
-module _ (fits : Spot → Type 0) (seed width height : ℕ) (form : Figure) (g : ℕ) where
+module _ (fits : Spot → Type 0) (seed width height : ℕ) (figure : Figure) (g : ℕ) where
   -- the first try that fits is one
-  one_try : (s t : Spot) (a b : ℕ) (x : IsChosenSpot fits seed width height form g s a) (y : IsChosenSpot fits seed width height form g t b) → x.try ≡ y.try
+  one_try : (s t : Spot) (a b : ℕ) (x : IsChosenSpot fits seed width height figure g s a) (y : IsChosenSpot fits seed width height figure g t b) → x.try ≡ y.try
   one_try s t a b x y =
       elim (cases_lt x.try y.try) [
         | inl h ↦ absurd (y.first x.try h (subst fits x.is x.fitting))
@@ -57,15 +57,15 @@ module _ (fits : Spot → Type 0) (seed width height : ℕ) (form : Figure) (g :
         ]
       ]
 
-  taken_one : (s t : Spot) (a b : ℕ) → IsChosenSpot fits seed width height form g s a → IsChosenSpot fits seed width height form g t b → (s ≡ t) × (a ≡ b)
+  taken_one : (s t : Spot) (a b : ℕ) → IsChosenSpot fits seed width height figure g s a → IsChosenSpot fits seed width height figure g t b → (s ≡ t) × (a ≡ b)
   taken_one s t a b x y =
       let same = one_try s t a b x y in
-      (x.is ∙ ap (try_of seed width height form g) same ∙ sym y.is, x.drew ∙ ap (λ k. g + (k + 1) * draws_of form) same ∙ sym y.drew)
+      (x.is ∙ ap (try_of seed width height figure g) same ∙ sym y.is, x.drew ∙ ap (λ k. g + (k + 1) * draws_of figure) same ∙ sym y.drew)
 
-  taken_found : (s t : Spot) (a b : ℕ) → IsChosenSpot fits seed width height form g s a → IsFound fits seed width height form g t b → ⊥
+  taken_found : (s t : Spot) (a b : ℕ) → IsChosenSpot fits seed width height figure g s a → IsFound fits seed width height figure g t b → ⊥
   taken_found s t a b x y = y.no_try x.try x.below (subst fits x.is x.fitting)
 
-  found_one : (s t : Spot) (a b : ℕ) → IsFound fits seed width height form g s a → IsFound fits seed width height form g t b → (s ≡ t) × (a ≡ b)
+  found_one : (s t : Spot) (a b : ℕ) → IsFound fits seed width height figure g s a → IsFound fits seed width height figure g t b → (s ≡ t) × (a ≡ b)
   found_one s t a b x y =
       let same : x.place ≡ y.place =
       elim (order x.place y.place) [
@@ -75,26 +75,26 @@ module _ (fits : Spot → Type 0) (seed width height : ℕ) (form : Figure) (g :
           | inr h ↦ absurd (x.first y.place y.inside h (subst fits y.is y.fitting))
         ]
       ] in
-      (x.is ∙ ap (spot_at form) same ∙ sym y.is, x.drew ∙ sym y.drew)
+      (x.is ∙ ap (spot_at figure) same ∙ sym y.is, x.drew ∙ sym y.drew)
 
-  taken_barred : (s : Spot) (a : ℕ) → IsChosenSpot fits seed width height form g s a → IsBarred fits seed width height form g → ⊥
+  taken_barred : (s : Spot) (a : ℕ) → IsChosenSpot fits seed width height figure g s a → IsBarred fits seed width height figure g → ⊥
   taken_barred s a x none = none.no_try x.try x.below (subst fits x.is x.fitting)
 
-  found_barred : (s : Spot) (a : ℕ) → IsFound fits seed width height form g s a → IsBarred fits seed width height form g → ⊥
+  found_barred : (s : Spot) (a : ℕ) → IsFound fits seed width height figure g s a → IsBarred fits seed width height figure g → ⊥
   found_barred s a x none = none.no_place x.place x.inside (subst fits x.is x.fitting)
 
 goes_one : (fits : Spot → Type 0) (seed width height : ℕ) (e : Element) (g : ℕ) (s t : Spot) (a b : ℕ) → Goes fits seed width height e g s a → Goes fits seed width height e g t b → (s ≡ t) × (a ≡ b)
 goes_one fits seed width height e g s t a b x y =
-    let form = form_begun seed g e in
+    let figure = figure_begun seed g e in
     let start = after_begun g e in
     elim x [
-      | inl u ↦ elim y [ inl v ↦ taken_one fits seed width height form start s t a b u v | inr v ↦ absurd (taken_found fits seed width height form start s t a b u v) ]
-      | inr u ↦ elim y [ inl v ↦ absurd (taken_found fits seed width height form start t s b a v u) | inr v ↦ found_one fits seed width height form start s t a b u v ]
+      | inl u ↦ elim y [ inl v ↦ taken_one fits seed width height figure start s t a b u v | inr v ↦ absurd (taken_found fits seed width height figure start s t a b u v) ]
+      | inr u ↦ elim y [ inl v ↦ absurd (taken_found fits seed width height figure start t s b a v u) | inr v ↦ found_one fits seed width height figure start s t a b u v ]
     ]
 
 goes_none : (fits : Spot → Type 0) (seed width height : ℕ) (e : Element) (g : ℕ) (s : Spot) (a : ℕ) → Goes fits seed width height e g s a → HasNone fits seed width height e g → ⊥
 goes_none fits seed width height e g s a x none =
-    elim x [ inl u ↦ taken_barred fits seed width height (form_begun seed g e) (after_begun g e) s a u none | inr u ↦ found_barred fits seed width height (form_begun seed g e) (after_begun g e) s a u none ]
+    elim x [ inl u ↦ taken_barred fits seed width height (figure_begun seed g e) (after_begun g e) s a u none | inr u ↦ found_barred fits seed width height (figure_begun seed g e) (after_begun g e) s a u none ]
 
 -- two ways on from one state, as far as the shorter goes, are one
 follow_same : (seed : ℕ) (shape : Shape) (placed : List Spot) (g : ℕ) (xs ys : List Spot) (a b : ℕ) → Follow seed shape placed g xs a → Follow seed shape placed g ys b → length xs ≡ length ys → (xs ≡ ys) × (a ≡ b)

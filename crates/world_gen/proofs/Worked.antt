@@ -8,7 +8,7 @@ use Rattle.hex_geometry.specs.declared.position.Pos.{Pos}
 use Rattle.std.proofs.Common.{◌≡◌, ℕ, [], ◌∷◌, map, refl}
 use Rattle.std.specs.Prelude.{pos}
 use Rattle.world_gen.specs.Elements.{element_of, point_after}
-use Rattle.world_gen.specs.Placing.{after_begun, form_begun, try_of}
+use Rattle.world_gen.specs.Placing.{after_begun, figure_begun, try_of}
 use Rattle.world_gen.specs.declared.element.Element.TheVariants as element
 use Rattle.world_gen.specs.declared.spot.Figure.TheVariants.{Hill, Rock, Blob}
 
@@ -19,20 +19,20 @@ abbrev point : ℕ → ℕ → Point
 point x y = record { x = pos x; y = pos y }
 
 -- the first three elements of 64 by 64 cells without rocks, at their first tries
-pub red_hill : try_of 12345 64 64 (form_begun 12345 0 (element.Hill Red)) (after_begun 0 (element.Hill Red)) 0 ≡ record { form = Hill Red; place = place 25 52 }
+pub red_hill : try_of 12345 64 64 (figure_begun 12345 0 (element.Hill Red)) (after_begun 0 (element.Hill Red)) 0 ≡ record { figure = Hill Red; place = place 25 52 }
 unfolding state_at random_at drawn
 red_hill = refl
 
-pub black_hill : try_of 12345 64 64 (form_begun 12345 2 (element.Hill Black)) (after_begun 2 (element.Hill Black)) 0 ≡ record { form = Hill Black; place = place 18 7 }
+pub black_hill : try_of 12345 64 64 (figure_begun 12345 2 (element.Hill Black)) (after_begun 2 (element.Hill Black)) 0 ≡ record { figure = Hill Black; place = place 18 7 }
 unfolding state_at random_at drawn
 black_hill = refl
 
-pub blob : try_of 12345 64 64 (form_begun 12345 4 element.Blob) (after_begun 4 element.Blob) 0 ≡ record { form = Blob SouthEast; place = place 36 40 }
+pub blob : try_of 12345 64 64 (figure_begun 12345 4 element.Blob) (after_begun 4 element.Blob) 0 ≡ record { figure = Blob SouthEast; place = place 36 40 }
 unfolding state_at random_at drawn
 blob = refl
 
--- a rock that is form_begun at place 0 of the stream has radius 2 in all its tries, the first of which draws from place 1 on and the next from 3
-pub rock_tries : map (try_of 12345 150 150 (form_begun 12345 0 element.Rock) (after_begun 0 element.Rock)) (0 ∷ 1 ∷ []) ≡ record { form = Rock 2; place = place 82 36 } ∷ record { form = Rock 2; place = place 25 100 } ∷ []
+-- a rock that is begun at place 0 of the stream has radius 2 in all its tries, the first of which draws from place 1 on and the next from 3
+pub rock_tries : map (try_of 12345 150 150 (figure_begun 12345 0 element.Rock) (after_begun 0 element.Rock)) (0 ∷ 1 ∷ []) ≡ record { figure = Rock 2; place = place 82 36 } ∷ record { figure = Rock 2; place = place 25 100 } ∷ []
 unfolding state_at random_at drawn
 rock_tries = refl
 

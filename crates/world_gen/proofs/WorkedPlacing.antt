@@ -31,7 +31,7 @@ use lib.Signed.{◌≤ℤ◌}
 abbrev twelve : Shape
 twelve = record { width = 12; height = 12; rocks = 14; blobs = 11 }
 
-no_hill : (p : Pos) → IsFreeSpot 12 12 [] (record { form = Hill Red; place = p }) → ⊥
+no_hill : (p : Pos) → IsFreeSpot 12 12 [] (record { figure = Hill Red; place = p }) → ⊥
 no_hill p fits = let within = off_rim_within 12 12 p 6 fits.off_rim in omega arith
 
 pub no_room : HasNoRoom 1 twelve 0
@@ -49,13 +49,13 @@ abbrev shape : Shape
 shape = record { width = 64; height = 64; rocks = 0; blobs = 1 }
 
 abbrev first : Spot
-first = record { form = Hill Red; place = place 25 52 }
+first = record { figure = Hill Red; place = place 25 52 }
 
 abbrev second : Spot
-second = record { form = Hill Black; place = place 18 7 }
+second = record { figure = Hill Black; place = place 18 7 }
 
 abbrev third : Spot
-third = record { form = Blob SouthEast; place = place 36 40 }
+third = record { figure = Blob SouthEast; place = place 36 40 }
 
 -- a place between these numbers is off the rim
 off_rim_at : (x y : ℤ) → pos 1 ≤ℤ x → x ≤ℤ pos 62 → pos 1 ≤ℤ y → y ≤ℤ pos 62 → IsOffRim 64 64 (record { x = x; y = y })
@@ -195,7 +195,7 @@ row_46_is_red x left right =
 
 -- hills round (7, 7) and (20, 7) touch, and with one column more between them they are apart
 abbrev hill : ℕ → Spot
-hill x = record { form = Hill Red; place = place x 7 }
+hill x = record { figure = Hill Red; place = place x 7 }
 
 hill_within : (x : ℕ) (q : Point) → IsCell (hill x) q → Within 6 (point_of (place x 7)) q
 hill_within x q cell = ball_within (point_of (place x 7)) q 6 cell

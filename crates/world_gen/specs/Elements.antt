@@ -37,7 +37,7 @@ pub record IsInBlob (corner : Point) (first : Dir) (q : Point) : Type 0 where
   pub is_wide : beside ≤ 4
   pub is : point_after beside (turned_by first Right) (point_after along first corner) ≡ q
 
--- a cell of an element of this form at this place: a hill is a ball of radius 6
+-- a cell of an element of this figure at this place: a hill is a ball of radius 6
 abbrev pub IsCellOf : Figure → Point → Point → Type 0
 IsCellOf (Hill colour) place q = IsInBall place 6 q
 IsCellOf (Rock radius) place q = IsInBall place radius q
@@ -45,4 +45,4 @@ IsCellOf (Blob first) place q = IsInBlob place first q
 
 -- a cell of an element at its place
 abbrev pub IsCell : Spot → Point → Type 0
-IsCell spot q = IsCellOf spot.form (point_of spot.place) q
+IsCell spot q = IsCellOf spot.figure (point_of spot.place) q

@@ -15,11 +15,11 @@ use Rattle.world_gen.specs.declared.spot.Figure.{Figure}
 use Rattle.world_gen.specs.declared.spot.Figure.TheVariants.{Hill, Rock, Blob}
 use Rattle.world_gen.specs.declared.spot.Spot.{Spot}
 
--- the form of an element that is form_begun at place g of the stream: a rock's radius is drawn then, once
-abbrev pub form_begun : ℕ → ℕ → Element → Figure
-form_begun seed g (element.Hill colour) = Hill colour
-form_begun seed g element.Rock = Rock (1 + drawn seed g 4)
-form_begun seed g element.Blob = Blob East
+-- the figure of an element that is begun at place g of the stream: a rock's radius is drawn then, once
+abbrev pub figure_begun : ℕ → ℕ → Element → Figure
+figure_begun seed g (element.Hill colour) = Hill colour
+figure_begun seed g element.Rock = Rock (1 + drawn seed g 4)
+figure_begun seed g element.Blob = Blob East
 
 -- the place at which its tries begin
 abbrev pub after_begun : ℕ → Element → ℕ
@@ -33,61 +33,61 @@ draws_of (Hill colour) = 2
 draws_of (Rock radius) = 2
 draws_of (Blob first) = 3
 
--- the form in a try, whose column and row are drawn before place i: a blob has a direction below 3
-abbrev pub tried_form : ℕ → ℕ → Figure → Figure
-tried_form seed i (Hill colour) = Hill colour
-tried_form seed i (Rock radius) = Rock radius
-tried_form seed i (Blob first) = Blob (dir_of (drawn seed i 3))
+-- the figure in a try, whose column and row are drawn before place i: a blob has a direction below 3
+abbrev pub tried_figure : ℕ → ℕ → Figure → Figure
+tried_figure seed i (Hill colour) = Hill colour
+tried_figure seed i (Rock radius) = Rock radius
+tried_figure seed i (Blob first) = Blob (dir_of (drawn seed i 3))
 
 -- the spot of a try that draws from place i on
 abbrev pub tried_at : ℕ → ℕ → ℕ → Figure → ℕ → Spot
-tried_at seed width height form i = record { form = tried_form seed (i + 2) form; place = record { x = drawn seed i width; y = drawn seed (i + 1) height } }
+tried_at seed width height figure i = record { figure = tried_figure seed (i + 2) figure; place = record { x = drawn seed i width; y = drawn seed (i + 1) height } }
 
 -- try k of those that begin at place g
 abbrev pub try_of : ℕ → ℕ → ℕ → Figure → ℕ → ℕ → Spot
-try_of seed width height form g k = tried_at seed width height form (g + k * draws_of form)
+try_of seed width height figure g k = tried_at seed width height figure (g + k * draws_of figure)
 
 -- the spot at a place of the grid, where nothing is drawn: a blob has direction 0
 abbrev pub spot_at : Figure → Pos → Spot
-spot_at form p = record { form = form; place = p }
+spot_at figure p = record { figure = figure; place = p }
 
 -- none of the first n tries fits
 abbrev pub NoTryFits : (Spot → Type 0) → ℕ → ℕ → ℕ → Figure → ℕ → ℕ → Type 0
-NoTryFits fits seed width height form g n = (k : ℕ) → k < n → fits (try_of seed width height form g k) → ⊥
+NoTryFits fits seed width height figure g n = (k : ℕ) → k < n → fits (try_of seed width height figure g k) → ⊥
 
 -- a try below 50 is the first that fits
-pub record IsChosenSpot (fits : Spot → Type 0) (seed width height : ℕ) (form : Figure) (g : ℕ) (spot : Spot) (after : ℕ) : Type 0 where
+pub record IsChosenSpot (fits : Spot → Type 0) (seed width height : ℕ) (figure : Figure) (g : ℕ) (spot : Spot) (after : ℕ) : Type 0 where
   pub try : ℕ
   pub below : try < 50
-  pub is : spot ≡ try_of seed width height form g try
+  pub is : spot ≡ try_of seed width height figure g try
   pub fitting : fits spot
-  pub first : NoTryFits fits seed width height form g try
-  pub drew : after ≡ g + (try + 1) * draws_of form
+  pub first : NoTryFits fits seed width height figure g try
+  pub drew : after ≡ g + (try + 1) * draws_of figure
 
 -- none of 50 tries fits, and the place is the first of the grid, in row order, at which it fits
-pub record IsFound (fits : Spot → Type 0) (seed width height : ℕ) (form : Figure) (g : ℕ) (spot : Spot) (after : ℕ) : Type 0 where
-  pub no_try : NoTryFits fits seed width height form g 50
+pub record IsFound (fits : Spot → Type 0) (seed width height : ℕ) (figure : Figure) (g : ℕ) (spot : Spot) (after : ℕ) : Type 0 where
+  pub no_try : NoTryFits fits seed width height figure g 50
   pub place : Pos
   pub inside : IsInside width height place
-  pub is : spot ≡ spot_at form place
+  pub is : spot ≡ spot_at figure place
   pub fitting : fits spot
-  pub first : (p : Pos) → IsInside width height p → IsBefore p place → fits (spot_at form p) → ⊥
-  pub drew : after ≡ g + 50 * draws_of form
+  pub first : (p : Pos) → IsInside width height p → IsBefore p place → fits (spot_at figure p) → ⊥
+  pub drew : after ≡ g + 50 * draws_of figure
 
 -- none of 50 tries fits, and no place of the grid does
-pub record IsBarred (fits : Spot → Type 0) (seed width height : ℕ) (form : Figure) (g : ℕ) : Type 0 where
-  pub no_try : NoTryFits fits seed width height form g 50
-  pub no_place : (p : Pos) → IsInside width height p → fits (spot_at form p) → ⊥
+pub record IsBarred (fits : Spot → Type 0) (seed width height : ℕ) (figure : Figure) (g : ℕ) : Type 0 where
+  pub no_try : NoTryFits fits seed width height figure g 50
+  pub no_place : (p : Pos) → IsInside width height p → fits (spot_at figure p) → ⊥
 
--- where an element that is form_begun at place g goes, and the place of the stream after it
+-- where an element that is begun at place g goes, and the place of the stream after it
 abbrev pub Goes : (Spot → Type 0) → ℕ → ℕ → ℕ → Element → ℕ → Spot → ℕ → Type 0
 Goes fits seed width height element g spot after =
-    IsChosenSpot fits seed width height (form_begun seed g element) (after_begun g element) spot after
-    ⊎ IsFound fits seed width height (form_begun seed g element) (after_begun g element) spot after
+    IsChosenSpot fits seed width height (figure_begun seed g element) (after_begun g element) spot after
+    ⊎ IsFound fits seed width height (figure_begun seed g element) (after_begun g element) spot after
 
 -- it has no room
 abbrev pub HasNone : (Spot → Type 0) → ℕ → ℕ → ℕ → Element → ℕ → Type 0
-HasNone fits seed width height element g = IsBarred fits seed width height (form_begun seed g element) (after_begun g element)
+HasNone fits seed width height element g = IsBarred fits seed width height (figure_begun seed g element) (after_begun g element)
 
 -- after these elements, at place g, the next ones go to these spots in turn, and the place is then `after`
 abbrev pub Follow : ℕ → Shape → List Spot → ℕ → List Spot → ℕ → Type 0

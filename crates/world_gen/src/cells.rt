@@ -13,9 +13,9 @@ use std::alloc::Global;
 pub fn cells_of(alloc: Global, spot: Spot) -> Result<Vec<Pos>, OutOfMemory>
     requires { AllHaveNeighbours spot }
     ensures cells { IfOk result (λ cells. ListsCells spot cells.items) }
-    ensures few { IfOk result (λ cells. one_if (is_hill (paint_of spot.form)) * length cells.items ≤ 127) }
+    ensures few { IfOk result (λ cells. one_if (is_hill (paint_of spot.figure)) * length cells.items ≤ 127) }
 {
-    match spot.form {
+    match spot.figure {
         Figure::Hill(_) => ball(alloc, spot.place, HILL_RADIUS),
         Figure::Rock(radius) => ball(alloc, spot.place, radius as u16),
         Figure::Blob(first) => blob(alloc, spot.place, first),

@@ -14,7 +14,7 @@ impl Yard {
         requires { IsFenced self.now.width self.now.height self.now.blocked.items }
         ensures { Decides result (AllOpen self.now.width self.now.height self.now.blocked.items spot) }
     {
-        match spot.form {
+        match spot.figure {
             Figure::Hill(_) => self.ball_is_open(spot.place, HILL_RADIUS),
             Figure::Rock(radius) => self.ball_is_open(spot.place, radius as u16),
             Figure::Blob(first) => self.blob_is_open(spot.place, first),

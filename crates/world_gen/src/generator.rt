@@ -80,13 +80,14 @@ impl Yard {
         ensures height { self.new.height ≡ self.old.height }
         ensures seed { stream.new.seed ≡ stream.old.seed }
         ensures place { stream.new.place ≤ stream.old.place + 151 }
-        ensures step { IsStep stream.old.seed self.old.width self.old.height element number stream.old.place stream.new.place self.old.blocked.items self.new.blocked.items self.old.kinds.items self.new.kinds.items result }
+        ensures step { IsStep stream.old.seed self.old.width self.old.height element number stream.old.place stream.new.place self.old.blocked.items
+            self.new.blocked.items self.old.kinds.items self.new.kinds.items result }
     {
         let Some(spot) = self.choose(stream, element) else {
             return Err(GenFault::NoRoom { element: number });
         };
         let cells = cells_of(alloc, spot)?;
-        self.stamp_all(&cells, spot.form.kind());
+        self.stamp_all(&cells, spot.figure.kind());
         Ok(())
     }
 }

@@ -22,7 +22,7 @@ pub enum Figure {
 // An element at a place: the centre of a hill or a rock, or a blob's corner.
 #[derive(Clone, Copy, Debug, PartialEq, Eq)]
 pub struct Spot {
-    pub form: Figure,
+    pub figure: Figure,
     pub place: Pos,
 }
 

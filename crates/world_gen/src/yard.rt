@@ -79,7 +79,8 @@ impl Yard {
         requires inner { (p : Pos) → Contains cells.now p → IsInner self.old.width self.old.height p }
         ensures width { self.new.width ≡ self.old.width }
         ensures height { self.new.height ≡ self.old.height }
-        ensures stamped { IsStamped self.old.width self.old.height cells.now kind self.old.blocked.items self.new.blocked.items self.old.kinds.items self.new.kinds.items }
+        ensures stamped { IsStamped self.old.width self.old.height cells.now kind self.old.blocked.items self.new.blocked.items self.old.kinds.items
+            self.new.kinds.items }
     {
         let (width, height) = (self.width, self.height);
         for cell in cells {

@@ -6,8 +6,8 @@ use Rattle.cell_world.specs.Grid.{Grid, world_of}
 use Rattle.cell_world.specs.Limits.{most_ants}
 
 -- the moment of a world and the stream of its game
-abbrev pub opening_moment : Grid → SeedAndPlace → Moment
-opening_moment grid stream = record { world = world_of grid; place = stream.place }
+abbrev pub moment_from : Grid → SeedAndPlace → Moment
+moment_from grid stream = record { world = world_of grid; place = stream.place }
 
 -- a stream has a random number left for each turn of one more round
 abbrev pub LastsARound : SeedAndPlace → Type 0

@@ -19,21 +19,21 @@ use Rattle.world_gen.specs.declared.spot.Spot.{Spot}
 
 -- of 50 tries: the first that fits, or none
 abbrev pub IsTried : (Spot → Type 0) → ℕ → ℕ → ℕ → Figure → ℕ → Option Spot → ℕ → Type 0
-IsTried fits seed width height form g (Some spot) after = IsChosenSpot fits seed width height form g spot after
-IsTried fits seed width height form g None after = NoTryFits fits seed width height form g 50 × (after ≡ g + 50 * draws_of form)
+IsTried fits seed width height figure g (Some spot) after = IsChosenSpot fits seed width height figure g spot after
+IsTried fits seed width height figure g None after = NoTryFits fits seed width height figure g 50 × (after ≡ g + 50 * draws_of figure)
 
 -- the first of the places at which it fits, among those before which and from which on tell
-pub record IsFirstSpot (fits : Spot → Type 0) (form : Figure) (IsAmong : Pos → Type 0) (spot : Spot) : Type 0 where
+pub record IsFirstSpot (fits : Spot → Type 0) (figure : Figure) (IsAmong : Pos → Type 0) (spot : Spot) : Type 0 where
   pub place : Pos
   pub among : IsAmong place
-  pub is : spot ≡ spot_at form place
+  pub is : spot ≡ spot_at figure place
   pub fitting : fits spot
-  pub first : (p : Pos) → IsAmong p → IsBefore p place → fits (spot_at form p) → ⊥
+  pub first : (p : Pos) → IsAmong p → IsBefore p place → fits (spot_at figure p) → ⊥
 
 -- the first of some places in row order, or none
 abbrev pub IsSearched : (Spot → Type 0) → Figure → (Pos → Type 0) → Option Spot → Type 0
-IsSearched fits form IsAmong (Some spot) = IsFirstSpot fits form IsAmong spot
-IsSearched fits form IsAmong None = (p : Pos) → IsAmong p → fits (spot_at form p) → ⊥
+IsSearched fits figure IsAmong (Some spot) = IsFirstSpot fits figure IsAmong spot
+IsSearched fits figure IsAmong None = (p : Pos) → IsAmong p → fits (spot_at figure p) → ⊥
 
 -- the positions of one row
 pub record IsInRow (width y : ℕ) (p : Pos) : Type 0 where
@@ -49,8 +49,8 @@ IsChosen fits seed width height element g None after = HasNone fits seed width h
 pub record IsElementPut (spot : Spot) (width height : ℕ) (blocked blocked_now : List Bool) (kinds kinds_now : List Kind) : Type 0 where
   pub cells : List Pos
   pub lists : ListsCells spot cells
-  pub stamped : IsStamped width height cells (paint_of spot.form) blocked blocked_now kinds kinds_now
-  pub few : one_if (is_hill (paint_of spot.form)) * length cells ≤ 127
+  pub stamped : IsStamped width height cells (paint_of spot.figure) blocked blocked_now kinds kinds_now
+  pub few : one_if (is_hill (paint_of spot.figure)) * length cells ≤ 127
 
 -- what comes of an element: it goes to its spot, or has no room
 abbrev pub IsStep : ℕ → ℕ → ℕ → Element → ℕ → ℕ → ℕ → List Bool → List Bool → List Kind → List Kind → Result Unit GenFault → Type 0

@@ -1,6 +1,6 @@
 use Rattle.std.proofs.Common.{◌≡◌, ◌+◌, List, sym, ◌∙◌, subst, arith}
 use Rattle.ant_turn.specs.Minds.{minds_of}
-use Rattle.match_run.specs.Inner.Sequential.{opening_moment}
+use Rattle.match_run.specs.Inner.Sequential.{moment_from}
 use Rattle.break_view.specs.declared.breaks.Break.{Break}
 use Rattle.break_view.specs.Inner.Rounds.{RoundEnds}
 use Rattle.break_view.proofs.Stopping.{watched-none, watched-more, ends_stopped, ends_passed, ends_without}
@@ -8,9 +8,9 @@ use Rattle.break_view.proofs.stop.find_stop.Goals as goal
 use Rattle.break_view.proofs.stop.find_stop.Goals.{After-is_some}
 
 -- how the round ended, in terms of the list of breaks
-ended : (c : After-is_some) → RoundEnds (minds_of c.args.brains) c.loop-round.stream.seed (opening_moment c.loop-round.world c.loop-round.stream) c.args.breaks.now (c.loop-round.round + 1) c.stop_in_round-stop.result (opening_moment c.stop_in_round-stop.new.world c.stop_in_round-stop.new.stream)
+ended : (c : After-is_some) → RoundEnds (minds_of c.args.brains) c.loop-round.stream.seed (moment_from c.loop-round.world c.loop-round.stream) c.args.breaks.now (c.loop-round.round + 1) c.stop_in_round-stop.result (moment_from c.stop_in_round-stop.new.world c.stop_in_round-stop.new.stream)
 ended c =
-    subst (λ (items : List Break). RoundEnds (minds_of c.args.brains) c.loop-round.stream.seed (opening_moment c.loop-round.world c.loop-round.stream) items (c.loop-round.round + 1) c.stop_in_round-stop.result (opening_moment c.stop_in_round-stop.new.world c.stop_in_round-stop.new.stream))
+    subst (λ (items : List Break). RoundEnds (minds_of c.args.brains) c.loop-round.stream.seed (moment_from c.loop-round.world c.loop-round.stream) items (c.loop-round.round + 1) c.stop_in_round-stop.result (moment_from c.stop_in_round-stop.new.world c.stop_in_round-stop.new.stream))
     c.items-items.ensures.list c.stop_in_round-stop.ensures.end
 
 pub loop-round-init : goal.loop-round-init

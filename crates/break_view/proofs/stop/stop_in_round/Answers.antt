@@ -1,6 +1,6 @@
 use Rattle.std.proofs.Common.{◌≡◌, ◌+◌, sym, ◌∙◌, subst, refl, arith}
 use Rattle.ant_turn.specs.Minds.{minds_of}
-use Rattle.match_run.specs.Inner.Sequential.{opening_moment}
+use Rattle.match_run.specs.Inner.Sequential.{moment_from}
 use Rattle.match_run.proofs.SequentialLemmas.{IsTaken, IsTaken-none, IsTaken-place, IsTaken-ids, IsTaken-more, IsTaken-all}
 use Rattle.break_view.specs.Inner.Rounds.{IsQuiet}
 use Rattle.break_view.proofs.Stopping.{quiet-none, quiet-more, met-taken}
@@ -15,7 +15,7 @@ pub loop-id-init : goal.loop-id-init
 loop-id-init c = record {
   taken = IsTaken-none (minds_of c.args.brains) c.args.world.now c.args.stream.now c.requires.fit;
   scored = c.requires.score;
-  quiet = quiet-none (minds_of c.args.brains) c.args.stream.now.seed (opening_moment c.args.world.now c.args.stream.now) c.args.items.now c.args.round;
+  quiet = quiet-none (minds_of c.args.brains) c.args.stream.now.seed (moment_from c.args.world.now c.args.stream.now) c.args.items.now c.args.round;
 }
 
 pub take_counted-requires-clause-fit : goal.take_counted-requires-clause-fit
@@ -53,7 +53,7 @@ loop-id-preserved c =
     record {
       taken = now;
       scored = c.take_counted.ensures.score;
-      quiet = quiet-more (minds_of c.args.brains) c.args.stream.now.seed (opening_moment c.args.world.now c.args.stream.now) c.args.items.now c.args.round c.loop-id.id
+      quiet = quiet-more (minds_of c.args.brains) c.args.stream.now.seed (moment_from c.args.world.now c.args.stream.now) c.args.items.now c.args.round c.loop-id.id
           c.loop-id.invariant.quiet (met-taken c.args.items.now c.args.round c.loop-id.id now ∙ sym c.first_met.ensures ∙ c.in_default.is);
     }
 
@@ -61,7 +61,7 @@ pub returns-clause-end : goal.returns-clause-end
 returns-clause-end c =
     let all : c.loop-id.id ≡ c.args.world.now.ids = omega (arith, c.ant_count-id-end.ensures.ids, c.loop-id-test.false, c.loop-id.auto.id-end) in
     record {
-      quiet = subst (IsQuiet (minds_of c.args.brains) c.args.stream.now.seed (opening_moment c.args.world.now c.args.stream.now) c.args.items.now c.args.round) all c.loop-id.invariant.quiet;
+      quiet = subst (IsQuiet (minds_of c.args.brains) c.args.stream.now.seed (moment_from c.args.world.now c.args.stream.now) c.args.items.now c.args.round) all c.loop-id.invariant.quiet;
       moment = IsTaken-all c.loop-id.invariant.taken all;
     }
 

@@ -1,4 +1,4 @@
--- by the element's form
+-- by the element's figure
 use Rattle.hex_geometry.specs.Position.{HasNeighbours, Point, point_of}
 use Rattle.hex_geometry.specs.declared.position.Pos.{Pos}
 use Rattle.std.proofs.Common.{◌≡◌, subst}

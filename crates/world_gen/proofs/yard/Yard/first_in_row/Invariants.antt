@@ -6,4 +6,4 @@ use Rattle.world_gen.specs.Inner.Open.{AllOpen}
 use Rattle.world_gen.specs.Placing.{spot_at}
 
 abbrev pub invariant-loop-x : goal.invariant-loop-x
-invariant-loop-x l = (p : Pos) → p.y ≡ l.y → p.x < l.x → AllOpen l.self.width l.self.height l.self.blocked.items (spot_at l.form p) → ⊥
+invariant-loop-x l = (p : Pos) → p.y ≡ l.y → p.x < l.x → AllOpen l.self.width l.self.height l.self.blocked.items (spot_at l.figure p) → ⊥

@@ -7,4 +7,4 @@ use Rattle.world_gen.specs.Inner.Open.{AllOpen}
 use Rattle.world_gen.specs.Placing.{spot_at}
 
 abbrev pub invariant-loop-y : goal.invariant-loop-y
-invariant-loop-y l = (p : Pos) → IsInside l.self.width l.self.height p → p.y < l.y → AllOpen l.self.width l.self.height l.self.blocked.items (spot_at l.form p) → ⊥
+invariant-loop-y l = (p : Pos) → IsInside l.self.width l.self.height p → p.y < l.y → AllOpen l.self.width l.self.height l.self.blocked.items (spot_at l.figure p) → ⊥

@@ -1,4 +1,4 @@
--- by the element's form
+-- by the element's figure
 use Rattle.hex_geometry.specs.Position.{Point, point_of}
 use Rattle.std.proofs.Common.{sym, subst}
 use Rattle.std.specs.Bool.{Decides}
