@@ -39,7 +39,7 @@ pub use mem_sink::MemSink;
 pub use memory::OutOfMemory;
 pub use number::{push_number, read_number, read_number_within};
 pub use parts::{Each, Parts};
-pub use shelf::{FetchFault, Shelf};
+pub use shelf::{FetchFault, LONGEST, Shelf};
 pub use sink::{Failed, Sink};
 pub use stream_sink::{ErrSink, OutSink, StreamSink};
 pub use writer::Writer;

@@ -4,8 +4,8 @@ ghost use Rattle.ant_base.specs.Shelf.{ShelfState, Fetches};
 
 use std::alloc::{AllocError, AllocFailed, Global};
 
-// The length of the longest content that is answered, in bytes.
-pub(crate) const LONGEST: usize = 4_194_304;
+/// The length of the longest content that a shelf answers, in bytes; no text that is read is longer.
+pub const LONGEST: usize = 4_194_304;
 
 /// Why a name's content was not fetched. The shelf's contents stay as they were.
 #[derive(Clone, Copy, Debug, PartialEq, Eq)]
