@@ -1,10 +1,11 @@
 # The doors of the repository; each is a line or two over `rt`.
+#   make try ARGS="show examples/one_ant.world 12345"      a quick look, without a proof
 #   make run ARGS="show examples/one_ant.world 12345"
-#   make test · make install PREFIX=DIR · make bench
+#   make test · make documents · make install PREFIX=DIR · make bench
 PREFIX ?= /usr/local
 PROGRAM = crates/ants/out/ants
 
-.PHONY: build run test install bench
+.PHONY: build run try test documents install bench
 
 build: $(PROGRAM)
 
@@ -16,11 +17,21 @@ $(PROGRAM): crates.txt $(shell find crates -name out -prune -o \( -name '*.rt' -
 run: build
 	@$(PROGRAM) $(ARGS)
 
+# `rt try` runs the program in a folder of its own, so it is handed each file that the words name.
+try:
+	@top=$$PWD; set --; for word in $(ARGS); do [ ! -f "$$word" ] || set -- "$$@" --data "$$word=$$top/$$word"; done; \
+	cd crates/ants && rt try "$$@" -- $(ARGS)
+
 test:
 	rt ci
 
+documents:
+	@.ci/make-documents
+	@.ci/documents
+
 install: build
 	install -D -m 755 $(PROGRAM) $(DESTDIR)$(PREFIX)/bin/ants
+	install -D -m 644 docs/ants.1 $(DESTDIR)$(PREFIX)/share/man/man1/ants.1
 
 bench: build
 	bench/run

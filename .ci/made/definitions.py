@@ -1,0 +1,39 @@
+"""docs/DEFINITIONS.md: each definition right in a crate's specs/, with its comment, file by file."""
+from tree import crates
+
+
+def cell(text):
+    return text.replace("|", "\\|").replace("<", "&lt;")
+
+
+def says(definition, above):
+    """Its comment; one without has that of the definition above it."""
+    text = " ".join(it.lstrip("- ") for it in definition.comment)
+    return text or above
+
+
+def page(tree):
+    out = [
+        "# Definitions",
+        "",
+        "Made from the tree by `.ci/make-documents`; not edited by hand. Each definition that stands right in a crate's `specs/`, with its comment.",
+        "What stands in `specs/Inner/` is a stepping stone of private functions and proofs, and isn't listed. A file's first comment says from which",
+        "section of the contest's task it comes, where it comes from there. [SPECIFICATION.md](SPECIFICATION.md) has those that the program's promise",
+        "needs, with their texts; the [glossary](GLOSSARY.md) has the words that are coined here.",
+        "",
+    ]
+    for crate in crates():
+        modules = [tree.modules[it] for it in sorted(tree.modules) if tree.modules[it].crate == crate.name]
+        modules = [it for it in modules if not it.is_inner and it.definitions]
+        if not modules:
+            continue
+        out += ["## `%s`" % crate.name, "", crate.summary, ""]
+        for module in modules:
+            out += ["**[%s](../%s)** %s" % (module.path.split(".")[-1], module.file, module.says), ""]
+            out += ["| definition | line | what it says |", "|---|---|---|"]
+            above = ""
+            for definition in module.definitions.values():
+                above = says(definition, above)
+                out.append("| `%s` | [%d](../%s) | %s |" % (definition.name, definition.line, definition.link, cell(above)))
+            out.append("")
+    return "\n".join(out).rstrip() + "\n"

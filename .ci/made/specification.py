@@ -1,0 +1,248 @@
+"""docs/SPECIFICATION.md: exactly the definitions that the clauses of the top calls reach, in reading order.
+
+A chapter begins at the definitions that it is about, and has each definition that they reach and that no chapter before it has, from the top
+down: first a definition, and then what it names. The chapter of a command begins at its own equations.
+"""
+import re
+
+from tree import CodeType, Contract, Unknown, left_of, pieces_of, words_of
+
+CRATE, CALLS = "ants", ("run_ants", "run_to_exit")
+COMMANDS = "PlainCommand"  # the data with a constructor for each command
+FILES = ("FileKind", "FileContent")  # the data with a constructor for each kind of file
+JOBS = ("files_of", "IsJobText")  # what a command reads, and what it writes
+
+FIRST = (
+    ("The rules of the contest", ("world_after", "score_of"), "The world after a number of rounds, and its score. Whoever believes this chapter knows the game."),
+    ("Worlds and brains as texts", ("OpensAs", "IsBrainText"), "Which bytes are the text of a world or of a brain, and what is read of them."),
+    ("The text of a game", ("run_text",), "What `run` prints: the seed line, the chosen dumps, and the score."),
+)
+LAST = (
+    ("Words", ("IsCommand", "IsRefusedAt"), "Which words are a command, what they say, and which word is refused."),
+    ("What is wrong with a file", ("Refuses",), "The one fault of each text that is no world, no brain or no list of breaks."),
+)
+ENDINGS = ("Endings", "Which files were fetched, how a run ended, what it reported, and its status. The first definitions are those that the clauses name.")
+
+
+class Chapter:
+    def __init__(self, title, says):
+        self.title, self.says, self.parts = title, says, []
+
+    @property
+    def definitions(self):
+        return [it for it in self.parts if not isinstance(it, CodeType)]
+
+    @property
+    def types(self):
+        return [it for it in self.parts if isinstance(it, CodeType)]
+
+    @property
+    def lines(self):
+        return sum(it.lines for it in self.definitions)
+
+    @property
+    def anchor(self):
+        return re.sub(r"[^\w\- ]", "", self.title.lower()).replace(" ", "-")
+
+
+def words_in(text):
+    return set(re.findall(r"\w+", text))
+
+
+def named(tree, it):
+    return it.named(tree) if isinstance(it, CodeType) else tree.named_by(it)
+
+
+def reached(tree, roots):
+    """All that some definitions reach, each once, from the top down."""
+    found, seen, left = [], set(), list(reversed(roots))
+    while left:
+        it = left.pop()
+        if id(it) not in seen:
+            seen.add(id(it))
+            found.append(it)
+            left += reversed(named(tree, it))
+    return found
+
+
+class Specification:
+    def __init__(self, tree):
+        self.tree = tree
+        self.cut = {}
+        self.calls = [Contract.of(CRATE, name) for name in CALLS]
+        self.roots = []
+        for call in self.calls:
+            self.roots += [it for it in call.named(tree) if it not in self.roots]
+        self.all = reached(tree, self.roots)
+        self.left = {id(it) for it in self.all}
+        self.chapters = []
+        for title, names, says in FIRST:
+            self.add(title, says, [self.find(name) for name in names])
+        self.commands = self.command_names()
+        for constructor, word in self.commands:
+            says = "What `%s` reads and writes, as far as no chapter above has it." % word
+            self.add("The command %s" % word, says, self.of_command(constructor, JOBS))
+        for title, names, says in LAST:
+            self.add(title, says, [self.find(name) for name in names])
+        self.add(ENDINGS[0], ENDINGS[1], self.roots)
+        if self.left:
+            raise Unknown("the specification leaves out %d definitions" % len(self.left))
+
+    def find(self, name):
+        """The one definition of this name that is reached."""
+        found = [it for it in self.all if it.name == name and not isinstance(it, CodeType)]
+        if len(found) != 1:
+            raise Unknown("the specification begins a chapter at %s, and the clauses reach %d of that name" % (name, len(found)))
+        return found[0]
+
+    def command_names(self):
+        return [(it, re.sub("Command$", "", it).lower()) for it in self.find(COMMANDS).members()]
+
+    def add(self, title, says, roots):
+        chapter = Chapter(title, says)
+        skip = {id(self.find(name)) for name in JOBS + (COMMANDS,) + FILES} if title.startswith("The command") else set()
+        seen, left = set(), list(reversed(roots))
+        while left:
+            it = left.pop()
+            if id(it) in seen or id(it) not in self.left or id(it) in skip:
+                continue
+            seen.add(id(it))
+            chapter.parts.append(it)
+            left += reversed(named(self.tree, it))
+        self.left -= seen
+        if chapter.parts:
+            self.chapters.append(chapter)
+
+    def of_command(self, constructor, names):
+        """What the equations of some definitions for one command name."""
+        found = []
+        for name in names:
+            definition = self.find(name)
+            for piece in self.pieces(definition):
+                if re.search(r"\b%s\b" % constructor, piece):
+                    found += self.tree.named_in(definition, piece)
+        return [it for it in found if it is not self.find(COMMANDS)]
+
+    def needed(self, constructor):
+        """All that a command's promise reaches: of definitions by cases on commands and on files only the cases that it meets."""
+        commands, kinds, contents = [set(self.find(name).members()) for name in (COMMANDS,) + FILES]
+        live = {constructor}
+        while True:
+            found, met = self.needed_with(live, commands | kinds | contents)
+            met = {it for it in met if it in kinds or it in contents}
+            if met <= live:
+                return found
+            live |= met
+
+    def needed_with(self, live, cases):
+        """What is reached where only these cases are met, and which cases the equations name that are then left."""
+        seen, found, left, met = set(), [], list(self.roots), set()
+        while left:
+            it = left.pop()
+            if id(it) in seen:
+                continue
+            seen.add(id(it))
+            found.append(it)
+            if isinstance(it, CodeType):
+                left += it.named(self.tree)
+                continue
+            for piece in self.pieces(it):
+                if it.shape == "data" and set(it.members()) <= cases:
+                    piece = "\n".join(line for line in piece.split("\n") if words_in(line) & live)
+                    left += self.tree.named_in(it, piece)
+                    continue
+                asked = words_in(left_of(piece)) & cases
+                # an equation by cases on a kind of file and a content says which contents a kind has
+                if asked <= live or asked & live and not asked - live - set(self.find(FILES[1]).members()):
+                    met |= words_in(piece) & cases
+                    left += self.tree.named_in(it, piece)
+        return found, met
+
+    def pieces(self, definition):
+        if definition.key not in self.cut:
+            self.cut[definition.key] = pieces_of(words_of("\n".join(definition.text)))
+        return self.cut[definition.key]
+
+    def row(self, constructor):
+        """Of each chapter how many lines a command needs."""
+        these = {id(it) for it in self.needed(constructor)}
+        return [sum(it.lines for it in chapter.definitions if id(it) in these) for chapter in self.chapters]
+
+
+def shown(it, files):
+    """A definition or a type with its link, its comment and its text."""
+    short = it.file if isinstance(it, CodeType) else it.module.file
+    place = "[%s:%d](../%s)" % (re.sub("^crates/", "", short), it.line, it.link)
+    says = ""
+    if not isinstance(it, CodeType) and short not in files:
+        files.add(short)
+        says = " " + it.module.says
+    if isinstance(it, CodeType):
+        return "**`%s`**, a type of the code: %s\n\n```rust\n%s\n```\n" % (it.name, place, "\n".join(it.text))
+    text = "\n".join(it.comment + it.text).rstrip()
+    return "**`%s`** %s%s\n\n```text\n%s\n```\n" % (it.name, place, says, text)
+
+
+def number(n):
+    return "{:,}".format(n)
+
+
+def table(header, rows):
+    lines = ["| " + " | ".join(header) + " |", "|" + "---|" * len(header)]
+    return "\n".join(lines + ["| " + " | ".join(row) + " |" for row in rows]) + "\n"
+
+
+def counts(spec):
+    """How many lines are the contest, a game, all of it."""
+    lines = [it.lines for it in spec.chapters]
+    contest, game = lines[0], sum(lines[: len(FIRST)])
+    run = sum(spec.row(dict((word, it) for it, word in spec.commands)["run"]))
+    return contest, game, run, sum(lines)
+
+
+def page(spec):
+    out = ["# Specification", ""]
+    links = " and ".join("[%s](../%s)" % (it.name, it.link) for it in spec.calls)
+    contest, game, run, whole = counts(spec)
+    out.append(
+        "Made from the tree by `.ci/make-documents`; not edited by hand. These are exactly the definitions that the clauses of\n%s reach,\n"
+        "and no other: whoever believes them, and the types of the code that they name, knows what the program does. Each stands with its\n"
+        "comment and a link to its file; nothing here is code or proof. A definition comes first, and what it names after it.\n" % links
+    )
+    out.append(
+        "The contest is %s lines without comments; a game from its files to its text %s; all that a `run` rests on, with words and endings, %s;\n"
+        "and all commands together %s.\n" % (number(contest), number(game), number(run), number(whole))
+    )
+    rows = []
+    for chapter in spec.chapters:
+        rows.append(["[%s](#%s)" % (chapter.title, chapter.anchor), str(len(chapter.definitions)), number(chapter.lines), str(len(chapter.types))])
+    rows.append(["all", str(sum(len(it.definitions) for it in spec.chapters)), number(whole), str(sum(len(it.types) for it in spec.chapters))])
+    out.append(table(["chapter", "definitions", "lines", "types of the code"], rows))
+    out.append("Of each chapter a command needs so many lines, as far as its words, its files and its output lead there:\n")
+    numbered = ["%d" % (i + 1) for i in range(len(spec.chapters))]
+    rows = []
+    for constructor, word in spec.commands:
+        row = spec.row(constructor)
+        rows.append(["`%s`" % word] + [number(it) if it else "" for it in row] + [number(sum(row))])
+    out.append(table(["command"] + numbered + ["all"], rows))
+    out.append("The chapters are numbered in their order. The clauses:\n")
+    for call in spec.calls:
+        out.append("```text\n%s: %s\n```\n" % (call.name, call.clauses.strip()))
+    files = set()
+    for i, chapter in enumerate(spec.chapters):
+        out.append("## %s\n" % chapter.title)
+        out.append("Chapter %d: %d definitions, %s lines. %s\n" % (i + 1, len(chapter.definitions), number(chapter.lines), chapter.says))
+        out += [shown(it, files) for it in chapter.parts]
+    return "\n".join(out).rstrip() + "\n"
+
+
+def in_readme(spec):
+    """How many lines are to be believed."""
+    contest, game, run, whole = counts(spec)
+    rows = [
+        ["the contest's rules", number(contest)],
+        ["a game: rules, texts of worlds and brains, text of a game", number(game)],
+        ["all that a `run` rests on, with words, faults and endings", number(run)],
+        ["all commands", number(whole)],
+    ]
+    return table(["to believe", "lines"], rows)

@@ -1,0 +1,64 @@
+"""The table of commands, read from the definitions of the words: what a page that tells of them has to say."""
+import re
+
+from tree import Unknown, read, source_files
+
+
+def only(texts, pattern):
+    """All that a pattern finds in the definitions of the words."""
+    found = [it for text in texts for it in re.findall(pattern, text, re.M)]
+    if not found:
+        raise Unknown("the table of words has nothing like %s" % pattern)
+    return found
+
+
+def number(text):
+    return "{:,}".format(int(text))
+
+
+class Words:
+    """Commands with their options, and options with their limits and defaults, as the definitions have them."""
+
+    def __init__(self, folder="crates/command_words/specs"):
+        texts = [read(file) for file in source_files(folder, ".antt") if "/Inner/" not in file]
+        word_of = dict(only(texts, r'^word_of (\w+) = codes "([^"]+)"'))
+        option_of = dict(only(texts, r'^option_of (\w+) = codes "([^"]+)"'))
+        keyword_of = dict(only(texts, r'^keyword_of (\w+) = codes "([^"]+)"'))
+        kinds = only(texts, r"^kinds = (.*) ∷ \[\]$")[0].split(" ∷ ")
+        choices = dict(only(texts, r"^choices_of (\w+) = (.*)$"))
+        values = dict(only(texts, r"^values_of (\w+) = (.*)$"))
+        needed = dict(only(texts, r"^is_needed (\w+) = (true|false)"))
+        least, most = dict(only(texts, r"^least_of (\w+) = (\d+)")), dict(only(texts, r"^most_of (\w+) = (\d+)"))
+        defaults = dict(only(texts, r"^(default_\w+) = (\d+)"))
+        default_of = {choice: defaults[name] for name, choice in only(texts, r"number_or (default_\w+) \w+ \(value_given (\w+) ")}
+        self.commands = {}
+        for kind in kinds:
+            these = [it for it in choices[kind].split(" ∷ ") if it != "[]"]
+            self.commands[word_of[kind]] = [option_of[it] for it in these]
+        self.keywords = list(keyword_of.values())
+        self.options = {}
+        for choice, option in option_of.items():
+            kind = re.match(r"Word \(Number (\w+)\)", values[choice])
+            limits = "%s to %s" % (number(least[kind[1]]), number(most[kind[1]])) if kind else None
+            default = "needed" if needed[choice] == "true" else number(default_of[choice]) if choice in default_of else None
+            self.options[option] = (limits, default)
+
+
+def missing(page, words, line_of):
+    """What a page leaves out of the table. `line_of` gives what the page says of an option, or nothing."""
+    for command in words.commands:
+        if not re.search(r"\b%s\b" % re.escape(command), page):
+            yield "says nothing of the command %s" % command
+    for keyword in words.keywords:
+        if keyword not in page:
+            yield "says nothing of %s" % keyword
+    for option, (limits, default) in words.options.items():
+        line = line_of(option)
+        if line is None:
+            yield "says nothing of %s" % option
+            continue
+        line = " ".join(line.split())
+        if limits and limits not in line:
+            yield "doesn't say that %s is from %s" % (option, limits)
+        if default and not re.search(r"(?<!\d)(?<!\d,)%s(?!,?\d)" % re.escape(default), line.replace(limits or "", "", 1)):
+            yield "doesn't say that %s is %s" % (option, "needed" if default == "needed" else "%s where it isn't given" % default)
