@@ -1,4 +1,4 @@
-"""The tables of docs/ARCHITECTURE.md: the crates, and the files of lemmas that other crates cite."""
+"""The table of crates of docs/ARCHITECTURE.md, and that of the files of lemmas that other crates cite."""
 import os
 import re
 
@@ -7,16 +7,12 @@ from tree import Unknown, crates, read, source_files
 
 def crate_table():
     every = crates()
-    own = {it.name for it in every}
-    lines, layer = ["| crate | stands on | what it is |", "|---|---|---|"], None
+    lines, layer = ["| crate | what it is |", "|---|---|"], None
     for crate in every:
         if crate.layer != layer:
             layer = crate.layer
-            lines.append("| *%s* | | |" % layer)
-        ours = " ".join("`%s`" % it for it in crate.stands_on if it in own)
-        kits = ", ".join("`%s`" % it for it in crate.stands_on if it not in own)
-        stands_on = (ours + (" (the kit's %s)" % kits if kits else "")).strip()
-        lines.append("| [`%s`](../crates/%s/README.md) | %s | %s |" % (crate.name, crate.name, stands_on, crate.summary.rstrip(".")))
+            lines.append("| *%s* | |" % layer)
+        lines.append("| [`%s`](../crates/%s/README.md) | %s |" % (crate.name, crate.name, crate.summary.rstrip(".")))
     return "\n".join(lines) + "\n"
 
 

@@ -1,4 +1,5 @@
 """docs/DEFINITIONS.md: each definition right in a crate's specs/, with its comment, file by file."""
+from crate_tables import lemma_table
 from tree import crates
 
 
@@ -36,4 +37,5 @@ def page(tree):
                 above = says(definition, above)
                 out.append("| `%s` | [%d](../%s) | %s |" % (definition.name, definition.line, definition.link, cell(above)))
             out.append("")
+    out += ["## Lemmas that other crates cite", "", "The files of `proofs/`, all of them.", "", lemma_table()]
     return "\n".join(out).rstrip() + "\n"
