@@ -23,6 +23,14 @@ LAST = (
 )
 ENDINGS = ("Endings", "Which files were fetched, how a run ended, what it reported, and its status. The first definitions are those that the clauses name.")
 
+READING = """**How to read it.** `ℕ` are the whole numbers from 0 on, and `a - b` is 0 where b is greater. `[]` is the empty list, `x ∷ xs` has x before xs, `++` joins lists;
+`codes "text"` and `decimal n` are texts as lists of bytes, `slice_index_or list i x` is the element at i, or x where there is none. `a ≡ b` says that they are
+equal, `¬` not, `×` and, `⊎` or; `⊥` never holds, `⊤` and `Unit` always do. `(x : A) → B` says that B holds for every x, `(x : A) × B` that it does for some x.
+`IfSome`, `IfOk` and their like say something where there is such a value. `λ x. b` is the function that gives b at x. A `record` has all of its fields; where a
+field is a fact, it says so. A definition by several equations means the first that fits. `unfoldable` and `abbrev` tell the checker when to open a definition,
+and mean nothing to a reader.
+"""
+
 
 class Chapter:
     def __init__(self, title, says):
@@ -213,6 +221,7 @@ def page(spec):
         "The contest is %s lines without comments; a game from its files to its text %s; all that a `run` rests on, with words and endings, %s;\n"
         "and all commands together %s.\n" % (number(contest), number(game), number(run), number(whole))
     )
+    out.append(READING)
     rows = []
     for chapter in spec.chapters:
         rows.append(["[%s](#%s)" % (chapter.title, chapter.anchor), str(len(chapter.definitions)), number(chapter.lines), str(len(chapter.types))])
