@@ -6,7 +6,9 @@ import os
 import re
 
 ROOT = os.path.normpath(os.path.join(os.path.dirname(os.path.abspath(__file__)), "..", ".."))
-WORD = r"[^\W\d][\w'\-]*"
+WORD = r"(?!λ)[^\W\d][\w'\-]*"
+# Words of the language itself, which no file imports.
+LANGUAGE = set("pub abbrev unfoldable record data module where let in if then else do Type Unit tt".split())
 
 
 class Unknown(Exception):
@@ -159,13 +161,13 @@ class Module:
         return ".specs.Inner" in self.path
 
     def read_uses(self, text):
-        for public, target, listed in re.findall(r"^(pub )?use (Rattle\.[\w.]+?)\.\{([^}]*)\}", text, re.M):
+        for public, target, listed in re.findall(r"^(pub )?use ([\w.]+?)\.\{([^}]*)\}", text, re.M):
             for name in filter(None, (it.strip() for it in listed.split(","))):
                 source, _, own = name.partition(" as ")
-                self.names[own or source] = (target, source)
+                self.names[(own or source).rstrip("?")] = (target, source)
                 if public:
                     self.exports.append(own or source)
-        for public, target, alias in re.findall(r"^(pub )?use (Rattle\.[\w.]+) as (\w+)", text, re.M):
+        for public, target, alias in re.findall(r"^(pub )?use ([\w.]+) as (\w+)", text, re.M):
             self.aliases[alias] = target
 
     def read_definitions(self, lines):
@@ -217,7 +219,8 @@ class Tree:
                 yield definition
 
     def is_own(self, target):
-        return target.split(".")[1] in self.own
+        path = target.split(".")
+        return path[0] == "Rattle" and path[1] in self.own
 
     def resolve(self, target, name, where):
         """What a name of a module is: a definition, a type of the code, or None where it is the library's."""
@@ -272,20 +275,23 @@ class Tree:
         found = []
         mixfix = [it for it in list(module.names) + list(module.definitions) if "◌" in it]
         text = words_of(text)
-        spots = []
-        for piece in pieces_of(text):
-            spots += [(piece, it) for it in names_of(piece)]
-        for piece, (name, member, before) in spots:
-            if name in module.aliases:
-                found.append(self.resolve(module.aliases[name], member or name, module.file))
-            elif before == "." or name in bound_in(piece, module):
-                continue
-            elif name in module.names:
-                found.append(self.resolve(*module.names[name], where=module.file))
-            elif name in module.definitions:
-                found.append(module.definitions[name])
-            else:
-                found.append(self.constructed(module, name))
+        parts = {part for it in mixfix for part in it.split("◌")}
+        outer = bound_in(definition.header, module) if definition.header else set()
+        for piece, known in parts_of(text):
+            bound = bound_in(piece, module) | outer | known
+            for name, member, before in names_of(piece):
+                if name in module.aliases:
+                    found.append(self.resolve(module.aliases[name], member or name, module.file))
+                elif before == "." or name in bound or name in LANGUAGE or name in parts:
+                    continue
+                elif name in module.names:
+                    found.append(self.resolve(*module.names[name], where=module.file))
+                elif name in module.definitions:
+                    found.append(module.definitions[name])
+                else:
+                    found.append(self.constructed(module, name))
+                    if found[-1] is None:
+                        raise Unknown("%s: %s names %s, which is nowhere" % (module.file, definition.name, name))
         for name in mixfix:
             if all(part in text for part in name.split("◌") if part):
                 if name in module.names:
@@ -433,6 +439,22 @@ def pieces_of(text):
     return pieces
 
 
+def parts_of(text):
+    """The pieces of a definition, and of a record its fields one by one, each with the names that are bound before it."""
+    for piece in pieces_of(text):
+        if not re.match(r"(?:pub )?(?:record|data) ", piece):
+            yield piece, set()
+            continue
+        head, *fields = re.split(r"\n(?=  \S)", piece)
+        bound = {it for these in re.findall(r"[({]((?:%s )+): " % WORD, head) for it in these.split()}
+        yield head, bound
+        for field in fields:
+            found = re.match(r"  (?:pub )?((?:%s )+): " % WORD, field)
+            yield "pub " + (field[found.end():] if found else field), set(bound)
+            if found:
+                bound |= set(found[1].split())
+
+
 def left_of(piece):
     """The left side of an equation, and nothing of any other piece."""
     if piece.startswith(("abbrev ", "unfoldable ", "pub ", "record ", "data ")):
@@ -451,16 +473,15 @@ def bound_in(piece, module):
     bound = set()
     left = left_of(piece)
     if left:
-        bound |= {it for it in re.findall(r"(?<![\w'.\-])(%s)(?![\w'.])" % WORD, left.partition(" ")[2]) if not it[:1].isupper()}
+        head = left.split()[0]
+        words = re.findall(r"(?<![\w'.\-])(%s)(?![\w'.])" % WORD, left if head not in module.definitions else left.partition(" ")[2])
+        bound |= {it for it in words if not it[:1].isupper() or not (it in module.names or Tree.constructed(module, it) or it in module.definitions)}
     for these in re.findall(r"λ ((?:\S+ )*?\S+)\. ", piece + " "):
         bound |= set(these.split())
     for these in re.findall(r"[({]((?:%s )+): " % WORD, piece):
         bound |= set(these.split())
-    for it in re.findall(r"\blet (%s)" % WORD, piece):
+    for it in re.findall(r"(?:\blet |^ +)(%s)(?= =| ←)" % WORD, piece, re.M):
         bound.add(it)
-    if re.match(r"(?:pub )?(?:record|data) ", piece):
-        for these in re.findall(r"^  (?:pub )?((?:%s )+): " % WORD, piece, re.M):
-            bound |= set(these.split())
     for it in re.findall(r"[{;]\s*(%s) = " % WORD, piece):
         if it not in module.names and it not in module.definitions:
             bound.add(it)
