@@ -11,6 +11,9 @@ CRATE, CALLS = "ants", ("run_ants", "run_to_exit")
 COMMANDS = "PlainCommand"  # the data with a constructor for each command
 FILES = ("FileKind", "FileContent")  # the data with a constructor for each kind of file
 JOBS = ("files_of", "IsJobText")  # what a command reads, and what it writes
+LAW = "headline"  # the law that says the promise on one page
+GAME, COUNTS = "PrintsTheGame", "totals_of"  # of that page what a game prints; and what only its counts name
+WORDS = "IsCommand"  # which words are a command
 
 FIRST = (
     ("The rules of the contest", ("world_after", "score_of"), "The world after a number of rounds, and its score. Whoever believes this chapter knows the game."),
@@ -61,9 +64,9 @@ def named(tree, it):
     return it.named(tree) if isinstance(it, CodeType) else tree.named_by(it)
 
 
-def reached(tree, roots):
-    """All that some definitions reach, each once, from the top down."""
-    found, seen, left = [], set(), list(reversed(roots))
+def reached(tree, roots, without=None):
+    """All that some definitions reach, each once, from the top down; where one is left out, what no other leads to is left out too."""
+    found, seen, left = [], {id(without)}, list(reversed(roots))
     while left:
         it = left.pop()
         if id(it) not in seen:
@@ -82,6 +85,7 @@ class Specification:
         for call in self.calls:
             self.roots += [it for it in call.named(tree) if it not in self.roots]
         self.all = reached(tree, self.roots)
+        self.headline = self.headline_chapter()
         self.left = {id(it) for it in self.all}
         self.chapters = []
         for title, names, says in FIRST:
@@ -95,6 +99,31 @@ class Specification:
         self.add(ENDINGS[0], ENDINGS[1], self.roots)
         if self.left:
             raise Unknown("the specification leaves out %d definitions" % len(self.left))
+
+    def headline_chapter(self):
+        """The definitions of the law's page, which the clauses don't name; nothing where there is no such law."""
+        law = Contract.find(CRATE, LAW)
+        if law is None:
+            return None
+        here = {id(it) for it in self.all}
+        chapter = Chapter("The headline", "")
+        chapter.law = law
+        chapter.parts = [it for it in reached(self.tree, law.named(self.tree)) if id(it) not in here]
+        return chapter
+
+    def game_lines(self):
+        """How many lines the headline's words on a game rest on, with the counts and without."""
+        found = [it for it in self.headline.definitions if it.name == GAME]
+        if len(found) != 1:
+            raise Unknown("the law %s reaches %d definitions named %s" % (LAW, len(found), GAME))
+        whole = self.lines_of(reached(self.tree, found))
+        uncounted = self.lines_of(reached(self.tree, found, self.find(COUNTS)))
+        words = self.lines_of(reached(self.tree, [self.find(WORDS)] + found)) - whole
+        return whole, uncounted, words
+
+    @staticmethod
+    def lines_of(parts):
+        return sum(it.lines for it in parts if not isinstance(it, CodeType))
 
     def find(self, name):
         """The one definition of this name that is reached."""
@@ -238,6 +267,15 @@ def page(spec):
     for call in spec.calls:
         out.append("```text\n%s: %s\n```\n" % (call.name, call.clauses.strip()))
     files = set()
+    if spec.headline:
+        game, uncounted, words = spec.game_lines()
+        out.append("## The headline\n")
+        out.append(
+            "The law [%s](../%s): the promise on one page of %d lines. It follows from the clauses, which is checked; so whoever reads it can leave the chapter on\n"
+            "endings. What `%s` rests on are %s lines, or %s without the counts of `--stats`; and `%s`, which says what the words mean, %s more.\n"
+            % (LAW, spec.headline.law.link, spec.headline.lines, GAME, number(game), number(uncounted), WORDS, number(words))
+        )
+        out += [shown(it, files) for it in spec.headline.parts]
     for i, chapter in enumerate(spec.chapters):
         out.append("## %s\n" % chapter.title)
         out.append("Chapter %d: %d definitions, %s lines. %s\n" % (i + 1, len(chapter.definitions), number(chapter.lines), chapter.says))

@@ -82,9 +82,7 @@ def goes_on(line):
 
 def words_of(text):
     """A text without its comments and what its strings say."""
-    text = re.sub(r"--[^\n]*", "", text)
-    text = re.sub(r'"(?:[^"\\]|\\.)*"', '""', text)
-    return text
+    return re.sub(r'"(?:[^"\\]|\\.)*"|--[^\n]*', lambda it: '""' if it[0][0] == '"' else "", text)
 
 
 class Definition:
@@ -337,6 +335,13 @@ class Contract:
 
     @staticmethod
     def of(crate, name):
+        found = Contract.find(crate, name)
+        if found is None:
+            raise Unknown("%s: no function %s" % (crate, name))
+        return found
+
+    @staticmethod
+    def find(crate, name):
         for file in source_files("crates/%s/src" % crate, ".rt"):
             lines = read(file).split("\n")
             for number, line in enumerate(lines):
@@ -345,7 +350,7 @@ class Contract:
                     while not re.match(r"\s*(\{|\{\})\s*$", lines[below]) and not lines[below].endswith((" {", ";")):
                         below += 1
                     return Contract(file, name, number + 1, "\n".join(lines[number: below]))
-        raise Unknown("%s: no function %s" % (crate, name))
+        return None
 
     def named(self, tree):
         """The definitions that its clauses name, in their order."""
