@@ -68,7 +68,7 @@ module _ (key : Basis) (slots id : ℕ) (v : View) (about : v.about ≡ Some key
           takes 0 (TheBook None),
           k.bare bare,
           book-kept key s r id v w at record { about = refl; number = refl; made = refl; parts = refl; drawn = refl }
-              (inr record { same = about; own = is.own; makes = is.makes; late = is.late; drew = (λ x. let d = is.drew x in omega arith); opens = (omega arith) })
+              (inr record { same = about; own = is.own; makes = is.makes; late = is.late; drew = (λ x. let d = is.drew x in omega arith); within = is.within; opens = (omega arith) })
               1 (set s.homes 0 maybe.none) (length-set s.homes 0 maybe.none) (λ j ne. set_else s.homes 0 j maybe.none ne) (rest-stays v w rests (λ j. refl) (λ j. refl) refl refl)
               record { out = (omega arith); bit = (omega arith); once = (omega arith); unheld = (λ e. omega arith); unseen = (λ e. omega arith); bare = (λ e. absurd (omega arith)); stands = (λ e. absurd (omega arith)) },
           (hit, refl),
@@ -89,7 +89,7 @@ module _ (key : Basis) (slots id : ℕ) (v : View) (about : v.about ≡ Some key
           gives,
           tt,
           book-kept key s r id v w at record { about = refl; number = refl; made = refl; parts = refl; drawn = refl }
-              (inr record { same = about; own = is.own; makes = is.makes; late = is.late; drew = (λ x. let d = is.drew x in omega arith); opens = (omega arith) })
+              (inr record { same = about; own = is.own; makes = is.makes; late = is.late; drew = (λ x. let d = is.drew x in omega arith); within = is.within; opens = (omega arith) })
               0 (set s.homes 0 (maybe.some (TheBook (Some book)))) (length-set s.homes 0 (maybe.some (TheBook (Some book)))) (λ j ne. set_else s.homes 0 j (maybe.some (TheBook (Some book))) ne)
               (λ j. record { put = refl; took = refl; puts = sym (ap (putting j) midst); takes = sym (ap (taking j) midst) })
               record { out = (omega arith); bit = (omega arith); once = (omega arith); unheld = (λ e. omega arith); unseen = (λ e. absurd (omega arith)); bare = (λ e. absurd (omega arith)); stands = (λ _ _. (book, back-here s r, stands)) },
@@ -107,7 +107,7 @@ module _ (key : Basis) (slots id : ℕ) (v : View) (about : v.about ≡ Some key
           gives,
           tt,
           book-kept key s r id v w at record { about = refl; number = refl; made = refl; parts = refl; drawn = refl }
-              (inr record { same = about; own = is.own; makes = is.makes; late = is.late; drew = is.drew; opens = is.opens })
+              (inr record { same = about; own = is.own; makes = is.makes; late = is.late; drew = is.drew; within = is.within; opens = is.opens })
               0 (set s.homes 0 (maybe.some (TheBook (Some book)))) (length-set s.homes 0 (maybe.some (TheBook (Some book)))) (λ j ne. set_else s.homes 0 j (maybe.some (TheBook (Some book))) ne)
               (λ j. record { put = refl; took = refl; puts = refl; takes = refl })
               record { out = (omega arith); bit = (omega arith); once = (omega arith); unheld = (λ e. absurd (omega arith)); unseen = (λ e. absurd (omega arith)); bare = (λ e. absurd (omega arith)); stands = (λ _ _. (book, back-here s r, stands)) },
@@ -133,7 +133,7 @@ module _ (key : Basis) (slots id : ℕ) (v : View) (about : v.about ≡ Some key
           takes 0 (TheBook (Some book)),
           it.1,
           book-kept key s r id v w at record { about = refl; number = refl; made = refl; parts = refl; drawn = refl }
-              (inr record { same = about; own = is.own; makes = is.makes; late = is.late; drew = is.drew; opens = is.opens })
+              (inr record { same = about; own = is.own; makes = is.makes; late = is.late; drew = is.drew; within = is.within; opens = is.opens })
               1 (set s.homes 0 maybe.none) (length-set s.homes 0 maybe.none) (λ j ne. set_else s.homes 0 j maybe.none ne) (λ j. record { put = refl; took = refl; puts = refl; takes = refl })
               record { out = (omega arith); bit = (omega arith); once = (omega arith); unheld = (λ e. absurd (omega arith)); unseen = (λ e. absurd (omega arith)); bare = (λ e. absurd (omega arith)); stands = (λ e d. absurd (omega arith)) },
           record { home = λ _. (book, subst (λ z. StandsFor (window_about z) book) (sym about) it.2, refl); out = λ ne. absurd (ne hit) },
@@ -143,7 +143,7 @@ module _ (key : Basis) (slots id : ℕ) (v : View) (about : v.about ≡ Some key
           keeps,
           tt,
           book-kept key s r id v w at record { about = refl; number = refl; made = refl; parts = refl; drawn = refl }
-              (inr record { same = about; own = is.own; makes = is.makes; late = is.late; drew = is.drew; opens = is.opens })
+              (inr record { same = about; own = is.own; makes = is.makes; late = is.late; drew = is.drew; within = is.within; opens = is.opens })
               word s.homes refl (λ j ne. refl) (λ j. record { put = refl; took = refl; puts = refl; takes = refl })
               (book-stays s.views id v w at (window_for key) word _ refl refl refl refl k),
           record { home = λ e. absurd (miss e); out = λ _. (is_one, refl) },

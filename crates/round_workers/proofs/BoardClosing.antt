@@ -26,6 +26,8 @@ use Rattle.round_workers.proofs.BoardTotalLemmas.{below-where, once-le, total-al
 use Rattle.round_workers.proofs.BoardSeating.{made-all}
 use Rattle.round_workers.proofs.BoardBook.{opened-seen}
 use Rattle.round_workers.proofs.BoardTickets.{few-turns, word-bound}
+use Rattle.round_workers.specs.BoardLaws.{IsWhereClosed, Mirrors, Way}
+use Rattle.round_workers.proofs.BoardWays.{board-way, way-map}
 
 -- a look that was put, or not, and taken, or not, and what its slot has
 look-left : (window : Window) (ticket word put took : ℕ) (home : maybe.Option (maybe.Option BoardSlot)) (kept : IsLookKept window ticket word home put took 0 0)
@@ -41,6 +43,7 @@ pub record IsLast (key : Basis) (v : View) (words : List ℕ) (slots : List Boar
   pub drawn : (k : ℕ) → times k v.drawn ≡ once_below k (slice_index words 0)
   pub book : (book : BookValue) × (get_elem? slots 0 ≡ maybe.some (TheBook (Some book))) × StandsFor (window_for key) book
   pub looks : (k : ℕ) → k < turns_of key → (place : BoardSlot) × (get_elem? slots (k + 1) ≡ maybe.some place) × (look_in place ≡ left_look (window_for key) v k)
+  pub reached : Way (window_for key) (IsWhereClosed (window_for key) (slice_index words 0) v.put)
 
 module _ (key : Basis) (id : ℕ) (v : View) (about : v.about ≡ Some key) (zeroth : v.number ≡ 0) (whole : (k : ℕ) → k ≤ v.made → 1 ≤ times k v.parts) (s : State BoardSlot View) (r : IsKept key s) (at : get_elem? s.views id ≡ maybe.some v) where
   -- every other seat went into this one
@@ -66,6 +69,12 @@ module _ (key : Basis) (id : ℕ) (v : View) (about : v.about ≡ Some key) (zer
               (subst (λ (z : ℕ × ℕ × ℕ × ℕ). IsLookKept (window_for key) k (slice_index s.words (k + 2)) (get_elem? s.homes (k + 1)) z.0 z.1 z.2 z.3)
               (λ i. (alone (λ u. times k u.put) refl i, alone (λ u. times k u.took) refl i, (alone (λ u. putting k u.phase) refl ∙ ap (putting k) rests) i, (alone (λ u. taking k u.phase) refl ∙ ap (taking k) rests) i)) (r.looks k inside)) in
               (found.0, home (k + 1) found.0 found.1, found.2));
+          reached = way-map (window_for key) (Mirrors key s) (IsWhereClosed (window_for key) (slice_index words 0) v.put)
+              (λ m mir. record {
+                drawn = mir.drawn ∙ word;
+                put = λ j. let sum = alone (λ u. times j u.put) refl in let one = mir.put j in (λ is_put. (let a = one.0 is_put in omega arith), λ some. one.1 (omega arith));
+              })
+              (board-way key s r);
         }
 
 -- the same, of a table that is closed

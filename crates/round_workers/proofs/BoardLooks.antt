@@ -60,7 +60,7 @@ module _ (key : Basis) (slots id : ℕ) (v : View) (about : v.about ≡ Some key
           takes (j + 1) (Spare spare.0),
           spare.1,
           look-kept key s r id v w at record { about = refl; number = refl; made = refl; parts = refl; drawn = refl }
-              (inr record { same = about; own = is.own; makes = is.makes; late = is.late; drew = (λ x. by_cases x (is.drew x) (ℕ_discrete j x)); opens = (let o = is.opens in omega arith) })
+              (inr record { same = about; own = is.own; makes = is.makes; late = is.late; drew = (λ x. by_cases x (is.drew x) (ℕ_discrete j x)); within = is.within; opens = (let o = is.opens in omega arith) })
               j 1 (set s.homes (j + 1) maybe.none) inside (length-set s.homes (j + 1) maybe.none) (λ i ne. set_else s.homes (j + 1) i maybe.none ne)
               record { holds = refl; opens = sym (ap phase_opening rests); opened = refl }
               (λ i ne. record { put = refl; took = refl; puts = other-none j i (λ e. ne (sym e)) ∙ sym (ap (putting i) rests); takes = sym (ap (taking i) rests) })
@@ -85,7 +85,7 @@ module _ (key : Basis) (slots id : ℕ) (v : View) (about : v.about ≡ Some key
           takes (j + 1) (OneLook (Some its-look)),
           k.full (omega arith) (omega arith),
           look-kept key s r id v w at record { about = refl; number = refl; made = refl; parts = refl; drawn = refl }
-              (inr record { same = about; own = is.own; makes = is.makes; late = is.late; drew = (λ x. let d = is.drew x in omega arith); opens = (let o = is.opens in omega arith) })
+              (inr record { same = about; own = is.own; makes = is.makes; late = is.late; drew = (λ x. let d = is.drew x in omega arith); within = is.within; opens = (let o = is.opens in omega arith) })
               j 1 (set s.homes (j + 1) maybe.none) inside (length-set s.homes (j + 1) maybe.none) (λ i ne. set_else s.homes (j + 1) i maybe.none ne)
               record { holds = refl; opens = sym (ap phase_opening rests); opened = refl }
               (λ i ne. record { put = refl; took = refl; puts = sym (ap (putting i) rests); takes = other-none j i (λ e. ne (sym e)) ∙ sym (ap (taking i) rests) })
@@ -100,7 +100,7 @@ module _ (key : Basis) (slots id : ℕ) (v : View) (about : v.about ≡ Some key
           keeps,
           tt,
           look-kept key s r id v w at record { about = refl; number = refl; made = refl; parts = refl; drawn = refl }
-              (inr record { same = about; own = is.own; makes = is.makes; late = is.late; drew = is.drew; opens = is.opens })
+              (inr record { same = about; own = is.own; makes = is.makes; late = is.late; drew = is.drew; within = is.within; opens = is.opens })
               j word s.homes inside refl (λ i ne. refl) record { holds = refl; opens = refl; opened = refl } (λ i ne. record { put = refl; took = refl; puts = refl; takes = refl })
               (look-stays s.views id v w at (window_for key) j word _ refl refl refl refl k),
           λ i e. (let same : j ≡ i = omega arith in record { full = λ is_two. absurd (miss is_two); other = λ _. ap (λ (m : ℕ). (after_try v (OfLook m word), c)) same }),
@@ -117,7 +117,7 @@ module _ (key : Basis) (slots id : ℕ) (v : View) (about : v.about ≡ Some key
           gives,
           tt,
           look-kept key s r id v w at record { about = refl; number = refl; made = refl; parts = refl; drawn = refl }
-              (inr record { same = about; own = is.own; makes = is.makes; late = is.late; drew = (λ x. let d = is.drew x in let a = times-append x v.put (j ∷ []) in let b = ap (putting x) midst in omega arith); opens = (let o = is.opens in omega arith) })
+              (inr record { same = about; own = is.own; makes = is.makes; late = is.late; drew = (λ x. let d = is.drew x in let a = times-append x v.put (j ∷ []) in let b = ap (putting x) midst in omega arith); within = (λ x far. let b = times-other x j v.put (λ e. absurd (let l : j < turns_of key = inside in omega arith)) in let d = is.within x far in omega arith); opens = (let o = is.opens in omega arith) })
               j 2 (set s.homes (j + 1) (maybe.some (OneLook look))) inside (length-set s.homes (j + 1) (maybe.some (OneLook look))) (λ i ne. set_else s.homes (j + 1) i (maybe.some (OneLook look)) ne)
               record { holds = refl; opens = sym (ap phase_opening midst); opened = refl }
               (λ i ne. record { put = times-other i j v.put (λ e. ne (sym e)); took = refl; puts = sym (ap (putting i) midst ∙ other-none j i (λ e. ne (sym e))); takes = sym (ap (taking i) midst) })
@@ -141,7 +141,7 @@ module _ (key : Basis) (slots id : ℕ) (v : View) (about : v.about ≡ Some key
           gives,
           tt,
           look-kept key s r id v w at record { about = refl; number = refl; made = refl; parts = refl; drawn = refl }
-              (inr record { same = about; own = is.own; makes = is.makes; late = is.late; drew = (λ x. let d = is.drew x in omega arith); opens = (let o = is.opens in omega arith) })
+              (inr record { same = about; own = is.own; makes = is.makes; late = is.late; drew = (λ x. let d = is.drew x in omega arith); within = (λ x far. let b = times-other x j v.took (λ e. absurd (let l : j < turns_of key = inside in omega arith)) in let d = is.within x far in omega arith); opens = (let o = is.opens in omega arith) })
               j 3 (set s.homes (j + 1) (maybe.some (Spare old))) inside (length-set s.homes (j + 1) (maybe.some (Spare old))) (λ i ne. set_else s.homes (j + 1) i (maybe.some (Spare old)) ne)
               record { holds = refl; opens = sym (ap phase_opening midst); opened = refl }
               (λ i ne. record { put = refl; took = times-other i j v.took (λ e. ne (sym e)); puts = sym (ap (putting i) midst); takes = sym (ap (taking i) midst ∙ other-none j i (λ e. ne (sym e))) })

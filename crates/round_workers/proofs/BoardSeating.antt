@@ -82,7 +82,7 @@ starts key slots playable bare = let n : ℕ = turns_of key in record {
   playable = playable;
   words = length-replicate (n + 2) 0;
   homes = homes-length slots ∙ bare.long;
-  seats = λ i v at. inr (subst (IsSeated key) (only i v at) (record { same = refl; own = (omega arith); makes = (λ ne. refl); late = (omega arith); drew = (λ x. omega arith); opens = (omega arith) }));
+  seats = λ i v at. inr (subst (IsSeated key) (only i v at) (record { same = refl; own = (omega arith); makes = (λ ne. refl); late = (omega arith); drew = (λ x. omega arith); within = (λ x far. omega arith); opens = (omega arith) }));
   parts = first-parts key;
   tickets = (let no_word = all-zero (n + 2) 0 in record { each = (λ x. let none_of : once_below x (slice_index (replicate (n + 2) 0) 0) ≡ 0 = above-none x (slice_index (replicate (n + 2) 0) 0) (omega arith) in omega arith); within = (omega arith) });
   book = (let no_word = all-zero (n + 2) 1 in record { out = (omega arith); bit = (omega arith); once = (omega arith); unheld = (λ e. refl); unseen = (λ e. refl); bare = (λ e. home-of slots 0 (TheBook None) bare.book); stands = (λ e. absurd (omega arith)) });
@@ -113,8 +113,8 @@ module _ (key : Basis) (id : ℕ) (v : View) (about : v.about ≡ Some key) (zer
         playable = r.playable;
         words = r.words;
         homes = r.homes;
-        seats = seats-snoc key one u (seats-set key s.views id w r.seats (inr record { same = about; own = is.own; makes = (λ ne. absurd (ne zeroth)); late = is.late; drew = is.drew; opens = is.opens }))
-            (inr record { same = about; own = (let a = same-one (suc v.made) (suc v.made) refl in omega arith); makes = (λ ne. refl); late = (omega arith); drew = (λ x. omega arith); opens = (omega arith) });
+        seats = seats-snoc key one u (seats-set key s.views id w r.seats (inr record { same = about; own = is.own; makes = (λ ne. absurd (ne zeroth)); late = is.late; drew = is.drew; within = is.within; opens = is.opens }))
+            (inr record { same = about; own = (let a = same-one (suc v.made) (suc v.made) refl in omega arith); makes = (λ ne. refl); late = (omega arith); drew = (λ x. omega arith); within = (λ x far. omega arith); opens = (omega arith) });
         parts = record {
           each = λ x. let sum = grow (λ y. times x y.parts) refl in let old = r.parts.each x in let next = once-suc x (made_by s.views + 1) in
               let named : one_if (nat_eq (suc v.made) x) ≡ one_if (nat_eq (made_by s.views + 1) x) = ap (λ (m : ℕ). one_if (nat_eq m x)) (let e : suc v.made ≡ made_by s.views + 1 = omega arith in e) in
@@ -155,6 +155,7 @@ module _ (key : Basis) (id : ℕ) (v : View) (other : ℕ) (w : View) (about : v
           makes = is.makes;
           late = (let a = is.late in let b = is'.late in omega arith);
           drew = (λ x. let a = times-append x v.put w.put in let b = times-append x v.drawn w.drawn in let c = is.drew x in let d = is'.drew x in omega arith);
+          within = (λ x far. let a = times-append x v.put w.put in let b = times-append x v.took w.took in let c = is.within x far in let d = is'.within x far in omega arith);
           opens = is.opens;
         })) (inl refl);
         parts = record {

@@ -42,7 +42,7 @@ module _ (key : Basis) (slots id : ℕ) (me : Me BoardSlot View) (about : me.0.a
         playable = r.playable;
         words = length-set s.words 0 (word + 1) ∙ r.words;
         homes = r.homes;
-        seats = seats-set key s.views id w r.seats (inr record { same = about; own = is.own; makes = is.makes; late = (let b = one_if-le (nat_le n word) in omega arith); drew = (λ x. let more = times-append x v.drawn (word ∷ []) in let d = is.drew x in omega arith); opens = is.opens });
+        seats = seats-set key s.views id w r.seats (inr record { same = about; own = is.own; makes = is.makes; late = (let b = one_if-le (nat_le n word) in omega arith); drew = (λ x. let more = times-append x v.drawn (word ∷ []) in let d = is.drew x in omega arith); within = is.within; opens = is.opens });
         parts = parts-stay s.views id v w at refl refl refl r.parts;
         tickets = subst (λ (z : ℕ). AreDealt n z (set s.views id w)) (sym (get_or-set_same s.words 0 (word + 1) 0 (omega arith))) record {
           each = λ x. let more = times-append x v.drawn (word ∷ []) in let one = total-set (λ u. times x u.drawn) s.views id v w at in let old = r.tickets.each x in let step = once-suc x word in omega arith;

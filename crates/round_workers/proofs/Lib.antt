@@ -2,12 +2,14 @@ pub mod BoardBook
 pub mod BoardClosing
 pub mod BoardCrewing
 pub mod BoardKeeps
+pub mod BoardLawLemmas
 pub mod BoardLooks
 pub mod BoardMoves
 pub mod BoardSeating
 pub mod BoardSteps
 pub mod BoardTickets
 pub mod BoardTotalLemmas
+pub mod BoardWays
 pub mod BoardWorking
 pub mod PieceLemmas
 pub mod ShareLemmas

@@ -70,14 +70,15 @@ taking x (Putting j) = 0
 taking x (Taking j) = one_if (nat_eq j x)
 
 -- what is true of each seat that didn't go into another: it knows the board's window; its own number is among its parts; the first seat alone
--- makes others; it drew at most as many tickets behind the window as it has parts; what it put, or is about to put, it drew; and the first
--- seat alone opens the book
+-- makes others; it drew at most as many tickets behind the window as it has parts; what it put, or is about to put, it drew; what it put and
+-- took are looks of turns alone; and the first seat alone opens the book
 pub record IsSeated (key : Basis) (v : View) : Type 0 where
   pub same : v.about ≡ Some key
   pub own : 1 ≤ times v.number v.parts
   pub makes : v.number ≢ 0 → v.made ≡ 0
   pub late : late_among (turns_of key) v.drawn ≤ length v.parts
   pub drew : (x : ℕ) → times x v.put + putting x v.phase ≤ times x v.drawn
+  pub within : (x : ℕ) → turns_of key ≤ x → times x v.put + times x v.took ≡ 0
   pub opens : phase_opening v.phase + has_opened v ≤ is_first v
 
 -- of a seat that went into another nothing is left

@@ -1,3 +1,4 @@
+pub mod BoardLaws
 pub mod BoardPlays
 pub mod BoardRule
 pub mod BoardSeats

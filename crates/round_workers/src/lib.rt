@@ -12,6 +12,7 @@
 
 mod board;
 mod fork;
+mod laws;
 mod piece;
 mod piece_crew;
 mod settling;
@@ -19,4 +20,5 @@ mod share;
 
 pub use board::{Basis, Board, BoardCrew, BoardSlot, Closed, Phase, Room, Seat, Try, View, Worker};
 pub use hex_geometry::OutOfMemory;
+pub use laws::{board_steps_are_events, boards_are_reached, boards_say};
 pub use piece_crew::PieceCrew;

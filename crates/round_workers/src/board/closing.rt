@@ -7,6 +7,7 @@ ghost use mathlib.Core.Option.{some};
 ghost use lib.ListN.{get_elem?};
 ghost use Rattle.round_book.specs.Machine.{times};
 ghost use Rattle.round_workers.specs.Inner.BoardPlaces.{AreTaken, look_in};
+ghost use Rattle.round_workers.specs.BoardLaws.{IsWhereClosed, Way};
 ghost use Rattle.round_workers.specs.BoardRule.{StandsFor};
 ghost use Rattle.round_workers.specs.BoardTotals.{once_below};
 ghost use Rattle.round_workers.specs.BoardSeats.{IsSeatOf, basis_of, known, left_look, board_window};
@@ -41,6 +42,7 @@ impl Board {
         requires free { (known seat).holds ≡ false }
         ensures book { StandsFor (board_window self) result.book }
         ensures drawn { (k : ℕ) → times k (known seat).drawn ≡ once_below k result.drawn }
+        ensures reached { Way (board_window self) (IsWhereClosed (board_window self) result.drawn (known seat).put) }
         ensures turns { length result.looks.items ≡ (basis_of self).to - (basis_of self).from }
         ensures looks { (k : ℕ) → k < (basis_of self).to - (basis_of self).from
             → slice_index_or result.looks.items k None ≡ left_look (board_window self) (known seat) k }
@@ -67,6 +69,7 @@ impl Board {
         requires free { (known seat).holds ≡ false }
         ensures book { StandsFor (board_window self) result.book }
         ensures drawn { (k : ℕ) → times k (known seat).drawn ≡ once_below k result.drawn }
+        ensures reached { Way (board_window self) (IsWhereClosed (board_window self) result.drawn (known seat).put) }
         ensures turns { length result.places.items ≡ (basis_of self).to - (basis_of self).from }
         ensures looks { (k : ℕ) → k < (basis_of self).to - (basis_of self).from
             → look_in (slice_index_or result.places.items k Nothing) ≡ left_look (board_window self) (known seat) k }

@@ -1,8 +1,9 @@
-use Rattle.std.proofs.Common.{◌≡◌, ℕ, ◌+◌, ◌-◌, ◌<◌, ◌≤◌, [], ◌∷◌, length, length-append, arith, sym, ap, ◌∙◌}
+use Rattle.std.proofs.Common.{◌≡◌, ℕ, ◌+◌, ◌-◌, ◌<◌, ◌≤◌, [], ◌∷◌, length, length-append, arith, sym, subst, ap, ◌∙◌}
 use lib.ListN.{get_elem?}
 use Rattle.std.specs.Vec.{vec_capacity}
 use Rattle.std.specs.Mem.Slots.{slots_len}
 use Rattle.round_workers.specs.BoardSeats.{basis_of, known, board_window}
+use Rattle.round_workers.specs.BoardLaws.{IsWhereClosed, Way}
 use Rattle.round_workers.specs.BoardTotals.{once_below}
 use Rattle.round_workers.proofs.BoardClosing.{book-at-slot, index-at, lasts, look-at-slot, places-more, stands-so}
 use Rattle.round_workers.proofs.board.seat.Board.take_apart.Goals as goal
@@ -30,6 +31,12 @@ returns-clause-drawn c =
     let key = basis_of c.args.self in let v = known c.args.seat in
     let last = lasts key c.args.seat.hand.id v c.requires.board.knows c.requires.first c.requires.whole c.args.seat.at_rest.resting c.requires.opened c.requires.free _ _ c.close_with-closed.ensures.values.2 in
     λ k. last.drawn k ∙ ap (once_below k) (index-at _ 0 _ c.word-drawn.ensures)
+
+pub returns-clause-reached : goal.returns-clause-reached
+returns-clause-reached c =
+    let key = basis_of c.args.self in let v = known c.args.seat in
+    let last = lasts key c.args.seat.hand.id v c.requires.board.knows c.requires.first c.requires.whole c.args.seat.at_rest.resting c.requires.opened c.requires.free _ _ c.close_with-closed.ensures.values.2 in
+    subst (λ n. Way (board_window c.args.self) (IsWhereClosed (board_window c.args.self) n v.put)) (index-at _ 0 _ c.word-drawn.ensures) last.reached
 
 pub push_reserved-requires : goal.push_reserved-requires
 push_reserved-requires c =
