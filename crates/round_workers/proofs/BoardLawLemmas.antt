@@ -67,6 +67,7 @@ turns-alone key s r j some = go (dec_le (turns_of key) j) where
       (λ spent. subst (λ (u : View). times j u.put + times j u.took ≡ 0) (sym spent) refl)
       (λ is. is.within j far)
       (r.seats i v at)
+
   go : Dec (turns_of key ≤ j) → j < turns_of key
   go (yes far) = absurd (
       let sum = total-add (λ (u : View). times j u.put) (λ (u : View). times j u.took) s.views in
