@@ -9,7 +9,7 @@ use Rattle.cell_world.specs.World.{World}
 use Rattle.cell_world.specs.Valid.{Valid, CanSet}
 use Rattle.cell_world.specs.Inner.Replaces.{Replaces}
 use Rattle.cell_world.proofs.Places.{ant-clear}
-use Rattle.cell_world.proofs.ValidLemmas.{CanSet-replaces}
+use Rattle.cell_world.proofs.ValidLemmas.{CanSet-replaces, HasMarksOfSix-same}
 use Rattle.ant_turn.specs.Kills.{after_kill, corpse_food}
 use Rattle.ant_turn.specs.Sheet.{Sheet}
 
@@ -34,3 +34,4 @@ Replaces-after_kill sheet cell ant is light = record {
 pub CanSet-after_kill : (sheet : Sheet) (w : World) (room : ℕ) (p : Pos) (ant : Ant) → sheet.corpse ≤ 9 → Valid w → 1 ≤ room → (w.cells p).ant ≡ Some ant → CanSet w room p (after_kill sheet (w.cells p))
 CanSet-after_kill sheet w room p ant light valid left is =
     CanSet-replaces w room p (after_kill sheet (w.cells p)) valid left (ant-clear w p ant valid is) (Replaces-after_kill sheet (w.cells p) ant is light)
+    (HasMarksOfSix-same (w.cells p) (after_kill sheet (w.cells p)) refl refl (valid.six p))

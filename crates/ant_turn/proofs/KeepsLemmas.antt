@@ -5,7 +5,7 @@ use Rattle.std.specs.Prelude.{length}
 use Rattle.hex_geometry.specs.declared.position.Pos.{Pos}
 use Rattle.cell_world.specs.declared.ant.Ant.{Ant}
 use Rattle.cell_world.specs.declared.cell.Cell.{Cell}
-use Rattle.cell_world.specs.Cell.{holds_id}
+use Rattle.cell_world.specs.Cell.{HasMarksOfSix, holds_id}
 use Rattle.cell_world.specs.Valid.{Valid}
 use Rattle.cell_world.specs.Inner.Replaces.{Replaces}
 use Rattle.cell_world.specs.World.{World, put, weight}
@@ -51,8 +51,8 @@ Fits-put minds w p cell fits new = record {
 }
 
 -- a world with one cell replaced keeps what it had, where the brains fit the new cell's ant
-pub Keeps-put : (minds : Minds) (w : World) (p : Pos) (cell : Cell) → Valid w → Fits w minds → (w.cells p).rocky ≡ false → Replaces (w.cells p) cell → ((ant : Ant) → cell.ant ≡ Some ant → ant.state < length (mind_of minds ant.colour)) → Keeps minds w (put w p cell)
-Keeps-put minds w p cell valid fits clear replaces new = record {
+pub Keeps-put : (minds : Minds) (w : World) (p : Pos) (cell : Cell) → Valid w → Fits w minds → (w.cells p).rocky ≡ false → Replaces (w.cells p) cell → HasMarksOfSix cell → ((ant : Ant) → cell.ant ≡ Some ant → ant.state < length (mind_of minds ant.colour)) → Keeps minds w (put w p cell)
+Keeps-put minds w p cell valid fits clear replaces six new = record {
   width = refl;
   height = refl;
   ids = refl;
@@ -61,7 +61,7 @@ Keeps-put minds w p cell valid fits clear replaces new = record {
   dead = λ t dead. put_cell-all w p cell (λ q c. holds_id t c ≡ false)
       (false_from_ne_true (holds_id t cell) (λ held. both_ways (holds_id t (w.cells p)) (dead p) (replaces.same_ant t held)))
       (λ q _. dead q);
-  valid = Valid-put w 1 p cell valid (CanSet-replaces w 1 p cell valid (omega arith) clear replaces);
+  valid = Valid-put w 1 p cell valid (CanSet-replaces w 1 p cell valid (omega arith) clear replaces six);
   fits = Fits-put minds w p cell fits new;
   no_heavier = weight-replaces w p cell valid clear replaces;
 }

@@ -8,14 +8,14 @@ use Rattle.cell_world.specs.declared.ant.Ant.{Ant}
 use Rattle.cell_world.specs.declared.ant.Colour.{Colour}
 use Rattle.cell_world.specs.declared.ant.Colour.TheVariants.{Red, Black}
 use Rattle.cell_world.specs.declared.cell.Cell.{Cell}
-use Rattle.cell_world.specs.Cell.{holds_id, is_ant, cell_weight, ant_weight, one_if}
+use Rattle.cell_world.specs.Cell.{HasMarksOfSix, holds_id, is_ant, cell_weight, ant_weight, one_if}
 use Rattle.cell_world.specs.Valid.{Valid, CanSet}
 use Rattle.cell_world.specs.Inner.Replaces.{Replaces}
 use Rattle.cell_world.specs.Limits.{most_weight}
 use Rattle.cell_world.specs.World.{Cells, World, with_cells, put, put_cell, weight}
 use Rattle.cell_world.proofs.Places.{ant-clear, clear_inside, holds_id-own}
 use Rattle.cell_world.proofs.Puts.{put_cell-other}
-use Rattle.cell_world.proofs.ValidLemmas.{put_cell-all, Valid-put}
+use Rattle.cell_world.proofs.ValidLemmas.{HasMarksOfSix-same, put_cell-all, Valid-put}
 use Rattle.cell_world.proofs.Weights.{weight-put_two}
 use Rattle.brain_read.specs.declared.instr.Instr.{Instr}
 use Rattle.brain_read.specs.declared.instr.Instr.TheVariants.{Drop}
@@ -63,6 +63,10 @@ Replaces-left_by_ant cell = record {
   no_heavier = omega arith;
 }
 
+-- and has its markers
+pub HasMarksOfSix-left : (cell : Cell) → HasMarksOfSix cell → HasMarksOfSix (left_by_ant cell)
+HasMarksOfSix-left cell six = HasMarksOfSix-same cell (left_by_ant cell) refl refl six
+
 -- a step of an ant from p to q, onto which it can move
 module _ (sheet : Sheet) (w : World) (p : Pos) (ant : Ant) (q : Pos) (next : ℕ) (valid : Valid w) (is : (w.cells p).ant ≡ Some ant) (free : is_blocked (w.cells q) ≡ false) where
   -- no ant is heavier or lighter for it
@@ -93,6 +97,7 @@ module _ (sheet : Sheet) (w : World) (p : Pos) (ant : Ant) (q : Pos) (next : ℕ
         was_clear = ap (λ (c : Cell). c.rocky) other ∙ clear;
         is_clear = clear;
         same_hill = ap (λ (c : Cell). c.hill) (sym other);
+        six = HasMarksOfSix-same (w.cells q) (with_ant (w.cells q) (arrived sheet ant next)) refl refl (valid.six q);
         ant_known = λ new one. let same : arrived sheet ant next ≡ new = cc in subst (λ (a : Ant). a.id < w.ids) same (valid.known p ant is);
         ant_nowhere_else = λ new one r _. let same : arrived sheet ant next ≡ new = cc in
             subst (λ (a : Ant). holds_id a.id (put_cell w.cells p (left_by_ant (w.cells p)) r) ≡ false) same (left_nowhere r);
@@ -105,7 +110,7 @@ unfolding stepped
 Keeps-stepped minds w p ant q next valid fits is free below =
     let here : Cell = left_by_ant (w.cells p) in
     let there : Cell = with_ant (w.cells q) (arrived minds.sheet ant next) in
-    let first : Keeps minds w (put w p here) = Keeps-put minds w p here valid fits (ant-clear w p ant valid is) (Replaces-left_by_ant (w.cells p)) (λ old none. absurd (cc)) in
+    let first : Keeps minds w (put w p here) = Keeps-put minds w p here valid fits (ant-clear w p ant valid is) (Replaces-left_by_ant (w.cells p)) (HasMarksOfSix-left (w.cells p) (valid.six p)) (λ old none. absurd (cc)) in
     let same : weight (put (put w p here) q there) ≡ weight w = step_weight minds.sheet w p ant q next valid is free in
     record {
       width = refl;
@@ -146,7 +151,7 @@ Keeps-goes minds w p ant q next small valid fits is free below =
 pub Keeps-stays : (minds : Minds) (w : World) (p : Pos) (ant : Ant) (instruction : Instr) (new : Cell) → Valid w → Fits w minds → (w.cells p).ant ≡ Some ant → IsSound (length (mind_of minds ant.colour)) instruction → Stays instruction (w.cells p) ant new → Keeps minds w (put w p new)
 Keeps-stays minds w p ant instruction new valid fits is sound stays =
     let below : stays.after.state < length (mind_of minds ant.colour) = stays.state (length (mind_of minds ant.colour)) (fits.below p ant is) sound in
-    Keeps-put minds w p new valid fits (ant-clear w p ant valid is) (stays_replaces stays is) λ it one.
+    Keeps-put minds w p new valid fits (ant-clear w p ant valid is) (stays_replaces stays is) (stays.six (length (mind_of minds ant.colour)) sound (valid.six p)) λ it one.
     let same : Some stays.after ≡ Some it = sym stays.holds ∙ one in
     let after : stays.after ≡ it = cc in
     subst (λ (a : Ant). a.state < length (mind_of minds a.colour)) after (subst (λ colour. stays.after.state < length (mind_of minds colour)) (sym stays.same_colour) below)

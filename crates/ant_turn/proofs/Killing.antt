@@ -21,7 +21,7 @@ use Rattle.ant_turn.specs.Minds.{Minds, mind_of}
 use Rattle.ant_turn.specs.Sheet.{Sheet}
 use Rattle.ant_turn.specs.Turn.{Outcome, acts, arrived, instruction_at, is_blocked, left_by_ant, stepped, turn, with_ant}
 use Rattle.ant_turn.proofs.Deaths.{check_all-place_in, killed_all-alive, killed_all-differ, killed_all-gone}
-use Rattle.ant_turn.proofs.KeptByTurns.{CanSet-arrived, Replaces-left_by_ant, free_apart, free_empty}
+use Rattle.ant_turn.proofs.KeptByTurns.{CanSet-arrived, HasMarksOfSix-left, Replaces-left_by_ant, free_apart, free_empty}
 use Rattle.ant_turn.proofs.OwnCells.{Stays}
 use Rattle.ant_turn.proofs.TurnParts.{Does, acts_parts, turn_parts}
 use Rattle.ant_turn.proofs.KeptByChecks.{check_all-holds_id}
@@ -55,7 +55,7 @@ stays-holds_id {instruction} {cell} {ant} {new} u stays is = ap (is_ant u) is �
 module _ (sheet : Sheet) (w : World) (p : Pos) (ant : Ant) (q : Pos) (next : ℕ) (valid : Valid w) (is : (w.cells p).ant ≡ Some ant) (free : is_blocked (w.cells q) ≡ false) where
   -- the world between
   left_valid : Valid (put w p (left_by_ant (w.cells p)))
-  left_valid = Valid-put w 1 p (left_by_ant (w.cells p)) valid (CanSet-replaces w 1 p (left_by_ant (w.cells p)) valid (omega arith) (ant-clear w p ant valid is) (Replaces-left_by_ant (w.cells p)))
+  left_valid = Valid-put w 1 p (left_by_ant (w.cells p)) valid (CanSet-replaces w 1 p (left_by_ant (w.cells p)) valid (omega arith) (ant-clear w p ant valid is) (Replaces-left_by_ant (w.cells p)) (HasMarksOfSix-left (w.cells p) (valid.six p)))
 
   -- makes a world
   step-Valid : Valid (with_cells w (stepped sheet w.cells p ant q next))

@@ -8,9 +8,11 @@ use Rattle.cell_world.specs.declared.ant.Ant.{Ant}
 use Rattle.cell_world.specs.declared.ant.Colour.{Colour}
 use Rattle.cell_world.specs.declared.ant.Colour.TheVariants.{Red, Black}
 use Rattle.cell_world.specs.declared.cell.Cell.{Cell}
-use Rattle.cell_world.specs.Cell.{is_ant, cell_weight, ant_weight, marks_of, one_if}
+use Rattle.cell_world.specs.Cell.{HasMarksOfSix, is_ant, cell_weight, ant_weight, marks_of, one_if}
 use Rattle.cell_world.specs.Colour.{foe_of}
 use Rattle.cell_world.specs.Inner.Replaces.{Replaces}
+use Rattle.cell_world.proofs.MarksLemmas.{IsOfSix-with, IsOfSix-without}
+use Rattle.cell_world.proofs.ValidLemmas.{HasMarksOfSix-same}
 use Rattle.brain_read.specs.declared.instr.Cond.{Cond}
 use Rattle.brain_read.specs.declared.instr.Instr.{Instr}
 use Rattle.brain_read.specs.declared.instr.Instr.TheVariants.{Sense, Mark, Unmark, PickUp, Drop, Turn, Move, Flip}
@@ -33,6 +35,7 @@ pub record Stays (instruction : Instr) (cell : Cell) (ant : Ant) (new : Cell) : 
   pub same_id : after.id ≡ ant.id
   pub same_colour : after.colour ≡ ant.colour
   pub foe_marks : marks_of (foe_of ant.colour) new ≡ marks_of (foe_of ant.colour) cell
+  pub six : (n : ℕ) → IsSound n instruction → HasMarksOfSix cell → HasMarksOfSix new
   pub same_food : new.food + one_if after.laden ≡ cell.food + one_if ant.laden
   pub state : (n : ℕ) → ant.state < n → IsSound n instruction → after.state < n
 
@@ -42,9 +45,9 @@ either_below true met unmet n first second = first
 either_below false met unmet n first second = second
 
 -- an ant that carries what it carried, on a cell of which at most the markers are others
-stays_alike : (instruction : Instr) (cell alike : Cell) (ant after : Ant) → alike.rocky ≡ cell.rocky → alike.hill ≡ cell.hill → alike.food ≡ cell.food → marks_of (foe_of ant.colour) alike ≡ marks_of (foe_of ant.colour) cell → after.id ≡ ant.id → after.colour ≡ ant.colour → after.laden ≡ ant.laden →
+stays_alike : (instruction : Instr) (cell alike : Cell) (ant after : Ant) → alike.rocky ≡ cell.rocky → alike.hill ≡ cell.hill → alike.food ≡ cell.food → ((n : ℕ) → IsSound n instruction → HasMarksOfSix cell → HasMarksOfSix alike) → marks_of (foe_of ant.colour) alike ≡ marks_of (foe_of ant.colour) cell → after.id ≡ ant.id → after.colour ≡ ant.colour → after.laden ≡ ant.laden →
     ((n : ℕ) → ant.state < n → IsSound n instruction → after.state < n) → Stays instruction cell ant (with_ant alike after)
-stays_alike instruction cell alike ant after kind hill food marks id colour laden state = record {
+stays_alike instruction cell alike ant after kind hill food six marks id colour laden state = record {
   after = after;
   holds = refl;
   same_kind = kind;
@@ -52,32 +55,43 @@ stays_alike instruction cell alike ant after kind hill food marks id colour lade
   same_id = id;
   same_colour = colour;
   foe_marks = same_marks (foe_of ant.colour) alike (with_ant alike after) refl refl ∙ marks;
+  six = λ n sound kept. HasMarksOfSix-same alike (with_ant alike after) refl refl (six n sound kept);
   same_food = ap₂ (λ lying carried. lying + one_if carried) food laden;
   state = state;
 }
 
 -- an ant that goes on in a state that its instruction names
 stays_in_state : (instruction : Instr) (cell : Cell) (ant : Ant) (state : ℕ) → ((n : ℕ) → IsSound n instruction → state < n) → Stays instruction cell ant (with_ant cell (in_state ant state))
-stays_in_state instruction cell ant state named = stays_alike instruction cell cell ant (in_state ant state) refl refl refl refl refl refl refl (λ n _. named n)
+stays_in_state instruction cell ant state named = stays_alike instruction cell cell ant (in_state ant state) refl refl refl (λ _ _ kept. kept) refl refl refl refl (λ n _. named n)
 
 -- an ant that rests
 pub rest_stays : (instruction : Instr) (cell : Cell) (ant : Ant) (left : ℕ) → Stays instruction cell ant (with_ant cell (record ant { resting = left }))
-rest_stays instruction cell ant left = stays_alike instruction cell cell ant (record ant { resting = left }) refl refl refl refl refl refl refl (λ n below _. below)
+rest_stays instruction cell ant left = stays_alike instruction cell cell ant (record ant { resting = left }) refl refl refl (λ _ _ kept. kept) refl refl refl refl (λ n below _. below)
 
 -- a Sense
 pub sense_stays : (cell : Cell) (ant : Ant) (sight : Sight) (met unmet : ℕ) (condition : Cond) (first : Bool) → Stays (Sense sight met unmet condition) cell ant (with_ant cell (in_state ant (if first then met else unmet)))
 sense_stays cell ant sight met unmet condition first =
     stays_in_state (Sense sight met unmet condition) cell ant (if first then met else unmet) (λ n sound. either_below first met unmet n sound.0 sound.1)
 
+-- a marker more leaves the markers of a cell of the six
+marked_six : (colour : Colour) (cell : Cell) (i : ℕ) → i < 6 → HasMarksOfSix cell → HasMarksOfSix (marked cell colour i)
+marked_six Red cell i known kept = record { red = IsOfSix-with cell.red i known kept.red; black = kept.black }
+marked_six Black cell i known kept = record { red = kept.red; black = IsOfSix-with cell.black i known kept.black }
+
+-- and so does a marker less
+unmarked_six : (colour : Colour) (cell : Cell) (i : ℕ) → i < 6 → HasMarksOfSix cell → HasMarksOfSix (unmarked cell colour i)
+unmarked_six Red cell i known kept = record { red = IsOfSix-without cell.red i kept.red; black = kept.black }
+unmarked_six Black cell i known kept = record { red = kept.red; black = IsOfSix-without cell.black i kept.black }
+
 -- a Mark
 pub mark_stays : (colour : Colour) (cell : Cell) (ant : Ant) (i next : ℕ) → colour ≡ ant.colour → Stays (Mark i next) cell ant (with_ant (marked cell colour i) (in_state ant next))
-mark_stays Red cell ant i next own = stays_alike (Mark i next) cell (marked cell Red i) ant (in_state ant next) refl refl refl (subst (λ own_colour. marks_of (foe_of own_colour) (marked cell Red i) ≡ marks_of (foe_of own_colour) cell) own refl) refl refl refl (λ n _ sound. sound.1)
-mark_stays Black cell ant i next own = stays_alike (Mark i next) cell (marked cell Black i) ant (in_state ant next) refl refl refl (subst (λ own_colour. marks_of (foe_of own_colour) (marked cell Black i) ≡ marks_of (foe_of own_colour) cell) own refl) refl refl refl (λ n _ sound. sound.1)
+mark_stays Red cell ant i next own = stays_alike (Mark i next) cell (marked cell Red i) ant (in_state ant next) refl refl refl (λ n sound kept. marked_six Red cell i sound.0 kept) (subst (λ own_colour. marks_of (foe_of own_colour) (marked cell Red i) ≡ marks_of (foe_of own_colour) cell) own refl) refl refl refl (λ n _ sound. sound.1)
+mark_stays Black cell ant i next own = stays_alike (Mark i next) cell (marked cell Black i) ant (in_state ant next) refl refl refl (λ n sound kept. marked_six Black cell i sound.0 kept) (subst (λ own_colour. marks_of (foe_of own_colour) (marked cell Black i) ≡ marks_of (foe_of own_colour) cell) own refl) refl refl refl (λ n _ sound. sound.1)
 
 -- an Unmark
 pub unmark_stays : (colour : Colour) (cell : Cell) (ant : Ant) (i next : ℕ) → colour ≡ ant.colour → Stays (Unmark i next) cell ant (with_ant (unmarked cell colour i) (in_state ant next))
-unmark_stays Red cell ant i next own = stays_alike (Unmark i next) cell (unmarked cell Red i) ant (in_state ant next) refl refl refl (subst (λ own_colour. marks_of (foe_of own_colour) (unmarked cell Red i) ≡ marks_of (foe_of own_colour) cell) own refl) refl refl refl (λ n _ sound. sound.1)
-unmark_stays Black cell ant i next own = stays_alike (Unmark i next) cell (unmarked cell Black i) ant (in_state ant next) refl refl refl (subst (λ own_colour. marks_of (foe_of own_colour) (unmarked cell Black i) ≡ marks_of (foe_of own_colour) cell) own refl) refl refl refl (λ n _ sound. sound.1)
+unmark_stays Red cell ant i next own = stays_alike (Unmark i next) cell (unmarked cell Red i) ant (in_state ant next) refl refl refl (λ n sound kept. unmarked_six Red cell i sound.0 kept) (subst (λ own_colour. marks_of (foe_of own_colour) (unmarked cell Red i) ≡ marks_of (foe_of own_colour) cell) own refl) refl refl refl (λ n _ sound. sound.1)
+unmark_stays Black cell ant i next own = stays_alike (Unmark i next) cell (unmarked cell Black i) ant (in_state ant next) refl refl refl (λ n sound kept. unmarked_six Black cell i sound.0 kept) (subst (λ own_colour. marks_of (foe_of own_colour) (unmarked cell Black i) ≡ marks_of (foe_of own_colour) cell) own refl) refl refl refl (λ n _ sound. sound.1)
 
 -- the particles are the same where one is picked up from some
 one_picked_up : (laden : Bool) (food : ℕ) → (laden || food == 0) ≡ false → food - 1 + 1 ≡ food + one_if laden
@@ -96,6 +110,7 @@ picked_up false cell ant met unmet free = record {
   same_id = refl;
   same_colour = refl;
   foe_marks = same_marks (foe_of ant.colour) cell (record cell { food = cell.food - 1; ant = Some (record ant { laden = true; state = met }) }) refl refl;
+  six = λ _ _ kept. record { red = kept.red; black = kept.black };
   same_food = one_picked_up ant.laden cell.food free;
   state = λ n _ sound. sound.0;
 }
@@ -115,13 +130,14 @@ drop_stays cell ant next = record {
   same_id = refl;
   same_colour = refl;
   foe_marks = same_marks (foe_of ant.colour) cell (record cell { food = cell.food + one_if ant.laden; ant = Some (record ant { laden = false; state = next }) }) refl refl;
+  six = λ _ _ kept. record { red = kept.red; black = kept.black };
   same_food = omega arith;
   state = λ n _ sound. sound;
 }
 
 -- a Turn
 pub turn_stays : (cell : Cell) (ant : Ant) (side : Side) (next : ℕ) → Stays (Turn side next) cell ant (with_ant cell (record ant { facing = turned_by ant.facing side; state = next }))
-turn_stays cell ant side next = stays_alike (Turn side next) cell cell ant (record ant { facing = turned_by ant.facing side; state = next }) refl refl refl refl refl refl refl (λ n _ sound. sound)
+turn_stays cell ant side next = stays_alike (Turn side next) cell cell ant (record ant { facing = turned_by ant.facing side; state = next }) refl refl refl (λ _ _ kept. kept) refl refl refl refl (λ n _ sound. sound)
 
 -- a Move that doesn't go
 pub move_stays : (cell : Cell) (ant : Ant) (met unmet : ℕ) → Stays (Move met unmet) cell ant (with_ant cell (in_state ant unmet))

@@ -1,31 +1,25 @@
 -- What holds where an ant stands at its place.
-use Rattle.std.proofs.Common.{◌≡◌, ℕ, ◌+◌, ◌≤◌, false, Some, refl, sym, ◌∙◌, ap, ap₂, subst, arith}
+use Rattle.std.proofs.Common.{◌≡◌, ℕ, ◌≤◌, false, Some, refl, sym, ◌∙◌, ap, ap₂, subst}
 use Rattle.std.specs.Option.{IsSomeAnd}
 use Rattle.hex_geometry.specs.declared.position.Pos.{Pos}
 use Rattle.hex_geometry.proofs.Places.{inner_inside}
 use Rattle.cell_world.specs.declared.ant.Ant.{Ant}
 use Rattle.cell_world.specs.declared.cell.Cell.{Cell}
-use Rattle.cell_world.specs.Cell.{ant_weight, cell_weight}
+use Rattle.cell_world.specs.Cell.{HasMarksOfSix}
 use Rattle.cell_world.specs.Limits.{most_weight}
 use Rattle.cell_world.specs.Valid.{Valid, CanSet, CanThink, SameBody}
 use Rattle.cell_world.specs.Inner.Replaces.{Replaces}
 use Rattle.cell_world.specs.World.{World, with_cells, put}
 use Rattle.cell_world.proofs.Places.{ant-clear, clear_has_neighbours}
 use Rattle.cell_world.proofs.ValidLemmas.{CanSet-replaces}
-use Rattle.cell_world.proofs.Weights.{cell_weight-light, cell_weight-parts}
+use Rattle.cell_world.proofs.Weights.{food-light}
+use Rattle.brain_read.specs.Soundness.{IsSound}
 use Rattle.brain_read.specs.declared.instr.Instr.{Instr}
 use Rattle.ant_turn.specs.Sheet.{Sheet}
 use Rattle.ant_turn.specs.Inner.Stands.{StandsAt}
 use Rattle.ant_turn.specs.Turn.{is_blocked, left_by_ant, with_ant, arrived, stepped}
 use Rattle.ant_turn.proofs.OwnCells.{Stays, stays_replaces}
-use Rattle.ant_turn.proofs.KeptByTurns.{Replaces-left_by_ant, CanSet-arrived}
-
--- on a cell of a world lies no more food than a world weighs
-pub food_is_light : (w : World) (p : Pos) → Valid w → (w.cells p).food ≤ most_weight
-food_is_light w p valid =
-    let light : cell_weight (w.cells p) ≤ most_weight = cell_weight-light w p valid in
-    let parts : cell_weight (w.cells p) ≡ (w.cells p).food + ant_weight (w.cells p).ant = cell_weight-parts (w.cells p) in
-    omega arith
+use Rattle.ant_turn.proofs.KeptByTurns.{HasMarksOfSix-left, Replaces-left_by_ant, CanSet-arrived}
 
 -- an ant that a cell of a world holds stands there
 pub StandsAt-there : (w : World) (p : Pos) (cell : Cell) (ant : Ant) → Valid w → cell ≡ w.cells p → cell.ant ≡ Some ant → StandsAt w p cell ant
@@ -38,7 +32,7 @@ StandsAt-there w p cell ant valid here holds =
       clear = ap (λ (c : Cell). c.rocky) here ∙ clear;
       inner = valid.rim p clear;
       near = clear_has_neighbours w p valid clear;
-      light = subst (λ (c : Cell). c.food ≤ most_weight) (sym here) (food_is_light w p valid);
+      light = subst (λ (c : Cell). c.food ≤ most_weight) (sym here) (food-light w p valid);
     }
 
 -- likewise on the world's own cell
@@ -54,6 +48,10 @@ module _ {w : World} {p : Pos} {cell : Cell} {ant : Ant} (stands : StandsAt w p 
   pub own_replaces : {instruction : Instr} {kept : Cell} (new : Cell) → new ≡ kept → Stays instruction cell ant kept → Replaces (w.cells p) new
   own_replaces new is stays =
       subst (λ c. Replaces c new) stands.here (subst (Replaces cell) (sym is) (stays_replaces stays stands.holds))
+
+  -- and its markers are of the six
+  pub own_six : {instruction : Instr} {kept : Cell} (new : Cell) (n : ℕ) → new ≡ kept → IsSound n instruction → Stays instruction cell ant kept → HasMarksOfSix new
+  own_six new n is sound stays = subst HasMarksOfSix (sym is) (stays.six n sound (subst HasMarksOfSix (sym stands.here) (stands.valid.six p)))
 
   -- the world's cell is clear
   pub stands_clear : (w.cells p).rocky ≡ false
@@ -75,7 +73,7 @@ module _ {w : World} {p : Pos} {cell : Cell} {ant : Ant} (stands : StandsAt w p 
   pub CanSet-left : (room : ℕ) → 1 ≤ room → CanSet w room p (left_by_ant cell)
   CanSet-left room left =
       subst (λ c. CanSet w room p (left_by_ant c)) (sym stands.here)
-      (CanSet-replaces w room p (left_by_ant (w.cells p)) stands.valid left stands_clear (Replaces-left_by_ant (w.cells p)))
+      (CanSet-replaces w room p (left_by_ant (w.cells p)) stands.valid left stands_clear (Replaces-left_by_ant (w.cells p)) (HasMarksOfSix-left (w.cells p) (stands.valid.six p)))
 
   -- and then the free cell ahead to what it finds
   pub CanSet-next : (sheet : Sheet) (q : Pos) (there : Cell) (next room : ℕ) → there ≡ w.cells q → is_blocked there ≡ false → 1 ≤ room → CanSet (put w p (left_by_ant cell)) room q (with_ant there (arrived sheet ant next))

@@ -1,6 +1,6 @@
 // One turn of an ant.
 ghost use Rattle.std.specs.Prelude.{◌≡◌, ◌+◌, ◌<◌, ◌≤◌, ◌^◌, ℕ, [], false};
-ghost use Rattle.cell_world.specs.Cell.{one_if};
+ghost use Rattle.cell_world.specs.Cell.{HasMarksOfSix, one_if};
 ghost use Rattle.cell_world.specs.Valid.{Valid, CanThink};
 ghost use Rattle.cell_world.specs.Inner.Replaces.{Replaces};
 ghost use Rattle.cell_world.specs.World.{put, with_cells};
@@ -52,6 +52,7 @@ fn stay<G: Ground>(ground: &mut G, p: Pos, cell: Cell) -> Deed
     requires valid { Valid (G.world ground.old) }
     requires clear { ((G.world ground.old).cells p).rocky ≡ false }
     requires replaces { Replaces ((G.world ground.old).cells p) cell }
+    requires six { HasMarksOfSix cell }
     requires room { 1 ≤ G.room ground.old }
     ensures world { G.world ground.new ≡ put (G.world ground.old) p cell }
     ensures drew { result.drew ≡ false }

@@ -9,11 +9,11 @@ use Rattle.cell_world.specs.declared.ant.Colour.TheVariants.{Red, Black}
 use Rattle.cell_world.specs.Cell.{holds_id, is_ant, is_ant_of, one_if}
 use Rattle.cell_world.specs.Colour.{same_colour}
 use Rattle.cell_world.specs.CountLaws.{placed_below}
-use Rattle.cell_world.specs.Grid.{index_of}
+use Rattle.hex_geometry.proofs.RowLemmas.{index_of-pos_at}
+use Rattle.hex_geometry.specs.RowOrder.{index_of, pos_at}
 use Rattle.cell_world.specs.Score.{alive_in, alive_of}
 use Rattle.cell_world.specs.Valid.{Valid}
-use Rattle.cell_world.specs.World.{World, area, first_of, or_here, place_in, pos_at, sum_over, total}
-use Rattle.cell_world.proofs.GridLemmas.{index_of-pos_at}
+use Rattle.cell_world.specs.World.{World, area, first_of, or_here, place_in, sum_over, total}
 use Rattle.cell_world.proofs.Places.{first_of-found}
 use Rattle.cell_world.proofs.Totals.{sum_over-both, sum_over-same}
 

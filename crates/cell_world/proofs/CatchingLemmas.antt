@@ -17,15 +17,16 @@ use Rattle.cell_world.specs.declared.tile.Tile.{Tile}
 use Rattle.cell_world.specs.declared.world.World.TheInside.{Inside}
 use Rattle.cell_world.specs.Inner.Catching.{Catching, Followed, IsCaught, Names, SameTile, body_of}
 use Rattle.cell_world.specs.Cell.{holds_id, is_ant, rock}
-use Rattle.cell_world.specs.Grid.{Grid, IsWorld, cell_in, index_of, world_of}
+use Rattle.cell_world.specs.Grid.{Grid, IsWorld, cell_in, world_of}
+use Rattle.hex_geometry.proofs.RowLemmas.{index_of-inside, index_of-pos_at, pos_at-inside}
+use Rattle.hex_geometry.specs.RowOrder.{index_of, pos_at}
 use Rattle.cell_world.specs.Inner.Index.{IsIndex}
 use Rattle.cell_world.specs.Inner.Inside.{IsWellStored, grid_of}
 use Rattle.cell_world.specs.Inner.Bodies.{IsMadeBody}
 use Rattle.cell_world.specs.Inner.Stored.{ant_from, ant_named, cell_from, grid_from, no_body, nobody, occupant_id, stored_places}
-use Rattle.cell_world.specs.World.{place_in, pos_at}
-use Rattle.cell_world.proofs.GridLemmas.{index_of-inside, index_of-pos_at}
+use Rattle.cell_world.specs.World.{place_in}
 use Rattle.cell_world.proofs.Patches.{some_one}
-use Rattle.cell_world.proofs.Places.{place_in-found, place_in-holds, place_in-inside, pos_at-inside}
+use Rattle.cell_world.proofs.Places.{place_in-found, place_in-holds, place_in-inside}
 use Rattle.cell_world.proofs.StoredLemmas.{ant-read, cell_in-tile_at, tile-made}
 
 -- one step: the tile of a number becomes the other world's, and so do the bodies of the ants that were and are on it
@@ -225,7 +226,7 @@ module _ (width height : ℕ) (was others : List Tile) (old other_bodies : List 
     done = λ i within none.
         let p : Pos = pos_at width i in
         let back : index_of width p ≡ i = index_of-pos_at width i in
-        let inside : IsInside width height p = pos_at-inside (world_of (grid_from width height was old)) i (subst (λ n. i < n) full within) in
+        let inside : IsInside width height p = pos_at-inside width height i (subst (λ n. i < n) full within) in
         subst (IsCaught was was others old other_bodies) back (caught_already p inside (same p (λ held. none p held back)));
   }
 
@@ -253,10 +254,10 @@ module _ (width height : ℕ) (was others : List Tile) (old other_bodies : List 
         let tile : Tile = get_or others i some_tile in
         let with : Option Ant → Cell = λ o. record { rocky = tile.rocky; hill = tile.hill; food = tile.food; red = tile.red; black = tile.black; ant = o } in
         let p : Pos = pos_at width i in
-        let inside : IsInside width height p = pos_at-inside (world_of (grid_from width height was old)) i (subst (λ n. i < n) full within) in
+        let inside : IsInside width height p = pos_at-inside width height i (subst (λ n. i < n) full within) in
         let back : i ≡ index_of width p = sym (index_of-pos_at width i) in
-        let made : IsMadeBody (length other_bodies) (occupant_id tile.ant) = tile-made width height others other_bodies p tile other_world inside
-        (ap (λ k. get_or others k some_tile) back ∙ get_or_default others (index_of width p) some_tile tile (subst (λ n. index_of width p < n) (sym other_full) (index_of-inside width height p.x p.y inside.column inside.row))) in
+        let made : IsMadeBody (length other_bodies) (occupant_id tile.ant) = tile-made width height others other_bodies p (index_of width p) tile other_world inside refl
+        (ap (λ k. get_or others k some_tile) back ∙ get_or_default others (index_of width p) some_tile tile (subst (λ n. index_of width p < n) (sym other_full) (index_of-inside width height p inside))) in
         ap with (ant_equal i within (occupant_id tile.ant) refl made)
 
     cells_equal : map (cell_from bodies) tiles ≡ map (cell_from other_bodies) others
@@ -283,7 +284,7 @@ module _ (width height : ℕ) (was others : List Tile) (old other_bodies : List 
       still_made = subst (λ n. t < n) (sym catching.all_ids) made
 
       early : (p : Pos) → IsInside width height p → index_of width p < length was
-      early p inside = subst (λ n. index_of width p < n) (sym full) (index_of-inside width height p.x p.y inside.column inside.row)
+      early p inside = subst (λ n. index_of width p < n) (sym full) (index_of-inside width height p inside)
 
       stayed : body_of bodies t ≡ body_of old t → (mine theirs : Option Pos) → place_in (world_of (grid_from width height was old)) t ≡ mine → there t ≡ theirs → (body_of bodies t).place ≡ there t
       stayed same (Some p) theirs is is_there =
@@ -309,21 +310,20 @@ module _ (width height : ℕ) (was others : List Tile) (old other_bodies : List 
           ∙ place_equal t (subst (λ n. t < n) (sym same_ids) made);
     }
 
--- one step of the loop
-pub Catching-go : (width : ℕ) (was tiles others : List Tile) (old bodies middle new other_bodies : List Body) (places : List Pos) (i : ℕ) (d : Pos) (tile : Tile) (before_id : Option ℕ) (here : Tile) →
+-- one step of the loop, where the position was found to have this number
+pub Catching-go : (width : ℕ) (was tiles others : List Tile) (old bodies middle new other_bodies : List Body) (places : List Pos) (i k : ℕ) (d : Pos) (tile : Tile) (before_id : Option ℕ) (here : Tile) →
     i < length places → index_of width (get_or places i d) < length was → length others ≡ length was → Catching width was tiles others old bodies other_bodies (drop i places) →
-    tile ≡ get_or others (index_of width (get_or places i d)) tile →
-    here ≡ get_or tiles (index_of width (get_or places i d)) here → before_id ≡ occupant_id here.ant → Followed bodies middle other_bodies before_id → Followed middle new other_bodies (occupant_id tile.ant) →
-    Catching width was (set tiles (index_of width (get_or places i d)) tile) others old new other_bodies (drop (i + 1) places)
-Catching-go width was tiles others old bodies middle new other_bodies places i d tile before_id here below early long catching is_tile is_here is_before first second =
+    k ≡ index_of width (get_or places i d) → tile ≡ get_or others k tile → here ≡ get_or tiles k here → before_id ≡ occupant_id here.ant → Followed bodies middle other_bodies before_id → Followed middle new other_bodies (occupant_id tile.ant) →
+    Catching width was (set tiles k tile) others old new other_bodies (drop (i + 1) places)
+Catching-go width was tiles others old bodies middle new other_bodies places i k d tile before_id here below early long catching at is_tile is_here is_before first second =
     let p : Pos = get_or places i d in
-    let k : ℕ = index_of width p in
     let now : Catching width was tiles others old bodies other_bodies (p ∷ drop (i + 1) places) = subst (Catching width was tiles others old bodies other_bodies) (drop_more places i d below) catching in
-    let in_tiles : k < length tiles = subst (λ n. k < n) (sym now.all_tiles) early in
-    let in_others : k < length others = subst (λ n. k < n) (sym long) early in
-    Catching-step width was tiles others old bodies middle new other_bodies p (drop (i + 1) places) before_id early now
-    (λ t. is_before ∙ ap (λ (o : Tile). occupant_id o.ant) (is_here ∙ get_or_default tiles k here t in_tiles))
-    tile (λ t. is_tile ∙ get_or_default others k tile t in_others) first second
+    let in_tiles : k < length tiles = subst (λ n. n < length tiles) (sym at) (subst (λ n. index_of width p < n) (sym now.all_tiles) early) in
+    let in_others : k < length others = subst (λ n. n < length others) (sym at) (subst (λ n. index_of width p < n) (sym long) early) in
+    subst (λ n. Catching width was (set tiles n tile) others old new other_bodies (drop (i + 1) places)) (sym at)
+    (Catching-step width was tiles others old bodies middle new other_bodies p (drop (i + 1) places) before_id early now
+    (λ t. is_before ∙ ap (λ (o : Tile). occupant_id o.ant) (is_here ∙ get_or_default tiles k here t in_tiles ∙ ap (λ n. get_or tiles n t) at))
+    tile (λ t. is_tile ∙ get_or_default others k tile t in_others ∙ ap (λ n. get_or others n t) at) first second)
 
 -- what two worlds keep, of which the one is brought up to the other
 pub record Pair (fields others : Inside) : Type 0 where
@@ -359,7 +359,7 @@ module _ (fields others : Inside) (pair : Pair fields others) where
   pair-early p inside =
       subst (λ n. index_of fields.width p < n)
       (sym (full fields.width fields.height fields.tiles.items others.tiles.items fields.bodies.items others.bodies.items pair.world pair.index pair.other_world pair.other_index pair.same_ids))
-      (index_of-inside fields.width fields.height p.x p.y inside.column inside.row)
+      (index_of-inside fields.width fields.height p inside)
 
   pub pair-start : (places : List Pos) (now other : Grid) → grid_of fields ≡ now → grid_of others ≡ other → ((p : Pos) → ¬ Contains places p → cell_in now p ≡ cell_in other p) →
       Catching fields.width fields.tiles.items fields.tiles.items others.tiles.items fields.bodies.items fields.bodies.items others.bodies.items places

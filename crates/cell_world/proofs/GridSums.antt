@@ -12,14 +12,15 @@ use Rattle.cell_world.specs.Grid.{Grid, IsWorld, cell_in, world_of}
 use Rattle.cell_world.specs.Score.{hill_food_in, hill_food_of}
 use Rattle.cell_world.specs.Limits.{most_weight}
 use Rattle.cell_world.specs.Inner.Stored.{cell_from, tile_food}
-use Rattle.cell_world.specs.World.{sum_over, pos_at, total, weight}
-use Rattle.cell_world.proofs.GridLemmas.{cell_in-column, index_of-pos_at}
-use Rattle.cell_world.proofs.Places.{pos_at-inside}
+use Rattle.cell_world.specs.World.{sum_over, total, weight}
+use Rattle.hex_geometry.proofs.RowLemmas.{index_of-pos_at, pos_at-inside}
+use Rattle.hex_geometry.specs.RowOrder.{pos_at}
+use Rattle.cell_world.proofs.GridLemmas.{cell_in-column}
 
 -- the cell at number i in row order is item i
 pub cell_in-pos_at : (g : Grid) (i : ℕ) → i < g.width * g.height → cell_in g (pos_at g.width i) ≡ get_or g.cells i rock
 cell_in-pos_at g i early =
-    cell_in-column g (pos_at g.width i) (pos_at-inside (world_of g) i early).column
+    cell_in-column g (pos_at g.width i) (pos_at-inside g.width g.height i early).column
     ∙ ap (λ k. get_or g.cells k rock) (index_of-pos_at g.width i)
 
 -- a sum over the first positions is that over the first items

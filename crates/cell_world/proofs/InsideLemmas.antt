@@ -13,7 +13,8 @@ use Rattle.cell_world.specs.declared.occupant.Occupant.{Occupant}
 use Rattle.cell_world.specs.declared.tile.Tile.{Tile}
 use Rattle.cell_world.specs.declared.world.World.TheInside.{Inside}
 use Rattle.cell_world.specs.Cell.{holds_id, rock}
-use Rattle.cell_world.specs.Grid.{Grid, IsWorld, cell_in, index_of, world_of}
+use Rattle.cell_world.specs.Grid.{Grid, IsWorld, cell_in, world_of}
+use Rattle.hex_geometry.specs.RowOrder.{index_of}
 use Rattle.cell_world.specs.Inner.Index.{IsIndex}
 use Rattle.cell_world.specs.Inner.Inside.{IsWellStored, grid_of}
 use Rattle.cell_world.specs.Inner.Bodies.{IsKnown, Moved, came, gone}
@@ -41,12 +42,12 @@ refilled : {X : Type 0} (n : ℕ) (items new : List X) → n ≡ length items �
 refilled n items new long same =
     subst (λ k. take k (new ++ drop (length new) items) ≡ new) (same ∙ sym long) (take-append_seam new (drop (length new) items))
 
--- the fields after a change of the tile at p, where the bodies became these
-abbrev pub fields_set : Inside → Pos → Tile → List Body → Inside
-fields_set fields p tile new = record {
+-- the fields after a change of the tile of this number, where the bodies became these
+abbrev pub fields_set : Inside → ℕ → Tile → List Body → Inside
+fields_set fields i tile new = record {
   width = fields.width;
   height = fields.height;
-  tiles = with_item fields.tiles (index_of fields.width p) tile;
+  tiles = with_item fields.tiles i tile;
   bodies = with_items fields.bodies new;
 }
 
@@ -56,18 +57,18 @@ pub record FieldsChanged (fields after : Inside) (p : Pos) (cell : Cell) : Type 
   pub kept : IsWellStored after
 
 -- the fields after a change that may be made, and after which the bodies were moved, are a world's
-pub fields_set-changed : (fields : Inside) (p : Pos) (old : Tile) (cell : Cell) (occupant : Occupant) (before : Option ℕ) (room : ℕ) (known new : List Body) → IsWellStored fields → CanSet (world_of (grid_of fields)) room p cell → old ≡ get_or fields.tiles.items (index_of fields.width p) old → occupant ≡ occupant_of cell.ant → before ≡ occupant_id old.ant → known ≡ fields.bodies.items → Moved known new p before cell.ant →
-    FieldsChanged fields (fields_set fields p (merged_tile old cell occupant) new) p cell
-fields_set-changed fields p old cell occupant before room known new kept can item named was is moved =
+fields_set-changed_at : (fields : Inside) (p : Pos) (old : Tile) (cell : Cell) (occupant : Occupant) (before : Option ℕ) (room : ℕ) (known new : List Body) → IsWellStored fields → CanSet (world_of (grid_of fields)) room p cell → old ≡ get_or fields.tiles.items (index_of fields.width p) old → occupant ≡ occupant_of cell.ant → before ≡ occupant_id old.ant → known ≡ fields.bodies.items → Moved known new p before cell.ant →
+    FieldsChanged fields (fields_set fields (index_of fields.width p) (merged_tile old cell occupant) new) p cell
+fields_set-changed_at fields p old cell occupant before room known new kept can item named was is moved =
     let width : ℕ = fields.width in
     let height : ℕ = fields.height in
     let tiles : List Tile = fields.tiles.items in
     let bodies : List Body = fields.bodies.items in
     let tile : Tile = merged_tile old cell occupant in
     let after : List Tile = set tiles (index_of width p) tile in
-    let there : cell_in (grid_of fields) p ≡ cell_from bodies old = cell_in-tile_is width height tiles bodies p old kept.world can.inside item in
+    let there : cell_in (grid_of fields) p ≡ cell_from bodies old = cell_in-tile_is width height tiles bodies p (index_of width p) old kept.world can.inside refl item in
     let long : length new ≡ length bodies = moved.all_ids ∙ ap length is in
-    let whole : (fields_set fields p tile new).bodies.items ≡ new = refilled fields.bodies.len bodies new fields.bodies.ok.0 long in
+    let whole : (fields_set fields (index_of width p) tile new).bodies.items ≡ new = refilled fields.bodies.len bodies new fields.bodies.ok.0 long in
     let moved_there : Moved bodies new p (occupant_id old.ant) cell.ant = subst (λ o. Moved bodies new p o cell.ant) was (subst (λ k. Moved k new p before cell.ant) is moved) in
     let few = kept.world.valid.few in
     let known_here : IsKnown nobody cell.ant = IsKnown-from nobody cell.ant (λ ant there. let early : ant.id < length bodies = can.ant_known ant there in omega arith) in
@@ -82,6 +83,13 @@ fields_set-changed fields p old cell occupant before room known new kept can ite
         index = subst (λ b. IsIndex (grid_from width height after b) (stored_places b)) (sym whole) changed.index;
       };
     }
+
+-- also where the tile was read and changed at what is the number of its position
+pub fields_set-changed : (fields : Inside) (p : Pos) (i : ℕ) (old : Tile) (cell : Cell) (occupant : Occupant) (before : Option ℕ) (room : ℕ) (known new : List Body) → IsWellStored fields → CanSet (world_of (grid_of fields)) room p cell → i ≡ index_of fields.width p → old ≡ get_or fields.tiles.items i old → occupant ≡ occupant_of cell.ant → before ≡ occupant_id old.ant → known ≡ fields.bodies.items → Moved known new p before cell.ant →
+    FieldsChanged fields (fields_set fields i (merged_tile old cell occupant) new) p cell
+fields_set-changed fields p i old cell occupant before room known new kept can at item named was is moved =
+    subst (λ k. FieldsChanged fields (fields_set fields k (merged_tile old cell occupant) new) p cell) (sym at)
+    (fields_set-changed_at fields p old cell occupant before room known new kept can (item ∙ ap (λ k. get_or fields.tiles.items k old) at) named was is moved)
 
 -- a body has its ant's place
 pub body-place : (fields : Inside) (t : ℕ) (body : Body) → IsWellStored fields → t < length fields.bodies.items → body ≡ get_or fields.bodies.items t body → body.place ≡ place_in (world_of (grid_of fields)) t

@@ -17,7 +17,8 @@ use Rattle.cell_world.specs.Inner.Index.{IsIndex}
 use Rattle.cell_world.specs.Grid.{IsWorld, cell_in, world_of}
 use Rattle.cell_world.specs.Score.{alive_in, alive_of}
 use Rattle.cell_world.specs.Inner.Stored.{grid_from, is_living, no_body, stored_places}
-use Rattle.cell_world.specs.World.{place_in, pos_at, sum_over}
+use Rattle.cell_world.specs.World.{place_in, sum_over}
+use Rattle.hex_geometry.specs.RowOrder.{pos_at}
 use Rattle.cell_world.proofs.Bodies.{ant_named-body}
 use Rattle.cell_world.proofs.GridSums.{one_if-cond}
 use Rattle.cell_world.proofs.AliveArePlaced.{held_once, is_below, is_below-next, is_below-zero, sum_over-zero}

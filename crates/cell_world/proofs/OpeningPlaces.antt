@@ -9,14 +9,14 @@ use Rattle.cell_world.specs.declared.kind.Kind.{Kind}
 use Rattle.cell_world.specs.declared.kind.Kind.TheVariants.{BlackHill, Clear, Food, RedHill, Rock}
 use Rattle.cell_world.specs.Cell.{holds_id, one_if}
 use Rattle.cell_world.specs.Inner.Index.{IsIndex}
-use Rattle.cell_world.specs.Grid.{cell_in, index_of, world_of}
+use Rattle.cell_world.specs.Grid.{cell_in, world_of}
+use Rattle.hex_geometry.proofs.RowLemmas.{index_of-pos_at}
+use Rattle.hex_geometry.specs.RowOrder.{index_of, pos_at}
 use Rattle.cell_world.specs.Opening.{IsPlan, hill_count, is_hill, opening, opening_cell}
 use Rattle.cell_world.specs.Inner.OpeningPlaces.{hill_places, opening_places}
-use Rattle.cell_world.specs.World.{pos_at}
 use Rattle.cell_world.proofs.OpeningValid.{IsWorld-opening, cell_in-opening}
 use Rattle.cell_world.proofs.Openings.{opening_cell-holds_id}
 use Rattle.cell_world.proofs.Places.{place_in-found}
-use Rattle.cell_world.proofs.GridLemmas.{index_of-pos_at}
 
 -- a hill gives one place
 pub length-hill_places : (kind : Kind) (p : Pos) → length (hill_places kind p) ≡ one_if (is_hill kind)

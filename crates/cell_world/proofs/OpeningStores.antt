@@ -17,7 +17,7 @@ use Rattle.cell_world.specs.Opening.{floor, hill_count, is_hill, opening, openin
 use Rattle.cell_world.specs.Inner.OpeningPlaces.{hill_places, opening_places}
 use Rattle.cell_world.specs.Inner.Bodies.{IsKnown}
 use Rattle.cell_world.specs.Inner.Stored.{ant_from, ant_named, cell_from, grid_from, hill_of, stored_id, nobody, new_bodies, new_body, no_body, opening_bodies, opening_tiles, stored_places}
-use Rattle.cell_world.specs.World.{pos_at}
+use Rattle.hex_geometry.specs.RowOrder.{pos_at}
 use Rattle.cell_world.proofs.Bodies.{occupant_id-of}
 use Rattle.cell_world.proofs.OpeningPlaces.{length-opening_places}
 

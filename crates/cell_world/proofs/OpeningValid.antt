@@ -10,13 +10,14 @@ use Rattle.cell_world.specs.declared.ant.Ant.{Ant}
 use Rattle.cell_world.specs.declared.cell.Cell.{Cell}
 use Rattle.cell_world.specs.declared.kind.Kind.{Kind}
 use Rattle.cell_world.specs.declared.kind.Kind.TheVariants.{Rock}
-use Rattle.cell_world.specs.Cell.{cell_weight, holds_id, rock}
-use Rattle.cell_world.specs.Grid.{IsWorld, cell_in, index_of, world_of}
+use Rattle.cell_world.specs.Cell.{HasMarksOfSix, cell_weight, holds_id, rock}
+use Rattle.cell_world.specs.Grid.{IsWorld, cell_in, world_of}
+use Rattle.hex_geometry.proofs.RowLemmas.{pos_at-index_of}
+use Rattle.hex_geometry.specs.RowOrder.{index_of, pos_at}
 use Rattle.cell_world.specs.Opening.{IsFed, IsPlan, hill_count, is_hill, is_rock, hills_before, kind_at, opening, opening_cell}
-use Rattle.cell_world.specs.World.{pos_at}
-use Rattle.cell_world.proofs.GridLemmas.{cell_in-beyond, cell_in-column, pos_at-index_of}
+use Rattle.cell_world.proofs.GridLemmas.{cell_in-beyond, cell_in-column}
 use Rattle.cell_world.proofs.OpeningWeight.{weight-light}
-use Rattle.cell_world.proofs.Openings.{ant-opening_cell, cell_weight-opening_cell, get_or-opening_cells, hill_count-later, hill_count-take, holds_id-opening_cell, length-opening_cells, opening_cell-rocky, rocky-opening_cell}
+use Rattle.cell_world.proofs.Openings.{HasMarksOfSix-opening_cell, HasMarksOfSix-rock, ant-opening_cell, cell_weight-opening_cell, get_or-opening_cells, hill_count-later, hill_count-take, holds_id-opening_cell, length-opening_cells, opening_cell-rocky, rocky-opening_cell}
 use Rattle.cell_world.proofs.Places.{holds_id-rock}
 use Rattle.cell_world.proofs.Weights.{cell_weight-rock}
 
@@ -105,6 +106,10 @@ module _ (width height : ℕ) (kinds : List Kind) where
       | inr beyond ↦ subst IsFed (sym (get_or_past kinds (index_of width p) Rock beyond)) tt
     ]
 
+    -- no marker is set
+    opening_six : (p : Pos) → HasMarksOfSix (cell_in (opening width height kinds) p)
+    opening_six = opening-all (λ p c. HasMarksOfSix c) (λ p. HasMarksOfSix-rock) (λ p column. HasMarksOfSix-opening_cell (hills_before width kinds p) (kind_at width kinds p))
+
     -- no cell weighs more than nine
     opening_light : (p : Pos) → cell_weight (cell_in (opening width height kinds) p) ≤ 9
     opening_light = opening-all (λ p c. cell_weight c ≤ 9) (λ p. let none = cell_weight-rock in omega arith) λ p column.
@@ -125,6 +130,7 @@ module _ (width height : ℕ) (kinds : List Kind) where
         bare = opening_bare;
         known = opening_known;
         once = opening_once;
+        six = opening_six;
         light = weight-light (world_of (opening width height kinds)) plan.wide plan.narrow plan.tall plan.low opening_rim opening_bare opening_light;
       };
     }

@@ -5,9 +5,9 @@ use Rattle.std.proofs.lemmas.Nat.{mul-le}
 use Rattle.hex_geometry.specs.declared.position.Pos.{Pos}
 use Rattle.hex_geometry.specs.Position.{IsInner}
 use Rattle.cell_world.specs.Cell.{rock, cell_weight}
-use Rattle.cell_world.specs.Limits.{most_weight}
+use Rattle.cell_world.specs.Limits.{least_size, most_size, most_weight}
 use Rattle.cell_world.specs.World.{World, sum_over, weight}
-use Rattle.cell_world.proofs.GridLemmas.{pos_at-index_of}
+use Rattle.hex_geometry.proofs.RowLemmas.{pos_at-index_of}
 use Rattle.cell_world.proofs.Weights.{cell_weight-rock}
 
 -- what rises by at most m at each of n steps
@@ -62,7 +62,7 @@ bare_weight w p rim bare outer =
     ]
 
 -- a world whose rim is rocky, and of whose cells none weighs more than nine, is light enough
-pub weight-light : (w : World) → 3 ≤ w.width → w.width ≤ 512 → 3 ≤ w.height → w.height ≤ 512 →
+pub weight-light : (w : World) → least_size ≤ w.width → w.width ≤ most_size → least_size ≤ w.height → w.height ≤ most_size →
     ((p : Pos) → (w.cells p).rocky ≡ false → IsInner w.width w.height p) → ((p : Pos) → (w.cells p).rocky ≡ true → w.cells p ≡ rock) →
     ((p : Pos) → cell_weight (w.cells p) ≤ 9) → weight w ≤ most_weight
 unfolding weight

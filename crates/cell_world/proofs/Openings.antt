@@ -5,7 +5,7 @@ use Rattle.std.proofs.lemmas.List.{get_or-take, take-take}
 use Rattle.cell_world.specs.declared.ant.Ant.{Ant}
 use Rattle.cell_world.specs.declared.kind.Kind.{Kind}
 use Rattle.cell_world.specs.declared.kind.Kind.TheVariants.{Rock, Clear, RedHill, BlackHill, Food}
-use Rattle.cell_world.specs.Cell.{rock, cell_weight, holds_id, one_if}
+use Rattle.cell_world.specs.Cell.{HasMarksOfSix, rock, cell_weight, holds_id, one_if}
 use Rattle.cell_world.specs.Opening.{IsFed, floor, hill_count, is_hill, is_rock, opening_cell, opening_cells}
 
 -- there is a cell for each kind
@@ -21,6 +21,20 @@ get_or-opening_cells t (kind ∷ kinds) zero =
 get_or-opening_cells t (kind ∷ kinds) (suc i) =
     let same : t + one_if (is_hill kind) + hill_count (take i kinds) ≡ t + (one_if (is_hill kind) + hill_count (take i kinds)) = omega arith in
     get_or-opening_cells (t + one_if (is_hill kind)) kinds i ∙ ap (λ u. opening_cell u (get_or kinds i Rock)) same
+
+-- rock has no markers
+pub HasMarksOfSix-rock : HasMarksOfSix rock
+unfolding rock
+HasMarksOfSix-rock = record { red = omega arith; black = omega arith }
+
+-- no marker is set on a cell of any kind
+pub HasMarksOfSix-opening_cell : (t : ℕ) (kind : Kind) → HasMarksOfSix (opening_cell t kind)
+unfolding floor
+HasMarksOfSix-opening_cell t Rock = HasMarksOfSix-rock
+HasMarksOfSix-opening_cell t Clear = record { red = omega arith; black = omega arith }
+HasMarksOfSix-opening_cell t RedHill = record { red = omega arith; black = omega arith }
+HasMarksOfSix-opening_cell t BlackHill = record { red = omega arith; black = omega arith }
+HasMarksOfSix-opening_cell t (Food n) = record { red = omega arith; black = omega arith }
 
 -- before a hill cell there are fewer hill cells than in all
 pub hill_count-take : (kinds : List Kind) (i : ℕ) → is_hill (get_or kinds i Rock) ≡ true → hill_count (take i kinds) < hill_count kinds

@@ -2,17 +2,16 @@
 use Rattle.std.proofs.Common.{◌≡◌, ◌≢◌, inl, inr, ℕ, ◌<◌, ◌≤◌, Bool, true, false, cond, Option, Some, None, refl, sym, subst, ◌∙◌, ap, arith, suc, zero}
 use Rattle.std.proofs.Math.Path.{fun_ext}
 use Rattle.std.proofs.lemmas.Bool.{cases_Bool, cases_eq, cond-true, cond-false, false_from_ne_true, both_ways, eqb-true, eq-eqb}
-use Rattle.std.proofs.lemmas.Nat.{mod_below, div_below}
 use Rattle.hex_geometry.specs.declared.position.Pos.{Pos}
 use Rattle.hex_geometry.specs.Position.{IsInside, HasNeighbours}
 use Rattle.hex_geometry.proofs.Places.{inner_inside, inner_has_neighbours}
 use Rattle.cell_world.specs.declared.ant.Ant.{Ant}
 use Rattle.cell_world.specs.declared.cell.Cell.{Cell}
 use Rattle.cell_world.specs.Cell.{rock, holds_id, is_ant}
-use Rattle.cell_world.specs.Grid.{index_of}
-use Rattle.cell_world.specs.World.{World, first_of, or_here, pos_at, place_in, area, put, put_cell}
+use Rattle.hex_geometry.proofs.RowLemmas.{index_of-inside, pos_at-index_of, pos_at-inside}
+use Rattle.hex_geometry.specs.RowOrder.{index_of, pos_at}
+use Rattle.cell_world.specs.World.{World, first_of, or_here, place_in, area, put, put_cell}
 use Rattle.cell_world.specs.Valid.{Valid, CanSet}
-use Rattle.cell_world.proofs.GridLemmas.{index_of-inside, pos_at-index_of}
 use Rattle.cell_world.proofs.Puts.{put_cell-same, put_cell-other, cases_pos}
 
 -- a search that finds nothing anywhere
@@ -112,7 +111,7 @@ place_in-nowhere w t none = first_of-nowhere w.width (λ p. holds_id t (w.cells 
 pub place_in-only : (w : World) (t : ℕ) (p : Pos) → IsInside w.width w.height p → holds_id t (w.cells p) ≡ true → ((q : Pos) → holds_id t (w.cells q) ≡ true → q ≡ p) → place_in w t ≡ Some p
 unfolding place_in
 place_in-only w t p inside holds only =
-    first_of-only w.width (λ q. holds_id t (w.cells q)) (area w) (index_of w.width p) p (index_of-inside w.width w.height p.x p.y inside.column inside.row) (pos_at-index_of w.width p inside.column) holds only
+    first_of-only w.width (λ q. holds_id t (w.cells q)) (area w) (index_of w.width p) p (index_of-inside w.width w.height p inside) (pos_at-index_of w.width p inside.column) holds only
 
 -- the place of the ant that a cell holds is that cell's
 pub place_in-found : (w : World) (t : ℕ) (p : Pos) → Valid w → holds_id t (w.cells p) ≡ true → place_in w t ≡ Some p
@@ -123,18 +122,12 @@ pub place_in-holds : (w : World) (t : ℕ) (p : Pos) → place_in w t ≡ Some p
 unfolding place_in
 place_in-holds w t p found = (first_of-found w.width (λ q. holds_id t (w.cells q)) (area w) p found).passes
 
--- a number in row order below the area is of a position inside
-pub pos_at-inside : (w : World) (i : ℕ) → i < area w → IsInside w.width w.height (pos_at w.width i)
-pos_at-inside w i early =
-    let some : 0 < w.width = grind arith in
-    record { column = mod_below i w.width some; row = div_below i w.width w.height some (omega arith) }
-
 -- the place of an ant is inside
 pub place_in-inside : (w : World) (t : ℕ) (p : Pos) → place_in w t ≡ Some p → IsInside w.width w.height p
 unfolding place_in
 place_in-inside w t p found =
     let it : Found w.width (λ q. holds_id t (w.cells q)) (area w) p = first_of-found w.width (λ q. holds_id t (w.cells q)) (area w) p found in
-    subst (IsInside w.width w.height) it.at (pos_at-inside w it.number it.early)
+    subst (IsInside w.width w.height) it.at (pos_at-inside w.width w.height it.number it.early)
 
 -- the ant at its place
 pub place_in-ant : (w : World) (t : ℕ) (p : Pos) → place_in w t ≡ Some p → Holder t (w.cells p).ant

@@ -7,11 +7,10 @@ use Rattle.hex_geometry.specs.declared.position.Pos.{Pos}
 use Rattle.hex_geometry.specs.Position.{IsInner}
 use Rattle.cell_world.specs.declared.kind.Kind.{Kind}
 use Rattle.cell_world.specs.declared.kind.Kind.TheVariants.{Rock, Clear, RedHill, BlackHill, Food}
-use Rattle.cell_world.specs.Grid.{index_of}
-use Rattle.cell_world.specs.Limits.{most_ants}
+use Rattle.hex_geometry.proofs.RowLemmas.{index_of-inside, pos_at-index_of}
+use Rattle.hex_geometry.specs.RowOrder.{index_of, pos_at}
+use Rattle.cell_world.specs.Limits.{least_size, most_ants, most_size}
 use Rattle.cell_world.specs.Opening.{IsFed, IsPlan, hill_count, is_rock}
-use Rattle.cell_world.specs.World.{pos_at}
-use Rattle.cell_world.proofs.GridLemmas.{index_of-inside, pos_at-index_of}
 
 -- whether food is in range
 abbrev pub is_fed : Kind → Bool
@@ -38,7 +37,7 @@ has_rim width height kinds (suc n) = (is_rock (get_or kinds n Rock) || is_inner 
 -- whether it is the plan of a world
 abbrev pub is_plan : ℕ → ℕ → List Kind → Bool
 is_plan width height kinds =
-    ((nat_le 3 width && nat_le width 512) && (nat_le 3 height && nat_le height 512))
+    ((nat_le least_size width && nat_le width most_size) && (nat_le least_size height && nat_le height most_size))
     && ((nat_eq (length kinds) (width * height) && has_rim width height kinds (width * height)) && (are_fed kinds && nat_le (hill_count kinds) most_ants))
 
 -- food that passes is in range
@@ -86,19 +85,19 @@ pub IsPlan-test : (width height : ℕ) (kinds : List Kind) → is_plan width hei
 IsPlan-test width height kinds passes =
     let all = and_parts _ _ passes in
     let sizes = and_parts _ _ all.0 in
-    let columns = and_parts (nat_le 3 width) (nat_le width 512) sizes.0 in
-    let rows = and_parts (nat_le 3 height) (nat_le height 512) sizes.1 in
+    let columns = and_parts (nat_le least_size width) (nat_le width most_size) sizes.0 in
+    let rows = and_parts (nat_le least_size height) (nat_le height most_size) sizes.1 in
     let content = and_parts _ _ all.1 in
     let cells = and_parts (nat_eq (length kinds) (width * height)) (has_rim width height kinds (width * height)) content.0 in
     let stock = and_parts (are_fed kinds) (nat_le (hill_count kinds) most_ants) content.1 in
     record {
-      wide = leb-true 3 width columns.0;
-      narrow = leb-true width 512 columns.1;
-      tall = leb-true 3 height rows.0;
-      low = leb-true height 512 rows.1;
+      wide = leb-true least_size width columns.0;
+      narrow = leb-true width most_size columns.1;
+      tall = leb-true least_size height rows.0;
+      low = leb-true height most_size rows.1;
       full = eqb-true (length kinds) (width * height) cells.0;
       rim = λ p inside clear. subst (IsInner width height) (pos_at-index_of width p inside.column)
-          (rim-test width height kinds (width * height) (index_of width p) cells.1 (index_of-inside width height p.x p.y inside.column inside.row) clear);
+          (rim-test width height kinds (width * height) (index_of width p) cells.1 (index_of-inside width height p inside) clear);
       fed = All-fed kinds stock.0;
       few = leb-true (hill_count kinds) most_ants stock.1;
     }

@@ -9,11 +9,13 @@ use Rattle.hex_geometry.specs.Position.{IsInside}
 use Rattle.hex_geometry.proofs.Places.{pos_same}
 use Rattle.cell_world.specs.declared.cell.Cell.{Cell}
 use Rattle.cell_world.specs.Cell.{rock, holds_id}
-use Rattle.cell_world.specs.Grid.{Grid, cell_in, index_of, world_of, IsWorld}
+use Rattle.cell_world.specs.Grid.{Grid, cell_in, world_of, IsWorld}
+use Rattle.hex_geometry.proofs.RowLemmas.{index_of-early}
+use Rattle.hex_geometry.specs.RowOrder.{index_of}
 use Rattle.cell_world.specs.Inner.Index.{IsIndex}
 use Rattle.cell_world.specs.World.{put, put_cell, place_in, with_cells}
 use Rattle.cell_world.specs.Valid.{Valid, CanSet}
-use Rattle.cell_world.proofs.GridLemmas.{cell_in-column, cell_in-beyond, index_of-early}
+use Rattle.cell_world.proofs.GridLemmas.{cell_in-column, cell_in-beyond}
 use Rattle.cell_world.proofs.Places.{place_in-put}
 use Rattle.cell_world.proofs.Puts.{put_cell-same, put_cell-other, cases_pos}
 use Rattle.cell_world.proofs.ValidLemmas.{Valid-put}
@@ -26,7 +28,7 @@ grid_set g p cell = record g { cells = set g.cells (index_of g.width p) cell }
 cell_in-set_same : (g : Grid) (p : Pos) (cell : Cell) → length g.cells ≡ g.width * g.height → IsInside g.width g.height p → cell_in (grid_set g p cell) p ≡ cell
 cell_in-set_same g p cell full inside =
     cell_in-column (grid_set g p cell) p inside.column
-    ∙ get_or-set_same g.cells (index_of g.width p) cell rock (index_of-early g p full inside)
+    ∙ get_or-set_same g.cells (index_of g.width p) cell rock (index_of-early g.cells g.width g.height p full inside)
 
 -- two positions in the columns have two numbers
 index_of-apart : (width : ℕ) (p q : Pos) → p.x < width → q.x < width → p ≢ q → index_of width q ≢ index_of width p

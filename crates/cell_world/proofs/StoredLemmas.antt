@@ -9,15 +9,16 @@ use Rattle.cell_world.specs.declared.body.Body.{Body}
 use Rattle.cell_world.specs.declared.cell.Cell.{Cell}
 use Rattle.cell_world.specs.declared.tile.Tile.{Tile}
 use Rattle.cell_world.specs.Cell.{rock, holds_id, is_ant}
-use Rattle.cell_world.specs.Grid.{Grid, IsWorld, cell_in, index_of, world_of}
+use Rattle.cell_world.specs.Grid.{Grid, IsWorld, cell_in, world_of}
+use Rattle.hex_geometry.proofs.RowLemmas.{index_of-early, index_of-pos_at}
+use Rattle.hex_geometry.specs.RowOrder.{index_of, pos_at}
 use Rattle.cell_world.specs.Inner.Index.{IsIndex}
 use Rattle.cell_world.specs.Inner.Bodies.{IsMadeBody, Moved}
 use Rattle.cell_world.specs.Inner.Stored.{ant_named, cell_from, grid_from, occupant_id, stored_places}
 use Rattle.cell_world.specs.Valid.{CanSet}
-use Rattle.cell_world.specs.World.{pos_at}
 use Rattle.cell_world.proofs.Bodies.{IsMadeBody-named, ant_named-stays, is_ant-named, is_id, is_id-true, places_of-moved}
 use Rattle.cell_world.proofs.GridSums.{cell_in-pos_at}
-use Rattle.cell_world.proofs.GridLemmas.{cell_in-inside, index_of-early, index_of-pos_at}
+use Rattle.cell_world.proofs.GridLemmas.{cell_in-inside}
 use Rattle.cell_world.proofs.Places.{holds_id-inside}
 use Rattle.cell_world.proofs.Sets.{IsIndex-set, IsWorld-set, grid_set}
 
@@ -30,17 +31,17 @@ module _ (width height : ℕ) (tiles : List Tile) (bodies : List Body) where
   -- the cell of a tile, by its position
   pub cell_in-tile_at : (p : Pos) (d : Tile) → IsWorld (grid_from width height tiles bodies) → IsInside width height p → cell_in (grid_from width height tiles bodies) p ≡ cell_from bodies (get_or tiles (index_of width p) d)
   cell_in-tile_at p d world inside =
-      let early : index_of width p < length tiles = subst (λ n. index_of width p < n) (length-map tiles (cell_from bodies)) (index_of-early (grid_from width height tiles bodies) p world.full inside) in
+      let early : index_of width p < length tiles = subst (λ n. index_of width p < n) (length-map tiles (cell_from bodies)) (index_of-early (map (cell_from bodies) tiles) width height p world.full inside) in
       cell_in-inside (grid_from width height tiles bodies) p rock world.full inside ∙ get_or-map (cell_from bodies) tiles (index_of width p) d rock early
 
   -- the cell of a tile that was read at its number
-  pub cell_in-tile_is : (p : Pos) (tile : Tile) → IsWorld (grid_from width height tiles bodies) → IsInside width height p → tile ≡ get_or tiles (index_of width p) tile → cell_in (grid_from width height tiles bodies) p ≡ cell_from bodies tile
-  cell_in-tile_is p tile world inside is = cell_in-tile_at p tile world inside ∙ ap (cell_from bodies) (sym is)
+  pub cell_in-tile_is : (p : Pos) (i : ℕ) (tile : Tile) → IsWorld (grid_from width height tiles bodies) → IsInside width height p → i ≡ index_of width p → tile ≡ get_or tiles i tile → cell_in (grid_from width height tiles bodies) p ≡ cell_from bodies tile
+  cell_in-tile_is p i tile world inside at is = cell_in-tile_at p tile world inside ∙ ap (cell_from bodies) (sym (is ∙ ap (λ k. get_or tiles k tile) at))
 
   -- its id was made
-  pub tile-made : (p : Pos) (tile : Tile) → IsWorld (grid_from width height tiles bodies) → IsInside width height p → tile ≡ get_or tiles (index_of width p) tile → IsMadeBody (length bodies) (occupant_id tile.ant)
-  tile-made p tile world inside is =
-      IsMadeBody-named (length bodies) bodies (occupant_id tile.ant) (λ ant has. world.valid.known p ant (ap (λ (c : Cell). c.ant) (cell_in-tile_is p tile world inside is) ∙ has))
+  pub tile-made : (p : Pos) (i : ℕ) (tile : Tile) → IsWorld (grid_from width height tiles bodies) → IsInside width height p → i ≡ index_of width p → tile ≡ get_or tiles i tile → IsMadeBody (length bodies) (occupant_id tile.ant)
+  tile-made p i tile world inside at is =
+      IsMadeBody-named (length bodies) bodies (occupant_id tile.ant) (λ ant has. world.valid.known p ant (ap (λ (c : Cell). c.ant) (cell_in-tile_is p i tile world inside at is) ∙ has))
 
   -- an ant that a cell holds is read from its body
   pub ant-read : (t : ℕ) (p : Pos) (d : Tile) → IsWorld (grid_from width height tiles bodies) → holds_id t (cell_in (grid_from width height tiles bodies) p) ≡ true →
@@ -83,7 +84,7 @@ module _ (width height : ℕ) (tiles : List Tile) (bodies : List Body) where
     cells-set : (tile : Tile) → cell_from new tile ≡ cell → map (cell_from new) (set tiles (index_of width p) tile) ≡ set (map (cell_from bodies) tiles) (index_of width p) cell
     cells-set tile reads =
         let i : ℕ = index_of width p in
-        let early : i < length tiles = subst (λ n. i < n) (length-map tiles (cell_from bodies)) (index_of-early (grid_from width height tiles bodies) p world.full can.inside) in
+        let early : i < length tiles = subst (λ n. i < n) (length-map tiles (cell_from bodies)) (index_of-early (map (cell_from bodies) tiles) width height p world.full can.inside) in
         ext_get_or rock (map (cell_from new) (set tiles i tile)) (set (map (cell_from bodies) tiles) i cell)
         (length-map (set tiles i tile) (cell_from new) ∙ length-set tiles i tile ∙ sym (length-map tiles (cell_from bodies)) ∙ sym (length-set (map (cell_from bodies) tiles) i cell))
         λ k below.

@@ -4,9 +4,9 @@ use Rattle.std.proofs.lemmas.Bool.{cases_eq}
 use Rattle.hex_geometry.specs.declared.position.Pos.{Pos}
 use Rattle.hex_geometry.specs.Position.{IsInside}
 use Rattle.cell_world.specs.declared.cell.Cell.{Cell}
-use Rattle.cell_world.specs.Grid.{index_of}
-use Rattle.cell_world.specs.World.{World, sum_over, pos_at, area, put, put_cell, total}
-use Rattle.cell_world.proofs.GridLemmas.{index_of-inside, index_of-pos_at, pos_at-index_of}
+use Rattle.hex_geometry.proofs.RowLemmas.{index_of-inside, index_of-pos_at, pos_at-index_of}
+use Rattle.hex_geometry.specs.RowOrder.{index_of, pos_at}
+use Rattle.cell_world.specs.World.{World, sum_over, area, put, put_cell, total}
 use Rattle.cell_world.proofs.Puts.{put_cell-same, put_cell-other}
 
 -- what agrees at the first n positions has one sum over them
@@ -61,7 +61,7 @@ total-put f w p cell inside =
     let k : ℕ = index_of w.width p in
     let at : pos_at w.width k ≡ p = pos_at-index_of w.width p inside.column in
     let apart : (i : ℕ) → i ≢ k → p ≢ pos_at w.width i = λ i other e. other (sym (index_of-pos_at w.width i) ∙ ap (index_of w.width) (sym e)) in
-    let change = sum_over-change w.width (λ q. f (w.cells q)) (λ q. f (put_cell w.cells p cell q)) (area w) k (index_of-inside w.width w.height p.x p.y inside.column inside.row) (λ i other. ap f (sym (put_cell-other w.cells p cell (pos_at w.width i) (apart i other)))) in
+    let change = sum_over-change w.width (λ q. f (w.cells q)) (λ q. f (put_cell w.cells p cell q)) (area w) k (index_of-inside w.width w.height p inside) (λ i other. ap f (sym (put_cell-other w.cells p cell (pos_at w.width i) (apart i other)))) in
     let old : f (w.cells (pos_at w.width k)) ≡ f (w.cells p) = ap (λ q. f (w.cells q)) at in
     let new : f (put_cell w.cells p cell (pos_at w.width k)) ≡ f cell = ap (λ q. f (put_cell w.cells p cell q)) at ∙ ap f (put_cell-same w.cells p cell) in
     omega arith
@@ -79,4 +79,4 @@ total-put_two f w p here q there apart at_p at_q =
 pub cell-le-total : (f : Cell → ℕ) (w : World) (p : Pos) → IsInside w.width w.height p → f (w.cells p) ≤ total f w
 cell-le-total f w p inside =
     subst (λ q. f (w.cells q) ≤ total f w) (pos_at-index_of w.width p inside.column)
-    (sum_over-part w.width (λ q. f (w.cells q)) (area w) (index_of w.width p) (index_of-inside w.width w.height p.x p.y inside.column inside.row))
+    (sum_over-part w.width (λ q. f (w.cells q)) (area w) (index_of w.width p) (index_of-inside w.width w.height p inside))

@@ -6,7 +6,8 @@ use Rattle.hex_geometry.specs.declared.position.Pos.{Pos}
 use Rattle.hex_geometry.specs.Position.{IsInner}
 use Rattle.cell_world.specs.declared.ant.Ant.{Ant}
 use Rattle.cell_world.specs.declared.cell.Cell.{Cell}
-use Rattle.cell_world.specs.Cell.{rock, holds_id, is_ant, cell_weight, ant_weight, one_if}
+use Rattle.cell_world.specs.Cell.{HasMarksOfSix, rock, holds_id, is_ant, cell_weight, ant_weight, one_if}
+use Rattle.cell_world.specs.Marks.{IsOfSix}
 use Rattle.cell_world.specs.World.{World, put, put_cell, weight}
 use Rattle.cell_world.specs.Valid.{Valid, CanSet, CanThink, SameBody}
 use Rattle.cell_world.specs.Inner.Replaces.{Replaces}
@@ -51,17 +52,23 @@ Valid-put w room p cell valid can = record {
   bare = put_cell-all w p cell (λ q c. c.rocky ≡ true → c ≡ rock) (λ rocky. absurd (both_ways cell.rocky can.is_clear rocky)) (λ q _. valid.bare q);
   known = put_cell-all w p cell (λ q c. (ant : Ant) → c.ant ≡ Some ant → ant.id < w.ids) can.ant_known (λ q _. valid.known q);
   once = put_once w room p cell valid can;
+  six = put_cell-all w p cell (λ _ c. HasMarksOfSix c) can.six (λ q _. valid.six q);
   light = can.light_enough;
 }
 
--- a cell that replaces the one at p, with the same ant or none and no heavier, may be set
-pub CanSet-replaces : (w : World) (room : ℕ) (p : Pos) (cell : Cell) → Valid w → 1 ≤ room → (w.cells p).rocky ≡ false → Replaces (w.cells p) cell → CanSet w room p cell
-CanSet-replaces w room p cell valid left clear replaces = record {
+-- a cell with the markers of another has markers of the six where that one has
+pub HasMarksOfSix-same : (cell new : Cell) → new.red ≡ cell.red → new.black ≡ cell.black → HasMarksOfSix cell → HasMarksOfSix new
+HasMarksOfSix-same cell new red black six = record { red = subst IsOfSix (sym red) six.red; black = subst IsOfSix (sym black) six.black }
+
+-- a cell that replaces the one at p, with the same ant or none and no heavier, may be set where its markers are of the six
+pub CanSet-replaces : (w : World) (room : ℕ) (p : Pos) (cell : Cell) → Valid w → 1 ≤ room → (w.cells p).rocky ≡ false → Replaces (w.cells p) cell → HasMarksOfSix cell → CanSet w room p cell
+CanSet-replaces w room p cell valid left clear replaces six = record {
   room_left = left;
   inside = clear_inside w p valid clear;
   was_clear = clear;
   is_clear = replaces.same_kind ∙ clear;
   same_hill = replaces.same_hill;
+  six = six;
   ant_known = λ ant is.
       let it : Holder ant.id (w.cells p).ant = is_ant-true ant.id (w.cells p).ant (replaces.same_ant ant.id (holds_id-own cell ant is)) in
       let below : it.ant.id < w.ids = valid.known p it.ant it.is in
@@ -115,7 +122,7 @@ thinker ant (Some before) stands = record { before = before; is = refl; same = s
 pub CanSet-mind : (w : World) (room : ℕ) (p : Pos) (ant : Ant) → Valid w → CanThink w room p ant → CanSet w room p (record (w.cells p) { ant = Some ant })
 CanSet-mind w room p ant valid can =
     let it : Thinker ant (w.cells p).ant = thinker ant (w.cells p).ant can.stands in
-    CanSet-replaces w room p (record (w.cells p) { ant = Some ant }) valid can.room_left (ant-clear w p it.before valid it.is) (Replaces-mind (w.cells p) ant can.stands)
+    CanSet-replaces w room p (record (w.cells p) { ant = Some ant }) valid can.room_left (ant-clear w p it.before valid it.is) (Replaces-mind (w.cells p) ant can.stands) (HasMarksOfSix-same (w.cells p) (record (w.cells p) { ant = Some ant }) refl refl (valid.six p))
 
 -- likewise where the cell was read, and the world and the room stayed
 pub CanSet-mind_read : (old new : World) (room left : ℕ) (p : Pos) (cell : Cell) (ant : Ant) → cell ≡ old.cells p → new ≡ old → left ≡ room → Valid new → CanThink old room p ant → CanSet new left p (record cell { ant = Some ant })

@@ -6,7 +6,7 @@ use Rattle.cell_world.specs.declared.ant.Colour.TheVariants.{Red, Black}
 use Rattle.cell_world.specs.declared.cell.Cell.{Cell}
 use Rattle.cell_world.specs.Colour.{same_colour}
 use Rattle.cell_world.specs.declared.marks.Marks.{Marks}
-use Rattle.cell_world.specs.Marks.{no_marks}
+use Rattle.cell_world.specs.Marks.{IsOfSix, no_marks}
 
 -- a rocky cell has no food, marks, ant or hill
 unfoldable pub rock : Cell
@@ -35,6 +35,11 @@ is_ant_of colour (Some ant) = same_colour colour ant.colour
 abbrev pub marks_of : Colour → Cell → Marks
 marks_of Red cell = cell.red
 marks_of Black cell = cell.black
+
+-- the markers of each colour are of the six
+pub record HasMarksOfSix (cell : Cell) : Type 0 where
+  pub red : IsOfSix cell.red
+  pub black : IsOfSix cell.black
 
 -- one where a thing is, and nothing where it isn't
 abbrev pub one_if : Bool → ℕ

@@ -1,6 +1,7 @@
 -- A world as its cells in row order, and how it reads as a function from positions to cells.
-use Rattle.std.specs.Prelude.{◌≡◌, ℕ, ◌+◌, ◌*◌, cond, nat_lt, List, length, slice_index_or}
-use Rattle.hex_geometry.specs.declared.position.Pos.{Pos}
+use Rattle.std.specs.Prelude.{◌≡◌, ℕ, ◌*◌, cond, nat_lt, List, length, None, slice_index_or}
+use Rattle.std.specs.List.{AllByRecursion}
+use Rattle.hex_geometry.specs.RowOrder.{index_of}
 use Rattle.cell_world.specs.declared.cell.Cell.{Cell}
 use Rattle.cell_world.specs.Cell.{rock}
 use Rattle.cell_world.specs.World.{World, Cells}
@@ -12,10 +13,6 @@ pub record Grid : Type 0 where
   pub height : ℕ
   pub ids : ℕ
   pub cells : List Cell
-
--- the number of a position in row order
-abbrev pub index_of : ℕ → Pos → ℕ
-index_of width p = p.y * width + p.x
 
 -- the cell at a position: right of the rows and below the last there is rock
 unfoldable pub cell_in : Grid → Cells
@@ -29,3 +26,8 @@ world_of g = record { width = g.width; height = g.height; ids = g.ids; cells = c
 pub record IsWorld (g : Grid) : Type 0 where
   pub full : length g.cells ≡ g.width * g.height
   pub valid : Valid (world_of g)
+
+-- the grid of a world without an ant
+pub record IsGround (g : Grid) : Type 0 where
+  pub world : IsWorld g
+  pub empty : AllByRecursion (λ (cell : Cell). cell.ant ≡ None) g.cells

@@ -9,7 +9,7 @@ least_size = 3
 abbrev pub most_size : ℕ
 most_size = 512
 
--- the most ants that begin in a world
+-- the most ids of ants that a world has
 abbrev pub most_ants : ℕ
 most_ants = 16384
 

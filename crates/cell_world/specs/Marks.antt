@@ -1,8 +1,12 @@
 -- Markers of one colour on a cell (the task's chemistry).
-use Rattle.std.specs.Prelude.{ℕ, ◌-◌, ◌^◌, Bool, ◌&&◌, nat_eq, nat_lt, [], ◌∷◌, bit_and, bit_or}
+use Rattle.std.specs.Prelude.{ℕ, ◌-◌, ◌<◌, ◌^◌, Bool, ◌&&◌, nat_eq, nat_lt, [], ◌∷◌, bit_and, bit_or}
 use Rattle.std.specs.Int.{bit_at}
 use Rattle.std.specs.List.{list_any}
 use Rattle.cell_world.specs.declared.marks.Marks.{Marks}
+
+-- no other bit is set than those of the six markers
+abbrev pub IsOfSix : Marks → Type 0
+IsOfSix marks = marks.set < 64
 
 -- no marker is set
 abbrev pub no_marks : Marks

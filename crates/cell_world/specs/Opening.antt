@@ -11,7 +11,8 @@ use Rattle.cell_world.specs.declared.cell.Cell.{Cell}
 use Rattle.cell_world.specs.declared.kind.Kind.{Kind}
 use Rattle.cell_world.specs.declared.kind.Kind.TheVariants.{Rock, Clear, RedHill, BlackHill, Food}
 use Rattle.cell_world.specs.Cell.{rock, one_if}
-use Rattle.cell_world.specs.Grid.{Grid, index_of}
+use Rattle.cell_world.specs.Grid.{Grid}
+use Rattle.hex_geometry.specs.RowOrder.{index_of}
 use Rattle.cell_world.specs.Limits.{least_size, most_size, most_ants}
 use Rattle.cell_world.specs.Marks.{no_marks}
 

@@ -5,7 +5,7 @@ use Rattle.hex_geometry.specs.declared.position.Pos.{Pos}
 use Rattle.hex_geometry.specs.Position.{IsInside, IsInner}
 use Rattle.cell_world.specs.declared.ant.Ant.{Ant}
 use Rattle.cell_world.specs.declared.cell.Cell.{Cell}
-use Rattle.cell_world.specs.Cell.{rock, holds_id}
+use Rattle.cell_world.specs.Cell.{HasMarksOfSix, rock, holds_id}
 use Rattle.cell_world.specs.Limits.{least_size, most_size, most_ants, most_weight}
 use Rattle.cell_world.specs.World.{World, put, weight}
 
@@ -26,16 +26,19 @@ pub record Valid (w : World) : Type 0 where
   pub known : (p : Pos) (ant : Ant) → (w.cells p).ant ≡ Some ant → ant.id < w.ids
   -- no ant is at two positions
   pub once : (t : ℕ) (p q : Pos) → holds_id t (w.cells p) ≡ true → holds_id t (w.cells q) ≡ true → p ≡ q
+  -- each set of markers is of the six
+  pub six : (p : Pos) → HasMarksOfSix (w.cells p)
   pub light : weight w ≤ most_weight
 
--- a cell may be set at p: it is clear as the old one was, of the same hill, its ant is a known one that stands nowhere else,
--- and the world stays light enough
+-- a cell may be set at p: it is clear as the old one was, of the same hill, its markers are of the six, its ant is a known one that
+-- stands nowhere else, and the world stays light enough
 pub record CanSet (w : World) (room : ℕ) (p : Pos) (cell : Cell) : Type 0 where
   pub room_left : 1 ≤ room
   pub inside : IsInside w.width w.height p
   pub was_clear : (w.cells p).rocky ≡ false
   pub is_clear : cell.rocky ≡ false
   pub same_hill : cell.hill ≡ (w.cells p).hill
+  pub six : HasMarksOfSix cell
   pub ant_known : (ant : Ant) → cell.ant ≡ Some ant → ant.id < w.ids
   pub ant_nowhere_else : (ant : Ant) → cell.ant ≡ Some ant → (q : Pos) → q ≢ p → holds_id ant.id (w.cells q) ≡ false
   pub light_enough : weight (put w p cell) ≤ most_weight

@@ -1,7 +1,8 @@
 -- The world as a function from positions to cells (the task's geography).
-use Rattle.std.specs.Prelude.{ℕ, ◌+◌, ◌*◌, ◌/◌, ◌%◌, Bool, cond, Option, Some, None, suc, zero}
+use Rattle.std.specs.Prelude.{ℕ, ◌+◌, ◌*◌, Bool, cond, Option, Some, None, suc, zero}
 use Rattle.hex_geometry.specs.declared.position.Pos.{Pos}
 use Rattle.hex_geometry.specs.Position.{same_pos}
+use Rattle.hex_geometry.specs.RowOrder.{pos_at}
 use Rattle.cell_world.specs.declared.cell.Cell.{Cell}
 use Rattle.cell_world.specs.Cell.{holds_id, cell_weight}
 
@@ -27,10 +28,6 @@ with_cells w cells = record w { cells = cells }
 -- the world with this cell at p
 abbrev pub put : World → Pos → Cell → World
 put w p cell = with_cells w (put_cell w.cells p cell)
-
--- the position that is number i in row order
-abbrev pub pos_at : ℕ → ℕ → Pos
-pos_at width i = record { x = i % width; y = i / width }
 
 -- the sum of f over the first n positions in row order
 abbrev pub sum_over : ℕ → (Pos → ℕ) → ℕ → ℕ

@@ -1,9 +1,10 @@
 // What a world keeps of its cells and ants at the start of a game.
-ghost use Rattle.std.specs.Prelude.{◌≡◌, ◌+◌, ◌*◌, ◌++◌, ◌∷◌, [], ◌<◌, ◌≤◌, length, vec_len, IfOk, OnOk};
+ghost use Rattle.std.specs.Prelude.{◌≡◌, ◌+◌, ◌*◌, ◌++◌, ◌∷◌, [], ◌<◌, ◌≤◌, length, map, None, replicate, vec_len, IfOk, OnOk};
+ghost use Rattle.std.specs.List.{AllByRecursion};
 ghost use Rattle.cell_world.specs.Limits.{most_ants};
-ghost use Rattle.cell_world.specs.World.{pos_at};
+ghost use Rattle.hex_geometry.specs.RowOrder.{pos_at};
 ghost use Rattle.cell_world.specs.Opening.{floor, hill_cell, hill_count, opening_cell};
-ghost use Rattle.cell_world.specs.Inner.Stored.{hill_of, new_bodies, new_body, opening_bodies, opening_tiles, tile_of};
+ghost use Rattle.cell_world.specs.Inner.Stored.{hill_of, new_bodies, new_body, no_body, opening_bodies, opening_tiles, tile_of};
 
 use crate::ant::{Ant, Colour};
 use crate::body::Body;
@@ -11,7 +12,7 @@ use crate::cell::Cell;
 use crate::kind::Kind;
 use crate::marks::Marks;
 use crate::tile::Tile;
-use hex_geometry::{Dir, OutOfMemory, Pos};
+use hex_geometry::{Dir, OutOfMemory, Pos, pos_at};
 use std::alloc::Global;
 
 // What a world is made of: its tiles in row order, and the bodies of its ants, by id.
@@ -51,12 +52,49 @@ impl WorldParts {
         let cell = opening_cell(kind, self.bodies.len() as u32);
         let tile = Tile::of(&cell);
         if let Some(colour) = hill_of(kind) {
-            let place = place_at(width, self.tiles.len());
+            let place = pos_at(width, self.tiles.len());
             self.bodies.push(new_body(colour, place))?;
         }
         self.tiles.push(tile)?;
         Ok(())
     }
+}
+
+// What is kept of cells, on none of which an ant stands.
+pub fn ground_tiles(alloc: Global, cells: &[Cell]) -> Result<Vec<Tile>, OutOfMemory>
+    requires { AllByRecursion (λ cell. cell.ant ≡ None) cells.now }
+    ensures { IfOk result (λ tiles. tiles.items ≡ map tile_of cells.now) }
+{
+    let mut tiles = Vec::with_capacity(alloc, cells.len())?;
+    for cell in cells {
+        tiles.push(ground_tile(cell))?;
+    }
+    Ok(tiles)
+}
+
+// What is kept of a cell on which no ant stands.
+fn ground_tile(cell: &Cell) -> Tile
+    requires { cell.now.ant ≡ None }
+    ensures { result ≡ tile_of cell.now }
+{
+    Tile::of(cell)
+}
+
+// The bodies of so many ants, each of which is dead.
+#[tactic(auto, unfolding(crate::specs::Inner::Stored::no_body))]
+pub fn dead_bodies(alloc: Global, ids: u32) -> Result<Vec<Body>, OutOfMemory>
+    ensures { IfOk result (λ bodies. bodies.items ≡ replicate ids no_body) }
+{
+    let body = Body {
+        place: None,
+        state: 0,
+        resting: 0,
+        facing: Dir::East,
+        colour: Colour::Red,
+        laden: false,
+    };
+    let bodies = vec![in alloc; body; ids as usize]?;
+    Ok(bodies)
 }
 
 // The colour of the hill of which a cell of this kind is.
@@ -81,19 +119,6 @@ fn new_body(colour: Colour, place: Pos) -> Body
         facing: Dir::East,
         colour,
         laden: false,
-    }
-}
-
-// The position of the cell with this number in row order.
-fn place_at(width: u16, number: usize) -> Pos
-    requires wide { 1 ≤ width }
-    requires low { number < width * 65536 }
-    ensures { result ≡ pos_at width number }
-{
-    let columns = width as usize;
-    Pos {
-        x: (number % columns) as u16,
-        y: (number / columns) as u16,
     }
 }
 

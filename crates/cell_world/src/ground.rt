@@ -36,8 +36,8 @@ pub trait Ground {
         ensures room { room self.new ≡ room self.old }
         ensures valid { Valid (world self.new) };
 
-    /// Puts this cell at `p`, and leaves every other as it is. The old cell and the new one are clear and of the same hill, an ant on
-    /// the new one is known and stands on no other cell, and the world stays light enough. It takes one of the ground's room.
+    /// Puts this cell at `p`, and leaves every other as it is. The old cell and the new one are clear and of the same hill, the
+    /// markers of the new one are of the six, an ant on it is known and stands on no other cell, and the world stays light enough. It takes one of the ground's room.
     fn set(&mut self, p: Pos, cell: Cell)
         requires { CanSet (world self.old) (room self.old) p cell }
         ensures set { world self.new ≡ put (world self.old) p cell }

@@ -1,16 +1,16 @@
 // The world: what it keeps of its cells, in row order, and of its ants, by id.
 ghost use Rattle.std.specs.Prelude.{◌≡◌, IfOk};
-ghost use Rattle.cell_world.specs.Grid.{IsWorld, world_of};
+ghost use Rattle.cell_world.specs.Grid.{IsGround, IsWorld, world_of};
 ghost use Rattle.cell_world.specs.Opening.{IsPlan, opening};
 ghost use Rattle.hex_geometry.specs.Position.{IsInside};
 ghost use Rattle.cell_world.specs.World.{place_in};
 
 use crate::body::Body;
-use crate::build::WorldParts;
+use crate::build::{WorldParts, dead_bodies, ground_tiles};
 use crate::cell::Cell;
 use crate::kind::Kind;
 use crate::tile::{Tile, ant_named};
-use hex_geometry::{OutOfMemory, Pos};
+use hex_geometry::{OutOfMemory, Pos, index_of};
 use std::alloc::Global;
 use std::marker::Model;
 
@@ -22,7 +22,8 @@ mod tests;
 
 /// A world (the task's geography, chemistry and biology).
 ///
-/// Width and height are from 3 to 512, the rim is rocky, a rocky cell has no food, marks, ant or hill, at most 16,384 ids were ever
+/// Width and height are from 3 to 512, the rim is rocky, a rocky cell has no food, marks, ant or hill, each set of markers
+/// is of the six, at most 16,384 ids were ever
 /// made, each id is below their number and on at most one cell, and the weight, which is the food, nine for each ant and one for
 /// each that carries food, is at most 2,340,900.
 #[derive(Drop)]
@@ -66,6 +67,29 @@ impl World {
             height,
             tiles: parts.tiles,
             bodies: parts.bodies,
+        })
+    }
+
+    /// The world of these cells, on none of which an ant stands: `ids` ids were made, and the ant of each is dead. The cells stand in row
+    /// order: row by row from the top, each row from the left. They are those of a world of this width and height, each from 3 to 512, and
+    /// of so many ids, at most 16,384. It is refused only where memory is out.
+    pub fn of_ground(
+        alloc: Global,
+        width: u16,
+        height: u16,
+        ids: u32,
+        cells: &[Cell],
+    ) -> Result<World, OutOfMemory>
+        requires { IsGround (record { width = width; height = height; ids = ids; cells = cells.now }) }
+        ensures { IfOk result (λ w. w ≡ record { width = width; height = height; ids = ids; cells = cells.now }) }
+    {
+        let tiles = ground_tiles(alloc, cells)?;
+        let bodies = dead_bodies(alloc, ids)?;
+        Ok(World {
+            width,
+            height,
+            tiles,
+            bodies,
         })
     }
 
@@ -118,7 +142,7 @@ impl World {
         ensures content { result ≡ (world_of self.now).cells p }
         ensures world { IsWorld self.now }
     {
-        let tile = self.tiles[p.y as usize * self.width as usize + p.x as usize];
+        let tile = self.tiles[index_of(self.width, p)];
         Cell {
             rocky: tile.rocky,
             hill: tile.hill,

@@ -2,7 +2,8 @@
 use Rattle.hex_geometry.proofs.Metric.{distance_some}
 use Rattle.hex_geometry.proofs.Places.{pos_same}
 use Rattle.hex_geometry.proofs.Walks.{Within, distance_tight, distance_within, half}
-use Rattle.hex_geometry.specs.Distance.{HasBall, IsBefore, IsInBall, ListsBall}
+use Rattle.hex_geometry.specs.Distance.{HasBall, IsInBall, ListsBall}
+use Rattle.hex_geometry.specs.RowOrder.{IsBefore}
 use Rattle.hex_geometry.specs.Inner.BallRows.{column_count, first_column, line, rows}
 use Rattle.hex_geometry.specs.Position.{Point, point_of}
 use Rattle.hex_geometry.specs.declared.position.Pos.{Pos}

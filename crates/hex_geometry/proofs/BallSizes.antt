@@ -1,7 +1,8 @@
 -- How many positions a ball has.
 use Rattle.hex_geometry.proofs.BallRows.{rows_list}
 use Rattle.hex_geometry.proofs.Places.{pos_same, same_pos_false, same_pos_true}
-use Rattle.hex_geometry.specs.Distance.{IsBefore, ListsBall}
+use Rattle.hex_geometry.specs.Distance.{ListsBall}
+use Rattle.hex_geometry.specs.RowOrder.{IsBefore}
 use Rattle.hex_geometry.specs.DistanceLaws.{BallsAreCounted}
 use Rattle.hex_geometry.specs.Inner.BallRows.{column_count, first_column, line, rows}
 use Rattle.hex_geometry.specs.Position.{Point, point_of, same_pos}

@@ -4,6 +4,8 @@ pub mod Beside
 pub mod Metric
 pub mod Places
 pub mod Reaches
+pub mod Rim
+pub mod RowLemmas
 pub mod Turns
 pub mod Walks
 pub mod Worked

@@ -4,11 +4,12 @@ use Rattle.hex_geometry.specs.Direction.{directions}
 use Rattle.hex_geometry.specs.Distance.{IsDistance, Walk}
 use Rattle.hex_geometry.specs.Inner.BallRows.{line, rows}
 use Rattle.hex_geometry.specs.Neighbourhood.{adjacent_point, adjacent_pos, neighbours_of}
-use Rattle.hex_geometry.specs.Position.{Point, point_of}
+use Rattle.hex_geometry.specs.Position.{Point, is_on_rim, point_of}
+use Rattle.hex_geometry.specs.RowOrder.{index_of, pos_at}
 use Rattle.hex_geometry.specs.declared.direction.Dir.TheVariants.{SouthEast, SouthWest}
 use Rattle.hex_geometry.specs.declared.position.Pos.{Pos}
 use Rattle.std.proofs.Common.{◌≡◌, ℕ, ◌+◌, ◌*◌, [], ◌∷◌, length, map, refl, arith}
-use Rattle.std.specs.Prelude.{ℤ, pos, negsuc}
+use Rattle.std.specs.Prelude.{ℤ, pos, negsuc, true, false}
 
 abbrev at : ℕ → ℕ → Pos
 at x y = record { x = x; y = y }
@@ -68,3 +69,16 @@ ball_at_the_edge = refl
 pub ball_sizes : map (λ (r : ℕ). length (rows (at 18 7) r (2 * r + 1))) (0 ∷ 1 ∷ 2 ∷ 4 ∷ 6 ∷ []) ≡ 1 ∷ 7 ∷ 19 ∷ 61 ∷ 127 ∷ []
 unfolding rows line
 ball_sizes = refl
+
+-- the numbers of positions of a world five wide, in a row and from row to row
+pub numbers : map (index_of 5) (at 0 0 ∷ at 1 0 ∷ at 4 0 ∷ at 0 1 ∷ at 4 1 ∷ at 3 2 ∷ []) ≡ 0 ∷ 1 ∷ 4 ∷ 5 ∷ 9 ∷ 13 ∷ []
+numbers = refl
+
+-- the positions of numbers there
+pub positions : map (pos_at 5) (0 ∷ 1 ∷ 4 ∷ 5 ∷ 9 ∷ 13 ∷ []) ≡ at 0 0 ∷ at 1 0 ∷ at 4 0 ∷ at 0 1 ∷ at 4 1 ∷ at 3 2 ∷ []
+positions = refl
+
+-- the rim of a world four wide and three high: all but two cells of the middle row
+pub rim_4_3 : map (λ (i : ℕ). is_on_rim 4 3 (pos_at 4 i)) (0 ∷ 1 ∷ 2 ∷ 3 ∷ 4 ∷ 5 ∷ 6 ∷ 7 ∷ 8 ∷ 9 ∷ 10 ∷ 11 ∷ []) ≡
+    true ∷ true ∷ true ∷ true ∷ true ∷ false ∷ false ∷ true ∷ true ∷ true ∷ true ∷ true ∷ []
+rim_4_3 = refl

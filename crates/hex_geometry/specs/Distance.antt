@@ -1,7 +1,8 @@
 -- Walks over all pairs of whole numbers, the distance of two of them, and balls (the task's geometry).
-use Rattle.std.specs.Prelude.{◌≡◌, ℕ, ◌+◌, ◌<◌, ◌≤◌, List, [], ◌∷◌, length, AllPairs, Contains}
+use Rattle.std.specs.Prelude.{◌≡◌, ℕ, ◌+◌, ◌≤◌, List, [], ◌∷◌, length, AllPairs, Contains}
 use Rattle.hex_geometry.specs.Neighbourhood.{adjacent_point}
 use Rattle.hex_geometry.specs.Position.{Point, point_of}
+use Rattle.hex_geometry.specs.RowOrder.{IsBefore}
 use Rattle.hex_geometry.specs.declared.direction.Dir.{Dir}
 use Rattle.hex_geometry.specs.declared.position.Pos.{Pos}
 
@@ -37,11 +38,6 @@ pub record HasBall (centre : Pos) (radius : ℕ) : Type 0 where
   pub to_right : centre.x + radius ≤ 65535
   pub from_top : radius ≤ centre.y
   pub to_bottom : centre.y + radius ≤ 65535
-
--- p stands before q in row order: in a row above, or in its row and to its left
-pub record IsBefore (p q : Pos) : Type 0 where
-  pub row : p.y ≤ q.y
-  pub column : p.y ≡ q.y → p.x < q.x
 
 -- the list of a ball: its positions and no others, each once, in row order
 pub record ListsBall (centre : Pos) (radius : ℕ) (items : List Pos) : Type 0 where

@@ -5,3 +5,4 @@ pub mod Inner
 pub mod Laws
 pub mod Neighbourhood
 pub mod Position
+pub mod RowOrder

@@ -1,5 +1,5 @@
 -- Positions, as pairs of whole numbers and in a world of a width and a height (the task's geometry).
-use Rattle.std.specs.Prelude.{ℕ, ℤ, pos, Bool, ◌+◌, ◌<◌, ◌≤◌, ◌==◌, ◌&&◌}
+use Rattle.std.specs.Prelude.{ℕ, ℤ, pos, Bool, ◌+◌, ◌<◌, ◌≤◌, ◌==◌, ◌&&◌, ◌||◌, ◌≡◌, ◌↔◌, false}
 use Rattle.hex_geometry.specs.declared.position.Pos.{Pos}
 
 -- a pair of whole numbers: the column, growing to the right, and the row, growing downwards
@@ -33,3 +33,11 @@ pub record IsInner (width height : ℕ) (p : Pos) : Type 0 where
   pub to_right : p.x + 1 < width
   pub from_top : 1 ≤ p.y
   pub to_bottom : p.y + 1 < height
+
+-- whether a position is in the first or last column or row of a world of these sizes
+abbrev pub is_on_rim : ℕ → ℕ → Pos → Bool
+is_on_rim width height p = (p.x == 0) || (p.y == 0) || (p.x + 1 == width) || (p.y + 1 == height)
+
+-- of the positions inside, those that aren't on the rim are the inner ones
+abbrev pub RimIsOutermost : Type 0
+RimIsOutermost = (width height : ℕ) (p : Pos) → IsInside width height p → (is_on_rim width height p ≡ false) ↔ IsInner width height p

@@ -6,10 +6,11 @@ use Rattle.std.proofs.lemmas.List.{at_drop_all, drop_more, get_or-set_other, get
 use Rattle.std.proofs.lemmas.List.Elements.{Contains-append_cases, Contains-append_right, Contains-get_or, Contains-push_cases}
 use Rattle.hex_geometry.specs.declared.position.Pos.{Pos}
 use Rattle.hex_geometry.specs.Position.{IsInside}
-use Rattle.cell_world.specs.Grid.{Grid, index_of}
+use Rattle.cell_world.specs.Grid.{Grid}
+use Rattle.hex_geometry.proofs.RowLemmas.{index_of-inside}
+use Rattle.hex_geometry.specs.RowOrder.{index_of}
 use Rattle.cell_world.specs.Parts.{Agree}
 use Rattle.cell_world.specs.World.{Cells}
-use Rattle.cell_world.proofs.GridLemmas.{index_of-inside}
 use Rattle.spec_record.specs.Claims.{Sighting, seen_positions}
 use Rattle.round_book.specs.declared.verdict.Cause.{Cause}
 use Rattle.round_book.specs.declared.verdict.Cause.TheVariants as cause
@@ -94,7 +95,7 @@ Unmarking-step grid marked places i d early before =
       sized = length-set marked at false ∙ before.sized;
       inside = λ p held. before.inside p (subst (λ ps. Contains ps p) (sym open_left) (Contains-later here (drop (i + 1) places) p held));
       listed = λ p within bit. ⊎_elim
-          (λ same. absurd (false≢true (sym (get_or-set_same marked at false false (subst (λ n. at < n) (sym before.sized) (index_of-inside grid.width grid.height here.x here.y in_grid.column in_grid.row)))
+          (λ same. absurd (false≢true (sym (get_or-set_same marked at false false (subst (λ n. at < n) (sym before.sized) (index_of-inside grid.width grid.height here in_grid)))
           ∙ ap (λ k. slice_index_or (slice_set marked at false) k false) (sym same) ∙ bit)))
           (λ apart. ⊎_elim
           (λ first. absurd (apart (ap (index_of grid.width) (sym first))))

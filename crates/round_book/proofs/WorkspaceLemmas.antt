@@ -6,14 +6,11 @@ use Rattle.std.proofs.lemmas.List.Elements.{Contains-append_left, Contains-appen
 use Rattle.std.specs.List.{Contains}
 use Rattle.hex_geometry.specs.declared.position.Pos.{Pos}
 use Rattle.hex_geometry.specs.Position.{IsInside}
-use Rattle.cell_world.specs.Grid.{Grid, index_of, world_of}
-use Rattle.cell_world.specs.World.{Cells, World, pos_at, with_cells}
-use Rattle.cell_world.proofs.GridLemmas.{index_of-inside, pos_at-index_of}
+use Rattle.cell_world.specs.Grid.{Grid, world_of}
+use Rattle.hex_geometry.proofs.RowLemmas.{index_of-inside, index_of-same}
+use Rattle.hex_geometry.specs.RowOrder.{index_of}
+use Rattle.cell_world.specs.World.{Cells, World, with_cells}
 use Rattle.round_book.specs.Inner.Workspace.{AreMarked}
-
--- two positions of a world with one number in row order are one
-pub index_of-same : (width : ℕ) (p q : Pos) → p.x < width → q.x < width → index_of width p ≡ index_of width q → p ≡ q
-index_of-same width p q left right same = sym (pos_at-index_of width p left) ∙ ap (pos_at width) same ∙ pos_at-index_of width q right
 
 -- a list with one more at its end has what it had, and that one
 pub Contains-more : (written : List Pos) (p q : Pos) → Contains (written ++ p ∷ []) q ↔ (Contains written q ⊎ (q ≡ p))
@@ -41,7 +38,7 @@ AreMarked-more grid marked written p before inside = record {
       (cases_eq (index_of grid.width q) (index_of grid.width p));
 } where
   early : index_of grid.width p < length marked
-  early = subst (λ n. index_of grid.width p < n) (sym before.sized) (index_of-inside grid.width grid.height p.x p.y inside.column inside.row)
+  early = subst (λ n. index_of grid.width p < n) (sym before.sized) (index_of-inside grid.width grid.height p inside)
 
 -- marks are the same in a world of the same sizes
 pub AreMarked-same : (grid new : Grid) (marked : List Bool) (written : List Pos) (cells : Cells) → world_of new ≡ with_cells (world_of grid) cells → AreMarked grid marked written → AreMarked new marked written

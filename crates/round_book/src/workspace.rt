@@ -3,7 +3,8 @@ ghost use Rattle.std.specs.Prelude.{◌≡◌, ◌⊎◌, ◌↔◌, ◌+◌, �
 ghost use Rattle.std.specs.List.{AllByRecursion, Contains};
 ghost use Rattle.std.specs.Vec.{vec_capacity, vec_len};
 ghost use Rattle.hex_geometry.specs.Position.{IsInside};
-ghost use Rattle.cell_world.specs.Grid.{Grid, IsWorld, index_of, world_of};
+ghost use Rattle.cell_world.specs.Grid.{Grid, IsWorld, world_of};
+ghost use Rattle.hex_geometry.specs.RowOrder.{index_of};
 ghost use Rattle.cell_world.specs.World.{with_cells};
 ghost use Rattle.spec_record.specs.Claims.{EachOnce, seen_positions};
 ghost use Rattle.spec_record.specs.Patching.{patched_cells};
@@ -15,7 +16,7 @@ ghost use Rattle.round_book.specs.Inner.Workspace.{AreMarked};
 use crate::passes::set_writes;
 use crate::verdict::{Cause, Verdict};
 use cell_world::{Cell, Parts, World};
-use hex_geometry::{OutOfMemory, Pos};
+use hex_geometry::{OutOfMemory, Pos, index_of};
 use std::alloc::Global;
 
 // A world, which of its cells were written since it was lent, as marks and as a list, and what came of the turns so far.
@@ -74,7 +75,7 @@ impl Workspace {
         requires inside { IsInside self.now.world.width self.now.world.height p }
         ensures { (result ≡ true) ↔ Contains self.now.written.items p }
     {
-        self.marked[p.y as usize * self.world.width() as usize + p.x as usize]
+        self.marked[index_of(self.world.width(), p)]
     }
 
     // Marks the cell at `p` as written, and lists it where it wasn't.
@@ -90,7 +91,7 @@ impl Workspace {
         ensures capacity { vec_capacity self.new.written ≡ vec_capacity self.old.written }
         ensures length { vec_len self.new.written ≤ vec_len self.old.written + 1 }
     {
-        let i = p.y as usize * self.world.width() as usize + p.x as usize;
+        let i = index_of(self.world.width(), p);
         if !self.marked[i] {
             self.marked[i] = true;
             self.written.push_reserved(p);
@@ -198,6 +199,6 @@ fn unmark(marked: &mut [bool], world: &World, places: &[Pos])
     ensures { AreMarked world.now marked.new [] }
 {
     for p in places {
-        marked[p.y as usize * world.width() as usize + p.x as usize] = false;
+        marked[index_of(world.width(), *p)] = false;
     }
 }

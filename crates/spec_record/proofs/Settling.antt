@@ -7,7 +7,7 @@ use Rattle.hex_geometry.specs.declared.position.Pos.{Pos}
 use Rattle.cell_world.specs.declared.cell.Cell.{Cell}
 use Rattle.cell_world.specs.declared.part.Part.TheVariants as part
 use Rattle.cell_world.specs.declared.part.Parts.{Parts}
-use Rattle.cell_world.specs.Cell.{cell_weight, holds_id}
+use Rattle.cell_world.specs.Cell.{HasMarksOfSix, cell_weight, holds_id}
 use Rattle.cell_world.specs.Parts.{CanPatch, patched}
 use Rattle.cell_world.specs.Valid.{CanSet, Valid}
 use Rattle.cell_world.specs.Inner.Replaces.{Replaces}
@@ -64,11 +64,13 @@ pub record Eases (cells wanted : Cells) (write : Sighting) : Type 0 where
   pub makes : Makes cells wanted write
   pub clear : (cells write.0).rocky ≡ false
   pub replaces : cell_weight (wanted write.0) ≤ cell_weight (cells write.0) → Replaces (cells write.0) (wanted write.0)
+  pub six : HasMarksOfSix (wanted write.0)
 
 Eases-same : (cells now wanted : Cells) (write : Sighting) → now write.0 ≡ cells write.0 → Eases cells wanted write → Eases now wanted write
 Eases-same cells now wanted write same eases = record {
   makes = Makes-same cells now wanted write same eases.makes;
   clear = ap (λ (c : Cell). c.rocky) same ∙ eases.clear;
+  six = eases.six;
   replaces = λ light. rw same (eases.replaces (subst (λ (c : Cell). cell_weight (wanted write.0) ≤ cell_weight c) same light));
 }
 
@@ -79,7 +81,7 @@ lighter_can w room wanted write left valid eases light =
     let wanted_light : cell_weight (wanted write.0) ≤ cell_weight (w.cells write.0) = subst (λ (c : Cell). cell_weight c ≤ cell_weight (w.cells write.0)) eases.makes.makes no_more in
     record {
       can_patch = eases.makes.can_patch;
-      can_set = subst (λ c. CanSet w room write.0 c) (sym eases.makes.makes) (CanSet-replaces w room write.0 (wanted write.0) valid left eases.clear (eases.replaces wanted_light));
+      can_set = subst (λ c. CanSet w room write.0 c) (sym eases.makes.makes) (CanSet-replaces w room write.0 (wanted write.0) valid left eases.clear (eases.replaces wanted_light) eases.six);
     }
 
 -- what comes of the writes that don't raise their cell's weight: each of these cells is as wanted, and all others are as they were
@@ -270,6 +272,7 @@ module _ {w : World} {wanted : Cells} {writes : List Sighting} {q : Pos} (settle
       (λ write makes clear. record {
         makes = makes;
         clear = clear;
+        six = settles.still.six write.0;
         replaces = λ light. elim (cases_pos write.0 q) [
           | inl here ↦ subst (λ p. Replaces (w.cells p) (wanted p)) (sym here) (settles.raised (subst (λ p. cell_weight (wanted p) ≤ cell_weight (w.cells p)) here light))
           | inr other ↦ settles.replaced write.0 other
@@ -328,6 +331,7 @@ module _ {w : World} {wanted : Cells} {writes : List Sighting} {q : Pos} (settle
         inside = clear_inside between q first.1.valid was;
         was_clear = was;
         is_clear = settles.rocks q ∙ subst (λ p. (w.cells p).rocky ≡ false) here clear;
+        six = settles.still.six q;
         same_hill = settles.hills q ∙ ap (λ (c : Cell). c.hill) (sym as_it_was);
         ant_known = λ ant is. all.known q ant (ap (λ (c : Cell). c.ant) (put_cell-same between.cells q (wanted q)) ∙ is);
         ant_nowhere_else = λ ant is p apart. false_from_ne_true (holds_id ant.id (between.cells p)) λ there.

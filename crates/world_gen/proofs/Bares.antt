@@ -1,11 +1,13 @@
 -- A yard without elements.
 use Rattle.cell_world.specs.Cell.{one_if}
-use Rattle.cell_world.specs.Grid.{index_of}
+use Rattle.cell_world.specs.Limits.{most_size}
+use Rattle.hex_geometry.proofs.Rim.{inner-off_rim, off_rim-inner}
+use Rattle.hex_geometry.proofs.RowLemmas.{index_of-inside, pos_at-index_of}
+use Rattle.hex_geometry.specs.RowOrder.{index_of, pos_at}
 use Rattle.cell_world.specs.Opening.{IsFed, hill_count, is_hill, kind_at}
-use Rattle.cell_world.specs.World.{pos_at}
 use Rattle.cell_world.specs.declared.kind.Kind.{Kind}
 use Rattle.cell_world.specs.declared.kind.Kind.TheVariants as kind
-use Rattle.hex_geometry.specs.Position.{IsInner, IsInside}
+use Rattle.hex_geometry.specs.Position.{IsInner, IsInside, is_on_rim}
 use Rattle.hex_geometry.specs.declared.position.Pos.{Pos}
 use Rattle.std.proofs.Common.{◌≡◌, ◌≢◌, ℕ, zero, suc, ◌+◌, ◌*◌, ◌<◌, ◌≤◌, List, [], ◌∷◌, ◌++◌, length, get_or, true, false, refl, sym, ◌∙◌, ap, arith, inl, inr, add-one}
 use Rattle.std.proofs.lemmas.Bool.{and_from, and_parts, cases_Bool, cases_lt, eqb-false, eqb-true, lt-ltb, ltb-true, or_parts, false_from_ne_true}
@@ -14,52 +16,23 @@ use Rattle.std.proofs.Math.ListN.{get_or-append}
 use Rattle.std.proofs.lemmas.List.Elements.{All-push}
 use Rattle.std.specs.List.{All}
 use Rattle.std.specs.Prelude.{Bool, Contains, ◌==◌, ◌||◌, not}
-use Rattle.world_gen.proofs.Indexes.{index_below, pos_at_index}
 use Rattle.world_gen.specs.Inner.Open.{is_unblocked}
-use Rattle.world_gen.specs.Inner.Yards.{IsYard, bare_blocked, bare_kind, bare_kinds, is_rim}
+use Rattle.world_gen.specs.Inner.Yards.{IsYard, bare_blocked, bare_kind, bare_kinds}
 
 no_member : {X : Type 0} (z : X) → Contains [] z → ⊥
 no_member z found = let h = found.1 in omega arith
 
--- what is inside is on the rim or not
-pub rim_false_inner : (width height : ℕ) (p : Pos) → IsInside width height p → is_rim width height p ≡ false → IsInner width height p
-rim_false_inner width height p inside off =
-    let a = or_parts (p.x == 0) _ off in
-    let b = or_parts (p.y == 0) _ a.1 in
-    let c = or_parts (p.x + 1 == width) (p.y + 1 == height) b.1 in
-    let left : p.x ≢ 0 = eqb-false _ _ a.0 in
-    let top : p.y ≢ 0 = eqb-false _ _ b.0 in
-    let right : p.x + 1 ≢ width = eqb-false _ _ c.0 in
-    let bottom : p.y + 1 ≢ height = eqb-false _ _ c.1 in
-    let column = inside.column in
-    let row = inside.row in
-    record { from_left = omega arith; to_right = omega arith; from_top = omega arith; to_bottom = omega arith }
-
-apart_false : (a b : ℕ) → a ≢ b → (a == b) ≡ false
-apart_false a b other = false_from_ne_true (a == b) (λ same. other (eqb-true a b same))
-
-neither : (a b : Bool) → a ≡ false → b ≡ false → (a || b) ≡ false
-neither a b ha hb = rw (ha, hb) refl
-
-pub inner_rim_false : (width height : ℕ) (p : Pos) → IsInner width height p → is_rim width height p ≡ false
-inner_rim_false width height p inner =
-    let left : p.x ≢ 0 = let h = inner.from_left in omega arith in
-    let top : p.y ≢ 0 = let h = inner.from_top in omega arith in
-    let right : p.x + 1 ≢ width = let h = inner.to_right in omega arith in
-    let bottom : p.y + 1 ≢ height = let h = inner.to_bottom in omega arith in
-    neither (p.x == 0) _ (apart_false p.x 0 left) (neither (p.y == 0) _ (apart_false p.y 0 top) (neither (p.x + 1 == width) (p.y + 1 == height) (apart_false _ _ right) (apart_false _ _ bottom)))
-
 pub bare_blocked_length : (width height n : ℕ) → length (bare_blocked width height n) ≡ n
 unfolding bare_blocked
 bare_blocked_length width height zero = refl
-bare_blocked_length width height (suc n) = omega (arith, length_push (bare_blocked width height n) (is_rim width height (pos_at width n)), bare_blocked_length width height n)
+bare_blocked_length width height (suc n) = omega (arith, length_push (bare_blocked width height n) (is_on_rim width height (pos_at width n)), bare_blocked_length width height n)
 
 pub bare_kinds_length : (width height n : ℕ) → length (bare_kinds width height n) ≡ n
 unfolding bare_kinds
 bare_kinds_length width height zero = refl
-bare_kinds_length width height (suc n) = omega (arith, length_push (bare_kinds width height n) (bare_kind (is_rim width height (pos_at width n))), bare_kinds_length width height n)
+bare_kinds_length width height (suc n) = omega (arith, length_push (bare_kinds width height n) (bare_kind (is_on_rim width height (pos_at width n))), bare_kinds_length width height n)
 
-bare_blocked_at : (width height n k : ℕ) (d : Bool) → k < n → get_or (bare_blocked width height n) k d ≡ is_rim width height (pos_at width k)
+bare_blocked_at : (width height n k : ℕ) (d : Bool) → k < n → get_or (bare_blocked width height n) k d ≡ is_on_rim width height (pos_at width k)
 unfolding bare_blocked
 bare_blocked_at width height zero k d below = absurd (omega arith)
 bare_blocked_at width height (suc n) k d below =
@@ -67,10 +40,10 @@ bare_blocked_at width height (suc n) k d below =
       | inl h ↦ get_or-append (bare_blocked width height n) _ d k (let e = bare_blocked_length width height n in omega arith) ∙ bare_blocked_at width height n k d h
       | inr h ↦
           let same : n ≡ k = omega arith in
-          get_or_push (bare_blocked width height n) _ d k (bare_blocked_length width height n ∙ same) ∙ ap (λ i. is_rim width height (pos_at width i)) same
+          get_or_push (bare_blocked width height n) _ d k (bare_blocked_length width height n ∙ same) ∙ ap (λ i. is_on_rim width height (pos_at width i)) same
     ]
 
-bare_kinds_at : (width height n k : ℕ) (d : Kind) → k < n → get_or (bare_kinds width height n) k d ≡ bare_kind (is_rim width height (pos_at width k))
+bare_kinds_at : (width height n k : ℕ) (d : Kind) → k < n → get_or (bare_kinds width height n) k d ≡ bare_kind (is_on_rim width height (pos_at width k))
 unfolding bare_kinds
 bare_kinds_at width height zero k d below = absurd (omega arith)
 bare_kinds_at width height (suc n) k d below =
@@ -78,7 +51,7 @@ bare_kinds_at width height (suc n) k d below =
       | inl h ↦ get_or-append (bare_kinds width height n) _ d k (let e = bare_kinds_length width height n in omega arith) ∙ bare_kinds_at width height n k d h
       | inr h ↦
           let same : n ≡ k = omega arith in
-          get_or_push (bare_kinds width height n) _ d k (bare_kinds_length width height n ∙ same) ∙ ap (λ i. bare_kind (is_rim width height (pos_at width i))) same
+          get_or_push (bare_kinds width height n) _ d k (bare_kinds_length width height n ∙ same) ∙ ap (λ i. bare_kind (is_on_rim width height (pos_at width i))) same
     ]
 
 bare_fed : (rim : Bool) → IsFed (bare_kind rim)
@@ -88,7 +61,7 @@ bare_fed false = tt
 pub bare_kinds_fed : (width height n : ℕ) → All IsFed (bare_kinds width height n)
 unfolding bare_kinds
 bare_kinds_fed width height zero = λ k d h. absurd (omega arith)
-bare_kinds_fed width height (suc n) = All-push IsFed (bare_kinds width height n) (bare_kind (is_rim width height (pos_at width n))) (bare_kinds_fed width height n) (bare_fed (is_rim width height (pos_at width n)))
+bare_kinds_fed width height (suc n) = All-push IsFed (bare_kinds width height n) (bare_kind (is_on_rim width height (pos_at width n))) (bare_kinds_fed width height n) (bare_fed (is_on_rim width height (pos_at width n)))
 
 hill_count_push : (kinds : List Kind) (kind : Kind) → hill_count (kinds ++ kind ∷ []) ≡ hill_count kinds + one_if (is_hill kind)
 hill_count_push [] kind = omega arith
@@ -102,8 +75,8 @@ pub bare_hills : (width height n : ℕ) → hill_count (bare_kinds width height 
 unfolding bare_kinds
 bare_hills width height zero = refl
 bare_hills width height (suc n) =
-    let kind = bare_kind (is_rim width height (pos_at width n)) in
-    omega (arith, hill_count_push (bare_kinds width height n) kind, bare_no_hill (is_rim width height (pos_at width n)), bare_hills width height n)
+    let kind = bare_kind (is_on_rim width height (pos_at width n)) in
+    omega (arith, hill_count_push (bare_kinds width height n) kind, bare_no_hill (is_on_rim width height (pos_at width n)), bare_hills width height n)
 
 -- an open cell is inside, and not blocked
 pub open_inside : (width height : ℕ) (blocked : List Bool) (p : Pos) → is_unblocked width height blocked p ≡ true → IsInside width height p
@@ -126,19 +99,19 @@ pub open_from : (width height : ℕ) (blocked : List Bool) (p : Pos) → IsInsid
 open_from width height blocked p inside free =
     and_from _ _ (lt-ltb p.x width inside.column) (and_from _ _ (lt-ltb p.y height inside.row) (ap not free))
 
-bare_blocked_is : (width height : ℕ) (p : Pos) → IsInside width height p → get_or (bare_blocked width height (width * height)) (index_of width p) true ≡ is_rim width height p
+bare_blocked_is : (width height : ℕ) (p : Pos) → IsInside width height p → get_or (bare_blocked width height (width * height)) (index_of width p) true ≡ is_on_rim width height p
 bare_blocked_is width height p inside =
-    bare_blocked_at width height (width * height) (index_of width p) true (index_below width height p inside) ∙ ap (is_rim width height) (pos_at_index width p inside.column)
+    bare_blocked_at width height (width * height) (index_of width p) true (index_of-inside width height p inside) ∙ ap (is_on_rim width height) (pos_at-index_of width p inside.column)
 
-bare_kind_is : (width height : ℕ) (p : Pos) → IsInside width height p → kind_at width (bare_kinds width height (width * height)) p ≡ bare_kind (is_rim width height p)
+bare_kind_is : (width height : ℕ) (p : Pos) → IsInside width height p → kind_at width (bare_kinds width height (width * height)) p ≡ bare_kind (is_on_rim width height p)
 bare_kind_is width height p inside =
-    bare_kinds_at width height (width * height) (index_of width p) kind.Rock (index_below width height p inside) ∙ ap (λ q. bare_kind (is_rim width height q)) (pos_at_index width p inside.column)
+    bare_kinds_at width height (width * height) (index_of width p) kind.Rock (index_of-inside width height p inside) ∙ ap (λ q. bare_kind (is_on_rim width height q)) (pos_at-index_of width p inside.column)
 
 inner_inside : (width height : ℕ) (p : Pos) → IsInner width height p → IsInside width height p
 inner_inside width height p inner = record { column = (let h = inner.to_right in omega arith); row = (let h = inner.to_bottom in omega arith) }
 
 -- the yard without elements keeps what a yard keeps
-pub bare_yard : (width height : ℕ) → width ≤ 512 → height ≤ 512 → IsYard width height [] (bare_blocked width height (width * height)) (bare_kinds width height (width * height))
+pub bare_yard : (width height : ℕ) → width ≤ most_size → height ≤ most_size → IsYard width height [] (bare_blocked width height (width * height)) (bare_kinds width height (width * height))
 bare_yard width height narrow low = record {
   fenced = record {
     full = bare_blocked_length width height (width * height);
@@ -146,22 +119,22 @@ bare_yard width height narrow low = record {
     low = low;
     rim = λ p free.
         let inside = open_inside width height _ p free in
-        rim_false_inner width height p inside (sym (bare_blocked_is width height p inside) ∙ open_free width height _ p free);
+        off_rim-inner width height p inside (sym (bare_blocked_is width height p inside) ∙ open_free width height _ p free);
   };
   shut = λ p other inside among touched free. no_member other among;
   free = λ p inner none.
       let inside = inner_inside width height p inner in
-      open_from width height _ p inside (bare_blocked_is width height p inside ∙ inner_rim_false width height p inner);
+      open_from width height _ p inside (bare_blocked_is width height p inside ∙ inner-off_rim width height p inner);
   off_rim = λ other q among cell. absurd (no_member other among);
   painted = record {
     full = bare_kinds_length width height (width * height);
     rim = λ p inside outer.
-        elim (cases_Bool (is_rim width height p)) [
+        elim (cases_Bool (is_on_rim width height p)) [
           | inl on ↦ bare_kind_is width height p inside ∙ ap bare_kind on
-          | inr off ↦ absurd (outer (rim_false_inner width height p inside off))
+          | inr off ↦ absurd (outer (off_rim-inner width height p inside off))
         ];
     cell = λ p spot among cell. absurd (no_member spot among);
-    floor = λ p inner none. bare_kind_is width height p (inner_inside width height p inner) ∙ ap bare_kind (inner_rim_false width height p inner);
+    floor = λ p inner none. bare_kind_is width height p (inner_inside width height p inner) ∙ ap bare_kind (inner-off_rim width height p inner);
   };
   fed = bare_kinds_fed width height (width * height);
 }
@@ -175,12 +148,12 @@ pub bare_kinds_none : (width height : ℕ) → [] ≡ bare_kinds width height 0
 unfolding bare_kinds
 bare_kinds_none width height = refl
 
-pub bare_blocked_more : (w h width height n : ℕ) (xs ys : List Bool) → w ≡ width → h ≡ height → xs ≡ bare_blocked width height n → ys ≡ xs ++ is_rim w h (pos_at w n) ∷ [] → ys ≡ bare_blocked width height (n + 1)
+pub bare_blocked_more : (w h width height n : ℕ) (xs ys : List Bool) → w ≡ width → h ≡ height → xs ≡ bare_blocked width height n → ys ≡ xs ++ is_on_rim w h (pos_at w n) ∷ [] → ys ≡ bare_blocked width height (n + 1)
 unfolding bare_blocked
 bare_blocked_more w h width height n xs ys ew eh is more =
-    rw (add-one n) (more ∙ ap (λ (l : List Bool). l ++ is_rim w h (pos_at w n) ∷ []) is ∙ ap (λ v. bare_blocked width height n ++ is_rim v h (pos_at v n) ∷ []) ew ∙ ap (λ v. bare_blocked width height n ++ is_rim width v (pos_at width n) ∷ []) eh)
+    rw (add-one n) (more ∙ ap (λ (l : List Bool). l ++ is_on_rim w h (pos_at w n) ∷ []) is ∙ ap (λ v. bare_blocked width height n ++ is_on_rim v h (pos_at v n) ∷ []) ew ∙ ap (λ v. bare_blocked width height n ++ is_on_rim width v (pos_at width n) ∷ []) eh)
 
-pub bare_kinds_more : (w h width height n : ℕ) (xs ys : List Kind) → w ≡ width → h ≡ height → xs ≡ bare_kinds width height n → ys ≡ xs ++ bare_kind (is_rim w h (pos_at w n)) ∷ [] → ys ≡ bare_kinds width height (n + 1)
+pub bare_kinds_more : (w h width height n : ℕ) (xs ys : List Kind) → w ≡ width → h ≡ height → xs ≡ bare_kinds width height n → ys ≡ xs ++ bare_kind (is_on_rim w h (pos_at w n)) ∷ [] → ys ≡ bare_kinds width height (n + 1)
 unfolding bare_kinds
 bare_kinds_more w h width height n xs ys ew eh is more =
-    rw (add-one n) (more ∙ ap (λ (l : List Kind). l ++ bare_kind (is_rim w h (pos_at w n)) ∷ []) is ∙ ap (λ v. bare_kinds width height n ++ bare_kind (is_rim v h (pos_at v n)) ∷ []) ew ∙ ap (λ v. bare_kinds width height n ++ bare_kind (is_rim width v (pos_at width n)) ∷ []) eh)
+    rw (add-one n) (more ∙ ap (λ (l : List Kind). l ++ bare_kind (is_on_rim w h (pos_at w n)) ∷ []) is ∙ ap (λ v. bare_kinds width height n ++ bare_kind (is_on_rim v h (pos_at v n)) ∷ []) ew ∙ ap (λ v. bare_kinds width height n ++ bare_kind (is_on_rim width v (pos_at width n)) ∷ []) eh)

@@ -1,6 +1,7 @@
 -- Food is part of what a world weighs.
 use Rattle.cell_world.specs.Cell.{cell_weight}
-use Rattle.cell_world.specs.World.{World, pos_at, sum_over, weight}
+use Rattle.cell_world.specs.World.{World, sum_over, weight}
+use Rattle.hex_geometry.specs.RowOrder.{pos_at}
 use Rattle.cell_world.specs.declared.cell.Cell.{Cell}
 use Rattle.hex_geometry.specs.declared.position.Pos.{Pos}
 use Rattle.std.proofs.Common.{◌≡◌, ℕ, zero, suc, ◌+◌, ◌-◌, ◌*◌, ◌≤◌, arith, subst}

@@ -3,7 +3,6 @@ pub mod Bares
 pub mod CellLists
 pub mod Follows
 pub mod Foods
-pub mod Indexes
 pub mod Lines
 pub mod Makings
 pub mod Separate

@@ -1,4 +1,5 @@
 -- Elements placed and painted, one after another.
+use Rattle.cell_world.specs.Limits.{most_size}
 use Rattle.cell_world.specs.Opening.{hill_count}
 use Rattle.cell_world.specs.declared.kind.Kind.{Kind}
 use Rattle.std.proofs.Common.{◌≡◌, ℕ, ◌+◌, ◌*◌, ◌<◌, ◌≤◌, List, [], ◌∷◌, ◌++◌, length, refl, sym, ◌∙◌, ap, arith, subst}
@@ -21,7 +22,7 @@ use Rattle.world_gen.specs.declared.shape.Shape.{Shape}
 use Rattle.world_gen.specs.declared.spot.Spot.{Spot}
 
 -- no element is placed
-pub begun_none : (seed : ℕ) (shape : Shape) (blocked : List Bool) (kinds : List Kind) (g : ℕ) → shape.width ≤ 512 → shape.height ≤ 512
+pub begun_none : (seed : ℕ) (shape : Shape) (blocked : List Bool) (kinds : List Kind) (g : ℕ) → shape.width ≤ most_size → shape.height ≤ most_size
     → blocked ≡ bare_blocked shape.width shape.height (shape.width * shape.height) → kinds ≡ bare_kinds shape.width shape.height (shape.width * shape.height) → g ≡ 0 → IsBegun seed shape 0 blocked kinds g
 begun_none seed shape blocked kinds g narrow low is_blocked is_kinds zero =
     let area = shape.width * shape.height in

@@ -1,12 +1,12 @@
 -- Lists in which the entries of some cells are set.
-use Rattle.cell_world.specs.Grid.{index_of}
+use Rattle.hex_geometry.proofs.RowLemmas.{index_of-inside, index_of-same}
+use Rattle.hex_geometry.specs.RowOrder.{index_of}
 use Rattle.hex_geometry.specs.Position.{IsInside}
 use Rattle.hex_geometry.specs.declared.position.Pos.{Pos}
 use Rattle.std.proofs.Common.{◌≡◌, ◌≢◌, ℕ, ◌*◌, ◌<◌, List, length, get_or, refl, sym, ◌∙◌, subst, inl, inr, get_or-set_other, get_or-set_same}
 use Rattle.std.proofs.Math.ListN.{set, length-set}
 use Rattle.std.proofs.lemmas.Bool.{cases_Bool, eqb-false, eqb-true}
 use Rattle.std.specs.Prelude.{◌⊎◌, ◌==◌}
-use Rattle.world_gen.proofs.Indexes.{index_below, index_one}
 use Rattle.world_gen.specs.Inner.Sets.{SetsWhere}
 
 -- setting a value keeps it where it is
@@ -24,11 +24,11 @@ sets_none width height v S xs none = record { same_length = refl; on = λ p d in
 -- one entry is set
 pub sets_one : {X : Type 0} (width height : ℕ) (v : X) (q : Pos) (xs : List X) → length xs ≡ width * height → IsInside width height q → SetsWhere width height v (λ p. q ≡ p) xs (set xs (index_of width q) v)
 sets_one {X} width height v q xs full inside =
-    let within : index_of width q < length xs = subst (λ n. index_of width q < n) (sym full) (index_below width height q inside) in
+    let within : index_of width q < length xs = subst (λ n. index_of width q < n) (sym full) (index_of-inside width height q inside) in
     let at_q : (d : X) → get_or (set xs (index_of width q) v) (index_of width q) d ≡ v = λ d. rw get_or-set_same refl in
     let elsewhere : (p : Pos) (d : X) → IsInside width height p → (q ≡ p → ⊥) → get_or (set xs (index_of width q) v) (index_of width p) d ≡ get_or xs (index_of width p) d =
     λ p d here other.
-    let apart : index_of width p ≢ index_of width q = λ same. other (sym (index_one width p q here.column inside.column same)) in
+    let apart : index_of width p ≢ index_of width q = λ same. other (sym (index_of-same width p q here.column inside.column same)) in
     rw get_or-set_other refl in
     record {
       same_length = length-set xs (index_of width q) v;

@@ -1,6 +1,6 @@
 -- Cells stamped one after another.
 use Rattle.cell_world.specs.Cell.{one_if}
-use Rattle.cell_world.specs.Grid.{index_of}
+use Rattle.hex_geometry.specs.RowOrder.{index_of}
 use Rattle.cell_world.specs.Opening.{IsFed, hill_count, is_hill}
 use Rattle.cell_world.specs.declared.kind.Kind.{Kind}
 use Rattle.hex_geometry.proofs.Beside.{neighbours_of_contains, neighbours_of_only}

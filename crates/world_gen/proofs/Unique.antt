@@ -1,22 +1,20 @@
 -- A seed and a shape have one outcome.
 use Rattle.cell_world.specs.Grid.{Grid}
 use Rattle.cell_world.specs.Opening.{kind_at, opening}
-use Rattle.cell_world.specs.World.{pos_at}
+use Rattle.hex_geometry.proofs.Rim.{inner-off_rim, off_rim-inner}
+use Rattle.hex_geometry.proofs.RowLemmas.{index_of-pos_at}
 use Rattle.cell_world.specs.declared.kind.Kind.{Kind}
 use Rattle.cell_world.specs.declared.kind.Kind.TheVariants as kind
 use Rattle.hex_geometry.proofs.Places.{pos_same}
-use Rattle.hex_geometry.specs.Distance.{IsBefore}
-use Rattle.hex_geometry.specs.Position.{IsInner, IsInside, point_of}
+use Rattle.hex_geometry.specs.RowOrder.{IsBefore, pos_at}
+use Rattle.hex_geometry.specs.Position.{IsInner, IsInside, is_on_rim, point_of}
 use Rattle.hex_geometry.specs.declared.position.Pos.{Pos}
 use Rattle.std.proofs.Common.{◌≡◌, ◌≢◌, ℕ, zero, suc, ◌+◌, ◌*◌, ◌<◌, List, [], ◌∷◌, ◌++◌, length, get_or, refl, sym, ◌∙◌, ap, arith, subst, inl, inr, append_assoc}
 use Rattle.std.proofs.Math.Nat.{div-lt_iff_lt-mul, mul_comm}
 use Rattle.std.proofs.lemmas.Bool.{cases_Bool, cases_lt, eqb-false, eqb-true, false≢true}
 use Rattle.std.proofs.lemmas.List.{append-nil, get_or_default, same_lists}
 use Rattle.std.specs.Prelude.{Contains, ◌⊎◌, ◌==◌}
-use Rattle.world_gen.proofs.Bares.{inner_rim_false, rim_false_inner}
-use Rattle.world_gen.proofs.Indexes.{index_pos_at}
 use Rattle.world_gen.specs.Elements.{IsCell, element_of}
-use Rattle.world_gen.specs.Inner.Yards.{is_rim}
 use Rattle.world_gen.specs.Painting.{IsGenerated, IsPainted}
 use Rattle.world_gen.specs.Fitting.{IsFreeSpot}
 use Rattle.world_gen.specs.Placing.{Follow, Goes, HasNone, HasNoRoom, IsBarred, IsFound, IsPlacing, IsChosenSpot, after_begun, figure_begun, draws_of, spot_at, try_of}
@@ -159,15 +157,15 @@ kinds_apart a b = inr (λ e. absurd (cc))
 -- a placing is painted in one way
 painted_at : (width height : ℕ) (placed : List Spot) (xs ys : List Kind) → IsPainted width height placed xs → IsPainted width height placed ys → (p : Pos) → IsInside width height p → kind_at width xs p ≡ kind_at width ys p
 painted_at width height placed xs ys x y p inside =
-    elim (cases_Bool (is_rim width height p)) [
+    elim (cases_Bool (is_on_rim width height p)) [
       | inl on ↦
-          let outer : IsInner width height p → ⊥ = λ inner. false≢true (sym (inner_rim_false width height p inner) ∙ on) in
+          let outer : IsInner width height p → ⊥ = λ inner. false≢true (sym (inner-off_rim width height p inner) ∙ on) in
           x.rim p inside outer ∙ sym (y.rim p inside outer)
       | inr off ↦ elim (kinds_apart (kind_at width xs p) (kind_at width ys p)) [
         | inl same ↦ same
         | inr other ↦
             let none : (spot : Spot) → Contains placed spot → IsCell spot (point_of p) → ⊥ = λ spot among cell. other (x.cell p spot among cell ∙ sym (y.cell p spot among cell)) in
-            let inner : IsInner width height p = rim_false_inner width height p inside off in
+            let inner : IsInner width height p = off_rim-inner width height p inside off in
             x.floor p inner none ∙ sym (y.floor p inner none)
       ]
     ]
@@ -186,7 +184,7 @@ painted_each width height placed xs ys x y k d below =
     let low : k < width * height = let h = x.full in omega arith in
     let low_too : k < length ys = let h = y.full in omega arith in
     let same = painted_at width height placed xs ys x y (pos_at width k) (pos_at_inside width height k low) in
-    let here : get_or xs k kind.Rock ≡ get_or ys k kind.Rock = subst (λ i. get_or xs i kind.Rock ≡ get_or ys i kind.Rock) (index_pos_at width k) same in
+    let here : get_or xs k kind.Rock ≡ get_or ys k kind.Rock = subst (λ i. get_or xs i kind.Rock ≡ get_or ys i kind.Rock) (index_of-pos_at width k) same in
     get_or_default xs k d kind.Rock below ∙ here ∙ get_or_default ys k kind.Rock d low_too
 
 painted_one : (width height : ℕ) (placed : List Spot) (xs ys : List Kind) → IsPainted width height placed xs → IsPainted width height placed ys → xs ≡ ys

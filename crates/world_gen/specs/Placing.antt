@@ -2,7 +2,7 @@
 use Rattle.std.specs.Prelude.{◌≡◌, ℕ, ◌+◌, ◌*◌, ◌<◌, List, [], ◌∷◌, ◌++◌, length, ◌⊎◌}
 use Rattle.ant_random.specs.Stream.{drawn}
 use Rattle.hex_geometry.specs.Direction.{dir_of}
-use Rattle.hex_geometry.specs.Distance.{IsBefore}
+use Rattle.hex_geometry.specs.RowOrder.{IsBefore}
 use Rattle.hex_geometry.specs.Position.{IsInside}
 use Rattle.hex_geometry.specs.declared.direction.Dir.TheVariants.{East}
 use Rattle.hex_geometry.specs.declared.position.Pos.{Pos}

@@ -1,15 +1,14 @@
 // A world in the making: what each cell is, and where nothing may be placed.
-ghost use Rattle.cell_world.specs.Grid.{index_of};
+ghost use Rattle.hex_geometry.specs.RowOrder.{index_of, pos_at};
 ghost use Rattle.cell_world.specs.Limits.{most_size};
-ghost use Rattle.cell_world.specs.World.{pos_at};
-ghost use Rattle.hex_geometry.specs.Position.{IsInner};
+ghost use Rattle.hex_geometry.specs.Position.{IsInner, is_on_rim};
 ghost use Rattle.std.specs.Prelude.{◌≡◌, ◌+◌, ◌*◌, ◌++◌, ◌∷◌, [], ◌<◌, ◌≤◌, true, Contains, IfOk, OnOk, length, slice_set};
 ghost use Rattle.world_gen.specs.Inner.Open.{is_unblocked};
 ghost use Rattle.world_gen.specs.Inner.Sets.{IsRound, SetsWhere};
-ghost use Rattle.world_gen.specs.Inner.Yards.{IsStamped, bare_blocked, bare_kind, bare_kinds, is_rim};
+ghost use Rattle.world_gen.specs.Inner.Yards.{IsStamped, bare_blocked, bare_kind, bare_kinds};
 
 use cell_world::Kind;
-use hex_geometry::{Dir, OutOfMemory, Pos, adjacent};
+use hex_geometry::{Dir, OutOfMemory, Pos, adjacent, index_of, is_on_rim, pos_at};
 use std::alloc::Global;
 
 // The kinds in row order, and beside each whether its cell is on the rim or touched by an element.
@@ -47,14 +46,15 @@ impl Yard {
 
     // Adds the cell of this number in row order: rock on the rim, which is blocked, and clear inside.
     fn add(&mut self, number: u32) -> Result<(), OutOfMemory>
-        requires wide { 1 ≤ self.old.width }
+        requires { number < self.old.width * self.old.height }
         ensures width { self.new.width ≡ self.old.width }
         ensures height { self.new.height ≡ self.old.height }
-        ensures blocked { OnOk result (self.new.blocked.items ≡ self.old.blocked.items ++ is_rim self.old.width self.old.height (pos_at self.old.width number) ∷ []) }
+        ensures blocked { OnOk result (self.new.blocked.items ≡ self.old.blocked.items ++ is_on_rim self.old.width self.old.height (pos_at self.old.width number) ∷ []) }
         ensures kinds { OnOk result (self.new.kinds.items ≡ self.old.kinds.items ++ bare_kind
-            (is_rim self.old.width self.old.height (pos_at self.old.width number)) ∷ []) }
+            (is_on_rim self.old.width self.old.height (pos_at self.old.width number)) ∷ []) }
     {
-        let rim = is_rim(self.width, self.height, number);
+        let (width, height) = (self.width, self.height);
+        let rim = is_on_rim(width, height, pos_at(width, number as usize));
         let kind = bare_kind(rim);
         self.blocked.push(rim)?;
         self.kinds.push(kind)?;
@@ -90,29 +90,11 @@ impl Yard {
     }
 }
 
-// Whether the cell of this number in row order is in the first or last column or row.
-fn is_rim(width: u16, height: u16, number: u32) -> bool
-    requires { 1 ≤ width }
-    ensures { result ≡ is_rim width height (pos_at width number) }
-{
-    let x = number % width as u32;
-    let y = number / width as u32;
-    x == 0 || y == 0 || x + 1 == width as u32 || y + 1 == height as u32
-}
-
 // Rock on the rim, and nothing inside.
 fn bare_kind(rim: bool) -> Kind
     ensures { result ≡ bare_kind rim }
 {
     if rim { Kind::Rock } else { Kind::Clear }
-}
-
-// The number of a position in row order.
-#[inline]
-fn index_of(width: u16, p: Pos) -> usize
-    ensures { result ≡ index_of width p }
-{
-    p.y as usize * width as usize + p.x as usize
 }
 
 fn paint(kinds: &mut [Kind], width: u16, p: Pos, kind: Kind)

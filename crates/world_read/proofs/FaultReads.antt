@@ -8,10 +8,10 @@ use Rattle.ant_base.specs.Lines.{is_blank, lines_of}
 use Rattle.hex_geometry.specs.declared.position.Pos.{Pos}
 use Rattle.hex_geometry.specs.Position.{IsInside}
 use Rattle.cell_world.specs.declared.kind.Kind.{Kind}
-use Rattle.cell_world.specs.Grid.{index_of}
+use Rattle.hex_geometry.proofs.RowLemmas.{index_of-pos_at, pos_at-index_of, pos_at-inside}
+use Rattle.hex_geometry.specs.RowOrder.{index_of}
 use Rattle.cell_world.specs.Limits.{most_ants}
 use Rattle.cell_world.specs.Opening.{IsFed, hill_count, kind_at}
-use Rattle.cell_world.proofs.GridLemmas.{index_of-pos_at, pos_at-index_of}
 use Rattle.world_read.specs.declared.fault.WorldFault.{WorldFault}
 use Rattle.world_read.specs.declared.fault.WorldFault.TheVariants.{BadWidth, BadHeight, MissingRow, BadCell, ShortRow, LongRow, ExtraRow, OpenRim, TooManyAnts, OutOfMemory}
 use Rattle.world_read.specs.Bytes.{byte_of, spelled}
@@ -20,7 +20,7 @@ use Rattle.world_read.specs.Faulty.{BeginsWith, BeginsWithNoSize, HasRows, HasRo
 use Rattle.world_read.specs.Grammar.{AreRows}
 use Rattle.world_read.specs.Inner.Reading.{Rows, after_height, after_width, cell_of, rows_ended, first_size, is_open_at, limited, open_rim, plan_of, row_from, row_of, rows_from, with_cell, with_row}
 use Rattle.world_read.proofs.BytesLemmas.{Spells, kind_of-byte_of}
-use Rattle.world_read.proofs.ScanLemmas.{IsInner-closed, first_of-none, is_open-closed, open_rim-known, pos_at-within, rim-closed}
+use Rattle.world_read.proofs.ScanLemmas.{IsInner-closed, first_of-none, is_open-closed, open_rim-known, rim-closed}
 use Rattle.world_read.proofs.RowReads.{IsRow, cell_of-known, row_from-known, rows_from-known}
 use Rattle.world_read.proofs.TextReads.{size_of-known, size_of-line}
 
@@ -291,7 +291,7 @@ module _ (text first second : List ℕ) (lines : List (List ℕ)) (width height 
   open_rim_fault kinds p whole found =
       let test = is_open_at width height kinds in
       let first = open_rim-known width height kinds p found in
-      let inside : IsInside width height p = subst (IsInside width height) first.at (pos_at-within width height first.number (omega (arith, wide.least)) first.early) in
+      let inside : IsInside width height p = subst (IsInside width height) first.at (pos_at-inside width height first.number first.early) in
       let number : first.number ≡ index_of width p = sym (index_of-pos_at width first.number) ∙ ap (index_of width) first.at in
       record {
         width = width;

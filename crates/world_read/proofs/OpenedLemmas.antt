@@ -11,7 +11,8 @@ use Rattle.cell_world.specs.declared.cell.Cell.{Cell}
 use Rattle.cell_world.specs.declared.kind.Kind.{Kind}
 use Rattle.cell_world.specs.declared.kind.Kind.TheVariants.{Rock, Clear, RedHill, BlackHill, Food}
 use Rattle.cell_world.specs.Cell.{rock, one_if}
-use Rattle.cell_world.specs.Grid.{Grid, IsWorld, cell_in, index_of, world_of}
+use Rattle.cell_world.specs.Grid.{Grid, IsWorld, cell_in, world_of}
+use Rattle.hex_geometry.specs.RowOrder.{index_of}
 use Rattle.cell_world.specs.Opening.{IsFed, floor, hill_count, is_hill, opening, opening_cell, opening_cells}
 use Rattle.cell_world.proofs.GridLemmas.{cell_in-beyond, cell_in-column, cell_in-inside}
 use Rattle.cell_world.proofs.Openings.{get_or-opening_cells}

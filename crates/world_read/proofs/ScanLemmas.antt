@@ -1,20 +1,20 @@
 -- The search for an open cell of the rim.
 use Rattle.std.proofs.Common.{◌≡◌, ℕ, suc, zero, ◌+◌, ◌*◌, ◌<◌, ◌≤◌, Bool, true, false, not, cond, ◌||◌, ◌==◌, List, ◌∷◌, length, get_or, Option, Some, None, refl, sym, ◌∙◌, ap, subst, arith, inl, inr, is_some}
-use Rattle.std.proofs.lemmas.Bool.{and_cases, and_left, and_right, both_ways, cases_Bool, cases_eq, eqb-false, ne_eqb, not-false, not_from_true, or_from, or_parts}
-use Rattle.std.proofs.lemmas.Nat.{mod_below, div_below}
+use Rattle.std.proofs.lemmas.Bool.{and_cases, and_left, and_right, both_ways, cases_Bool, cases_eq, not-false, not_from_true}
 use Rattle.std.proofs.lemmas.List.{get_or_default}
 use Rattle.std.proofs.lemmas.List.Recursion.{is_count_by}
 use Rattle.std.specs.List.{count_by}
 use Rattle.hex_geometry.specs.declared.position.Pos.{Pos}
-use Rattle.hex_geometry.specs.Position.{IsInner, IsInside}
+use Rattle.hex_geometry.specs.Position.{IsInner, IsInside, is_on_rim}
 use Rattle.cell_world.specs.declared.kind.Kind.{Kind}
 use Rattle.cell_world.specs.declared.kind.Kind.TheVariants.{Rock}
 use Rattle.cell_world.specs.Cell.{one_if}
 use Rattle.cell_world.specs.Opening.{hill_count, is_hill, is_rock, kind_at}
-use Rattle.cell_world.specs.Grid.{index_of}
-use Rattle.cell_world.specs.World.{first_of, or_here, pos_at}
-use Rattle.cell_world.proofs.GridLemmas.{index_of-inside, pos_at-index_of}
-use Rattle.world_read.specs.Inner.Reading.{is_on_rim, is_open, is_open_at, open_rim}
+use Rattle.hex_geometry.proofs.RowLemmas.{index_of-early, index_of-inside, pos_at-index_of, pos_at-inside}
+use Rattle.hex_geometry.proofs.Rim.{inner-off_rim, off_rim-inner}
+use Rattle.hex_geometry.specs.RowOrder.{index_of, pos_at}
+use Rattle.cell_world.specs.World.{first_of, or_here}
+use Rattle.world_read.specs.Inner.Reading.{is_open, is_open_at, open_rim}
 use Rattle.world_read.specs.Inner.Scan.{IsClosedBefore}
 
 -- what was found stays found
@@ -27,10 +27,11 @@ first_of-later width test i (suc n) p found le =
     ]
 
 -- the kind that is read at a position's number is the kind there
-pub is_open-read : (width height : ℕ) (kinds : List Kind) (x y : ℕ) (d : Kind) → length kinds ≡ width * height → x < width → y < height → is_open width height (get_or kinds (y * width + x) d) (record { x = x; y = y }) ≡ is_open_at width height kinds (record { x = x; y = y })
-is_open-read width height kinds x y d full column row =
-    let early : y * width + x < length kinds = subst (λ n. y * width + x < n) (sym full) (index_of-inside width height x y column row) in
-    ap (λ kind. is_open width height kind (record { x = x; y = y })) (get_or_default kinds (y * width + x) d Rock early)
+pub is_open-read : (width height : ℕ) (kinds : List Kind) (x y k : ℕ) (d : Kind) → k ≡ y * width + x → length kinds ≡ width * height → x < width → y < height → is_open width height (get_or kinds k d) (record { x = x; y = y }) ≡ is_open_at width height kinds (record { x = x; y = y })
+is_open-read width height kinds x y k d at full column row =
+    let p : Pos = record { x = x; y = y } in
+    let early : index_of width p < length kinds = index_of-early kinds width height p full (record { column = column; row = row }) in
+    ap (λ n. is_open width height (get_or kinds n d) p) at ∙ ap (λ kind. is_open width height kind p) (get_or_default kinds (index_of width p) d Rock early)
 
 -- the step of the search at a position whose number comes next
 pub search_step : (width height : ℕ) (kinds : List Kind) (x y : ℕ) (b : Bool) → x < width → IsClosedBefore width height kinds (y * width + x) → is_open_at width height kinds (record { x = x; y = y }) ≡ b → first_of width (is_open_at width height kinds) (suc (y * width + x)) ≡ cond b (Some (record { x = x; y = y })) None
@@ -92,32 +93,13 @@ first_of-closed width test (suc n) none =
 pub IsInner-closed : (width height : ℕ) (kind : Kind) (p : Pos) → is_open width height kind p ≡ false → is_rock kind ≡ false → IsInside width height p → IsInner width height p
 IsInner-closed width height kind p closed clear inside =
     elim (and_cases (is_on_rim width height p) (not (is_rock kind)) closed) [
-      | inl off ↦
-          let bottom = or_parts (((p.x == 0) || (p.y == 0)) || (p.x + 1 == width)) (p.y + 1 == height) off in
-          let right = or_parts ((p.x == 0) || (p.y == 0)) (p.x + 1 == width) bottom.0 in
-          let both = or_parts (p.x == 0) (p.y == 0) right.0 in
-          let x = eqb-false p.x 0 both.0 in
-          let y = eqb-false p.y 0 both.1 in
-          let r = eqb-false (p.x + 1) width right.1 in
-          let b = eqb-false (p.y + 1) height bottom.1 in
-          record { from_left = omega arith; to_right = omega (arith, inside.column); from_top = omega arith; to_bottom = omega (arith, inside.row) }
+      | inl off ↦ off_rim-inner width height p inside off
       | inr rock ↦ absurd (both_ways (is_rock kind) clear (not-false (is_rock kind) rock))
     ]
 
 -- a cell that isn't on the rim isn't open
 is_open-inner : (width height : ℕ) (kind : Kind) (p : Pos) → IsInner width height p → is_open width height kind p ≡ false
-is_open-inner width height kind p inner =
-    let x = ne_eqb p.x 0 (λ e. omega (arith, inner.from_left)) in
-    let y = ne_eqb p.y 0 (λ e. omega (arith, inner.from_top)) in
-    let r = ne_eqb (p.x + 1) width (λ e. omega (arith, inner.to_right)) in
-    let b = ne_eqb (p.y + 1) height (λ e. omega (arith, inner.to_bottom)) in
-    and_left (is_on_rim width height p) (not (is_rock kind))
-    (or_from (((p.x == 0) || (p.y == 0)) || (p.x + 1 == width)) (p.y + 1 == height)
-    (or_from ((p.x == 0) || (p.y == 0)) (p.x + 1 == width) (or_from (p.x == 0) (p.y == 0) x y) r) b)
-
--- a position of a number below the area is inside
-pub pos_at-within : (width height i : ℕ) → 1 ≤ width → i < width * height → IsInside width height (pos_at width i)
-pos_at-within width height i wide lt = record { column = mod_below i width wide; row = div_below i width height wide (omega arith) }
+is_open-inner width height kind p inner = and_left (is_on_rim width height p) (not (is_rock kind)) (inner-off_rim width height p inner)
 
 -- a position that is closed has no open cell
 pub is_open-closed : (width height : ℕ) (kinds : List Kind) (p : Pos) → (is_rock (kind_at width kinds p) ≡ false → IsInner width height p) → is_open_at width height kinds p ≡ false
@@ -132,16 +114,16 @@ pub rim-closed : (width height : ℕ) (kinds : List Kind) → open_rim width hei
 unfolding open_rim
 rim-closed width height kinds none p inside clear =
     let test = is_open_at width height kinds in
-    let here = first_of-none width test (width * height) (index_of width p) none (index_of-inside width height p.x p.y inside.column inside.row) in
+    let here = first_of-none width test (width * height) (index_of width p) none (index_of-inside width height p inside) in
     let closed : is_open_at width height kinds p ≡ false = ap test (sym (pos_at-index_of width p inside.column)) ∙ here in
     IsInner-closed width height (kind_at width kinds p) p closed clear inside
 
 -- where what isn't rock isn't on the rim, no cell of the rim is open
-pub open_rim-closed : (width height : ℕ) (kinds : List Kind) → 1 ≤ width → ((p : Pos) → IsInside width height p → is_rock (kind_at width kinds p) ≡ false → IsInner width height p) → open_rim width height kinds ≡ None
+pub open_rim-closed : (width height : ℕ) (kinds : List Kind) → ((p : Pos) → IsInside width height p → is_rock (kind_at width kinds p) ≡ false → IsInner width height p) → open_rim width height kinds ≡ None
 unfolding open_rim
-open_rim-closed width height kinds wide rim =
+open_rim-closed width height kinds rim =
     first_of-closed width (is_open_at width height kinds) (width * height)
-    (λ i lt. let p = pos_at width i in is_open-closed width height kinds p (rim p (pos_at-within width height i wide lt)))
+    (λ i lt. let p = pos_at width i in is_open-closed width height kinds p (rim p (pos_at-inside width height i lt)))
 
 -- what a search found: it passes the test, and nothing before it does
 pub record IsFirst (width : ℕ) (test : Pos → Bool) (n : ℕ) (p : Pos) : Type 0 where
@@ -176,4 +158,4 @@ open_rim-first width height kinds p inside closed is =
     let test = is_open_at width height kinds in
     let n = index_of width p in
     first_of-later width test (suc n) (width * height) p (search_step width height kinds p.x p.y true inside.column closed is)
-    (index_of-inside width height p.x p.y inside.column inside.row)
+    (index_of-inside width height p inside)

@@ -99,5 +99,5 @@ plan_of-text text width height kinds t =
     ∙ ap (λ o. after_height width o lines) (size_of-line t.second height t.is_height t.plan.tall t.plan.low)
     ∙ ap (rows_ended width height) read
     ∙ cond-true (list_all is_blank t.rest) (limited width height kinds (open_rim width height kinds)) (Err ExtraRow) (list_all-from_AllPass is_blank t.rest t.blank)
-    ∙ ap (limited width height kinds) (open_rim-closed width height kinds (omega (arith, t.plan.wide)) t.plan.rim)
+    ∙ ap (limited width height kinds) (open_rim-closed width height kinds t.plan.rim)
     ∙ cond-true (leb (hill_count kinds) most_ants) (Ok (record { width = width; height = height; kinds = kinds })) (Err (TooManyAnts (hill_count kinds))) (le-leb (hill_count kinds) most_ants t.plan.few)

@@ -7,11 +7,10 @@ use Rattle.std.specs.List.{list_all}
 use Rattle.ant_base.specs.Lines.{is_blank, lines_of}
 use Rattle.hex_geometry.specs.declared.position.Pos.{Pos}
 use Rattle.cell_world.specs.declared.kind.Kind.{Kind}
-use Rattle.cell_world.specs.Grid.{index_of}
+use Rattle.hex_geometry.proofs.RowLemmas.{index_of-inside, index_of-pos_at, pos_at-inside}
+use Rattle.hex_geometry.specs.RowOrder.{index_of, pos_at}
 use Rattle.cell_world.specs.Limits.{most_ants}
 use Rattle.cell_world.specs.Opening.{hill_count, kind_at}
-use Rattle.cell_world.specs.World.{pos_at}
-use Rattle.cell_world.proofs.GridLemmas.{index_of-inside, index_of-pos_at}
 use Rattle.world_read.specs.declared.fault.WorldFault.{WorldFault}
 use Rattle.world_read.specs.declared.fault.WorldFault.TheVariants.{BadWidth, BadHeight, MissingRow, BadCell, ShortRow, LongRow, ExtraRow, OpenRim, TooManyAnts, OutOfMemory}
 use Rattle.world_read.specs.Inner.Reading.{kind_of}
@@ -21,7 +20,7 @@ use Rattle.world_read.specs.Grammar.{Plan}
 use Rattle.world_read.specs.Inner.Reading.{after_height, after_width, cell_of, rows_ended, first_size, is_open_at, limited, onto_row, open_rim, plan_of, row_from, rows_from, size_of, with_cell, with_row}
 use Rattle.world_read.specs.Inner.Scan.{IsClosedBefore}
 use Rattle.world_read.proofs.BytesLemmas.{command_kind_of-known}
-use Rattle.world_read.proofs.ScanLemmas.{IsInner-closed, first_of-closed, is_open-closed, open_rim-closed, open_rim-first, pos_at-within}
+use Rattle.world_read.proofs.ScanLemmas.{IsInner-closed, first_of-closed, is_open-closed, open_rim-closed, open_rim-first}
 use Rattle.world_read.proofs.RowReads.{row_from-cells, rows_from-front, rows_from-rows}
 use Rattle.world_read.proofs.TextReads.{size_of-known, size_of-line}
 
@@ -143,11 +142,11 @@ rim_wrong text p h =
     let test = is_open_at h.width h.height h.kinds in
     let n = index_of h.width p in
     let wide : 1 ≤ h.width = omega (arith, h.complete.rows.is_width.least) in
-    let last : n < h.width * h.height = index_of-inside h.width h.height p.x p.y h.inside.column h.inside.row in
+    let last : n < h.width * h.height = index_of-inside h.width h.height p h.inside in
     let closed : IsClosedBefore h.width h.height h.kinds n =
     first_of-closed h.width test n
     (λ i lt. is_open-closed h.width h.height h.kinds (pos_at h.width i)
-    (h.first (pos_at h.width i) (pos_at-within h.width h.height i wide (omega (arith, last))) (subst (λ k. k < n) (sym (index_of-pos_at h.width i)) lt))) in
+    (h.first (pos_at h.width i) (pos_at-inside h.width h.height i (omega (arith, last))) (subst (λ k. k < n) (sym (index_of-pos_at h.width i)) lt))) in
     let here : test p ≡ true =
     true_from_ne_false (test p) (λ shut. h.wrong (λ clear. IsInner-closed h.width h.height (kind_at h.width h.kinds p) p shut clear h.inside)) in
     plan_of-complete text h.width h.height h.kinds h.complete
@@ -159,7 +158,7 @@ ants_wrong text count h =
     let many : most_ants < hill_count h.kinds = omega (arith, h.wrong, h.is) in
     let plan : Plan = record { width = h.width; height = h.height; kinds = h.kinds } in
     plan_of-complete text h.width h.height h.kinds h.complete
-    ∙ ap (limited h.width h.height h.kinds) (open_rim-closed h.width h.height h.kinds wide h.rim)
+    ∙ ap (limited h.width h.height h.kinds) (open_rim-closed h.width h.height h.kinds h.rim)
     ∙ cond-false (leb (hill_count h.kinds) most_ants) (Ok plan) (Err (TooManyAnts (hill_count h.kinds))) (lt-leb (hill_count h.kinds) most_ants many)
     ∙ ap (λ n. Err (TooManyAnts n)) (sym h.is)
 

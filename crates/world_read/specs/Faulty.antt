@@ -5,7 +5,7 @@ use Rattle.ant_base.specs.Lines.{lines_of, is_blank}
 use Rattle.hex_geometry.specs.declared.position.Pos.{Pos}
 use Rattle.hex_geometry.specs.Position.{IsInner, IsInside}
 use Rattle.cell_world.specs.declared.kind.Kind.{Kind}
-use Rattle.cell_world.specs.Grid.{index_of}
+use Rattle.hex_geometry.specs.RowOrder.{index_of}
 use Rattle.cell_world.specs.Limits.{least_size, most_size, most_ants}
 use Rattle.cell_world.specs.Opening.{IsFed, hill_count, is_rock, kind_at}
 use Rattle.world_read.specs.declared.fault.WorldFault.{WorldFault}

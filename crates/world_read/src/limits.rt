@@ -2,14 +2,12 @@
 ghost use Rattle.std.specs.Prelude.{◌≡◌, ◌≤◌, ◌<◌, ◌*◌, length};
 ghost use Rattle.cell_world.specs.Limits.{most_size};
 ghost use Rattle.cell_world.specs.Opening.{hill_count};
-ghost use Rattle.world_read.specs.Inner.Reading.{AreSizes, is_on_rim, is_open, leaving, limited, open_rim};
+ghost use Rattle.world_read.specs.Inner.Reading.{AreSizes, is_open, leaving, limited, open_rim};
 ghost use Rattle.world_read.specs.Inner.Scan.{SearchesRow};
 
 use crate::fault::WorldFault;
-use cell_world::Kind;
-use hex_geometry::Pos;
-
-const MOST_ANTS: u32 = 16384;
+use cell_world::{Kind, MOST_ANTS};
+use hex_geometry::{Pos, index_of, is_on_rim};
 
 // Whether the rim is rock and the hills aren't too many.
 pub fn check_limits(width: u16, height: u16, kinds: &[Kind]) -> Result<(), WorldFault>
@@ -49,7 +47,7 @@ fn open_in_row(width: u16, height: u16, y: u16, kinds: &[Kind]) -> Option<Pos>
 {
     for x in 0..width {
         let p = Pos { x, y };
-        let kind = kinds[y as usize * width as usize + x as usize];
+        let kind = kinds[index_of(width, p)];
         if is_open(width, height, kind, p) {
             return Some(p);
         }
@@ -64,15 +62,6 @@ fn is_open(width: u16, height: u16, kind: Kind, p: Pos) -> bool
     ensures { result ≡ is_open width height kind p }
 {
     is_on_rim(width, height, p) && !kind.is_rock()
-}
-
-// Whether a position is on the rim.
-fn is_on_rim(width: u16, height: u16, p: Pos) -> bool
-    requires column { p.x < width }
-    requires row { p.y < height }
-    ensures { result ≡ is_on_rim width height p }
-{
-    p.x == 0 || p.y == 0 || p.x + 1 == width || p.y + 1 == height
 }
 
 // How many hill cells there are.

@@ -4,10 +4,7 @@ ghost use Rattle.cell_world.specs.Limits.{least_size, most_size};
 ghost use Rattle.world_read.specs.Inner.Reading.{first_size, size_of};
 
 use ant_base::{Lines, read_number_within, trimmed};
-
-const LEAST_SIZE: u64 = 3;
-
-const MOST_SIZE: u64 = 512;
+use cell_world::{LEAST_SIZE, MOST_SIZE};
 
 // Takes the next line, and gives its size.
 pub fn read_size(lines: &mut Lines) -> Option<u16>
@@ -23,6 +20,6 @@ fn size_of(line: &[u8]) -> Option<u16>
     ensures size { result ≡ size_of line.now }
     ensures bounds { IfSome result (λ size. (least_size ≤ size) × (size ≤ most_size)) }
 {
-    let size = read_number_within(trimmed(line), LEAST_SIZE, MOST_SIZE)?;
+    let size = read_number_within(trimmed(line), LEAST_SIZE as u64, MOST_SIZE as u64)?;
     Some(size as u16)
 }

@@ -4,7 +4,7 @@ use Rattle.std.specs.List.{Contains}
 use Rattle.hex_geometry.specs.declared.position.Pos.{Pos}
 use Rattle.cell_world.specs.declared.body.Body.{Body}
 use Rattle.cell_world.specs.declared.tile.Tile.{Tile}
-use Rattle.cell_world.specs.Grid.{index_of}
+use Rattle.hex_geometry.specs.RowOrder.{index_of}
 use Rattle.cell_world.specs.Inner.Stored.{no_body, occupant_id}
 
 -- the body of id t, and what stands for one beyond the last

@@ -2,7 +2,7 @@
 use Rattle.std.specs.Prelude.{ℕ, ◌+◌, cond, List, [], ◌∷◌, ◌++◌, Option, Some}
 use Rattle.hex_geometry.specs.declared.position.Pos.{Pos}
 use Rattle.cell_world.specs.declared.kind.Kind.{Kind}
-use Rattle.cell_world.specs.World.{pos_at}
+use Rattle.hex_geometry.specs.RowOrder.{pos_at}
 use Rattle.cell_world.specs.Opening.{is_hill}
 
 -- the place of the ant that begins on a cell of this kind at p, if there is one

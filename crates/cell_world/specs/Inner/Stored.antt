@@ -16,7 +16,7 @@ use Rattle.cell_world.specs.Cell.{is_hill_of, one_if}
 use Rattle.cell_world.specs.Colour.{same_colour}
 use Rattle.cell_world.specs.Grid.{Grid}
 use Rattle.cell_world.specs.Opening.{is_hill, opening_cell}
-use Rattle.cell_world.specs.World.{pos_at}
+use Rattle.hex_geometry.specs.RowOrder.{pos_at}
 
 -- the ant of this id and body
 abbrev pub ant_from : ℕ → Body → Ant

@@ -5,12 +5,13 @@ ghost use Rattle.std.specs.Vec.{vec_len};
 ghost use Rattle.hex_geometry.specs.Position.{IsInside};
 ghost use Rattle.hex_geometry.specs.declared.position.Pos.{Pos};
 ghost use Rattle.cell_world.specs.Inner.Catching.{Catching, Followed, IsCaught};
-ghost use Rattle.cell_world.specs.Grid.{IsWorld, index_of, world_of};
+ghost use Rattle.cell_world.specs.Grid.{IsWorld, world_of};
+ghost use Rattle.hex_geometry.specs.RowOrder.{index_of};
 
 use crate::body::Body;
 use crate::tile::Tile;
 use crate::world::World;
-use hex_geometry::Pos;
+use hex_geometry::{Pos, index_of};
 
 impl World {
     /// Makes the world equal to `other`, from which it differs at none but these positions. The two are of one size and number of ids, and
@@ -50,7 +51,7 @@ fn follow(
     ensures { Catching width tiles.old.items tiles.new.items others.now.items bodies.old.items bodies.new.items other_bodies.now.items [] }
 {
     for p in places {
-        let i = p.y as usize * width as usize + p.x as usize;
+        let i = index_of(width, *p);
         let before = tiles[i].ant.id();
         let tile = others[i];
         tiles[i] = tile;

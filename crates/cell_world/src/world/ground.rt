@@ -9,7 +9,7 @@ use crate::cell::Cell;
 use crate::ground::Ground;
 use crate::occupant::Occupant;
 use crate::world::World;
-use hex_geometry::Pos;
+use hex_geometry::{Pos, index_of};
 
 /// A world can take any number of changes: its room is always 9, the most that a turn needs.
 impl Ground for World {
@@ -29,7 +29,7 @@ impl Ground for World {
 
     #[inline]
     fn set(&mut self, p: Pos, cell: Cell) {
-        let here = &mut self.tiles[p.y as usize * self.width as usize + p.x as usize];
+        let here = &mut self.tiles[index_of(self.width, p)];
         let before = here.ant.id();
         here.food = cell.food;
         here.red = cell.red;

@@ -3,7 +3,8 @@ use Rattle.std.specs.Prelude.{◌≡◌, ◌*◌, Bool, true, false, List, lengt
 use Rattle.std.specs.List.{Contains}
 use Rattle.hex_geometry.specs.declared.position.Pos.{Pos}
 use Rattle.hex_geometry.specs.Position.{IsInside}
-use Rattle.cell_world.specs.Grid.{Grid, index_of}
+use Rattle.cell_world.specs.Grid.{Grid}
+use Rattle.hex_geometry.specs.RowOrder.{index_of}
 
 -- the marks of a world's cells are those of the listed positions
 pub record AreMarked (grid : Grid) (marked : List Bool) (written : List Pos) : Type 0 where

@@ -1,6 +1,6 @@
 -- What the steps of placing an element answer.
 use Rattle.std.specs.Prelude.{◌≡◌, ℕ, ◌+◌, ◌*◌, ◌<◌, ◌≤◌, Option, Some, None, Bool, List, length, Result, Ok, Err}
-use Rattle.hex_geometry.specs.Distance.{IsBefore}
+use Rattle.hex_geometry.specs.RowOrder.{IsBefore}
 use Rattle.hex_geometry.specs.declared.position.Pos.{Pos}
 use Rattle.world_gen.specs.Placing.{Goes, HasNone, IsPlacing, IsChosenSpot, NoTryFits, draws_of, spot_at}
 use Rattle.cell_world.specs.Cell.{one_if}

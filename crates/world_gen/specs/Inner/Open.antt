@@ -1,6 +1,6 @@
 -- Which cells are open: not on the rim, and touched by no element so far.
 use Rattle.std.specs.Prelude.{◌≡◌, ℕ, zero, suc, ◌+◌, ◌-◌, ◌*◌, ◌<◌, ◌≤◌, [], ◌∷◌, ◌++◌, Bool, true, false, not, ◌&&◌, nat_lt, List, length, slice_index_or, Contains}
-use Rattle.cell_world.specs.Grid.{index_of}
+use Rattle.hex_geometry.specs.RowOrder.{index_of}
 use Rattle.cell_world.specs.Limits.{most_size}
 use Rattle.hex_geometry.specs.Direction.{turned_by}
 use Rattle.hex_geometry.specs.Distance.{IsInBall}

@@ -1,6 +1,6 @@
 -- Lists with an entry for each cell, in which those of some cells are set to one value.
 use Rattle.std.specs.Prelude.{◌≡◌, ℕ, ◌<◌, List, length, slice_index_or, ◌⊎◌, Contains}
-use Rattle.cell_world.specs.Grid.{index_of}
+use Rattle.hex_geometry.specs.RowOrder.{index_of}
 use Rattle.hex_geometry.specs.Direction.{dir_of}
 use Rattle.hex_geometry.specs.Neighbourhood.{adjacent_pos, neighbours_of}
 use Rattle.hex_geometry.specs.Position.{IsInside}

@@ -3,10 +3,10 @@ use Rattle.std.specs.Prelude.{◌≡◌, ℕ, zero, suc, ◌+◌, ◌*◌, ◌�
 use Rattle.std.specs.List.{All}
 use Rattle.cell_world.specs.Cell.{one_if}
 use Rattle.cell_world.specs.Opening.{IsFed, hill_count, is_hill}
-use Rattle.cell_world.specs.World.{pos_at}
+use Rattle.hex_geometry.specs.RowOrder.{pos_at}
 use Rattle.cell_world.specs.declared.kind.Kind.{Kind}
 use Rattle.cell_world.specs.declared.kind.Kind.TheVariants as kind
-use Rattle.hex_geometry.specs.Position.{IsInner, IsInside, Point, point_of}
+use Rattle.hex_geometry.specs.Position.{IsInner, IsInside, Point, is_on_rim, point_of}
 use Rattle.hex_geometry.specs.declared.position.Pos.{Pos}
 use Rattle.world_gen.specs.Elements.{IsCell}
 use Rattle.world_gen.specs.Fitting.{IsOffRim, IsTouching}
@@ -17,10 +17,6 @@ use Rattle.world_gen.specs.Placing.{Follow}
 use Rattle.world_gen.specs.declared.shape.Shape.{Shape}
 use Rattle.world_gen.specs.declared.spot.Spot.{Spot}
 
--- whether a position is in the first or last column or row
-abbrev pub is_rim : ℕ → ℕ → Pos → Bool
-is_rim width height p = nat_eq p.x 0 || (nat_eq p.y 0 || (nat_eq (p.x + 1) width || nat_eq (p.y + 1) height))
-
 -- rock on the rim, and nothing inside
 abbrev pub bare_kind : Bool → Kind
 bare_kind true = kind.Rock
@@ -29,12 +25,12 @@ bare_kind false = kind.Clear
 -- the first n cells in row order: whether each is on the rim
 unfoldable pub bare_blocked : ℕ → ℕ → ℕ → List Bool
 bare_blocked width height zero = []
-bare_blocked width height (suc n) = bare_blocked width height n ++ is_rim width height (pos_at width n) ∷ []
+bare_blocked width height (suc n) = bare_blocked width height n ++ is_on_rim width height (pos_at width n) ∷ []
 
 -- and what each is without elements
 unfoldable pub bare_kinds : ℕ → ℕ → ℕ → List Kind
 bare_kinds width height zero = []
-bare_kinds width height (suc n) = bare_kinds width height n ++ bare_kind (is_rim width height (pos_at width n)) ∷ []
+bare_kinds width height (suc n) = bare_kinds width height n ++ bare_kind (is_on_rim width height (pos_at width n)) ∷ []
 
 -- these cells are painted, and they and their neighbours are blocked
 pub record IsStamped (width height : ℕ) (cells : List Pos) (kind : Kind) (blocked blocked_now : List Bool) (kinds kinds_now : List Kind) : Type 0 where

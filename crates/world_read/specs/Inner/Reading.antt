@@ -5,6 +5,7 @@ use Rattle.std.specs.Prelude.{◌≡◌, ◌≤◌, ℕ, ◌+◌, ◌-◌, ◌*�
 use Rattle.std.specs.List.{list_all}
 use Rattle.ant_base.specs.Lines.{lines_of, trimmed, is_blank}
 use Rattle.ant_base.specs.Number.{number_within}
+use Rattle.hex_geometry.specs.Position.{is_on_rim}
 use Rattle.hex_geometry.specs.declared.position.Pos.{Pos}
 use Rattle.cell_world.specs.declared.kind.Kind.{Kind}
 use Rattle.cell_world.specs.declared.kind.Kind.TheVariants.{Rock, Clear, RedHill, BlackHill, Food}
@@ -75,10 +76,6 @@ abbrev pub rows_from : ℕ → ℕ → ℕ → List (List ℕ) → Result Rows W
 rows_from width y zero lines = Ok (record { kinds = []; rest = lines })
 rows_from width y (suc left) [] = Err (MissingRow y)
 rows_from width y (suc left) (line ∷ lines) = with_row (row_of width y line) (rows_from width (y + 1) left lines)
-
--- whether a position is on the rim of a world of these sizes
-abbrev pub is_on_rim : ℕ → ℕ → Pos → Bool
-is_on_rim width height p = (p.x == 0) || (p.y == 0) || (p.x + 1 == width) || (p.y + 1 == height)
 
 -- whether a cell of this kind at p is on the rim, and isn't rock
 abbrev pub is_open : ℕ → ℕ → Kind → Pos → Bool

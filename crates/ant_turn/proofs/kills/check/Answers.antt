@@ -2,9 +2,9 @@ use Rattle.std.proofs.Common.{◌≡◌, true, false, ◌++◌, Some, None, sym,
 use Rattle.std.proofs.lemmas.List.{append-nil}
 use Rattle.cell_world.specs.Valid.{Valid}
 use Rattle.cell_world.specs.World.{put_cell, with_cells}
+use Rattle.cell_world.proofs.Weights.{food-light}
 use Rattle.ant_turn.proofs.Checks.{is_surrounded-none, is_surrounded-some, check_at-spared, check_at-struck, killed_at-spared, killed_at-struck}
 use Rattle.ant_turn.proofs.Corpses.{CanSet-after_kill}
-use Rattle.ant_turn.proofs.StandsLemmas.{food_is_light}
 use Rattle.ant_turn.specs.Kills.{after_kill, check_at, is_surrounded}
 use Rattle.ant_turn.specs.Sheet.{sheet_of}
 use Rattle.ant_turn.proofs.kills.check.Goals as goal
@@ -26,7 +26,7 @@ has_foes-requires-clause-here g c = rw (c.cell_at-cell.ensures.world, ← c.cell
 
 pub after_kill-requires-clause-light : goal.after_kill-requires-clause-light
 after_kill-requires-clause-light g c =
-    rw (c.cell_at-cell.ensures.content, ← c.cell_at-cell.ensures.world) (food_is_light _ c.args.p c.cell_at-cell.ensures.valid)
+    rw (c.cell_at-cell.ensures.content, ← c.cell_at-cell.ensures.world) (food-light _ c.args.p c.cell_at-cell.ensures.valid)
 
 pub set-requires : goal.set-requires
 set-requires g c =

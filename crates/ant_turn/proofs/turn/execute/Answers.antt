@@ -1,8 +1,10 @@
--- the sensed cell is inside, and the own cell that an instruction changes may replace the one there
-use Rattle.std.proofs.Common.{refl}
+-- the sensed cell is inside, and the own cell that an instruction changes may replace the one there, with
+-- markers of the six
+use Rattle.std.proofs.Common.{refl, subst}
+use Rattle.brain_read.specs.Soundness.{IsSound}
 use Rattle.hex_geometry.proofs.Beside.{sensed_pos_inside}
 use Rattle.ant_turn.proofs.OwnCells.{drop_stays, mark_stays, pick_up_stays, unmark_stays}
-use Rattle.ant_turn.proofs.StandsLemmas.{own_read, own_replaces}
+use Rattle.ant_turn.proofs.StandsLemmas.{own_read, own_replaces, own_six}
 use Rattle.ant_turn.proofs.turn.execute.Goals as goal
 
 pub cell_at-sensed_cell-requires : goal.cell_at-sensed_cell-requires
@@ -27,6 +29,26 @@ pub stay-requires-in-Drop-clause-replaces : goal.stay-requires-in-Drop-clause-re
 stay-requires-in-Drop-clause-replaces g c =
     rw c.cell_at-cell-in-Drop.ensures.world
     (own_replaces (own_read c.requires.stands c.cell_at-cell-in-Drop.ensures.content) c.dropped.result c.dropped.ensures (drop_stays c.cell_at-cell-in-Drop.result c.args.ant c.in-Drop.next))
+
+pub stay-requires-clause-six : goal.stay-requires-clause-six
+stay-requires-clause-six g c =
+    own_six (own_read c.requires.stands c.cell_at-cell.ensures.content) c.marked.result c.requires.sound.0 c.marked.ensures (subst (IsSound c.requires.sound.0) c.in-Mark.is c.requires.sound.1)
+    (mark_stays c.args.ant.colour c.cell_at-cell.result c.args.ant c.in-Mark.mark c.in-Mark.next refl)
+
+pub stay-requires-in-Unmark-clause-six : goal.stay-requires-in-Unmark-clause-six
+stay-requires-in-Unmark-clause-six g c =
+    own_six (own_read c.requires.stands c.cell_at-cell-in-Unmark.ensures.content) c.unmarked.result c.requires.sound.0 c.unmarked.ensures (subst (IsSound c.requires.sound.0) c.in-Unmark.is c.requires.sound.1)
+    (unmark_stays c.args.ant.colour c.cell_at-cell-in-Unmark.result c.args.ant c.in-Unmark.mark c.in-Unmark.next refl)
+
+pub stay-requires-in-PickUp-clause-six : goal.stay-requires-in-PickUp-clause-six
+stay-requires-in-PickUp-clause-six g c =
+    own_six (own_read c.requires.stands c.cell_at-cell-in-PickUp.ensures.content) c.picked_up.result c.requires.sound.0 c.picked_up.ensures (subst (IsSound c.requires.sound.0) c.in-PickUp.is c.requires.sound.1)
+    (pick_up_stays c.cell_at-cell-in-PickUp.result c.args.ant c.in-PickUp.yes c.in-PickUp.no)
+
+pub stay-requires-in-Drop-clause-six : goal.stay-requires-in-Drop-clause-six
+stay-requires-in-Drop-clause-six g c =
+    own_six (own_read c.requires.stands c.cell_at-cell-in-Drop.ensures.content) c.dropped.result c.requires.sound.0 c.dropped.ensures (subst (IsSound c.requires.sound.0) c.in-Drop.is c.requires.sound.1)
+    (drop_stays c.cell_at-cell-in-Drop.result c.args.ant c.in-Drop.next)
 
 pub returns-in-Move-clause-world : goal.returns-in-Move-clause-world
 returns-in-Move-clause-world g c = rw c.in-Move.is (c.go.ensures.world c.args.stream.now.seed c.args.stream.now.place)

@@ -1,6 +1,7 @@
 -- the food is part of the weight, which is bounded
 use Rattle.cell_world.specs.Grid.{world_of}
-use Rattle.cell_world.specs.World.{pos_at, sum_over, weight}
+use Rattle.cell_world.specs.World.{sum_over, weight}
+use Rattle.hex_geometry.specs.RowOrder.{pos_at}
 use Rattle.cell_world.specs.declared.cell.Cell.{Cell}
 use Rattle.std.proofs.Common.{◌≡◌, ◌+◌, ◌*◌, ◌≤◌, ◌∙◌, ap, arith, add-one, refl}
 use Rattle.world_gen.proofs.Foods.{food_low}

@@ -6,7 +6,7 @@ use Rattle.hex_geometry.specs.Direction.{dir_of}
 use Rattle.hex_geometry.specs.Neighbourhood.{adjacent_pos}
 use Rattle.hex_geometry.specs.Position.{IsInside}
 use Rattle.std.proofs.Common.{◌≡◌, ◌*◌, length, sym, ◌∙◌, ap, arith, subst}
-use Rattle.world_gen.proofs.Indexes.{index_below}
+use Rattle.hex_geometry.proofs.RowLemmas.{index_of-inside}
 use Rattle.world_gen.proofs.Stamps.{round_all, round_first, round_more}
 use Rattle.world_gen.proofs.yard.block_round.Goals as goal
 use Rattle.world_gen.proofs.yard.block_round.Goals.{After-adjacent}
@@ -20,7 +20,7 @@ inside c = subst (IsInside c.args.width c.args.height) (sym c.adjacent.ensures.n
 
 pub block-requires-in-loop-number : goal.block-requires-in-loop-number
 block-requires-in-loop-number c =
-    let low = index_below c.args.width c.args.height c.adjacent.result (inside c) in
+    let low = index_of-inside c.args.width c.args.height c.adjacent.result (inside c) in
     let long : length c.loop-number.blocked ≡ c.args.width * c.args.height = c.loop-number.invariant.same_length ∙ c.requires.full in
     omega arith
 

@@ -21,7 +21,7 @@ ant_named-requires c =
     let fields = c.self.inside in
     subst (λ bodies. IsMadeBody (length bodies) c.id.result) (sym c.deref.ensures.value)
     (subst (IsMadeBody (length fields.bodies.items)) (sym c.id.ensures)
-    (tile-made fields.width fields.height fields.tiles.items fields.bodies.items c.args.p c.index-tile.result.now c.self.invariant.world (inside (grid_of fields) c.args.self.now c.args.p c.self.view_is c.requires) c.index-tile.ensures))
+    (tile-made fields.width fields.height fields.tiles.items fields.bodies.items c.args.p c.index_of.result c.index-tile.result.now c.self.invariant.world (inside (grid_of fields) c.args.self.now c.args.p c.self.view_is c.requires) c.index_of.ensures c.index-tile.ensures))
 
 pub returns-clause-content : goal.returns-clause-content
 returns-clause-content c =
@@ -29,5 +29,5 @@ returns-clause-content c =
     let tile = c.index-tile.result.now in
     let with : Option Ant → Cell = λ o. record (cell_from fields.bodies.items tile) { ant = o } in
     ap with (c.ant_named.ensures ∙ ap₂ ant_named c.deref.ensures.value c.id.ensures)
-    ∙ sym (cell_in-tile_is fields.width fields.height fields.tiles.items fields.bodies.items c.args.p tile c.self.invariant.world (inside (grid_of fields) c.args.self.now c.args.p c.self.view_is c.requires) c.index-tile.ensures)
+    ∙ sym (cell_in-tile_is fields.width fields.height fields.tiles.items fields.bodies.items c.args.p c.index_of.result tile c.self.invariant.world (inside (grid_of fields) c.args.self.now c.args.p c.self.view_is c.requires) c.index_of.ensures c.index-tile.ensures)
     ∙ ap (λ (g : Grid). cell_in g c.args.p) c.self.view_is

@@ -1,13 +1,15 @@
-use Rattle.std.proofs.Common.{◌≡◌, ◌⊎◌, ◌↔◌, ◌+◌, ◌*◌, true, [], ◌∷◌, ◌++◌, slice_set, subst, sym}
+use Rattle.std.proofs.Common.{◌≡◌, ◌⊎◌, ◌↔◌, true, [], ◌∷◌, ◌++◌, slice_set, subst, sym, ap, ◌∙◌}
 use Rattle.std.specs.List.{Contains}
+use Rattle.hex_geometry.specs.RowOrder.{index_of}
 use Rattle.round_book.specs.Inner.Workspace.{AreMarked}
 use Rattle.round_book.proofs.WorkspaceLemmas.{AreMarked-more, Contains-more}
 use Rattle.round_book.proofs.workspace.Workspace.mark.Goals as goal
 
 pub returns-then-not-index-clause-marks : goal.returns-then-not-index-clause-marks
 returns-then-not-index-clause-marks c =
-    subst (λ written. AreMarked c.args.self.now.world (slice_set c.args.self.now.marked.items (c.args.p.y * c.width.result + c.args.p.x) true) written) (sym c.push_reserved.ensures.items)
-    (subst (λ width. AreMarked c.args.self.now.world (slice_set c.args.self.now.marked.items (c.args.p.y * width + c.args.p.x) true) (c.args.self.now.written.items ++ c.args.p ∷ [])) (sym c.width.ensures.width)
+    let at : c.index_of-i.result ≡ index_of c.args.self.now.world.width c.args.p = c.index_of-i.ensures ∙ ap (λ width. index_of width c.args.p) c.width.ensures.width in
+    subst (λ written. AreMarked c.args.self.now.world (slice_set c.args.self.now.marked.items c.index_of-i.result true) written) (sym c.push_reserved.ensures.items)
+    (subst (λ i. AreMarked c.args.self.now.world (slice_set c.args.self.now.marked.items i true) (c.args.self.now.written.items ++ c.args.p ∷ [])) (sym at)
     (AreMarked-more c.args.self.now.world c.args.self.now.marked.items c.args.self.now.written.items c.args.p c.requires.marks c.requires.inside))
 
 pub returns-then-not-index-clause-written : goal.returns-then-not-index-clause-written

@@ -9,7 +9,7 @@ use Rattle.cell_world.specs.Limits.{most_weight}
 use Rattle.cell_world.specs.Parts.{only, union}
 use Rattle.cell_world.specs.World.{Cells}
 use Rattle.cell_world.proofs.Puts.{put_cell-same}
-use Rattle.ant_turn.proofs.StandsLemmas.{food_is_light}
+use Rattle.cell_world.proofs.Weights.{food-light}
 use Rattle.spec_record.specs.Look.{LookValue}
 use Rattle.spec_record.specs.Inner.Standing.{staying_reads, written_besides}
 use Rattle.spec_record.proofs.Looking.{read_at-inside, stays-seeing}
@@ -22,7 +22,7 @@ cell-there-requires c =
 
 pub turn_in_place-after-requires-clause-light : goal.turn_in_place-after-requires-clause-light
 turn_in_place-after-requires-clause-light c =
-    subst (λ (cell : Cell). cell.food ≤ most_weight) (sym c.requires.own) (food_is_light (world_of c.args.base.now) c.args.p c.requires.valid)
+    subst (λ (cell : Cell). cell.food ≤ most_weight) (sym c.requires.own) (food-light (world_of c.args.base.now) c.args.p c.requires.valid)
 
 pub returns-clause-look : goal.returns-clause-look
 returns-clause-look c sheet =

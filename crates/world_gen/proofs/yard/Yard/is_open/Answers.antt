@@ -1,7 +1,7 @@
 -- a position inside has an entry
 use Rattle.std.proofs.Common.{◌≡◌, ◌<◌, length, vec_len, arith, sym, ◌∙◌}
 use Rattle.std.proofs.lemmas.Bool.{ltb-true}
-use Rattle.world_gen.proofs.Indexes.{index_below}
+use Rattle.hex_geometry.proofs.RowLemmas.{index_of-inside}
 use Rattle.world_gen.proofs.yard.Yard.is_open.Goals as goal
 use Rattle.world_gen.proofs.yard.Yard.is_open.Goals.{then-p-self, else-p-self}
 
@@ -16,7 +16,7 @@ index-requires c =
       | then-p-self w ↦ omega arith
       | else-p-self w ↦ absurd (let h = ltb-true c.args.p.x c.args.self.now.width (sym w.value-is ∙ c.if-p-self-2.true) in omega arith)
     ] in
-    let low = index_below c.args.self.now.width c.args.self.now.height c.args.p (record { column = column; row = row }) in
+    let low = index_of-inside c.args.self.now.width c.args.self.now.height c.args.p (record { column = column; row = row }) in
     let is = c.index_of.ensures in
     let full = c.requires in
     omega arith

@@ -4,7 +4,7 @@ use Rattle.hex_geometry.specs.Position.{IsInner}
 use Rattle.hex_geometry.specs.declared.position.Pos.{Pos}
 use Rattle.std.proofs.Common.{get_or, length, ap, arith}
 use Rattle.std.proofs.lemmas.List.Elements.{Contains-get_or}
-use Rattle.world_gen.proofs.Indexes.{index_below}
+use Rattle.hex_geometry.proofs.RowLemmas.{index_of-inside}
 use Rattle.world_gen.proofs.Stamps.{stamped_on}
 use Rattle.world_gen.proofs.yard.Yard.stamp_all.Goals as goal
 
@@ -15,7 +15,7 @@ pub paint-requires : goal.paint-requires
 paint-requires c =
     let cell : Pos = get_or c.args.cells.now c.loop-cell.cell-index (record { x = 0; y = 0 }) in
     let inner : IsInner c.args.self.now.width c.args.self.now.height cell = c.requires.inner cell (Contains-get_or c.args.cells.now c.loop-cell.cell-index (record { x = 0; y = 0 }) c.loop-cell-test.true) in
-    let low = index_below c.args.self.now.width c.args.self.now.height cell (inner_inside inner) in
+    let low = index_of-inside c.args.self.now.width c.args.self.now.height cell (inner_inside inner) in
     let same = ap length c.deref_mut-in-loop-cell.ensures.value in
     let kept = c.loop-cell.invariant.stamped.paints.same_length in
     let full = c.requires.kinds in

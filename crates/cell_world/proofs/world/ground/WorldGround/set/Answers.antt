@@ -22,12 +22,12 @@ note_change-requires-clause-before c =
     let fields = c.self.inside in
     let old = c.index_mut-here.result.now in
     subst (λ bodies. IsMadeBody (length bodies) c.id-before.result) (sym c.deref_mut.ensures.value)
-    (subst (IsMadeBody (length fields.bodies.items)) (sym c.id-before.ensures) (tile-made fields.width fields.height fields.tiles.items fields.bodies.items c.args.p old c.self.invariant.world (can_set (grid_of fields) c.args.self.now c.args.p c.args.cell c.self.view_is c.requires).inside c.index_mut-here.ensures.value))
+    (subst (IsMadeBody (length fields.bodies.items)) (sym c.id-before.ensures) (tile-made fields.width fields.height fields.tiles.items fields.bodies.items c.args.p c.index_of.result old c.self.invariant.world (can_set (grid_of fields) c.args.self.now c.args.p c.args.cell c.self.view_is c.requires).inside c.index_of.ensures c.index_mut-here.ensures.value))
 
 -- the change that was made of the fields
-changed : (c : After-note_change) → FieldsChanged c.self.inside (fields_set c.self.inside c.args.p (merged_tile c.index_mut-here.result.now c.args.cell c.of-here.result) c.note_change.new.bodies) c.args.p c.args.cell
+changed : (c : After-note_change) → FieldsChanged c.self.inside (fields_set c.self.inside c.index_of.result (merged_tile c.index_mut-here.result.now c.args.cell c.of-here.result) c.note_change.new.bodies) c.args.p c.args.cell
 changed c =
-    fields_set-changed c.self.inside c.args.p c.index_mut-here.result.now c.args.cell c.of-here.result c.id-before.result 9 c.deref_mut.result.now c.note_change.new.bodies c.self.invariant (can_set (grid_of c.self.inside) c.args.self.now c.args.p c.args.cell c.self.view_is c.requires) c.index_mut-here.ensures.value c.of-here.ensures c.id-before.ensures c.deref_mut.ensures.value c.note_change.ensures
+    fields_set-changed c.self.inside c.args.p c.index_of.result c.index_mut-here.result.now c.args.cell c.of-here.result c.id-before.result 9 c.deref_mut.result.now c.note_change.new.bodies c.self.invariant (can_set (grid_of c.self.inside) c.args.self.now c.args.p c.args.cell c.self.view_is c.requires) c.index_of.ensures c.index_mut-here.ensures.value c.of-here.ensures c.id-before.ensures c.deref_mut.ensures.value c.note_change.ensures
 
 -- the cell that was put
 is_put : (c : After-note_change) → world_of (grid_set (grid_of c.self.inside) c.args.p c.args.cell) ≡ put (world_of c.args.self.now) c.args.p c.args.cell

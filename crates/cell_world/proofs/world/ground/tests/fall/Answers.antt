@@ -7,7 +7,7 @@ use Rattle.cell_world.specs.Cell.{ant_weight, cell_weight}
 use Rattle.cell_world.specs.Valid.{CanSet, Valid}
 use Rattle.cell_world.specs.Inner.Replaces.{Replaces}
 use Rattle.cell_world.specs.World.{World}
-use Rattle.cell_world.proofs.ValidLemmas.{CanSet-replaces}
+use Rattle.cell_world.proofs.ValidLemmas.{CanSet-replaces, HasMarksOfSix-same}
 use Rattle.cell_world.proofs.Weights.{food-light}
 use Rattle.cell_world.proofs.world.ground.tests.fall.Goals as goal
 
@@ -36,6 +36,7 @@ fallen-can old new room p here is same valid left clear some =
     let there : here ≡ new.cells p = is ∙ ap (λ w. w.cells p) (sym same) in
     CanSet-replaces new room p (fallen here) valid left (subst (λ w. (w.cells p).rocky ≡ false) (sym same) clear)
     (subst (λ c. Replaces c (fallen here)) there (fallen-replaces here (subst (λ c. IsSome c.ant) (sym is) some)))
+    (HasMarksOfSix-same (new.cells p) (fallen here) (ap (λ (c : Cell). c.red) there) (ap (λ (c : Cell). c.black) there) (valid.six p))
 
 pub overflow_add-here : goal.overflow_add-here
 overflow_add-here g c =
