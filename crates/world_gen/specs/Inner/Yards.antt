@@ -1,5 +1,5 @@
 -- The kinds and the blocked cells of a world in the making.
-use Rattle.std.specs.Prelude.{◌≡◌, ℕ, zero, suc, ◌+◌, ◌*◌, ◌≤◌, min, Bool, true, false, ◌||◌, nat_eq, List, [], ◌∷◌, ◌++◌, length, Contains}
+use Rattle.std.specs.Prelude.{◌≡◌, ℕ, zero, suc, ◌+◌, ◌*◌, ◌≤◌, min, Bool, true, false, List, [], ◌∷◌, ◌++◌, length, Contains}
 use Rattle.std.specs.List.{All}
 use Rattle.cell_world.specs.Cell.{one_if}
 use Rattle.cell_world.specs.Opening.{IsFed, hill_count, is_hill}

@@ -1,7 +1,7 @@
 -- What each text is read as: its world's kinds, or its first fault. These functions take a text as the code does; proofs/TextReads,
 -- FaultReads and WrongReads show that a text is read as a world exactly where it is that world's text by Grammar, and as a fault exactly
 -- where that is wrong with it by Faulty.
-use Rattle.std.specs.Prelude.{◌≡◌, ◌≤◌, ℕ, ◌+◌, ◌-◌, ◌*◌, zero, suc, Bool, not, ◌&&◌, ◌||◌, List, [], ◌∷◌, ◌++◌, Option, Some, None, Result, Ok, Err, ok_or, drop, nat_le, nat_lt, ◌==◌, if◌then◌else◌}
+use Rattle.std.specs.Prelude.{◌≡◌, ◌≤◌, ℕ, ◌+◌, ◌-◌, ◌*◌, zero, suc, Bool, not, ◌&&◌, List, [], ◌∷◌, ◌++◌, Option, Some, None, Result, Ok, Err, ok_or, drop, nat_le, nat_lt, ◌==◌, if◌then◌else◌}
 use Rattle.std.specs.List.{list_all}
 use Rattle.ant_base.specs.Lines.{lines_of, trimmed, is_blank}
 use Rattle.ant_base.specs.Number.{number_within}

@@ -1,5 +1,5 @@
 -- the number is that of a position inside
-use Rattle.std.proofs.Common.{◌≡◌, ◌<◌, ◌≤◌, ◌*◌, sym, subst, arith}
+use Rattle.std.proofs.Common.{◌≤◌, ◌*◌, sym, subst, arith}
 use Rattle.std.proofs.lemmas.Nat.{mul-le}
 use Rattle.hex_geometry.proofs.RowLemmas.{pos_at-inside}
 use Rattle.hex_geometry.specs.Position.{IsInside}
