@@ -3,6 +3,7 @@ pub mod Bodies
 pub mod CatchingLemmas
 pub mod GridLemmas
 pub mod GridSums
+pub mod GroundWorked
 pub mod Grounds
 pub mod InsideLemmas
 pub mod Living
