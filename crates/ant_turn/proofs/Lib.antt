@@ -6,6 +6,8 @@ pub mod EdgesWorked
 pub mod Fitting
 pub mod Foes
 pub mod FoodByRounds
+pub mod HillsKept
+pub mod HillsWorked
 pub mod KeepsLemmas
 pub mod KeptByChecks
 pub mod KeptByRounds

@@ -46,7 +46,7 @@ not_later : (p : Pos) (places : List Pos) (q : Pos) → (Contains (p ∷ places)
 not_later p places q away found = away (suc found.0, omega (arith, found.1), found.2)
 
 -- a check changes no other cell
-check_at-elsewhere : (sheet : Sheet) (cells : Cells) (p q : Pos) → p ≢ q → check_at sheet cells p q ≡ cells q
+pub check_at-elsewhere : (sheet : Sheet) (cells : Cells) (p q : Pos) → p ≢ q → check_at sheet cells p q ≡ cells q
 check_at-elsewhere sheet cells p q apart =
     check_at-cases sheet cells p (λ now _. now q ≡ cells q) refl (λ _. put_cell-other cells p (after_kill sheet (cells p)) q apart)
 

@@ -1,5 +1,5 @@
 -- Turns and rounds under new numbers of a side's states.
-use Rattle.std.proofs.Common.{◌≡◌, inl, inr, ℕ, zero, suc, ◌+◌, Bool, true, false, List, [], ◌∷◌, Option, Some, None, refl, sym, ap, ◌∙◌, subst}
+use Rattle.std.proofs.Common.{◌≡◌, inl, inr, ℕ, zero, suc, ◌+◌, Bool, true, false, List, [], ◌∷◌, Option, Some, None, refl, sym, ap, ap₂, ◌∙◌, subst}
 use Rattle.std.specs.Prelude.{option_map, unwrap_or, IsSome, ◌||◌, ◌==◌, ◌-◌, if◌then◌else◌}
 use Rattle.std.specs.List.{AllByRecursion}
 use Rattle.std.proofs.lemmas.Bool.{cond_both}
@@ -101,37 +101,38 @@ module _ (P : Colour → ℕ → Type 0) where
       let first : Bool = drawn seed place bound == 0 in
       goes_on cells p (with_ant (cells p) (in_state ant (if first then met else unmet))) (in_state ant (if first then met else unmet)) all refl (either ant.colour first met unmet holds.0 holds.1.0)
 
--- the ant of each colour follows: whatever its state, the other brain has at its new number its instruction, redirected
-abbrev Follows : (f : Colour → ℕ → ℕ) (minds other : Minds) → Cells → Type 0
-Follows f minds other cells = (p : Pos) (ant : Ant) → (cells p).ant ≡ Some ant → instruction_at (mind_of other ant.colour) (f ant.colour ant.state) ≡ redirected (f ant.colour) (instruction_at (mind_of minds ant.colour) ant.state)
+-- this ant acts alike: the other minds have, at the number of its state, its instruction with each state that it names mapped
+abbrev pub ActsAlike : (f : Colour → ℕ → ℕ) (minds other : Minds) → Ant → Type 0
+ActsAlike f minds other ant = instruction_at (mind_of other ant.colour) (f ant.colour ant.state) ≡ redirected (f ant.colour) (instruction_at (mind_of minds ant.colour) ant.state)
 
-module _ (f : Colour → ℕ → ℕ) (minds : Minds) (red black : List Instr) where
-  -- minds under the same rules
-  abbrev other : Minds
-  other = record { red = red; black = black; sheet = minds.sheet }
+-- so does the ant whose turn it is, where one stands at a place
+abbrev pub ActsAlikeAt : (f : Colour → ℕ → ℕ) (minds other : Minds) → Cells → Option Pos → Type 0
+ActsAlikeAt f minds other cells place = (p : Pos) (ant : Ant) → place ≡ Some p → (cells p).ant ≡ Some ant → ActsAlike f minds other ant
 
-  acts-renumbered : (n seed : ℕ) (cells : Cells) (place : ℕ) (p : Pos) (ant : Ant) → instruction_at (mind_of other ant.colour) (f ant.colour ant.state) ≡ redirected (f ant.colour) (instruction_at (mind_of minds ant.colour) ant.state) →
+-- other minds under the same rules
+module _ (f : Colour → ℕ → ℕ) (minds other : Minds) (rules : other.sheet ≡ minds.sheet) where
+  acts-renumbered : (n seed : ℕ) (cells : Cells) (place : ℕ) (p : Pos) (ant : Ant) → ActsAlike f minds other ant →
       acts n other seed (renumbered_cells f cells) place p (renumbered_ant f ant) ≡ after f (acts n minds seed cells place p ant)
   acts-renumbered zero seed cells place p ant same =
-      ap (execute minds.sheet seed (renumbered_cells f cells) place p (renumbered_ant f ant)) same
+      ap₂ (λ sheet instruction. execute sheet seed (renumbered_cells f cells) place p (renumbered_ant f ant) instruction) rules same
       ∙ execute-renumbered f minds.sheet seed cells place p ant (instruction_at (mind_of minds ant.colour) ant.state)
   acts-renumbered (suc left) seed cells place p ant same = becomes-renumbered f false cells p (with_ant (cells p) (record ant { resting = left }))
 
-  turn_at-renumbered : (seed : ℕ) (cells : Cells) (place : ℕ) (p : Pos) (o : Option Ant) → (cells p).ant ≡ o → Follows f minds other cells →
+  turn_at-renumbered : (seed : ℕ) (cells : Cells) (place : ℕ) (p : Pos) (o : Option Ant) → ((ant : Ant) → o ≡ Some ant → ActsAlike f minds other ant) →
       turn_at other seed (renumbered_cells f cells) place p (option_map (renumbered_ant f) o) ≡ after f (turn_at minds seed cells place p o)
-  turn_at-renumbered seed cells place p None is follows = refl
-  turn_at-renumbered seed cells place p (Some ant) is follows = acts-renumbered ant.resting seed cells place p ant (follows p ant is)
+  turn_at-renumbered seed cells place p None alike = refl
+  turn_at-renumbered seed cells place p (Some ant) alike = acts-renumbered ant.resting seed cells place p ant (alike ant refl)
 
-  turn_from-renumbered : (seed : ℕ) (cells : Cells) (place : ℕ) (o : Option Pos) → Follows f minds other cells →
+  turn_from-renumbered : (seed : ℕ) (cells : Cells) (place : ℕ) (o : Option Pos) → ActsAlikeAt f minds other cells o →
       turn_from other seed (renumbered_cells f cells) place o ≡ after f (turn_from minds seed cells place o)
-  turn_from-renumbered seed cells place None follows = refl
-  turn_from-renumbered seed cells place (Some p) follows = turn_at-renumbered seed cells place p (cells p).ant refl follows
+  turn_from-renumbered seed cells place None alike = refl
+  turn_from-renumbered seed cells place (Some p) alike = turn_at-renumbered seed cells place p (cells p).ant (λ ant is. alike p ant refl is)
 
-  -- a turn
-  turn-follows : (seed : ℕ) (w : World) (place t : ℕ) → Follows f minds other w.cells → turn other seed (renumbered_world f w) place t ≡ after f (turn minds seed w place t)
+  -- a turn commutes with new numbers of states, whatever they are, where the ant whose turn it is acts alike
+  pub turn-alike : (seed : ℕ) (w : World) (place t : ℕ) → ActsAlikeAt f minds other w.cells (place_in w t) → turn other seed (renumbered_world f w) place t ≡ after f (turn minds seed w place t)
   unfolding turn
-  turn-follows seed w place t follows =
-      ap (turn_from other seed (renumbered_cells f w.cells) place) (place_in-renumbered f w t) ∙ turn_from-renumbered seed w.cells place (place_in w t) follows
+  turn-alike seed w place t alike =
+      ap (turn_from other seed (renumbered_cells f w.cells) place) (place_in-renumbered f w t) ∙ turn_from-renumbered seed w.cells place (place_in w t) alike
 
 module _ (P : Colour → ℕ → Type 0) (minds : Minds) (onward : (colour : Colour) (state : ℕ) → P colour state → AllByRecursion (P colour) (states_of (instruction_at (mind_of minds colour) state))) where
   acts-have : (n seed : ℕ) (cells : Cells) (place : ℕ) (p : Pos) (ant : Ant) → AllHave P cells → P ant.colour ant.state → AllHave P (acts n minds seed cells place p ant).cells
@@ -212,17 +213,17 @@ onward_side numbers Black Black minds brain state carries some = onward_own numb
 all_numbered : (numbers : Numbers) (colour : Colour) (w : World) → AreNumbered numbers colour w → AllHave (HasNumber numbers colour) w.cells
 all_numbered numbers colour w numbered = record { each = numbered.each }
 
--- other minds with the same rules
-turn-side : (numbers : Numbers) (colour : Colour) (minds : Minds) (brain : List Instr) (seed : ℕ) (w : World) (place t : ℕ) → Follows (side_states numbers colour) minds (with_mind minds colour brain) w.cells →
-    turn (with_mind minds colour brain) seed (renumbered numbers colour w) place t ≡ renumbered_outcome numbers colour (turn minds seed w place t)
-turn-side numbers Red minds brain seed w place t follows = turn-follows (side_states numbers Red) minds brain minds.black seed w place t follows
-turn-side numbers Black minds brain seed w place t follows = turn-follows (side_states numbers Black) minds minds.red brain seed w place t follows
+-- another brain of a side changes no rule
+pub with_mind-sheet : (minds : Minds) (colour : Colour) (brain : List Instr) → (with_mind minds colour brain).sheet ≡ minds.sheet
+with_mind-sheet minds Red brain = refl
+with_mind-sheet minds Black brain = refl
 
 -- a turn commutes with renumbering
 pub turn-renumbered : (numbers : Numbers) (colour : Colour) (minds : Minds) (brain : List Instr) (seed : ℕ) (w : World) (place t : ℕ) → Carries numbers (mind_of minds colour) brain → AreNumbered numbers colour w →
     turn (with_mind minds colour brain) seed (renumbered numbers colour w) place t ≡ renumbered_outcome numbers colour (turn minds seed w place t)
 turn-renumbered numbers colour minds brain seed w place t carries numbered =
-    turn-side numbers colour minds brain seed w place t (λ p ant is. carried_side numbers colour ant.colour minds brain ant.state carries (numbered.each p ant is))
+    turn-alike (side_states numbers colour) minds (with_mind minds colour brain) (with_mind-sheet minds colour brain) seed w place t
+    (λ p ant found is. carried_side numbers colour ant.colour minds brain ant.state carries (numbered.each p ant is))
 
 -- and keeps the premise
 pub turn-numbered : (numbers : Numbers) (colour : Colour) (minds : Minds) (brain : List Instr) (seed : ℕ) (w : World) (place t : ℕ) → Carries numbers (mind_of minds colour) brain → AreNumbered numbers colour w →

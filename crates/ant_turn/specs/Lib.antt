@@ -1,5 +1,6 @@
 pub mod Conditions
 pub mod FoodLaws
+pub mod HillLaws
 pub mod InPlace
 pub mod Inner
 pub mod Keeps

@@ -11,6 +11,7 @@
 
 mod brains;
 mod conditions;
+mod hill_laws;
 mod in_place;
 mod kills;
 mod own_cell;
@@ -21,6 +22,7 @@ mod turn_laws;
 
 pub use brains::Brains;
 pub use conditions::matches;
+pub use hill_laws::{games_keep_hills, rounds_keep_hills, turns_keep_hills};
 pub use in_place::{InPlace, turn_in_place};
 pub use kills::{check_around, surrounded};
 pub use renumber_laws::{rounds_renumber, turns_renumber};
