@@ -23,6 +23,7 @@ use Rattle.spec_record.proofs.Flips.{LookHolds-Holds, look-drew}
 use Rattle.spec_record.proofs.Patched.{turn-patched}
 use Rattle.spec_record.proofs.Settling.{Makes}
 use Rattle.spec_record.proofs.SettlingTurns.{look-CanSetWrites, settles}
+use Rattle.spec_record.proofs.WritesAlone.{GoesOn-itself, Holds-itself}
 use Rattle.round_book.specs.declared.verdict.Cause.{Cause}
 use Rattle.round_book.specs.declared.verdict.Cause.TheVariants as cause
 use Rattle.round_book.specs.declared.verdict.Verdict.{Verdict}
@@ -50,17 +51,6 @@ look-CanTake minds seed base guess now place t sound valid_base valid fits goes 
       each = each_patched now (turn minds seed now place t).cells (look_of minds seed base guess t).writes valid may.made may.clear;
       in_order = look-CanSetWrites minds seed base guess now place t sound valid_base valid fits goes holds 9 (omega arith);
     }
-
--- a world goes on from itself, and what was read in it is there
-GoesOn-itself : (w : World) (t : ℕ) → Valid w → GoesOn w w t
-GoesOn-itself w t valid = record { width = refl; height = refl; rocks = λ p. refl; hills = λ p. refl; dead = λ none. none; once = valid.once t }
-
-agree_all : (cells : Cells) (claims : List Claim) → AllByRecursion (λ read. Agree read.parts (cells read.at) (cells read.at)) claims
-agree_all cells [] = tt
-agree_all cells (c ∷ claims) = (λ k named. refl, agree_all cells claims)
-
-pub Holds-itself : (minds : Minds) (w : World) (place t : ℕ) → Holds minds w place w place t
-Holds-itself minds w place t = record { unchanged = agree_all w.cells (reads minds w t); guessed = λ flips. refl }
 
 -- the look at a turn in the very world where it is taken may be taken, and is worth the turn
 pub own-CanTake : (minds : Minds) (seed : ℕ) (w : World) (place t : ℕ) → AreSound minds → Valid w → Fits w minds → CanTake w (look_of minds seed w place t).writes

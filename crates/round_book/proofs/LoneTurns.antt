@@ -3,10 +3,10 @@ use Rattle.std.proofs.Common.{◌≡◌, ℕ, ◌+◌, ◌-◌, true, sym, ◌�
 use Rattle.cell_world.specs.Cell.{one_if}
 use Rattle.ant_turn.specs.Rounds.{Moment}
 use Rattle.spec_record.specs.Holds.{Holds}
+use Rattle.spec_record.proofs.WritesAlone.{Holds-itself}
 use Rattle.round_book.specs.CountLaws.{LoneTurnsAreTaken}
 use Rattle.round_book.specs.Counts.{Counted, counts_of, is_taken, taken_among}
 use Rattle.round_book.specs.Window.{HoldsIn, Window, moment_before}
-use Rattle.round_book.proofs.BookLemmas.{Holds-itself}
 use Rattle.round_book.proofs.CountLemmas.{is_taken-test}
 use Rattle.round_book.proofs.MachineLemmas.{moment_before-from}
 use Rattle.round_book.proofs.SoloLemmas.{guess_for-from}

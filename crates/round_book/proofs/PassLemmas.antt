@@ -7,30 +7,16 @@ use Rattle.std.proofs.lemmas.List.{at_drop_all, drop_more}
 use Rattle.hex_geometry.specs.declared.position.Pos.{Pos}
 use Rattle.hex_geometry.specs.Position.{IsInside}
 use Rattle.cell_world.specs.declared.cell.Cell.{Cell}
-use Rattle.cell_world.specs.declared.part.Part.TheVariants as part
-use Rattle.cell_world.specs.declared.part.Parts.{Parts}
 use Rattle.cell_world.specs.Cell.{cell_weight}
 use Rattle.cell_world.specs.Parts.{CanPatch, patched}
 use Rattle.cell_world.specs.Valid.{CanSet}
 use Rattle.cell_world.specs.World.{Cells, World, put, put_cell, with_cells}
-use Rattle.cell_world.proofs.Patches.{CanPatch-alike, patched-named, patched-others, patched-unchanged}
 use Rattle.cell_world.proofs.Puts.{cases_pos, put_cell-other, put_cell-same}
 use Rattle.spec_record.specs.Claims.{EachOnce, Sighting, seen_positions}
 use Rattle.spec_record.specs.Patching.{CanSetHeavier, CanWrite, CanSetLighter, after_lighter, patched_by_write, patched_cells, raises, with_heavier, with_lighter, with_write}
+use Rattle.spec_record.proofs.Settling.{CanPatch-again, patched-again}
 use Rattle.round_book.specs.Book.{CanPatchIn, CanTake}
 use Rattle.round_book.specs.Inner.Passes.{CanSetInPass, CanSetPass, after_pass, is_in_pass, with_pass}
-
--- a patched cell can be patched again, and that changes nothing
-CanPatch-again : (cell source : Cell) (parts : Parts) → CanPatch cell source parts → CanPatch (patched cell source parts) source parts
-CanPatch-again cell source parts can = record {
-  mind = can.mind;
-  load = can.load;
-  same_ant = λ alone named. (CanPatch-alike cell (patched cell source parts) source parts (sym (patched-others cell source parts can part.Who alone)) can).same_ant alone named;
-}
-
-patched-again : (cell source : Cell) (parts : Parts) → CanPatch cell source parts → patched (patched cell source parts) source parts ≡ patched cell source parts
-patched-again cell source parts can =
-    patched-unchanged (patched cell source parts) source parts (CanPatch-again cell source parts can) (patched-named cell source parts can)
 
 -- what a pass makes of the cell of a write
 abbrev cell_after : Bool → Cell → Sighting → Cell

@@ -18,7 +18,8 @@ use Rattle.cell_world.proofs.Puts.{put_cell-same, put_cell-other}
 use Rattle.ant_turn.specs.Kills.{after_kill, check_all, check_at, is_surrounded, killed_all, killed_at, places_around}
 use Rattle.ant_turn.specs.Sheet.{Sheet}
 use Rattle.ant_turn.specs.Turn.{arrived, has_ant, left_by_ant, stepped, with_ant}
-use Rattle.ant_turn.proofs.Checks.{Struck, check_at-cases, check_at-spared, check_at-struck, is_surrounded-true, killed_at-struck}
+use Rattle.ant_turn.proofs.Checks.{Struck, check_at-spared, check_at-struck, is_surrounded-true, killed_at-struck}
+use Rattle.ant_turn.proofs.QuietLemmas.{check_at-elsewhere}
 use Rattle.spec_record.specs.Reads.{emptied, neighbours_if_manned, seen_around}
 use Rattle.spec_record.specs.Inner.Going.{beyond, fallen, is_manned, seen_from}
 
@@ -26,11 +27,6 @@ use Rattle.spec_record.specs.Inner.Going.{beyond, fallen, is_manned, seen_from}
 abbrev pub Distinct : List Pos → Type 0
 Distinct [] = Unit {0}
 Distinct (p ∷ places) = AllByRecursion (λ q. p ≢ q) places × Distinct places
-
--- a check changes no other cell
-check_at-elsewhere : (sheet : Sheet) (cells : Cells) (p q : Pos) → p ≢ q → check_at sheet cells p q ≡ cells q
-check_at-elsewhere sheet cells p q apart =
-    check_at-cases sheet cells p (λ now _. now q ≡ cells q) refl (λ _. put_cell-other cells p (after_kill sheet (cells p)) q apart)
 
 -- checks of others change no cell
 check_all-elsewhere : (sheet : Sheet) (places : List Pos) (cells : Cells) (p : Pos) → AllByRecursion (λ q. p ≢ q) places → check_all sheet cells places p ≡ cells p
@@ -42,10 +38,10 @@ check_all-elsewhere sheet (q ∷ places) cells p others =
 abbrev emptied_at : Cells → Cells → Pos → List Pos
 emptied_at cells last r = if has_ant (cells r).ant && not (has_ant (last r).ant) then r ∷ [] else []
 
--- what each position brings, where it brings the same
-flat_map-alike : (f g : Pos → List Pos) (places : List Pos) → AllByRecursion (λ r. f r ≡ g r) places → flat_map f places ≡ flat_map g places
-flat_map-alike f g [] alike = refl
-flat_map-alike f g (r ∷ places) alike = ap (λ some. some ++ flat_map f places) alike.0 ∙ ap (λ more. g r ++ more) (flat_map-alike f g places alike.1)
+-- what each of a list brings, where it brings the same
+pub flat_map-alike : {A B : Type 0} (f g : A → List B) (xs : List A) → AllByRecursion (λ x. f x ≡ g x) xs → flat_map f xs ≡ flat_map g xs
+flat_map-alike {A} {B} f g [] alike = refl
+flat_map-alike {A} {B} f g (x ∷ xs) alike = ap (λ some. some ++ flat_map f xs) alike.0 ∙ ap (λ more. g x ++ more) (flat_map-alike f g xs alike.1)
 
 -- a check of another cell before changes nothing of that
 alike_later : (sheet : Sheet) (cells last : Cells) (p : Pos) (places : List Pos) → AllByRecursion (λ q. p ≢ q) places → AllByRecursion (λ r. emptied_at (check_at sheet cells p) last r ≡ emptied_at cells last r) places

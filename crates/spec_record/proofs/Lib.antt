@@ -16,6 +16,8 @@ pub mod PlacesLemmas
 pub mod Raising
 pub mod Ring
 pub mod RoundsWorked
+pub mod SameLooks
+pub mod SameLooksWorked
 pub mod Settling
 pub mod SettlingTurns
 pub mod Sighting

@@ -24,15 +24,17 @@ pub record Makes (cells wanted : Cells) (write : Sighting) : Type 0 where
   pub can_patch : CanPatch (cells write.0) write.2 write.1
   pub makes : patched_by_write cells write ≡ wanted write.0
 
--- a patch of a patched cell changes nothing
-patched-again : (cell source : Cell) (parts : Parts) → CanPatch cell source parts → patched (patched cell source parts) source parts ≡ patched cell source parts
+-- a patched cell can be patched again, and that changes nothing
+pub CanPatch-again : (cell source : Cell) (parts : Parts) → CanPatch cell source parts → CanPatch (patched cell source parts) source parts
+CanPatch-again cell source parts can = record {
+  mind = can.mind;
+  load = can.load;
+  same_ant = λ alone named. (CanPatch-alike cell (patched cell source parts) source parts (sym (patched-others cell source parts can part.Who alone)) can).same_ant alone named;
+}
+
+pub patched-again : (cell source : Cell) (parts : Parts) → CanPatch cell source parts → patched (patched cell source parts) source parts ≡ patched cell source parts
 patched-again cell source parts can =
-    let can_again : CanPatch (patched cell source parts) source parts = record {
-      mind = can.mind;
-      load = can.load;
-      same_ant = λ alone named. (CanPatch-alike cell (patched cell source parts) source parts (sym (patched-others cell source parts can part.Who alone)) can).same_ant alone named;
-    } in
-    patched-unchanged (patched cell source parts) source parts can_again (patched-named cell source parts can)
+    patched-unchanged (patched cell source parts) source parts (CanPatch-again cell source parts can) (patched-named cell source parts can)
 
 -- where a write is set it makes the same again
 Makes-again : (cells now wanted : Cells) (write : Sighting) → Makes cells wanted write → now write.0 ≡ wanted write.0 → Makes now wanted write
@@ -40,16 +42,8 @@ Makes-again cells now wanted write made is =
     let after : Cell = patched (cells write.0) write.2 write.1 in
     let at : now write.0 ≡ after = is ∙ sym made.makes in
     record {
-      can_patch = subst (λ c. CanPatch c write.2 write.1) (sym at)
-          (CanPatch-again write.1);
+      can_patch = subst (λ c. CanPatch c write.2 write.1) (sym at) (CanPatch-again (cells write.0) write.2 write.1 made.can_patch);
       makes = ap (λ c. patched c write.2 write.1) at ∙ patched-again (cells write.0) write.2 write.1 made.can_patch ∙ made.makes;
-    }
-  where
-    CanPatch-again : (parts : Parts) → CanPatch (patched (cells write.0) write.2 write.1) write.2 write.1
-    CanPatch-again parts = record {
-      mind = made.can_patch.mind;
-      load = made.can_patch.load;
-      same_ant = λ alone named. (CanPatch-alike (cells write.0) (patched (cells write.0) write.2 write.1) write.2 write.1 (sym (patched-others (cells write.0) write.2 write.1 made.can_patch part.Who alone)) made.can_patch).same_ant alone named;
     }
 
 -- a write depends on its own cell alone

@@ -86,11 +86,11 @@ all_of_map : {A B : Type 0} (P : B → Type 0) (f : A → B) (xs : List A) → A
 all_of_map {A} {B} P f [] all = tt
 all_of_map {A} {B} P f (x ∷ xs) all = (all.0, all_of_map P f xs all.1)
 
-all_of_flat_map : {A B : Type 0} (P : B → Type 0) (f : A → List B) (xs : List A) → AllByRecursion P (flat_map f xs) → AllByRecursion (λ x. AllByRecursion P (f x)) xs
+pub all_of_flat_map : {A B : Type 0} (P : B → Type 0) (f : A → List B) (xs : List A) → AllByRecursion P (flat_map f xs) → AllByRecursion (λ x. AllByRecursion P (f x)) xs
 all_of_flat_map {A} {B} P f [] all = tt
 all_of_flat_map {A} {B} P f (x ∷ xs) all = let both : AllByRecursion P (f x) × AllByRecursion P (flat_map f xs) = all_split P (f x) (flat_map f xs) all in (both.0, all_of_flat_map P f xs both.1)
 
-all_both : {A : Type 0} (P Q R : A → Type 0) (xs : List A) → ((x : A) → P x → Q x → R x) → AllByRecursion P xs → AllByRecursion Q xs → AllByRecursion R xs
+pub all_both : {A : Type 0} (P Q R : A → Type 0) (xs : List A) → ((x : A) → P x → Q x → R x) → AllByRecursion P xs → AllByRecursion Q xs → AllByRecursion R xs
 all_both {A} P Q R [] f first second = tt
 all_both {A} P Q R (x ∷ xs) f first second = (f x first.0 second.0, all_both P Q R xs f first.1 second.1)
 

@@ -19,17 +19,17 @@ all_agree v [] = tt
 all_agree v (c ∷ claims) = (λ k named. refl, all_agree v claims)
 
 -- a look at a turn holds in the world itself
-holds_itself : (minds : Minds) (w : World) (place t : ℕ) → Holds minds w place w place t
-holds_itself minds w place t = record { unchanged = all_agree w.cells (reads minds w t); guessed = λ _. refl }
+pub Holds-itself : (minds : Minds) (w : World) (place t : ℕ) → Holds minds w place w place t
+Holds-itself minds w place t = record { unchanged = all_agree w.cells (reads minds w t); guessed = λ _. refl }
 
 -- and a world goes on from itself
-goes_on_itself : (w : World) (t : ℕ) → Valid w → GoesOn w w t
-goes_on_itself w t valid = record { width = refl; height = refl; rocks = λ p. refl; hills = λ p. refl; dead = λ dead. dead; once = valid.once t }
+pub GoesOn-itself : (w : World) (t : ℕ) → Valid w → GoesOn w w t
+GoesOn-itself w t valid = record { width = refl; height = refl; rocks = λ p. refl; hills = λ p. refl; dead = λ dead. dead; once = valid.once t }
 
 -- so a turn changes no part but those that it writes
 pub turn-WritesAlone : (minds : Minds) (seed : ℕ) (w : World) (place t : ℕ) → Valid w → WritesAlone minds seed w place t
 turn-WritesAlone minds seed w place t valid =
-    let step = look_step minds seed w place w place t (goes_on_itself w t valid) (holds_itself minds w place t) in
+    let step = look_step minds seed w place w place t (GoesOn-itself w t valid) (Holds-itself minds w place t) in
     record {
       parts = λ p k none. (step.each p).now_others k (unclaimed (writes minds w t) w.cells p k (all_with_cells (λ write. write.0 ≡ p → has_part write.1 k ≡ false) w.cells (writes minds w t) none));
       rocks = λ p. (step.each p).same_kind;

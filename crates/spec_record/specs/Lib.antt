@@ -7,5 +7,6 @@ pub mod Look
 pub mod Patching
 pub mod Places
 pub mod Reads
+pub mod SameLooks
 pub mod Trail
 pub mod Writes

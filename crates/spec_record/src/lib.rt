@@ -16,7 +16,7 @@ mod working;
 
 pub use guess::{at_flip, guess_at, guesses};
 pub use look_laws::{
-    looks_are_merged, looks_settle, looks_tell, places_count_flips, turns_are_local,
+    looks_agree, looks_are_merged, looks_settle, looks_tell, places_count_flips, turns_are_local,
     turns_are_local_alone, turns_are_patches, turns_are_small, turns_draw_at_flips,
     turns_write_alone,
 };

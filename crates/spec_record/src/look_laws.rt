@@ -10,6 +10,7 @@ ghost use Rattle.spec_record.specs.Locality.{
   TurnsDrawAtFlips,
   TurnsWriteAlone,
 };
+ghost use Rattle.spec_record.specs.SameLooks.{LooksAgree};
 ghost use Rattle.spec_record.specs.Places.{PlacesCountFlips};
 
 /// A look names each position once, with all parts that the turn reads or writes there. The call does nothing: its clause is the law.
@@ -72,4 +73,11 @@ pub fn turns_draw_at_flips()
 /// generation). The call does nothing: its clause is the law.
 pub fn places_count_flips()
     ensures { PlacesCountFlips }
+{}
+
+/// A look depends on what its turn reads and on one instruction alone: on two worlds that hold the same, all of it, at each position that the
+/// turn reads, under the same rules, with the same instruction for its ant, the looks are the same, whatever else the worlds and the brains
+/// have. The call does nothing: its clause is the law.
+pub fn looks_agree()
+    ensures { LooksAgree }
 {}
