@@ -6,7 +6,7 @@ use Rattle.ant_turn.specs.Rounds.{after_round, after_turns}
 use Rattle.dump_print.specs.declared.totals.Totals.{Totals}
 use Rattle.round_book.specs.Book.{FieldValue, field_moment}
 use Rattle.match_run.specs.Counts.{both, round_totals, sum_windows, windows_of}
-use Rattle.match_run.specs.Game.{GameValue, IsGame, IsRoundPlayed, IsRoundRefused, IsSameGame, beginning, now_of}
+use Rattle.match_run.specs.Game.{CanGoOn, GameValue, IsGame, IsRoundPlayed, IsRoundRefused, IsSameGame, beginning, game_at_round, now_of}
 use Rattle.match_run.specs.declared.game.Game.TheInside.{Inside}
 use Rattle.match_run.specs.Inner.Windows.{WindowsPlayed}
 use Rattle.match_run.specs.Run.{most_rounds}
@@ -30,6 +30,32 @@ IsGame-beginning field window whole early sized = record {
   place_from = omega arith;
   place_to = omega arith;
   early = early;
+}
+
+-- a game that can go on is a game
+pub IsGame-game_at_round : (field : FieldValue) (window done : ℕ) (totals : Totals) → CanGoOn field window done totals → IsGame (game_at_round field window done totals)
+IsGame-game_at_round field window done totals can = record {
+  whole = can.whole;
+  few = can.few;
+  sized = can.sized;
+  at_window = none-over window can.sized;
+  not_last = λ later. absurd (let wrong : ⊥ = omega arith in wrong);
+  turns = can.turns ∙ omega arith;
+  add_up = can.add_up;
+  place_from = omega arith;
+  place_to = omega (arith, can.place);
+  early = omega arith;
+}
+
+-- a game that began at place 0 and is at the end of a round can go on
+pub CanGoOn-game : (game : GameValue) → IsGame game → game.first_place ≡ 0 → game.next ≡ 0 → CanGoOn game.field game.window game.done game.totals
+CanGoOn-game game is first ends = record {
+  whole = is.whole;
+  sized = is.sized;
+  few = is.few;
+  turns = is.turns ∙ omega (arith, ends);
+  add_up = is.add_up;
+  place = omega (arith, is.place_to, first);
 }
 
 -- the next turn of a game is a turn, or there is none

@@ -2,8 +2,11 @@ pub mod CountLaws
 pub mod CountLemmas
 pub mod CountWorked
 pub mod GameLemmas
+pub mod GamesByRounds
 pub mod LoneWindows
 pub mod PlayLemmas
+pub mod RestLaws
+pub mod RestWorked
 pub mod RunLaws
 pub mod RunLemmas
 pub mod RunWorked

@@ -1,9 +1,10 @@
 -- What playing a run pushes, and where it stands.
-use Rattle.std.proofs.Common.{◌≡◌, ℕ, ◌+◌, ◌-◌, ◌*◌, ◌^◌, ◌<◌, ◌≤◌, Bool, List, [], ◌++◌, refl, sym, ◌∙◌, ap, ap₂, subst, Result, Ok, Err, append_assoc, arith}
+use Rattle.std.proofs.Common.{◌≡◌, inl, inr, ℕ, ◌+◌, ◌-◌, ◌*◌, ◌^◌, ◌<◌, ◌≤◌, Bool, List, [], ◌++◌, refl, sym, ◌∙◌, ap, ap₂, subst, Result, Ok, Err, append_assoc, arith}
 use Rattle.ant_base.specs.Sink.{SinkState, PushedAll}
+use Rattle.ant_base.proofs.Numbered.{numbered-front, numbered-more, numbered-none}
 use Rattle.ant_base.proofs.Pushing.{all_of_nothing, all_then, front_more, front_then}
 use Rattle.ant_turn.specs.Minds.{Minds}
-use Rattle.ant_turn.specs.Rounds.{Moment, after_round, start_of}
+use Rattle.ant_turn.specs.Rounds.{Moment, after_round, after_rounds}
 use Rattle.ant_turn.proofs.KeptByRounds.{after_rounds-more}
 use Rattle.cell_world.specs.Grid.{world_of}
 use Rattle.cell_world.specs.Score.{score_of}
@@ -12,14 +13,14 @@ use Rattle.dump_print.specs.Texts.{score_text, seed_text}
 use Rattle.dump_print.specs.declared.totals.Totals.{Totals}
 use Rattle.match_run.specs.declared.fault.PlayFault.{PlayFault}
 use Rattle.match_run.specs.declared.fault.PlayFault.TheVariants.{WriteFault, OutOfMemory}
-use Rattle.match_run.specs.Counts.{both, counts_text, round_totals, totals_of, whole_text}
-use Rattle.match_run.specs.Game.{GameValue, IsRoundPlayed, beginning, counted_on, now_of}
-use Rattle.match_run.specs.Inner.Rounds.{IsAtRound, RoundStopped}
+use Rattle.match_run.specs.Counts.{both, round_totals, totals_of}
+use Rattle.match_run.specs.Game.{GameValue, GoesOnFor, IsRoundPlayed, StopsWithin, counted_on, now_of}
+use Rattle.match_run.specs.Inner.Rounds.{RoundStopped}
 use Rattle.match_run.specs.Play.{PushedBy, PushedSome, StoppedBy}
-use Rattle.match_run.specs.Run.{chosen_dump, dumps_text, run_text, world_after}
-use Rattle.match_run.proofs.CountLemmas.{totals_of-more, totals_of-turns}
+use Rattle.match_run.specs.Rest.{later_dumps}
+use Rattle.match_run.specs.Run.{chosen_dump}
+use Rattle.match_run.proofs.CountLemmas.{both-both, both-none, totals_of-more, totals_of-turns}
 use Rattle.match_run.proofs.GameLemmas.{whole-moment, whole-totals}
-use Rattle.match_run.proofs.RunLemmas.{dumps_text-more}
 
 -- nothing is pushed
 pub some_of_nothing : (state : SinkState) (text : List ℕ) → PushedSome state state text
@@ -40,76 +41,96 @@ stopped_then old mid new a b OutOfMemory p q = record {
   pushed = all_then old mid new a q.front p q.pushed;
 }
 
--- the parts of a run's text with its counts
-pub whole_text-parts : (minds : Minds) (seed rounds : ℕ) (chosen : ℕ → Bool) (size : ℕ) (stats : Bool) (w : World) → whole_text minds seed rounds chosen size stats w
-    ≡ seed_text seed ++ (dumps_text minds seed chosen w (rounds + 1) ++ (score_text (score_of (world_after minds seed w rounds)) ++ counts_text stats (totals_of minds seed size (start_of w) rounds)))
-unfolding whole_text run_text
-whole_text-parts minds seed rounds chosen size stats w =
-    let dumped = dumps_text minds seed chosen w (rounds + 1) in
-    let scored = score_text (score_of (world_after minds seed w rounds)) in
-    let counted = counts_text stats (totals_of minds seed size (start_of w) rounds) in
-    append_assoc (seed_text seed) (dumped ++ scored) counted ∙ ap (λ t. seed_text seed ++ t) (append_assoc dumped scored counted)
+-- a game at the end of a round, before it goes on
+pub GoesOnFor-none : (game : GameValue) → game.next ≡ 0 → GoesOnFor game game 0
+GoesOnFor-none game ends = record {
+  now = refl;
+  totals = sym (both-none game.totals);
+  done = omega arith;
+  next = ends;
+  same = record { minds = refl; seed = refl; ids = refl; window = refl; first_place = refl };
+}
 
--- a game at its start has played no round
-pub IsAtRound-none : (game : GameValue) (size : ℕ) → game ≡ beginning game.field size → game.field.place ≡ 0 → IsAtRound game.field.minds game.field.seed (world_of game.field.world) size 0 game
-IsAtRound-none game size begins first = record {
-  now = ap (λ (place : ℕ). moment_at (world_of game.field.world) place) first;
-  totals = ap (λ (g : GameValue). g.totals) begins;
-  done = ap (λ (g : GameValue). g.done) begins;
-  next = ap (λ (g : GameValue). g.next) begins;
-  minds = refl;
-  seed = refl;
-  window = ap (λ (g : GameValue). g.window) begins;
-  ids = refl;
-} where
-  moment_at : World → ℕ → Moment
-  moment_at w place = record { world = w; place = place }
-
-module _ {minds : Minds} {seed : ℕ} {w : World} {size round : ℕ} {game : GameValue} (at : IsAtRound minds seed w size round game) where
+module _ {old : GameValue} {round : ℕ} {game : GameValue} (at : GoesOnFor old game round) where
   -- one round more is played
-  pub IsAtRound-more : (new : GameValue) → IsRoundPlayed game new → IsAtRound minds seed w size (round + 1) new
-  IsAtRound-more new played = record {
-    now =
-        whole-moment game new at.next played
-        ∙ ap (λ m. after_round m game.field.seed (now_of game)) at.minds
-        ∙ ap (λ (s : ℕ). after_round minds s (now_of game)) at.seed
-        ∙ ap (after_round minds seed) at.now
-        ∙ sym (after_rounds-more minds seed (start_of w) round);
-    totals =
-        whole-totals game new at.next played
-        ∙ ap (λ m. both game.totals (round_totals m game.field.seed game.window (now_of game))) at.minds
-        ∙ ap (λ (s : ℕ). both game.totals (round_totals minds s game.window (now_of game))) at.seed
-        ∙ ap (λ (n : ℕ). both game.totals (round_totals minds seed n (now_of game))) at.window
-        ∙ ap₂ (λ t m. both t (round_totals minds seed size m)) at.totals at.now
-        ∙ sym (totals_of-more minds seed size (start_of w) round);
-    done = played.done ∙ ap (λ n. n + 1) at.done;
-    next = played.next;
-    minds = played.same.minds ∙ at.minds;
-    seed = played.same.seed ∙ at.seed;
-    window = played.same.window ∙ at.window;
-    ids = played.same.ids ∙ at.ids;
-  }
+  pub GoesOnFor-more : (new : GameValue) → IsRoundPlayed game new → GoesOnFor old new (round + 1)
+  GoesOnFor-more new played =
+      let minds : Minds = old.field.minds in
+      let seed : ℕ = old.field.seed in
+      let size : ℕ = old.window in
+      let there : Moment = after_rounds minds seed (now_of old) round in
+      record {
+        now =
+            whole-moment game new at.next played
+            ∙ ap (λ m. after_round m game.field.seed (now_of game)) at.same.minds
+            ∙ ap (λ (s : ℕ). after_round minds s (now_of game)) at.same.seed
+            ∙ ap (after_round minds seed) at.now
+            ∙ sym (after_rounds-more minds seed (now_of old) round);
+        totals =
+            whole-totals game new at.next played
+            ∙ ap (λ m. both game.totals (round_totals m game.field.seed game.window (now_of game))) at.same.minds
+            ∙ ap (λ (s : ℕ). both game.totals (round_totals minds s game.window (now_of game))) at.same.seed
+            ∙ ap (λ (n : ℕ). both game.totals (round_totals minds seed n (now_of game))) at.same.window
+            ∙ ap₂ (λ t m. both t (round_totals minds seed size m)) at.totals at.now
+            ∙ both-both old.totals (totals_of minds seed size (now_of old) round) (round_totals minds seed size there)
+            ∙ ap (both old.totals) (sym (totals_of-more minds seed size (now_of old) round));
+        done = played.done ∙ ap (λ n. n + 1) at.done ∙ omega arith;
+        next = played.next;
+        same = record {
+          minds = played.same.minds ∙ at.same.minds;
+          seed = played.same.seed ∙ at.same.seed;
+          ids = played.same.ids ∙ at.same.ids;
+          window = played.same.window ∙ at.same.window;
+          first_place = played.same.first_place ∙ at.same.first_place;
+        };
+      }
 
   -- how many turns were played
-  pub IsAtRound-turns : 1 ≤ size → game.totals.turns ≡ w.ids * round
-  IsAtRound-turns sized = ap (λ (t : Totals). t.turns) at.totals ∙ totals_of-turns minds seed size (start_of w) round sized
+  pub GoesOnFor-turns : 1 ≤ old.window → game.totals.turns ≡ old.totals.turns + old.field.world.ids * round
+  GoesOnFor-turns sized = ap (λ (t : Totals). t.turns) at.totals ∙ ap (λ n. old.totals.turns + n) (totals_of-turns old.field.minds old.field.seed old.window (now_of old) round sized)
 
   -- the world is that after the rounds
-  pub IsAtRound-world : world_of game.field.world ≡ world_after minds seed w round
-  unfolding world_after
-  IsAtRound-world = ap (λ (m : Moment). m.world) at.now
+  pub GoesOnFor-world : world_of game.field.world ≡ (after_rounds old.field.minds old.field.seed (now_of old) round).world
+  GoesOnFor-world = ap (λ (m : Moment). m.world) at.now
+
+-- the dump of one round more comes last
+pub later_dumps-more : (minds : Minds) (seed : ℕ) (chosen : ℕ → Bool) (m : Moment) (round n : ℕ) → later_dumps minds seed chosen m round (n + 1)
+    ≡ later_dumps minds seed chosen m round n ++ chosen_dump chosen (after_rounds minds seed m (n + 1)).world (round + n + 1)
+unfolding later_dumps
+later_dumps-more minds seed chosen m round n = numbered-more (λ i. chosen_dump chosen (after_rounds minds seed m (i + 1)).world (round + i + 1)) n
+
+-- no later round has no dump
+pub later_dumps-none : (minds : Minds) (seed : ℕ) (chosen : ℕ → Bool) (m : Moment) (round : ℕ) → later_dumps minds seed chosen m round 0 ≡ []
+unfolding later_dumps
+later_dumps-none minds seed chosen m round = numbered-none (λ i. chosen_dump chosen (after_rounds minds seed m (i + 1)).world (round + i + 1))
+
+-- the dumps of the first later rounds are a prefix of all
+pub later_dumps-front : (minds : Minds) (seed : ℕ) (chosen : ℕ → Bool) (m : Moment) (round i n : ℕ) → i ≤ n → (rest : List ℕ) × (later_dumps minds seed chosen m round n ≡ later_dumps minds seed chosen m round i ++ rest)
+unfolding later_dumps
+later_dumps-front minds seed chosen m round i n le = numbered-front (λ k. chosen_dump chosen (after_rounds minds seed m (k + 1)).world (round + k + 1)) i n le
 
 -- a round that wasn't shown stops the dumps up to it
-pub stopped-shown : {minds : Minds} {seed : ℕ} {w : World} {size round : ℕ} {old : GameValue} (sink mid new_sink : SinkState) (chosen : ℕ → Bool) → IsAtRound minds seed w size round old → (new : GameValue) (fault : PlayFault)
-    → PushedAll sink mid (dumps_text minds seed chosen w (round + 1)) → RoundStopped old new chosen (round + 1) mid new_sink fault → StoppedBy sink new_sink (dumps_text minds seed chosen w (round + 1 + 1)) fault
-stopped-shown {minds} {seed} {w} {size} {round} {old} sink mid new_sink chosen at new WriteFault so_far stopped =
-    rw (dumps_text-more minds seed chosen w (round + 1), ← IsAtRound-world (IsAtRound-more at new stopped.0)) (front_then sink mid new_sink _ _ so_far stopped.1)
-stopped-shown {minds} {seed} {w} {size} {round} {old} sink mid new_sink chosen at new OutOfMemory so_far stopped = record {
-  front = dumps_text minds seed chosen w (round + 1);
-  rest = chosen_dump chosen (world_after minds seed w (round + 1)) (round + 1);
-  whole = dumps_text-more minds seed chosen w (round + 1);
-  pushed = subst (λ (state : SinkState). PushedAll sink state (dumps_text minds seed chosen w (round + 1))) (sym stopped) so_far;
+pub stopped-shown : {first : GameValue} {round : ℕ} {old : GameValue} (sink mid new_sink : SinkState) (chosen : ℕ → Bool) → GoesOnFor first old round → (new : GameValue) (fault : PlayFault)
+    → PushedAll sink mid (later_dumps first.field.minds first.field.seed chosen (now_of first) first.done round) → RoundStopped old new chosen (first.done + round + 1) mid new_sink fault
+    → StoppedBy sink new_sink (later_dumps first.field.minds first.field.seed chosen (now_of first) first.done (round + 1)) fault
+stopped-shown {first} {round} {old} sink mid new_sink chosen at new WriteFault so_far stopped =
+    rw (later_dumps-more first.field.minds first.field.seed chosen (now_of first) first.done round, ← GoesOnFor-world (GoesOnFor-more at new stopped.0)) (front_then sink mid new_sink _ _ so_far stopped.1)
+stopped-shown {first} {round} {old} sink mid new_sink chosen at new OutOfMemory so_far stopped = record {
+  front = later_dumps first.field.minds first.field.seed chosen (now_of first) first.done round;
+  rest = chosen_dump chosen (after_rounds first.field.minds first.field.seed (now_of first) (round + 1)).world (first.done + round + 1);
+  whole = later_dumps-more first.field.minds first.field.seed chosen (now_of first) first.done round;
+  pushed = subst (λ (state : SinkState). PushedAll sink state (later_dumps first.field.minds first.field.seed chosen (now_of first) first.done round)) (sym stopped.1) so_far;
 }
+
+-- a round that wasn't shown stops a play of more rounds
+pub StopsWithin-shown : (first old new : GameValue) (round n : ℕ) (sink new_sink : SinkState) (chosen : ℕ → Bool) (rounds : ℕ) (fault : PlayFault) → round < rounds → GoesOnFor first old round → RoundStopped old new chosen n sink new_sink fault
+    → StopsWithin first new rounds
+StopsWithin-shown first old new round n sink new_sink chosen rounds WriteFault more at stopped = record { played = round + 1; within = omega (arith, more); at = new; whole = GoesOnFor-more at new stopped.0; rest = inl refl }
+StopsWithin-shown first old new round n sink new_sink chosen rounds OutOfMemory more at stopped = record { played = round; within = omega (arith, more); at = old; whole = at; rest = inr stopped.0 }
+
+-- a play stops behind its last round
+pub StopsWithin-last : {first new : GameValue} {rounds : ℕ} → GoesOnFor first new rounds → StopsWithin first new rounds
+StopsWithin-last {first} {new} {rounds} whole = record { played = rounds; within = omega arith; at = new; whole = whole; rest = inl refl }
 
 -- one text, and then a play that pushes another
 pub by_then : {A : Type 0} (old mid new : SinkState) (a b : List ℕ) (result : Result A PlayFault) → PushedAll old mid a → PushedBy mid new b result → PushedBy old new (a ++ b) result
@@ -117,8 +138,8 @@ by_then old mid new a b (Ok _) p q = all_then old mid new a b p q
 by_then old mid new a b (Err fault) p q = stopped_then old mid new a b fault p q
 
 -- a crew's count of turns goes on with a round
-pub counted-round : (first mid new before after ids round : ℕ) → mid ≡ counted_on first (ids * round) → new ≡ counted_on mid (after - before) → before ≡ ids * round → after ≡ ids * (round + 1) → new ≡ counted_on first (ids * (round + 1))
-counted-round first mid new before after ids round so_far step is_before is_after = omega arith
+pub counted-round : (first mid new before after turns ids round : ℕ) → mid ≡ counted_on first (ids * round) → new ≡ counted_on mid (after - before) → before ≡ turns + ids * round → after ≡ turns + ids * (round + 1) → new ≡ counted_on first (ids * (round + 1))
+counted-round first mid new before after turns ids round so_far step is_before is_after = omega arith
 
 -- a crew's count of turns before a round
 pub counted-start : (played ids : ℕ) → played < 2 ^ 64 → played ≡ counted_on played (ids * 0)

@@ -22,7 +22,12 @@ use Rattle.dump_print.specs.Content.{content_text}
 use Rattle.dump_print.specs.Texts.{cell_line, row_text, cells_text, dump_text, seed_text, score_text}
 use Rattle.match_run.specs.declared.dumps.Dumps.TheVariants.{Nothing, All, Chosen}
 use Rattle.match_run.specs.Dumps.{chooses, has_round}
-use Rattle.match_run.specs.Run.{dumps_text, run_text, world_after}
+use Rattle.match_run.specs.Run.{dumps_text, most_rounds, run_text, world_after}
+use Rattle.match_run.specs.declared.plan.TheConstants.{MOST_ROUNDS}
+
+-- the most rounds that code names are those of the definitions
+most_rounds-named : MOST_ROUNDS ≡ most_rounds
+most_rounds-named = refl
 
 -- the rounds of a game of four rounds
 abbrev rounds : List ℕ
@@ -39,10 +44,10 @@ pub nothing_chooses : filter (chooses Nothing) rounds ≡ []
 nothing_chooses = refl
 
 -- one rocky cell, and no ant
-abbrev stone : World
+abbrev pub stone : World
 stone = record { width = 1; height = 1; ids = 0; cells = λ p. rock }
 
-abbrev nobody : Minds
+abbrev pub nobody : Minds
 nobody = record { red = []; black = []; sheet = contest }
 
 -- the text of two rounds of which the start and the last one are dumped

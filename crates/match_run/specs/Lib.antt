@@ -2,7 +2,9 @@ pub mod CountLaws
 pub mod Counts
 pub mod Dumps
 pub mod Game
+pub mod GameLaws
 pub mod Inner
 pub mod Play
+pub mod Rest
 pub mod Run
 pub mod RunLaws

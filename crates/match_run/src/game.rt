@@ -1,7 +1,7 @@
 // A game that is played window by window.
 ghost use Rattle.std.specs.Prelude.{◌≡◌, ◌-◌, ◌<◌, ◌≤◌, ◌^◌, ◌↔◌, IsTrue, OnOk, OnErr, true};
 ghost use Rattle.round_book.specs.Book.{FieldValue};
-ghost use Rattle.match_run.specs.Game.{IsGame, IsRoundPlayed, IsRoundRefused, beginning, counted_on};
+ghost use Rattle.match_run.specs.Game.{CanGoOn, IsGame, IsRoundPlayed, IsRoundRefused, beginning, counted_on, game_at_round};
 ghost use Rattle.match_run.specs.Run.{most_rounds};
 
 use crate::windows::play_windows;
@@ -70,6 +70,23 @@ impl<'b> Game<'b> {
                 taken: 0,
                 redone: 0,
             },
+        }
+    }
+
+    /// A game that began at place 0 and stands at the end of a round: so many rounds are done, which had these turns, and it goes on from this
+    /// field. The field is whole; at most 1,000,000 rounds are done; their turns are those of the ids times the rounds, each taken or redone;
+    /// and no more random numbers were drawn than there were turns. It takes no memory.
+    pub fn at_round(field: Field<'b>, window: u32, done: u32, totals: Totals) -> Game<'b>
+        requires { CanGoOn field window done totals }
+        ensures { result ≡ game_at_round field.entry window done totals }
+    {
+        Game {
+            field,
+            window,
+            first_place: 0,
+            done,
+            next: 0,
+            totals,
         }
     }
 

@@ -1,5 +1,7 @@
 // What holds of all games and runs, as laws of their definitions.
 ghost use Rattle.match_run.specs.CountLaws.{BrokenRoundsGoOn, CountsComeLast, LoneWindowsAreTaken, RoundsGoOn, TotalsAddUp, WholeRounds};
+ghost use Rattle.match_run.specs.GameLaws.{GamesFollowTheRules, GamesGoOnByRounds, GamesKeepTheirHills};
+ghost use Rattle.match_run.specs.Rest.{RunsGoOn};
 ghost use Rattle.match_run.specs.RunLaws.{AllDumps, NoDumps, SameRounds, RepeatAddsNothing, LaterAddsNothing, GamesGoOn};
 
 /// The text of a run with `Dumps::All` is the line of the seed, the dump after each round from 0 to the number of rounds in order, and the
@@ -69,4 +71,29 @@ pub fn whole_rounds()
 /// nothing: its clause is the law.
 pub fn broken_rounds_go_on()
     ensures { BrokenRoundsGoOn }
+{}
+
+/// The text of a run is the line of the seed, the chosen dumps up to whatever round, and then the rest of its text from that round on. So what
+/// `play_rest` pushes for a game at that round, with the counts of the rounds before it, is what is missing of the run's text (this project's
+/// own). The call does nothing: its clause is the law.
+pub fn runs_go_on()
+    ensures { RunsGoOn }
+{}
+
+/// A game that stands at the end of a round, and of which r rounds are played, each to its end however often it was refused before, stands where
+/// r rounds of the rules lead from there, and has counted what they count (the task's game play). The call does nothing: its clause is the law.
+pub fn games_go_on_by_rounds()
+    ensures { GamesGoOnByRounds }
+{}
+
+/// A game that begins at place 0 has, after r whole rounds by whatever crews, the world, the place and the counts that the definitions give for
+/// r rounds of a game of its first world (the task's game play). The call does nothing: its clause is the law.
+pub fn games_follow_the_rules()
+    ensures { GamesFollowTheRules }
+{}
+
+/// A game that begins at place 0 on the world of some kinds has at every round as many hill cells as ids, since each hill cell was born with an
+/// ant and no turn changes a hill (the task's geography and biology). The call does nothing: its clause is the law.
+pub fn games_keep_their_hills()
+    ensures { GamesKeepTheirHills }
 {}

@@ -26,9 +26,10 @@ pub use fault::PlayFault;
 pub use game::Game;
 pub use hex_geometry::OutOfMemory;
 pub use laws::{
-    all_dumps, broken_rounds_go_on, counts_come_last, goes_on, later_adds_nothing,
-    lone_windows_are_taken, no_dumps, repeat_adds_nothing, rounds_go_on, same_rounds,
+    all_dumps, broken_rounds_go_on, counts_come_last, games_follow_the_rules,
+    games_go_on_by_rounds, games_keep_their_hills, goes_on, later_adds_nothing,
+    lone_windows_are_taken, no_dumps, repeat_adds_nothing, rounds_go_on, runs_go_on, same_rounds,
     totals_add_up, whole_rounds,
 };
-pub use plan::Plan;
-pub use playing::play;
+pub use plan::{MOST_ROUNDS, Plan};
+pub use playing::{play, play_rest};

@@ -1,6 +1,9 @@
 // What a run is asked to do.
 use crate::dumps::Dumps;
 
+/// The most rounds that a game has (this project's own).
+pub const MOST_ROUNDS: u32 = 1_000_000;
+
 /// What a run is asked to do (seed and rounds are the task's game play).
 #[derive(Drop)]
 pub struct Plan {

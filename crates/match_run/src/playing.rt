@@ -1,18 +1,19 @@
 // A whole run, played by a crew.
-ghost use Rattle.std.specs.Prelude.{◌≡◌, ◌+◌, ◌-◌, ◌*◌, ◌<◌, ◌≤◌, true, IfOk, OnOk};
+ghost use Rattle.std.specs.Prelude.{◌≡◌, ◌+◌, ◌-◌, ◌*◌, ◌<◌, ◌≤◌, true, IfOk, OnErr, OnOk};
 ghost use Rattle.ant_base.specs.Layout.{◌+++◌};
 ghost use Rattle.ant_base.specs.Sink.{Pushed};
 ghost use Rattle.ant_turn.specs.Minds.{Fits, minds_of};
-ghost use Rattle.ant_turn.specs.Rounds.{start_of};
+ghost use Rattle.ant_turn.specs.Rounds.{after_rounds};
 ghost use Rattle.cell_world.specs.Grid.{world_of};
 ghost use Rattle.cell_world.specs.Score.{score_of};
 ghost use Rattle.dump_print.specs.Texts.{score_text};
-ghost use Rattle.match_run.specs.Counts.{counts_text, totals_of, whole_text};
+ghost use Rattle.match_run.specs.Counts.{counts_text, whole_text};
 ghost use Rattle.match_run.specs.Dumps.{chooses};
-ghost use Rattle.match_run.specs.Game.{beginning, counted_on};
-ghost use Rattle.match_run.specs.Inner.Rounds.{IsAtRound, RoundShown};
+ghost use Rattle.match_run.specs.Game.{GoesOnFor, StopsWithin, beginning, counted_on, now_of};
+ghost use Rattle.match_run.specs.Inner.Rounds.{RoundShown};
 ghost use Rattle.match_run.specs.Play.{PushedBy};
-ghost use Rattle.match_run.specs.Run.{dumps_text, ended, most_rounds, world_after};
+ghost use Rattle.match_run.specs.Rest.{later_dumps, rest_text};
+ghost use Rattle.match_run.specs.Run.{ended, most_rounds, world_after};
 
 use crate::dumps::{Dumps, push_chosen};
 use crate::fault::PlayFault;
@@ -55,7 +56,16 @@ pub fn play<C: Crew, K: Sink>(
 {
     let mut game = game_of(alloc, world, brains, plan)?;
     push_seed(plan.seed, sink)?;
-    play_game(alloc, crew, &mut game, plan, sink)
+    push_chosen(game.world(), &plan.dumps, 0, sink)?;
+    play_rest(
+        alloc,
+        crew,
+        &mut game,
+        plan.rounds,
+        &plan.dumps,
+        plan.stats,
+        sink,
+    )
 }
 
 // The game of a plan, at its start.
@@ -79,53 +89,65 @@ fn game_of<'b>(
     Ok(Game::begin(field, plan.window))
 }
 
-// Plays a game from its start, and pushes the dumps that the plan chooses, the score and, where the plan asks for them, the counts.
-fn play_game<C: Crew, K: Sink>(
+/// Plays a game on that is at the end of a round, until so many rounds are done in all, and pushes the rest of its text: the dump after each
+/// later round that is chosen, in order, the score, and, where they are asked for, the counts of all rounds (the task's game play).
+///
+/// The rounds are at most 1,000,000, and at least those that are done. Gives the score at the end. The game stands there then, and the crew's
+/// count of turns has risen by that of the ids times the later rounds, or stands at its last value.
+///
+/// It is refused where the sink failed, whose count of faults rose then, or for want of memory. In both cases a prefix of the text was
+/// pushed; the game stands at the end of a round, or, where memory was wanting, at the window that was refused, and it can be gone on with.
+pub fn play_rest<C: Crew, K: Sink>(
     alloc: Global,
     crew: &mut C,
     game: &mut Game<'_>,
-    plan: &Plan,
+    rounds: u32,
+    dumps: &Dumps,
+    stats: bool,
     sink: &mut K,
 ) -> Result<Score, PlayFault>
     requires ready { C.ready crew.old }
-    requires begins { IsAtRound game.old.field.minds plan.now.seed (world_of game.old.field.world) plan.now.window 0 game.old }
-    requires few_rounds { plan.now.rounds ≤ most_rounds }
-    requires sized { 1 ≤ plan.now.window }
+    requires ends { game.old.next ≡ 0 }
+    requires left { game.old.done ≤ rounds }
+    requires few_rounds { rounds ≤ most_rounds }
     ensures ready { C.ready crew.new }
     ensures text { PushedBy (K.state sink.old) (K.state sink.new)
-        (dumps_text game.old.field.minds plan.now.seed (chooses plan.now.dumps) (world_of game.old.field.world) (plan.now.rounds + 1)
-        +++ score_text (score_of (world_after game.old.field.minds plan.now.seed (world_of game.old.field.world) plan.now.rounds))
-        +++ counts_text plan.now.stats (totals_of game.old.field.minds plan.now.seed plan.now.window (start_of (world_of game.old.field.world)) plan.now.rounds)) result }
-    ensures score { IfOk result (λ s. s ≡ score_of (world_after game.old.field.minds plan.now.seed (world_of game.old.field.world) plan.now.rounds)) }
-    ensures turns { OnOk result (C.played crew.new ≡ counted_on (C.played crew.old) (game.old.field.world.ids * plan.now.rounds)) }
+        (rest_text game.old.field.minds game.old.field.seed game.old.window (now_of game.old) game.old.done game.old.totals rounds (chooses dumps.now) stats) result }
+    ensures score { IfOk result (λ s. s ≡ score_of (after_rounds game.old.field.minds game.old.field.seed (now_of game.old) (rounds - game.old.done)).world) }
+    ensures played { OnOk result (GoesOnFor game.old game.new (rounds - game.old.done)) }
+    ensures stopped { OnErr result (StopsWithin game.old game.new (rounds - game.old.done)) }
+    ensures turns { OnOk result (C.played crew.new ≡ counted_on (C.played crew.old) (game.old.field.world.ids * (rounds - game.old.done))) }
 {
-    play_rounds(alloc, crew, game, plan, sink)?;
-    Ok(push_end(game.world(), game.totals(), plan.stats, sink)?)
+    play_rounds(alloc, crew, game, rounds, dumps, sink)?;
+    Ok(push_end(game.world(), game.totals(), stats, sink)?)
 }
 
-// Plays the rounds of a plan, and pushes the dumps that it chooses.
+// Plays the later rounds of a game, and pushes the dumps that are chosen.
 fn play_rounds<C: Crew, K: Sink>(
     alloc: Global,
     crew: &mut C,
     game: &mut Game<'_>,
-    plan: &Plan,
+    rounds: u32,
+    dumps: &Dumps,
     sink: &mut K,
 ) -> Result<(), PlayFault>
     requires ready { C.ready crew.old }
-    requires begins { IsAtRound game.old.field.minds plan.now.seed (world_of game.old.field.world) plan.now.window 0 game.old }
-    requires few_rounds { plan.now.rounds ≤ most_rounds }
-    requires sized { 1 ≤ plan.now.window }
+    requires ends { game.old.next ≡ 0 }
+    requires left { game.old.done ≤ rounds }
+    requires few_rounds { rounds ≤ most_rounds }
     ensures ready { C.ready crew.new }
     ensures text { PushedBy (K.state sink.old) (K.state sink.new)
-        (dumps_text game.old.field.minds plan.now.seed (chooses plan.now.dumps) (world_of game.old.field.world) (plan.now.rounds + 1)) result }
-    ensures played { OnOk result (IsAtRound game.old.field.minds plan.now.seed (world_of game.old.field.world) plan.now.window plan.now.rounds game.new) }
-    ensures turns { OnOk result (C.played crew.new ≡ counted_on (C.played crew.old) (game.old.field.world.ids * plan.now.rounds)) }
+        (later_dumps game.old.field.minds game.old.field.seed (chooses dumps.now) (now_of game.old) game.old.done (rounds - game.old.done)) result }
+    ensures played { OnOk result (GoesOnFor game.old game.new (rounds - game.old.done)) }
+    ensures stopped { OnErr result (StopsWithin game.old game.new (rounds - game.old.done)) }
+    ensures turns { OnOk result (C.played crew.new ≡ counted_on (C.played crew.old) (game.old.field.world.ids * (rounds - game.old.done))) }
 {
     // A crew's count is a u64, so it doesn't change where there is no round.
     let _count = crew.turns();
-    push_chosen(game.world(), &plan.dumps, 0, sink)?;
-    for round in 0..plan.rounds {
-        play_round(alloc, crew, game, &plan.dumps, round + 1, sink)?;
+    let _window = game.window();
+    let done = game.done();
+    for more in 0..rounds - done {
+        play_round(alloc, crew, game, dumps, done + more + 1, sink)?;
     }
     Ok(())
 }

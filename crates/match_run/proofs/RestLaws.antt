@@ -1,0 +1,82 @@
+-- What holds of the rest of a run.
+use Rattle.std.proofs.Common.{◌≡◌, ℕ, zero, suc, ◌+◌, ◌-◌, ◌≤◌, Bool, List, ◌++◌, refl, sym, ap, ◌∙◌, append_assoc, append-nil, arith}
+use Rattle.ant_base.specs.Layout.{numbered}
+use Rattle.ant_base.proofs.Numbered.{numbered-more, numbered-none, numbered-same}
+use Rattle.ant_turn.specs.Minds.{Minds}
+use Rattle.ant_turn.specs.Rounds.{Moment, after_rounds, start_of}
+use Rattle.ant_turn.proofs.KeptByRounds.{after_rounds-then}
+use Rattle.cell_world.specs.Score.{score_of}
+use Rattle.cell_world.specs.World.{World}
+use Rattle.dump_print.specs.declared.totals.Totals.{Totals}
+use Rattle.dump_print.specs.Texts.{score_text, seed_text}
+use Rattle.match_run.specs.Counts.{both, counts_text, no_turns, totals_of, whole_text}
+use Rattle.match_run.specs.Rest.{RunsGoOn, later_dumps, rest_text}
+use Rattle.match_run.specs.Run.{chosen_dump, dumps_text, run_text, world_after}
+use Rattle.match_run.proofs.CountLemmas.{totals_of-then}
+use Rattle.match_run.proofs.RunLemmas.{dumps_text-first}
+
+-- the first texts, and those after them
+numbered-split : (f : ℕ → List ℕ) (a b : ℕ) → numbered f (a + b) ≡ numbered f a ++ numbered (λ i. f (a + i)) b
+numbered-split f a zero =
+    ap (numbered f) (let s : a + 0 ≡ a = omega arith in s) ∙ sym (append-nil (numbered f a)) ∙ ap (λ l. numbered f a ++ l) (sym (numbered-none (λ i. f (a + i))))
+numbered-split f a (suc b) =
+    ap (numbered f) (let s : a + suc b ≡ a + b + 1 = omega arith in s)
+    ∙ numbered-more f (a + b)
+    ∙ ap (λ l. l ++ f (a + b)) (numbered-split f a b)
+    ∙ append_assoc (numbered f a) (numbered (λ i. f (a + i)) b) (f (a + b))
+    ∙ ap (λ l. numbered f a ++ l) (sym (numbered-more (λ i. f (a + i)) b) ∙ ap (numbered (λ i. f (a + i))) (let s : b + 1 ≡ suc b = omega arith in s))
+
+module _ (minds : Minds) (seed : ℕ) (chosen : ℕ → Bool) (w : World) where
+  -- the dumps of the first rounds, and those of the later ones
+  dumps-split : (round more : ℕ) → dumps_text minds seed chosen w (round + more + 1) ≡ dumps_text minds seed chosen w (round + 1) ++ later_dumps minds seed chosen (after_rounds minds seed (start_of w) round) round more
+  unfolding dumps_text later_dumps world_after
+  dumps-split round more =
+      let f : ℕ → List ℕ = λ r. chosen_dump chosen (world_after minds seed w r) r in
+      ap (numbered f) (let s : round + more + 1 ≡ round + 1 + more = omega arith in s)
+      ∙ numbered-split f (round + 1) more
+      ∙ ap (λ l. numbered f (round + 1) ++ l) (numbered-same (λ i. f (round + 1 + i)) (λ i. chosen_dump chosen (after_rounds minds seed (after_rounds minds seed (start_of w) round) (i + 1)).world (round + i + 1)) more
+      (λ i below.
+      let number : round + 1 + i ≡ round + i + 1 = omega arith in
+      ap f number
+      ∙ ap (λ (m : Moment). chosen_dump chosen m.world (round + i + 1)) (ap (after_rounds minds seed (start_of w)) (let s : round + i + 1 ≡ round + (i + 1) = omega arith in s) ∙ sym (after_rounds-then minds seed (start_of w) round (i + 1)))))
+
+pub runs_go_on : RunsGoOn
+unfolding whole_text run_text rest_text world_after
+runs_go_on minds seed size w round rounds chosen stats within =
+    let more : ℕ = rounds - round in
+    let whole : rounds ≡ round + more = omega (arith, within) in
+    let there : Moment = after_rounds minds seed (start_of w) round in
+    let dumps : dumps_text minds seed chosen w (rounds + 1) ≡ dumps_text minds seed chosen w (round + 1) ++ later_dumps minds seed chosen there round more =
+    ap (λ n. dumps_text minds seed chosen w (n + 1)) whole ∙ dumps-split minds seed chosen w round more in
+    let ends : after_rounds minds seed (start_of w) rounds ≡ after_rounds minds seed there more = ap (after_rounds minds seed (start_of w)) whole ∙ sym (after_rounds-then minds seed (start_of w) round more) in
+    let counts : totals_of minds seed size (start_of w) rounds ≡ both (totals_of minds seed size (start_of w) round) (totals_of minds seed size there more) =
+    ap (totals_of minds seed size (start_of w)) whole ∙ totals_of-then minds seed size (start_of w) round more in
+    let score : score_text (score_of (after_rounds minds seed (start_of w) rounds).world) ≡ score_text (score_of (after_rounds minds seed there more).world) = ap (λ (m : Moment). score_text (score_of m.world)) ends in
+    ap (λ (d : List ℕ). (seed_text seed ++ (d ++ score_text (score_of (after_rounds minds seed (start_of w) rounds).world))) ++ counts_text stats (totals_of minds seed size (start_of w) rounds)) dumps
+    ∙ ap (λ (s : List ℕ). (seed_text seed ++ ((dumps_text minds seed chosen w (round + 1) ++ later_dumps minds seed chosen there round more) ++ s)) ++ counts_text stats (totals_of minds seed size (start_of w) rounds)) score
+    ∙ ap (λ (t : Totals). (seed_text seed ++ ((dumps_text minds seed chosen w (round + 1) ++ later_dumps minds seed chosen there round more) ++ score_text (score_of (after_rounds minds seed there more).world))) ++ counts_text stats t) counts
+    ∙ regroup (seed_text seed) (dumps_text minds seed chosen w (round + 1)) (later_dumps minds seed chosen there round more) (score_text (score_of (after_rounds minds seed there more).world)) (counts_text stats (both (totals_of minds seed size (start_of w) round) (totals_of minds seed size there more)))
+  where
+    regroup : (a b c d e : List ℕ) → (a ++ ((b ++ c) ++ d)) ++ e ≡ a ++ (b ++ (c ++ (d ++ e)))
+    regroup a b c d e =
+        append_assoc a ((b ++ c) ++ d) e
+        ∙ ap (λ l. a ++ l) (append_assoc (b ++ c) d e ∙ append_assoc b c (d ++ e))
+
+-- a run is the line of its seed, the dump of the start, if it is chosen, and the rest
+pub whole_text-rest : (minds : Minds) (seed size : ℕ) (w : World) (rounds : ℕ) (chosen : ℕ → Bool) (stats : Bool) → whole_text minds seed rounds chosen size stats w
+    ≡ seed_text seed ++ (chosen_dump chosen w 0 ++ rest_text minds seed size (start_of w) 0 no_turns rounds chosen stats)
+whole_text-rest minds seed size w rounds chosen stats =
+    runs_go_on minds seed size w 0 rounds chosen stats (omega arith)
+    ∙ ap (λ (d : List ℕ). seed_text seed ++ (d ++ rest_text minds seed size (start_of w) 0 no_turns rounds chosen stats)) (dumps_text-first minds seed chosen w)
+
+-- the parts of the rest of a run
+pub rest_text-parts : (minds : Minds) (seed size : ℕ) (m : Moment) (round : ℕ) (totals : Totals) (rounds : ℕ) (chosen : ℕ → Bool) (stats : Bool) → rest_text minds seed size m round totals rounds chosen stats
+    ≡ later_dumps minds seed chosen m round (rounds - round)
+    ++ (score_text (score_of (after_rounds minds seed m (rounds - round)).world) ++ counts_text stats (both totals (totals_of minds seed size m (rounds - round))))
+unfolding rest_text
+rest_text-parts minds seed size m round totals rounds chosen stats = refl
+
+-- the score after all rounds from the start
+pub score-rest : (minds : Minds) (seed : ℕ) (w : World) (rounds : ℕ) → score_of (after_rounds minds seed (start_of w) (rounds - 0)).world ≡ score_of (world_after minds seed w rounds)
+unfolding world_after
+score-rest minds seed w rounds = ap (λ n. score_of (after_rounds minds seed (start_of w) n).world) (let s : rounds - 0 ≡ rounds = omega arith in s)
