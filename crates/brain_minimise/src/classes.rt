@@ -3,8 +3,7 @@ ghost use Rattle.std.specs.Prelude.{◌≡◌, ◌<◌, ◌↔◌, IsTrue, Some,
 ghost use Rattle.brain_minimise.specs.Inner.Classes.{AreClasses, AreStable, DoAlike, slack};
 
 use crate::redirect::redirected;
-use crate::same::are_same;
-use brain_read::Brain;
+use brain_read::{Brain, are_same};
 use hex_geometry::OutOfMemory;
 use std::alloc::Global;
 

@@ -14,7 +14,6 @@ mod merge;
 mod numbering;
 mod reach;
 mod redirect;
-mod same;
 mod state_map;
 mod text;
 

@@ -1,12 +1,10 @@
 // Brains with what is left of them and the map to it, written out.
 use crate::{Minimised, StateMap, minimise, push_minimised};
-use ant_base::{Calls, MemSink};
+use ant_base::{Calls, LONGEST, MemSink};
 use brain_read::{Brain, read_brain};
 use std::alloc::Global;
 use std::process::Abort;
 use std::test::Fail;
-
-const MOST_BYTES: usize = 4194304;
 
 // More bytes than any text of these tests has.
 const ROOM: u64 = 1000;
@@ -38,7 +36,7 @@ fn spelled(alloc: Global, map: &StateMap) -> Result<String, Fail> {
 // The brain of a text.
 fn brain_of<R: Abort>(rt: &R, alloc: Global, text: &str) -> Brain {
     let bytes = text.as_bytes();
-    assert!(rt; bytes.len() <= MOST_BYTES);
+    assert!(rt; bytes.len() <= LONGEST);
     read_brain(alloc, bytes).expect(rt, "it is a brain")
 }
 

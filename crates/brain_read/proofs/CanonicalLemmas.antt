@@ -1,161 +1,39 @@
 -- The canonical text of a brain is read as that brain.
-use Rattle.std.proofs.Common.{◌≡◌, ◌+◌, ◌<◌, ◌≤◌, ℕ, suc, Bool, true, false, not, ◌&&◌, List, [], ◌∷◌, ◌++◌, length, map, filter, flat_map, codes, decimal, Some, slice_get, cond, nat_le, refl, get_or, take, drop, sym, ap, ◌∙◌, subst, arith, append_assoc, take-append-drop, leb-true, ne_eqb}
-use Rattle.std.specs.List.{AllByRecursion, list_all, onto_first}
-use Rattle.std.specs.Char.{is_ascii_digit}
-use Rattle.std.specs.Str.{all_ascii_digits}
-use Rattle.std.proofs.lemmas.Bool.{and_parts, and_from}
+use Rattle.std.proofs.Common.{◌≡◌, ◌+◌, ◌<◌, ◌≤◌, ℕ, suc, true, false, List, [], ◌∷◌, ◌++◌, length, map, flat_map, codes, Some, slice_get, refl, get_or, take, drop, sym, ap, ◌∙◌, subst, arith, append_assoc, take-append-drop}
+use Rattle.std.specs.List.{AllByRecursion}
 use Rattle.std.proofs.lemmas.List.{take_more, flat_map_more}
 use Rattle.std.proofs.lemmas.Grind.{flat_map-append}
-use Rattle.std.proofs.lemmas.Fmt.{digits_decimal, decimal_nonempty}
 use Rattle.hex_geometry.specs.declared.direction.Side.{Side}
 use Rattle.hex_geometry.specs.declared.direction.Side.TheVariants.{Left, Right}
 use Rattle.hex_geometry.specs.declared.neighbourhood.Sight.{Sight}
 use Rattle.hex_geometry.specs.declared.neighbourhood.Sight.TheVariants.{Here, Ahead, LeftAhead, RightAhead}
-use Rattle.ant_base.specs.Lines.{is_lf, has_no_lf, lines_of}
-use Rattle.ant_base.proofs.Digits.{decimal_value-decimal}
-use Rattle.ant_base.proofs.Linewise.{lines_of-line, has_no_lf-append}
+use Rattle.ant_base.specs.Lines.{lines_of}
+use Rattle.ant_base.proofs.Linewise.{lines_of-line}
+use Rattle.line_tokens.proofs.PrintedLemmas.{IsToken, IsPrinted, body, line_text-body, tokens_of-body, no_lf-body, spelled_again, token}
 use Rattle.brain_read.specs.declared.instr.Cond.{Cond}
 use Rattle.brain_read.specs.declared.instr.Cond.TheVariants.{Friend, Foe, FriendWithFood, FoeWithFood, Food, Rock, Marker, FoeMarker, Home, FoeHome}
 use Rattle.brain_read.specs.declared.instr.Instr.{Instr}
 use Rattle.brain_read.specs.declared.instr.Instr.TheVariants.{Sense, Mark, Unmark, PickUp, Drop, Turn, Move, Flip}
 use Rattle.brain_read.specs.Soundness.{most_states, IsSoundCondition, IsSound, IsBrain}
-use Rattle.brain_read.specs.Tokens.{has_byte, tokens_of, has_token}
-use Rattle.brain_read.specs.Inner.Scan.{is_token_byte}
-use Rattle.brain_read.specs.Forms.{word_of_sight, word_of_side, LineField, fields_of_condition, fields_of, SpellsAll, IsInRange, HasBound, InstrLine}
-use Rattle.brain_read.specs.Forms.LineField.{Word, Number}
-use Rattle.brain_read.specs.Grammar.{TokenLine, with_line, token_lines, AreLines, states_of, StatesBelow, IsBrainText}
-use Rattle.brain_read.specs.Canonical.{field_text, further_text, line_text, instruction_text, brain_text}
-use Rattle.ant_base.proofs.Digits.{all_ascii_digits-IsNumeralModel}
-use Rattle.brain_read.proofs.TokensLemmas.{plain, pieces, pieces-cons}
+use Rattle.line_tokens.specs.Tokens.{tokens_of, has_token}
+use Rattle.line_tokens.specs.Fields.{field_text}
+use Rattle.brain_read.specs.Forms.{word_of_sight, word_of_side, fields_of_condition, fields_of, IsInRange, HasBound, InstrLine}
+use Rattle.line_tokens.specs.Fields.LineField.{Word, Number}
+use Rattle.line_tokens.specs.TokenLines.{TokenLine, with_line, token_lines}
+use Rattle.brain_read.specs.Grammar.{AreLines, states_of, StatesBelow, IsBrainText}
+use Rattle.brain_read.specs.Canonical.{instruction_text, brain_text}
 
--- whether a byte belongs to a token of a text's line
-abbrev is_plain_byte : ℕ → Bool
-is_plain_byte byte = is_token_byte byte && not (is_lf byte)
-
--- a text that is one token
-pub record IsToken (text : List ℕ) : Type 0 where
-  pub bytes : list_all is_plain_byte text ≡ true
-  pub some : has_byte text ≡ true
-
--- a field whose text is one token that spells it
-abbrev pub IsPrinted : LineField → Type 0
-IsPrinted (Word word) = IsToken word
-IsPrinted (Number n) = n < 10000000000
-
-token_byte : (byte : ℕ) → is_ascii_digit byte ≡ true → is_plain_byte byte ≡ true
-token_byte byte digit =
-    let range = and_parts (nat_le 48 byte) (nat_le byte 57) digit in
-    let low : 48 ≤ byte = leb-true 48 byte range.0 in
-    let high : byte ≤ 57 = leb-true byte 57 range.1 in
-    rw (ne_eqb byte 32 (omega arith), ne_eqb byte 9 (omega arith), ne_eqb byte 13 (omega arith), ne_eqb byte 59 (omega arith), ne_eqb byte 10 (omega arith)) refl
-
-digits_token : (text : List ℕ) → all_ascii_digits text ≡ true → list_all is_plain_byte text ≡ true
-digits_token [] all = refl
-digits_token (byte ∷ text) all =
-    let parts = and_parts (is_ascii_digit byte) (all_ascii_digits text) all in
-    and_from (is_plain_byte byte) (list_all is_plain_byte text) (token_byte byte parts.0) (digits_token text parts.1)
-
-nonempty : (text : List ℕ) → 0 < length text → has_byte text ≡ true
-nonempty [] some = absurd (omega arith)
-nonempty (byte ∷ text) some = refl
-
-number_token : (n : ℕ) → n < 10000000000 → IsToken (decimal n)
-number_token n small = record {
-  bytes = digits_token (decimal n) (digits_decimal all_ascii_digits-IsNumeralModel n (omega arith));
-  some = nonempty (decimal n) (decimal_nonempty n (omega arith));
-}
-
-field_token : (field : LineField) → IsPrinted field → IsToken (field_text field)
-field_token (Word word) token = token
-field_token (Number n) small = number_token n small
-
--- further tokens without the LF
-abbrev further_body : List LineField → List ℕ
-further_body [] = []
-further_body (field ∷ fields) = 32 ∷ (field_text field ++ further_body fields)
-
--- the tokens of a line without the LF
-abbrev body : List LineField → List ℕ
-body [] = []
-body (field ∷ fields) = field_text field ++ further_body fields
-
-further_text-body : (fields : List LineField) → further_text fields ≡ further_body fields ++ 10 ∷ []
-further_text-body [] = refl
-further_text-body (field ∷ fields) = ap (λ t. 32 ∷ (field_text field ++ t)) (further_text-body fields) ∙ ap (λ t. 32 ∷ t) (sym (append_assoc (field_text field) (further_body fields) (10 ∷ [])))
-
-line_text-body : (fields : List LineField) → line_text fields ≡ body fields ++ 10 ∷ []
-line_text-body [] = refl
-line_text-body (field ∷ fields) = ap (λ t. field_text field ++ t) (further_text-body fields) ∙ sym (append_assoc (field_text field) (further_body fields) (10 ∷ []))
-
--- bytes in front of the first piece
-abbrev onto_front : List ℕ → List (List ℕ) → List (List ℕ)
-onto_front [] parts = parts
-onto_front (byte ∷ bytes) parts = onto_first byte (onto_front bytes parts)
-
-onto_front-empty : (bytes : List ℕ) (parts : List (List ℕ)) → onto_front bytes ([] ∷ parts) ≡ bytes ∷ parts
-onto_front-empty [] parts = refl
-onto_front-empty (byte ∷ bytes) parts = ap (onto_first byte) (onto_front-empty bytes parts)
-
-pieces-front : (bytes line : List ℕ) → list_all is_plain_byte bytes ≡ true → pieces (bytes ++ line) ≡ onto_front bytes (pieces line)
-pieces-front [] line all = refl
-pieces-front (byte ∷ bytes) line all =
-    let parts = and_parts (is_plain_byte byte) (list_all is_plain_byte bytes) all in
-    pieces-cons byte (bytes ++ line) (plain byte (and_parts (is_token_byte byte) (not (is_lf byte)) parts.0).0) ∙ ap (onto_first byte) (pieces-front bytes line parts.1)
-
-pieces-further : (fields : List LineField) → AllByRecursion IsPrinted fields → pieces (further_body fields) ≡ [] ∷ map field_text fields
-pieces-further [] all = refl
-pieces-further (field ∷ fields) all =
-    ap (λ ps. [] ∷ ps) (pieces-front (field_text field) (further_body fields) (field_token field all.0).bytes ∙ ap (onto_front (field_text field)) (pieces-further fields all.1) ∙ onto_front-empty (field_text field) (map field_text fields))
-
-pieces-body : (field : LineField) (fields : List LineField) → AllByRecursion IsPrinted (field ∷ fields) → pieces (body (field ∷ fields)) ≡ map field_text (field ∷ fields)
-pieces-body field fields all =
-    pieces-front (field_text field) (further_body fields) (field_token field all.0).bytes ∙ ap (onto_front (field_text field)) (pieces-further fields all.1) ∙ onto_front-empty (field_text field) (map field_text fields)
-
-keep_all : (fields : List LineField) → AllByRecursion IsPrinted fields → filter has_byte (map field_text fields) ≡ map field_text fields
-keep_all [] all = refl
-keep_all (field ∷ fields) all =
-    ap (λ b. cond b (field_text field ∷ filter has_byte (map field_text fields)) (filter has_byte (map field_text fields))) (field_token field all.0).some
-    ∙ ap (λ ts. field_text field ∷ ts) (keep_all fields all.1)
-
--- the tokens of a line that was printed
-tokens_of-body : (field : LineField) (fields : List LineField) → AllByRecursion IsPrinted (field ∷ fields) → tokens_of (body (field ∷ fields)) ≡ map field_text (field ∷ fields)
-tokens_of-body field fields all = ap (filter has_byte) (pieces-body field fields all) ∙ keep_all (field ∷ fields) all
-
-no_lf : (bytes : List ℕ) → list_all is_plain_byte bytes ≡ true → has_no_lf bytes ≡ true
-no_lf [] all = refl
-no_lf (byte ∷ bytes) all =
-    let parts = and_parts (is_plain_byte byte) (list_all is_plain_byte bytes) all in
-    and_from (not (is_lf byte)) (has_no_lf bytes) (and_parts (is_token_byte byte) (not (is_lf byte)) parts.0).1 (no_lf bytes parts.1)
-
-no_lf-further : (fields : List LineField) → AllByRecursion IsPrinted fields → has_no_lf (further_body fields) ≡ true
-no_lf-further [] all = refl
-no_lf-further (field ∷ fields) all = has_no_lf-append (field_text field) (further_body fields) (no_lf (field_text field) (field_token field all.0).bytes) (no_lf-further fields all.1)
-
-no_lf-body : (fields : List LineField) → AllByRecursion IsPrinted fields → has_no_lf (body fields) ≡ true
-no_lf-body [] all = refl
-no_lf-body (field ∷ fields) all = has_no_lf-append (field_text field) (further_body fields) (no_lf (field_text field) (field_token field all.0).bytes) (no_lf-further fields all.1)
-
--- the texts of fields spell them
-spelled_again : (fields : List LineField) → AllByRecursion IsPrinted fields → SpellsAll fields (map field_text fields)
-spelled_again [] all = tt
-spelled_again (Word word ∷ fields) all = (refl, spelled_again fields all.1)
-spelled_again (Number n ∷ fields) all = (decimal_value-decimal n all.0, spelled_again fields all.1)
-
--- the words are tokens
-token : (word : List ℕ) → list_all is_plain_byte word ≡ true → has_byte word ≡ true → IsToken word
-token word bytes some = record { bytes = bytes; some = some }
-
-sight_token : (s : Sight) → IsToken (word_of_sight s)
+pub sight_token : (s : Sight) → IsToken (word_of_sight s)
 sight_token Here = token (codes "Here") refl refl
 sight_token Ahead = token (codes "Ahead") refl refl
 sight_token LeftAhead = token (codes "LeftAhead") refl refl
 sight_token RightAhead = token (codes "RightAhead") refl refl
 
-side_token : (s : Side) → IsToken (word_of_side s)
+pub side_token : (s : Side) → IsToken (word_of_side s)
 side_token Left = token (codes "Left") refl refl
 side_token Right = token (codes "Right") refl refl
 
-condition_printed : (c : Cond) → IsSoundCondition c → AllByRecursion IsPrinted (fields_of_condition c)
+pub condition_printed : (c : Cond) → IsSoundCondition c → AllByRecursion IsPrinted (fields_of_condition c)
 condition_printed Friend sound = (token (codes "Friend") refl refl, tt)
 condition_printed Foe sound = (token (codes "Foe") refl refl, tt)
 condition_printed FriendWithFood sound = (token (codes "FriendWithFood") refl refl, tt)
@@ -182,7 +60,7 @@ printed n (Move m u) few sound range = (token (codes "Move") refl refl, (omega (
 printed n (Flip b m u) few sound range = (token (codes "Flip") refl refl, (omega (arith, range.1), (omega (arith, sound.1), (omega (arith, sound.2), tt))))
 
 -- a line that was printed, and what is read of it
-tokens_of-line : (i : Instr) → AllByRecursion IsPrinted (fields_of i) → tokens_of (body (fields_of i)) ≡ map field_text (fields_of i)
+pub tokens_of-line : (i : Instr) → AllByRecursion IsPrinted (fields_of i) → tokens_of (body (fields_of i)) ≡ map field_text (fields_of i)
 tokens_of-line (Sense s m u c) all = tokens_of-body (Word (codes "Sense")) (Word (word_of_sight s) ∷ Number m ∷ Number u ∷ fields_of_condition c) all
 tokens_of-line (Mark i k) all = tokens_of-body (Word (codes "Mark")) (Number i ∷ Number k ∷ []) all
 tokens_of-line (Unmark i k) all = tokens_of-body (Word (codes "Unmark")) (Number i ∷ Number k ∷ []) all
@@ -192,7 +70,7 @@ tokens_of-line (Turn s k) all = tokens_of-body (Word (codes "Turn")) (Word (word
 tokens_of-line (Move m u) all = tokens_of-body (Word (codes "Move")) (Number m ∷ Number u ∷ []) all
 tokens_of-line (Flip b m u) all = tokens_of-body (Word (codes "Flip")) (Number b ∷ Number m ∷ Number u ∷ []) all
 
-has_token-line : (i : Instr) → has_token (map field_text (fields_of i)) ≡ true
+pub has_token-line : (i : Instr) → has_token (map field_text (fields_of i)) ≡ true
 has_token-line (Sense s m u c) = refl
 has_token-line (Mark i k) = refl
 has_token-line (Unmark i k) = refl

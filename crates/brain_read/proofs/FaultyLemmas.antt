@@ -7,18 +7,20 @@ use Rattle.brain_read.specs.declared.fault.BrainFault.TheVariants.{Empty, NoSuch
 use Rattle.brain_read.specs.declared.instr.Instr.{Instr}
 use Rattle.brain_read.specs.Soundness.{most_states}
 use Rattle.brain_read.specs.Forms.{InstrLine}
-use Rattle.brain_read.specs.Steps.{Read}
-use Rattle.brain_read.specs.Grammar.{TokenLine, lines_with_tokens, AreLines, states_of, StatesBelow, IsBrainText}
+use Rattle.line_tokens.specs.Steps.{Read}
+use Rattle.line_tokens.specs.TokenLines.{TokenLine, lines_with_tokens}
+use Rattle.brain_read.specs.Grammar.{AreLines, states_of, StatesBelow, IsBrainText}
 use Rattle.brain_read.specs.Faulty.{line_fault, first_not_below, IsBrainFault}
 use Rattle.brain_read.specs.Inner.FirstFault.{first_state_fault}
-use Rattle.brain_read.specs.Inner.LineByLine.{put_before, read_lines, first_line_fault}
+use Rattle.line_tokens.specs.Inner.LineByLine.{put_before, read_lines, first_line_fault}
 use Rattle.brain_read.specs.Faulty.IsBrainFault.{OfLine, OfNothing, OfState}
-use Rattle.brain_read.specs.Inner.Verdict.{Placed, Judgement, brain_reader, or_state, settled_then, settle_all, settle, settle_read, read_text}
+use Rattle.brain_read.specs.Drafts.{or_state}
+use Rattle.brain_read.specs.Inner.Verdict.{Placed, Judgement, brain_reader, settled_then, settle_all, settle, settle_read, read_text}
 use Rattle.brain_read.proofs.FormsLemmas.{line_again}
 use Rattle.brain_read.proofs.FirstFaults.{first_of_line, faithful, NamesNoState, first_state_fault-found, first_state_fault-first, none_not_below, not_below_none}
-use Rattle.brain_read.proofs.LineFaults.{first_line_fault-found, first_line_fault-first}
-use Rattle.brain_read.proofs.LineLemmas.{fault_of_judged, judged_err, judged_ok, put_before_fault, put_before_ok, kept, lines_again}
-use Rattle.brain_read.proofs.LineLemmas as generic
+use Rattle.line_tokens.proofs.LineFaults.{first_line_fault-found, first_line_fault-first}
+use Rattle.line_tokens.proofs.LineLemmas.{fault_of_judged, judged_err, judged_ok, put_before_fault, put_before_ok, kept, lines_again}
+use Rattle.line_tokens.proofs.LineLemmas as generic
 
 -- the reading stops at the first line at fault
 lines_faulted : (lines : List TokenLine) → first_line_fault line_fault 0 lines ≡ fault_of_judged (read_lines brain_reader 0 lines)

@@ -9,14 +9,15 @@ use Rattle.brain_read.specs.Soundness.{most_states}
 use Rattle.brain_read.specs.Judging.{first_fault}
 use Rattle.brain_read.specs.Judging.Position.{FormToken}
 use Rattle.brain_read.specs.Forms.{InstrLine}
-use Rattle.brain_read.specs.Grammar.{TokenLine, lines_with_tokens, AreLines, states_of, StatesBelow}
+use Rattle.line_tokens.specs.TokenLines.{TokenLine, lines_with_tokens}
+use Rattle.brain_read.specs.Grammar.{AreLines, states_of, StatesBelow}
 use Rattle.brain_read.specs.Faulty.{line_fault, first_not_below, HasNoSuchState}
-use Rattle.brain_read.specs.Inner.LineByLine.{first_line_fault}
+use Rattle.line_tokens.specs.Inner.LineByLine.{first_line_fault}
 use Rattle.brain_read.specs.Inner.FirstFault.{first_state_fault}
 use Rattle.brain_read.specs.Inner.Verdict.{brain_reader}
 use Rattle.brain_read.proofs.FormsLemmas.{line_spelled, line_again}
 use Rattle.brain_read.proofs.JudgingLemmas.{line_faulted}
-use Rattle.brain_read.proofs.LineFaults.{IsFaithful, first_line_fault-none}
+use Rattle.line_tokens.proofs.LineFaults.{IsFaithful, first_line_fault-none}
 
 -- the fault of a line's first position at fault
 abbrev pub first_of_line : ℕ → List (List ℕ) → Option BrainFault

@@ -4,25 +4,27 @@ use Rattle.ant_base.specs.Number.{decimal_value, number_within}
 use Rattle.word_table.specs.Words.{word_place}
 use Rattle.brain_read.specs.declared.fault.BrainFault.{BrainFault}
 use Rattle.brain_read.specs.declared.fault.BrainFault.TheVariants.{BadByte, UnknownWord, BadNumber}
-use Rattle.brain_read.specs.declared.fault.LineFault.{LineFault}
+use Rattle.line_tokens.specs.declared.refusal.LineFault.{LineFault}
 use Rattle.brain_read.specs.declared.instr.Cond.{Cond}
 use Rattle.brain_read.specs.declared.instr.Cond.TheVariants.{Friend, Foe, FriendWithFood, FoeWithFood, Food, Rock, Marker, FoeMarker, Home, FoeHome}
 use Rattle.brain_read.specs.declared.instr.Instr.{Instr}
 use Rattle.brain_read.specs.declared.instr.Instr.TheVariants.{Sense, Mark, Unmark, PickUp, Drop, Turn, Move, Flip}
 use Rattle.brain_read.specs.declared.form.Form.{Form}
 use Rattle.brain_read.specs.declared.form.ConditionWord.{ConditionWord}
-use Rattle.brain_read.specs.Tokens.{has_bad_byte}
-use Rattle.brain_read.specs.Steps.{Read, Step, ◌>>=◌, or_refused, take_word, take_number, take_end, take_sight, take_side, take_state, take_marker, take_bound, condition_from, take_condition}
+use Rattle.line_tokens.specs.Tokens.{has_bad_byte}
+use Rattle.line_tokens.specs.Steps.{Read, Step, ◌>>=◌, or_refused, take_word, take_number, take_end}
+use Rattle.brain_read.specs.Steps.{take_sight, take_side, take_state, take_marker, take_bound, condition_from, take_condition}
 use Rattle.brain_read.specs.Forms.{word_of_form, word_of_sight, word_of_side, word_of_condition, forms, sights, sides, conditions, form_words, sight_words, side_words, condition_words, most_bound}
-use Rattle.brain_read.specs.Inner.Places.{form_at}
-use Rattle.brain_read.specs.Places.{sight_at, side_at, condition_word_at}
-use Rattle.brain_read.specs.Inner.Reading.{read_sense, read_marked, read_branches, read_drop, read_turn, read_flip, read_form, read_line}
+use Rattle.brain_read.specs.Places.{form_at, sight_at, side_at, condition_word_at}
+use Rattle.brain_read.specs.Reading.{read_sense, read_marked, read_branches, read_drop, read_turn, read_flip, read_form, read_line}
 use Rattle.brain_read.specs.Refusals.{fault_at, refusal_at}
-use Rattle.brain_read.specs.Judging.{Position, positions_of, positions_of_condition, nothing_more, accepted, fault_of, judged, first_fault}
+use Rattle.line_tokens.specs.Judging.{nothing_more, judged}
+use Rattle.brain_read.specs.Judging.{Position, positions_of, positions_of_condition, accepted, fault_of, first_fault}
 use Rattle.brain_read.specs.Judging.Position.{FormToken, SightToken, SideToken, ConditionToken, MarkerToken, StateToken, BoundToken}
-use Rattle.brain_read.proofs.PlacesLemmas.{Names, word-good, named-place, decimal_value-good, number_within-any}
-use Rattle.brain_read.proofs.LineFaults.{fault_of_read}
-use Rattle.brain_read.proofs.FormsLemmas.{form_names, sight_names, side_names, condition_names, within-some, bind_assoc, as_named, ending}
+use Rattle.line_tokens.proofs.PlacesLemmas.{Names, word-good, named-place, decimal_value-good, number_within-any}
+use Rattle.line_tokens.proofs.LineFaults.{fault_of_read}
+use Rattle.line_tokens.proofs.StepsLemmas.{within-some, bind_assoc, as_named}
+use Rattle.brain_read.proofs.FormsLemmas.{form_names, sight_names, side_names, condition_names, ending}
 
 -- the fault of a line of this number that was read
 abbrev pub fault_in : ℕ → Read Instr → Option BrainFault

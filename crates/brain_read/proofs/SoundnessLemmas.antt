@@ -5,7 +5,8 @@ use Rattle.brain_read.specs.declared.instr.Instr.{Instr}
 use Rattle.brain_read.specs.declared.instr.Instr.TheVariants.{Sense, Mark, Unmark, PickUp, Drop, Turn, Move, Flip}
 use Rattle.brain_read.specs.Soundness.{IsSound, IsBrain}
 use Rattle.brain_read.specs.Forms.{IsInRange}
-use Rattle.brain_read.specs.Grammar.{TokenLine, lines_with_tokens, AreLines, states_of, StatesBelow, IsBrainText}
+use Rattle.line_tokens.specs.TokenLines.{TokenLine, lines_with_tokens}
+use Rattle.brain_read.specs.Grammar.{AreLines, states_of, StatesBelow, IsBrainText}
 
 -- an instruction in range whose states are below n is sound
 pub sound_of : (n : ℕ) (instruction : Instr) → IsInRange instruction → AllByRecursion (λ state. state < n) (states_of instruction) → IsSound n instruction

@@ -4,13 +4,15 @@ use Rattle.std.specs.Option.{option_or}
 use Rattle.std.specs.Prelude.{⊤, length, nat_le}
 use Rattle.brain_read.specs.declared.fault.BrainFault.{BrainFault}
 use Rattle.brain_read.specs.declared.fault.BrainFault.TheVariants.{BadByte, ExtraToken, TooMany, Empty, NoSuchState, OutOfMemory}
-use Rattle.brain_read.specs.Faulty.{IsBrainFault, line_fault, too_many}
-use Rattle.brain_read.specs.Grammar.{TokenLine}
+use Rattle.line_tokens.specs.Faulty.{too_many}
+use Rattle.brain_read.specs.Faulty.{IsBrainFault, line_fault}
+use Rattle.line_tokens.specs.TokenLines.{TokenLine}
 use Rattle.brain_read.specs.Faulty.IsBrainFault.{OfLine, OfNothing, OfState}
-use Rattle.brain_read.specs.Judging.{Position, accepted, fault_of, first_fault, judged}
+use Rattle.line_tokens.specs.Judging.{judged}
+use Rattle.brain_read.specs.Judging.{Position, accepted, fault_of, first_fault}
 use Rattle.brain_read.specs.Judging.Position.{FormToken, SightToken, SideToken, ConditionToken, MarkerToken, StateToken, BoundToken}
 use Rattle.brain_read.specs.Soundness.{most_states}
-use Rattle.brain_read.specs.Tokens.{has_bad_byte}
+use Rattle.line_tokens.specs.Tokens.{has_bad_byte}
 
 -- where there is a fault, it isn't want of memory
 abbrev OfText : Option BrainFault → Type 0

@@ -6,16 +6,16 @@ use Rattle.brain_read.specs.declared.fault.BrainFault.{BrainFault}
 use Rattle.brain_read.specs.declared.fault.BrainFault.TheVariants.{BadByte, UnknownWord, MissingToken, BadNumber, ExtraToken, TooMany, Empty, NoSuchState, OutOfMemory}
 use Rattle.brain_read.specs.declared.instr.Instr.{Instr}
 use Rattle.brain_read.specs.declared.read.DraftLine.{DraftLine}
-use Rattle.brain_read.specs.Tokens.{tokens_of, has_token}
-use Rattle.brain_read.specs.Inner.Draft.{drafted}
+use Rattle.line_tokens.specs.Tokens.{tokens_of, has_token}
+use Rattle.brain_read.specs.Drafts.{drafted}
 use Rattle.brain_read.specs.Grammar.{IsBrainText}
 use Rattle.brain_read.specs.Faulty.{IsBrainFault}
 use Rattle.brain_read.specs.Answers.{IsFaultOf}
-use Rattle.brain_read.specs.Inner.LineByLine.{judged_line, reading_from}
+use Rattle.line_tokens.specs.Inner.LineByLine.{judged_line, reading_from}
 use Rattle.brain_read.specs.Inner.Verdict.{Judgement, brain_reader, settle_all, settle, read_text}
 use Rattle.brain_read.specs.Inner.Answered.{placed_of, FailsAs}
 use Rattle.brain_read.proofs.FaultyLemmas.{brain_read_again, fault_read_of, fault_read_again}
-use Rattle.brain_read.proofs.LineLemmas as generic
+use Rattle.line_tokens.proofs.LineLemmas as generic
 
 -- A line that was read, and its instruction added.
 pub reading_from-more : (drafts : List DraftLine) (number : ℕ) (line : List ℕ) (draft : Draft) (lines : List (List ℕ)) → has_token (tokens_of line) ≡ true → judged_line brain_reader (length drafts) number (tokens_of line) ≡ Ok (drafted draft)

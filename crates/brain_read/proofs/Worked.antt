@@ -6,13 +6,13 @@ use Rattle.ant_base.specs.Number.{decimal_value}
 use Rattle.brain_read.specs.declared.fault.BrainFault.TheVariants.{MissingToken, BadNumber, ExtraToken, TooMany, NoSuchState}
 use Rattle.brain_read.specs.declared.instr.Cond.TheVariants.{Food}
 use Rattle.brain_read.specs.declared.instr.Instr.TheVariants.{Sense, PickUp, Drop, Move, Flip}
-use Rattle.brain_read.specs.Tokens.{tokens_of}
+use Rattle.line_tokens.specs.Tokens.{tokens_of}
 use Rattle.brain_read.specs.Forms.{InstrLine}
 use Rattle.brain_read.specs.Faulty.{IsBrainFault, line_fault}
 use Rattle.brain_read.specs.Faulty.IsBrainFault.{OfLine, OfState}
 use Rattle.brain_read.specs.Inner.Verdict.{brain_reader}
 use Rattle.brain_read.proofs.FirstFaults.{first_of_line, faithful, first_state_fault-first}
-use Rattle.brain_read.proofs.LineFaults.{first_line_fault-first}
+use Rattle.line_tokens.proofs.LineFaults.{first_line_fault-first}
 use Rattle.brain_read.specs.Canonical.{instruction_text, brain_text}
 
 -- a line is its instruction's

@@ -3,18 +3,8 @@ use Rattle.std.proofs.Common.{◌≡◌, [], ◌∷◌, ◌++◌, map, Some, Non
 use Rattle.ant_base.specs.Number.{decimal_value}
 use Rattle.brain_read.specs.declared.fault.BrainFault.TheVariants.{BadByte, UnknownWord, MissingToken, BadNumber, ExtraToken}
 use Rattle.brain_read.specs.Faulty.{line_fault}
-use Rattle.brain_read.specs.Inner.LineByLine.{first_line_fault}
-use Rattle.brain_read.specs.Grammar.{lines_with_tokens}
-use Rattle.brain_read.specs.Tokens.{tokens_of}
-
--- a comment begins at any `;`; lines are counted from 1 with those that have no token
-lines_of_tokens : lines_with_tokens (codes "drop 0;x\n\n ; Move 0 0\n\tMove\t1 0 ; y")
-    ≡ record { number = 1; tokens = codes "drop" ∷ codes "0" ∷ [] } ∷ record { number = 4; tokens = codes "Move" ∷ codes "1" ∷ codes "0" ∷ [] } ∷ []
-lines_of_tokens = refl
-
--- a CR parts tokens, and a vertical tab doesn't
-tokens_parted : map tokens_of ((codes "Drop" ++ 13 ∷ codes "0") ∷ (codes "Drop" ++ 11 ∷ codes "0") ∷ []) ≡ (codes "Drop" ∷ codes "0" ∷ []) ∷ ((codes "Drop" ++ 11 ∷ codes "0") ∷ []) ∷ []
-tokens_parted = refl
+use Rattle.line_tokens.specs.Inner.LineByLine.{first_line_fault}
+use Rattle.line_tokens.specs.TokenLines.{lines_with_tokens}
 
 -- texts without a fault in a line: words in any case, the greatest and the least numbers
 faultless_lines : map (λ text. first_line_fault line_fault 0 (lines_with_tokens text))

@@ -1,6 +1,7 @@
 -- What is wrong with a text that is no brain's (this project's own).
-use Rattle.std.specs.Prelude.{◌≡◌, ℕ, ◌≤◌, not, nat_lt, nat_le, List, [], ◌∷◌, ◌++◌, length, find, Option, Some, None, if◌then◌else◌}
+use Rattle.std.specs.Prelude.{◌≡◌, ℕ, ◌≤◌, not, nat_lt, List, [], ◌∷◌, ◌++◌, length, find, Option, Some}
 use Rattle.std.specs.Option.{option_or}
+use Rattle.line_tokens.specs.Faulty.{too_many, HasLineFault}
 use Rattle.brain_read.specs.declared.fault.BrainFault.{BrainFault}
 use Rattle.brain_read.specs.declared.fault.BrainFault.TheVariants.{TooMany, Empty, NoSuchState}
 use Rattle.brain_read.specs.declared.instr.Instr.{Instr}
@@ -8,22 +9,8 @@ use Rattle.brain_read.specs.Soundness.{most_states}
 use Rattle.brain_read.specs.Judging.{first_fault}
 use Rattle.brain_read.specs.Judging.Position.{FormToken}
 use Rattle.brain_read.specs.Forms.{InstrLine}
-use Rattle.brain_read.specs.Grammar.{TokenLine, lines_with_tokens, AreLinesOf, AreLines, states_of, StatesBelow}
-
--- the fault of a line of this number, before which there are as many items as there may be
-abbrev pub too_many : {F : Type 0} → ℕ → (ℕ → F) → ℕ → ℕ → Option F
-too_many most fault before line = if nat_le most before then Some (fault line) else None
-
--- a line has this fault, and none before it is at fault: those are the lines of items, and no more than there may be
-pub record HasLineFault {A F : Type 0} (Says : List (List ℕ) → A → Type 0) (line_fault : ℕ → TokenLine → Option F) (most : ℕ) (text : List ℕ) (fault : F) : Type 0 where
-  pub before : List TokenLine
-  pub line : TokenLine
-  pub after : List TokenLine
-  pub lines : lines_with_tokens text ≡ before ++ line ∷ after
-  pub read : List A
-  pub good : AreLinesOf Says before read
-  pub few : length before ≤ most
-  pub wrong : line_fault (length before) line ≡ Some fault
+use Rattle.line_tokens.specs.TokenLines.{TokenLine, lines_with_tokens}
+use Rattle.brain_read.specs.Grammar.{AreLines, states_of, StatesBelow}
 
 -- the fault of a line before which so many instructions stand
 abbrev pub line_fault : ℕ → TokenLine → Option BrainFault

@@ -1,12 +1,11 @@
 -- The words and the forms of the language; the clauses of the public calls rest on them (the task's neurology).
-use Rattle.std.specs.Prelude.{◌≡◌, ℕ, ◌≤◌, ◌<◌, List, [], ◌∷◌, map, find, Option, Some, codes}
+use Rattle.std.specs.Prelude.{ℕ, ◌≤◌, ◌<◌, List, [], ◌∷◌, map, codes}
 use Rattle.hex_geometry.specs.declared.direction.Side.{Side}
 use Rattle.hex_geometry.specs.declared.direction.Side.TheVariants.{Left, Right}
 use Rattle.hex_geometry.specs.declared.neighbourhood.Sight.{Sight}
 use Rattle.hex_geometry.specs.declared.neighbourhood.Sight.TheVariants.{Here, Ahead, LeftAhead, RightAhead}
-use Rattle.ant_base.specs.Number.{decimal_value}
-use Rattle.std.specs.Str.{str_eq_ignore_ascii_case}
-use Rattle.word_table.specs.Words.{IsSameWord}
+use Rattle.line_tokens.specs.Fields.{LineField, SpellsAll}
+use Rattle.line_tokens.specs.Fields.LineField.{Word, Number}
 use Rattle.brain_read.specs.declared.instr.Cond.{Cond}
 use Rattle.brain_read.specs.declared.instr.Cond.TheVariants.{Friend, Foe, FriendWithFood, FoeWithFood, Food, Rock, Marker, FoeMarker, Home, FoeHome}
 use Rattle.brain_read.specs.declared.instr.Instr.{Instr}
@@ -84,15 +83,6 @@ side_words = map word_of_side sides
 unfoldable pub condition_words : List (List ℕ)
 condition_words = map word_of_condition conditions
 
--- which of some things a token names: the first whose word it is, in any ASCII case
-abbrev pub named : {A : Type 0} → (A → List ℕ) → List A → List ℕ → Option A
-named word things token = find (λ thing. str_eq_ignore_ascii_case (word thing) token) things
-
--- one token of an instruction's line: a word, in any ASCII case, or a number
-pub data LineField : Type 0 where
-  Word : List ℕ → LineField
-  Number : ℕ → LineField
-
 -- how a condition is spelled
 abbrev pub fields_of_condition : Cond → List LineField
 fields_of_condition Friend = Word (word_of_condition ConditionWord.Friend) ∷ []
@@ -116,18 +106,6 @@ fields_of (Drop next) = Word (word_of_form Form.Drop) ∷ Number next ∷ []
 fields_of (Turn side next) = Word (word_of_form Form.Turn) ∷ Word (word_of_side side) ∷ Number next ∷ []
 fields_of (Move met unmet) = Word (word_of_form Form.Move) ∷ Number met ∷ Number unmet ∷ []
 fields_of (Flip bound met unmet) = Word (word_of_form Form.Flip) ∷ Number bound ∷ Number met ∷ Number unmet ∷ []
-
--- a token spells a field
-abbrev pub Spells : LineField → List ℕ → Type 0
-Spells (Word word) token = IsSameWord word token
-Spells (Number n) token = decimal_value token ≡ Some n
-
--- the tokens spell the fields, one by one
-abbrev pub SpellsAll : List LineField → List (List ℕ) → Type 0
-SpellsAll [] [] = Unit {0}
-SpellsAll [] (token ∷ tokens) = ⊥
-SpellsAll (field ∷ fields) [] = ⊥
-SpellsAll (field ∷ fields) (token ∷ tokens) = Spells field token × SpellsAll fields tokens
 
 -- the largest bound, the last value of a u32
 abbrev pub most_bound : ℕ

@@ -1,38 +1,11 @@
 -- Which texts are brains (the task's neurology).
-use Rattle.std.specs.Prelude.{ℕ, ◌+◌, ◌≤◌, ◌<◌, List, [], ◌∷◌, length}
+use Rattle.std.specs.Prelude.{ℕ, ◌≤◌, ◌<◌, List, [], ◌∷◌, length}
 use Rattle.std.specs.List.{AllByRecursion}
-use Rattle.ant_base.specs.Lines.{lines_of}
+use Rattle.line_tokens.specs.TokenLines.{TokenLine, lines_with_tokens, AreLinesOf}
 use Rattle.brain_read.specs.declared.instr.Instr.{Instr}
 use Rattle.brain_read.specs.declared.instr.Instr.TheVariants.{Sense, Mark, Unmark, PickUp, Drop, Turn, Move, Flip}
 use Rattle.brain_read.specs.Soundness.{most_states}
 use Rattle.brain_read.specs.Forms.{InstrLine}
-use Rattle.brain_read.specs.Tokens.{tokens_of}
-
--- a line that has a token: its number, counted from 1, and its tokens
-pub record TokenLine : Type 0 where
-  pub number : ℕ
-  pub tokens : List (List ℕ)
-
--- a line without a token is skipped
-abbrev pub with_line : ℕ → List (List ℕ) → List TokenLine → List TokenLine
-with_line number [] lines = lines
-with_line number (token ∷ tokens) lines = record { number = number; tokens = token ∷ tokens } ∷ lines
-
--- the lines that have a token, where the first line has this number
-abbrev pub token_lines : ℕ → List (List ℕ) → List TokenLine
-token_lines number [] = []
-token_lines number (line ∷ lines) = with_line number (tokens_of line) (token_lines (number + 1) lines)
-
--- the lines of a text that have a token
-abbrev pub lines_with_tokens : List ℕ → List TokenLine
-lines_with_tokens text = token_lines 1 (lines_of text)
-
--- the lines are those of the items of a list, one to one and in order; Says tells of which item a line's tokens are
-abbrev pub AreLinesOf : {A : Type 0} → (List (List ℕ) → A → Type 0) → List TokenLine → List A → Type 0
-AreLinesOf Says [] [] = Unit {0}
-AreLinesOf Says [] (item ∷ list) = ⊥
-AreLinesOf Says (line ∷ lines) [] = ⊥
-AreLinesOf Says (line ∷ lines) (item ∷ list) = Says line.tokens item × AreLinesOf Says lines list
 
 -- the lines are those of the instructions
 abbrev pub AreLines : List TokenLine → List Instr → Type 0

@@ -1,12 +1,14 @@
 -- Which position of a line is at fault; the clauses of `read_brain` rest on it (this project's own: the rule of faults).
 use Rattle.std.specs.Prelude.{ℕ, List, [], ◌∷◌, ◌++◌, Option, Some, None, option_map, if◌then◌else◌}
 use Rattle.ant_base.specs.Number.{decimal_value, number_within}
+use Rattle.line_tokens.specs.Judging.{nothing_more, judged}
 use Rattle.brain_read.specs.declared.fault.BrainFault.{BrainFault}
 use Rattle.brain_read.specs.declared.fault.BrainFault.TheVariants.{BadByte, UnknownWord, MissingToken, BadNumber, ExtraToken}
 use Rattle.brain_read.specs.declared.form.Form.{Form}
 use Rattle.brain_read.specs.declared.form.ConditionWord.{ConditionWord}
-use Rattle.brain_read.specs.Tokens.{has_bad_byte}
-use Rattle.brain_read.specs.Forms.{word_of_form, word_of_sight, word_of_side, word_of_condition, forms, sights, sides, conditions, named, most_bound}
+use Rattle.line_tokens.specs.Tokens.{has_bad_byte}
+use Rattle.line_tokens.specs.Fields.{named}
+use Rattle.brain_read.specs.Forms.{word_of_form, word_of_sight, word_of_side, word_of_condition, forms, sights, sides, conditions, most_bound}
 
 -- what is wanted at a place of a line
 pub data Position : Type 0 where
@@ -28,10 +30,6 @@ abbrev pub positions_of_condition : ConditionWord → List Position
 positions_of_condition ConditionWord.Marker = MarkerToken ∷ []
 positions_of_condition _ = []
 
--- no further position, whatever the token stands for
-abbrev pub nothing_more : {A : Type 0} → A → List Position
-nothing_more x = []
-
 -- the positions that the token brings, where its position accepts it
 abbrev pub accepted : Position → List ℕ → Option (List Position)
 accepted FormToken token = option_map positions_of (named word_of_form forms token)
@@ -51,11 +49,6 @@ fault_of ConditionToken line = UnknownWord line
 fault_of MarkerToken line = BadNumber line
 fault_of StateToken line = BadNumber line
 fault_of BoundToken line = BadNumber line
-
--- the fault of a position that doesn't accept its token; else what comes next, with the positions that the token brings
-abbrev pub judged : Option (List Position) → BrainFault → (List Position → Option BrainFault) → Option BrainFault
-judged None fault next = Some fault
-judged (Some brings) fault next = next brings
 
 -- The fault of the first position at fault, if there is one. The positions are judged from the left: one without a token is MissingToken, a token
 -- with a bad byte is BadByte, one that its position doesn't accept has that position's fault, and one beyond the last position is ExtraToken.

@@ -1,5 +1,6 @@
 pub mod Answers
 pub mod Canonical
+pub mod Drafts
 pub mod Faulty
 pub mod Forms
 pub mod Grammar
@@ -7,7 +8,7 @@ pub mod Inner
 pub mod Judging
 pub mod Laws
 pub mod Places
+pub mod Reading
 pub mod Refusals
 pub mod Soundness
 pub mod Steps
-pub mod Tokens

@@ -2,8 +2,8 @@
 use Rattle.std.specs.Prelude.{ℕ, if◌then◌else◌}
 use Rattle.brain_read.specs.declared.fault.BrainFault.{BrainFault}
 use Rattle.brain_read.specs.declared.fault.BrainFault.TheVariants.{BadByte, UnknownWord, MissingToken, BadNumber, ExtraToken}
-use Rattle.brain_read.specs.declared.fault.LineFault.{LineFault}
-use Rattle.brain_read.specs.declared.fault.Refusal.{Refusal}
+use Rattle.line_tokens.specs.declared.refusal.LineFault.{LineFault}
+use Rattle.line_tokens.specs.declared.refusal.Refusal.{Refusal}
 
 -- the fault of a line whose token, without a bad byte, is refused
 abbrev pub fault_at : ℕ → LineFault → BrainFault

@@ -1,9 +1,14 @@
 // A brain: a list of sound instructions.
-ghost use Rattle.std.specs.Prelude.{◌≡◌, ◌<◌, ◌≤◌, length, slice_get, Some};
+ghost use Rattle.std.specs.Prelude.{◌≡◌, ◌<◌, ◌≤◌, length, slice_get, Some, IfOk};
 ghost use Rattle.brain_read.specs.Soundness.{IsSound, IsBrain};
 
 use crate::instr::Instr;
+use hex_geometry::OutOfMemory;
+use std::alloc::Global;
 use std::marker::Model;
+
+/// The largest number of instructions of a brain, and so of its states (the task's neurology).
+pub const MOST_STATES: usize = 10_000;
 
 /// A brain: 1 to 10,000 instructions, by state from 0. Every state that they name is below their number, every marker is below 6 and
 /// every bound is at least 1 (the task's neurology). Contracts see the list of the instructions.
@@ -32,6 +37,14 @@ impl Brain {
         ensures { result ≡ list.items }
     {
         Brain { list }
+    }
+
+    /// An equal brain of its own. It is refused for want of memory alone.
+    pub fn copy(&self, alloc: Global) -> Result<Brain, OutOfMemory>
+        ensures { IfOk result (λ brain. brain ≡ self.now) }
+    {
+        let list = Vec::from_slice(alloc, &self.list)?;
+        Ok(Brain { list })
     }
 
     /// How many states it has, from 1 to 10,000 (the task's neurology).

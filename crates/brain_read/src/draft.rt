@@ -4,38 +4,47 @@ ghost use Rattle.std.specs.Prelude.{◌≡◌, ◌≤◌, nat_lt, if◌then◌el
 use crate::instr::{Cond, Instr};
 use hex_geometry::{Side, Sight};
 
-/// An instruction as it was read, before its states are held against the number of instructions.
-#[derive(Clone, Copy)]
+/// An instruction as it was read, before its states are held against the number of instructions: they are numbers of any size, markers are
+/// from 0 to 5 and bounds at least 1 where it was read (the task's neurology).
+#[derive(Clone, Copy, Debug, PartialEq, Eq)]
 pub enum Draft {
+    /// As [`Instr::Sense`].
     Sense {
         sight: Sight,
         yes: u64,
         no: u64,
         cond: Cond,
     },
+    /// As [`Instr::Mark`].
     Mark {
         mark: u8,
         next: u64,
     },
+    /// As [`Instr::Unmark`].
     Unmark {
         mark: u8,
         next: u64,
     },
+    /// As [`Instr::PickUp`].
     PickUp {
         yes: u64,
         no: u64,
     },
+    /// As [`Instr::Drop`].
     Drop {
         next: u64,
     },
+    /// As [`Instr::Turn`].
     Turn {
         side: Side,
         next: u64,
     },
+    /// As [`Instr::Move`].
     Move {
         yes: u64,
         no: u64,
     },
+    /// As [`Instr::Flip`].
     Flip {
         bound: u32,
         yes: u64,
@@ -44,10 +53,57 @@ pub enum Draft {
 }
 
 impl Draft {
-    ghost use Rattle.brain_read.specs.Inner.Draft.{drafted};
-    ghost use Rattle.brain_read.specs.Inner.Verdict.{draft_settled};
+    ghost use Rattle.brain_read.specs.Drafts.{drafted, draft_settled};
 
-    /// The instruction of a brain of so many states, at most 65,536; or the first of its states that isn't below their number.
+    /// An instruction as it is read from its own line (the task's neurology).
+    pub fn of(instruction: Instr) -> Draft
+        ensures { drafted result ≡ instruction }
+    {
+        match instruction {
+            Instr::Sense {
+                sight,
+                yes,
+                no,
+                cond,
+            } => Draft::Sense {
+                sight,
+                yes: u64::from(yes),
+                no: u64::from(no),
+                cond,
+            },
+            Instr::Mark { mark, next } => Draft::Mark {
+                mark,
+                next: u64::from(next),
+            },
+            Instr::Unmark { mark, next } => Draft::Unmark {
+                mark,
+                next: u64::from(next),
+            },
+            Instr::PickUp { yes, no } => Draft::PickUp {
+                yes: u64::from(yes),
+                no: u64::from(no),
+            },
+            Instr::Drop { next } => Draft::Drop {
+                next: u64::from(next),
+            },
+            Instr::Turn { side, next } => Draft::Turn {
+                side,
+                next: u64::from(next),
+            },
+            Instr::Move { yes, no } => Draft::Move {
+                yes: u64::from(yes),
+                no: u64::from(no),
+            },
+            Instr::Flip { bound, yes, no } => Draft::Flip {
+                bound,
+                yes: u64::from(yes),
+                no: u64::from(no),
+            },
+        }
+    }
+
+    /// The instruction of a brain of so many states, at most 65,536; or, in place of it, the first state that it names, in the order of its
+    /// line, which isn't below their number (the task's neurology).
     pub fn settled(self, states: u64) -> Result<Instr, u64>
         requires { states ≤ 65536 }
         ensures { result ≡ draft_settled states (drafted self) }

@@ -1,28 +1,6 @@
 // What can be wrong with a text.
+use line_tokens::{LineFault, Refusal};
 use std::alloc::{AllocError, AllocFailed};
-
-/// What is wrong with the first position at fault of a line.
-#[derive(Clone, Copy, Debug, PartialEq, Eq)]
-pub enum LineFault {
-    /// A token that should be a word is none of its position.
-    UnknownWord,
-    /// A position that the form needs has no token.
-    MissingToken,
-    /// A token that should be a number is none that its position accepts.
-    BadNumber,
-    /// A token stands beyond the end of the form.
-    ExtraToken,
-}
-
-/// Why a line is refused: what is wrong with its first position at fault, and whether the token there has a bad byte, which is none of tab,
-/// LF, CR and 32 to 126.
-#[derive(Clone, Copy, Debug, PartialEq, Eq)]
-pub struct Refusal {
-    /// What is wrong with the position, whatever bytes its token has.
-    pub fault: LineFault,
-    /// Whether the token there has a bad byte; false where there is no token.
-    pub bad_byte: bool,
-}
 
 /// The fault of a text that is no brain's: the first line at fault, with its first position at fault; where no line is at fault, `Empty` or
 /// `NoSuchState`. Lines are counted from 1, lines without a token included.
@@ -70,19 +48,19 @@ impl<T: Drop> From<AllocFailed<T>> for BrainFault {
     }
 }
 
-impl Refusal {
+impl BrainFault {
     ghost use Rattle.std.specs.Prelude.{◌≡◌};
     ghost use Rattle.brain_read.specs.Refusals.{refusal_at, fault_at};
 
     /// The fault of the line of this number, from 1, that was refused so: `BadByte` where the token has a bad byte, else the fault of the
     /// position.
-    pub fn at(self, line: u32) -> BrainFault
-        ensures { result ≡ refusal_at line self }
+    pub fn of_line(line: u32, refusal: Refusal) -> BrainFault
+        ensures { result ≡ refusal_at line refusal }
     {
-        if self.bad_byte {
+        if refusal.bad_byte {
             return BrainFault::BadByte { line };
         }
-        match self.fault {
+        match refusal.fault {
             LineFault::UnknownWord => BrainFault::UnknownWord { line },
             LineFault::MissingToken => BrainFault::MissingToken { line },
             LineFault::BadNumber => BrainFault::BadNumber { line },

@@ -1,8 +1,9 @@
 // The words of the language, and what they stand for.
 ghost use Rattle.std.specs.Prelude.{◌≡◌};
 ghost use Rattle.brain_read.specs.Forms.{form_words, sight_words, side_words, condition_words};
+ghost use Rattle.brain_read.specs.Places as places;
 
-use word_table::WordTable;
+use word_table::{WordTable, word_arms};
 
 /// The form of an instruction: the word that it begins with, in the order of [`form_table`] (the task's neurology).
 #[derive(Clone, Copy, Debug, PartialEq, Eq)]
@@ -40,6 +41,17 @@ pub fn form_table() -> WordTable<8>
     WordTable::new([
         "Sense", "Mark", "Unmark", "PickUp", "Drop", "Turn", "Move", "Flip",
     ])
+}
+
+/// The form whose word stands at this place of [`form_table`], from 0 to 7; any place beyond them is that of `Flip` too (the task's neurology).
+pub fn form_at(place: usize) -> Form
+    ensures { result ≡ places.form_at place }
+{
+    word_arms!(
+        place;
+        Form::Sense, Form::Mark, Form::Unmark, Form::PickUp,
+        Form::Drop, Form::Turn, Form::Move, Form::Flip
+    )
 }
 
 /// The words of the sights, in the order of [`Sight`](hex_geometry::Sight), spelled as the canonical text has them (the task's geometry).

@@ -1,21 +1,37 @@
 // One instruction from the tokens of a line.
-ghost use Rattle.std.specs.Prelude.{◌≡◌};
-ghost use Rattle.brain_read.specs.Inner.Places as places;
-ghost use Rattle.brain_read.specs.Inner.Reading as reading;
-ghost use Rattle.brain_read.specs.Inner.Draft.{as_read};
+ghost use Rattle.std.specs.Prelude.{◌≡◌, ℕ, [], ◌∷◌, Some, Ok, OnOk, IfOk, IfErr};
+ghost use Rattle.brain_read.specs.declared.instr.Instr.{Instr};
+ghost use Rattle.brain_read.specs.Forms.{InstrLine};
+ghost use Rattle.brain_read.specs.Judging.{first_fault};
+ghost use Rattle.brain_read.specs.Judging.Position.{FormToken};
+ghost use Rattle.brain_read.specs.Refusals.{refusal_at};
+ghost use Rattle.brain_read.specs.Reading as reading;
+ghost use Rattle.brain_read.specs.Drafts.{drafted, as_read};
 ghost use Rattle.brain_read.specs.declared.instr.Instr.TheVariants.{Mark, Unmark, PickUp, Move};
 
 use crate::draft::Draft;
-use crate::fault::Refusal;
-use crate::form::{Form, form_table};
+use crate::form::{Form, form_at, form_table};
 use crate::positions::{bound, condition, marker, side, sight, state};
-use crate::tokens::Tokens;
-use word_table::word_arms;
+use line_tokens::{Refusal, Tokens};
 
-/// The instruction of a line.
-#[tactic(auto, unfolding(crate::specs::Inner::Reading::read_line))]
-pub fn instruction(tokens: &mut Tokens) -> Result<Draft, Refusal>
-    ensures { reading.read_line tokens.old ≡ as_read result }
+/// The instruction of a line, from all its tokens: the words of its form in any ASCII case, states of 1 to 10 digits, markers from 0 to 5
+/// and bounds from 1 to 4,294,967,295 (the task's neurology). Else why the line is refused: what is wrong with its first position at
+/// fault, and whether the token there has a bad byte. After an instruction no token is left; a token that is refused is passed, and those
+/// behind it are left. It takes no memory.
+pub fn read_instruction(tokens: &mut Tokens) -> Result<Draft, Refusal>
+    ensures spelled { IfOk result (λ draft. InstrLine tokens.old (drafted draft)) }
+    ensures every_instruction { (i : Instr) → InstrLine tokens.old i → as_read result ≡ Ok i }
+    ensures refused { (line : ℕ) → IfErr result (λ refusal. first_fault line tokens.old (FormToken ∷ []) ≡ Some (refusal_at line refusal)) }
+    ensures step { reading.read_line tokens.old ≡ as_read result }
+    ensures ended { OnOk result (tokens.new ≡ []) }
+{
+    instruction(tokens)
+}
+
+#[tactic(auto, unfolding(crate::specs::Reading::read_line))]
+fn instruction(tokens: &mut Tokens) -> Result<Draft, Refusal>
+    ensures step { reading.read_line tokens.old ≡ as_read result }
+    ensures ended { OnOk result (tokens.new ≡ []) }
 {
     let place = tokens.word(&form_table())?;
     match form_at(place) {
@@ -30,19 +46,10 @@ pub fn instruction(tokens: &mut Tokens) -> Result<Draft, Refusal>
     }
 }
 
-fn form_at(place: usize) -> Form
-    ensures { result ≡ places.form_at place }
-{
-    word_arms!(
-        place;
-        Form::Sense, Form::Mark, Form::Unmark, Form::PickUp,
-        Form::Drop, Form::Turn, Form::Move, Form::Flip
-    )
-}
-
-#[tactic(auto, unfolding(crate::specs::Inner::Reading::read_sense))]
+#[tactic(auto, unfolding(crate::specs::Reading::read_sense))]
 fn sense(tokens: &mut Tokens) -> Result<Draft, Refusal>
-    ensures { reading.read_sense tokens.old ≡ as_read result }
+    ensures step { reading.read_sense tokens.old ≡ as_read result }
+    ensures ended { OnOk result (tokens.new ≡ []) }
 {
     let sight = sight(tokens)?;
     let yes = state(tokens)?;
@@ -57,9 +64,10 @@ fn sense(tokens: &mut Tokens) -> Result<Draft, Refusal>
     })
 }
 
-#[tactic(auto, unfolding(crate::specs::Inner::Reading::read_marked))]
+#[tactic(auto, unfolding(crate::specs::Reading::read_marked))]
 fn mark(tokens: &mut Tokens) -> Result<Draft, Refusal>
-    ensures { reading.read_marked Mark tokens.old ≡ as_read result }
+    ensures step { reading.read_marked Mark tokens.old ≡ as_read result }
+    ensures ended { OnOk result (tokens.new ≡ []) }
 {
     let mark = marker(tokens)?;
     let next = state(tokens)?;
@@ -67,9 +75,10 @@ fn mark(tokens: &mut Tokens) -> Result<Draft, Refusal>
     Ok(Draft::Mark { mark, next })
 }
 
-#[tactic(auto, unfolding(crate::specs::Inner::Reading::read_marked))]
+#[tactic(auto, unfolding(crate::specs::Reading::read_marked))]
 fn unmark(tokens: &mut Tokens) -> Result<Draft, Refusal>
-    ensures { reading.read_marked Unmark tokens.old ≡ as_read result }
+    ensures step { reading.read_marked Unmark tokens.old ≡ as_read result }
+    ensures ended { OnOk result (tokens.new ≡ []) }
 {
     let mark = marker(tokens)?;
     let next = state(tokens)?;
@@ -77,9 +86,10 @@ fn unmark(tokens: &mut Tokens) -> Result<Draft, Refusal>
     Ok(Draft::Unmark { mark, next })
 }
 
-#[tactic(auto, unfolding(crate::specs::Inner::Reading::read_branches))]
+#[tactic(auto, unfolding(crate::specs::Reading::read_branches))]
 fn pick_up(tokens: &mut Tokens) -> Result<Draft, Refusal>
-    ensures { reading.read_branches PickUp tokens.old ≡ as_read result }
+    ensures step { reading.read_branches PickUp tokens.old ≡ as_read result }
+    ensures ended { OnOk result (tokens.new ≡ []) }
 {
     let yes = state(tokens)?;
     let no = state(tokens)?;
@@ -87,18 +97,20 @@ fn pick_up(tokens: &mut Tokens) -> Result<Draft, Refusal>
     Ok(Draft::PickUp { yes, no })
 }
 
-#[tactic(auto, unfolding(crate::specs::Inner::Reading::read_drop))]
+#[tactic(auto, unfolding(crate::specs::Reading::read_drop))]
 fn drop_food(tokens: &mut Tokens) -> Result<Draft, Refusal>
-    ensures { reading.read_drop tokens.old ≡ as_read result }
+    ensures step { reading.read_drop tokens.old ≡ as_read result }
+    ensures ended { OnOk result (tokens.new ≡ []) }
 {
     let next = state(tokens)?;
     tokens.end()?;
     Ok(Draft::Drop { next })
 }
 
-#[tactic(auto, unfolding(crate::specs::Inner::Reading::read_turn))]
+#[tactic(auto, unfolding(crate::specs::Reading::read_turn))]
 fn turn(tokens: &mut Tokens) -> Result<Draft, Refusal>
-    ensures { reading.read_turn tokens.old ≡ as_read result }
+    ensures step { reading.read_turn tokens.old ≡ as_read result }
+    ensures ended { OnOk result (tokens.new ≡ []) }
 {
     let side = side(tokens)?;
     let next = state(tokens)?;
@@ -106,9 +118,10 @@ fn turn(tokens: &mut Tokens) -> Result<Draft, Refusal>
     Ok(Draft::Turn { side, next })
 }
 
-#[tactic(auto, unfolding(crate::specs::Inner::Reading::read_branches))]
+#[tactic(auto, unfolding(crate::specs::Reading::read_branches))]
 fn step(tokens: &mut Tokens) -> Result<Draft, Refusal>
-    ensures { reading.read_branches Move tokens.old ≡ as_read result }
+    ensures step { reading.read_branches Move tokens.old ≡ as_read result }
+    ensures ended { OnOk result (tokens.new ≡ []) }
 {
     let yes = state(tokens)?;
     let no = state(tokens)?;
@@ -116,9 +129,10 @@ fn step(tokens: &mut Tokens) -> Result<Draft, Refusal>
     Ok(Draft::Move { yes, no })
 }
 
-#[tactic(auto, unfolding(crate::specs::Inner::Reading::read_flip))]
+#[tactic(auto, unfolding(crate::specs::Reading::read_flip))]
 fn flip(tokens: &mut Tokens) -> Result<Draft, Refusal>
-    ensures { reading.read_flip tokens.old ≡ as_read result }
+    ensures step { reading.read_flip tokens.old ≡ as_read result }
+    ensures ended { OnOk result (tokens.new ≡ []) }
 {
     let bound = bound(tokens)?;
     let yes = state(tokens)?;

@@ -3,15 +3,15 @@
 //! those behind it are left.
 ghost use Rattle.std.specs.Prelude.{◌≡◌, drop, length};
 ghost use Rattle.brain_read.specs.Judging.{positions_of_condition};
-ghost use Rattle.brain_read.specs.Steps.{condition_tokens, with_rest};
+ghost use Rattle.line_tokens.specs.Steps.{with_rest};
+ghost use Rattle.brain_read.specs.Steps.{condition_tokens};
 ghost use Rattle.brain_read.specs.Steps as steps;
 ghost use Rattle.brain_read.specs.Places as places;
 
-use crate::fault::Refusal;
 use crate::form::{ConditionWord, condition_table, side_table, sight_table};
 use crate::instr::Cond;
-use crate::tokens::Tokens;
 use hex_geometry::{Side, Sight};
+use line_tokens::{Refusal, Tokens};
 use word_table::word_arms;
 
 /// The next token, which should be the word of a sight, in any ASCII case (the task's geometry).

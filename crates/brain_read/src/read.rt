@@ -2,27 +2,25 @@
 ghost use Rattle.std.specs.Prelude.{◌≡◌, ℕ, List, ◌+◌, ◌<◌, ◌≤◌, ◌∷◌, length, map, vec_len, OnOk, IfOk, IfErr};
 ghost use Rattle.ant_base.specs.Shelf.{longest};
 ghost use Rattle.brain_read.specs.Soundness.{most_states};
-ghost use Rattle.brain_read.specs.Grammar.{IsBrainText, lines_with_tokens};
+ghost use Rattle.line_tokens.specs.TokenLines.{lines_with_tokens};
+ghost use Rattle.brain_read.specs.Grammar.{IsBrainText};
 ghost use Rattle.brain_read.specs.Faulty.{IsBrainFault};
 ghost use Rattle.brain_read.specs.Answers.{IsFaultOf};
 ghost use Rattle.brain_read.specs.declared.fault.BrainFault.{BrainFault};
 ghost use Rattle.brain_read.specs.declared.instr.Instr.{Instr};
-ghost use Rattle.brain_read.specs.Inner.LineByLine.{judged_line, read_lines, reading_from};
+ghost use Rattle.line_tokens.specs.Inner.LineByLine.{judged_line, read_lines, reading_from};
 ghost use Rattle.brain_read.specs.Inner.Verdict.{brain_reader, settle_all, settle, read_text};
 ghost use Rattle.brain_read.specs.Inner.Answered.{placed_of, FailsAs, Gives, as_judged};
 ghost use Rattle.brain_read.specs.Answers.{AnswersBrain, AnswersFault};
 
-use crate::brain::Brain;
+use crate::brain::{Brain, MOST_STATES};
 use crate::draft::Draft;
 use crate::fault::BrainFault;
 use crate::instr::Instr;
-use crate::line::instruction;
-use crate::tokens::Tokens;
+use crate::line::read_instruction;
 use ant_base::Lines;
+use line_tokens::Tokens;
 use std::alloc::Global;
-
-/// The largest number of instructions (the task's neurology).
-const MOST_STATES: usize = 10_000;
 
 /// An instruction as it was read, and the number of its line.
 #[derive(Clone, Copy)]
@@ -93,7 +91,7 @@ fn read_line(line: &[u8], number: u32, drafts: &mut Vec<DraftLine>) -> Result<()
 }
 
 // The instruction of a line before which so many stand.
-#[tactic(auto, unfolding(crate::specs::Inner::LineByLine::judged_line))]
+#[tactic(auto, unfolding(line_tokens::specs::Inner::LineByLine::judged_line))]
 fn draft_of(tokens: &mut Tokens, line: u32, before: usize) -> Result<Draft, BrainFault>
     ensures read { judged_line brain_reader before line tokens.old ≡ as_judged result }
     ensures few { IfOk result (λ draft. before < most_states) }
@@ -101,9 +99,9 @@ fn draft_of(tokens: &mut Tokens, line: u32, before: usize) -> Result<Draft, Brai
     if before >= MOST_STATES {
         return Err(BrainFault::TooMany { line });
     }
-    match instruction(tokens) {
+    match read_instruction(tokens) {
         Ok(draft) => Ok(draft),
-        Err(refusal) => Err(refusal.at(line)),
+        Err(refusal) => Err(BrainFault::of_line(line, refusal)),
     }
 }
 

@@ -3,14 +3,17 @@ ghost use Rattle.std.specs.Prelude.{◌≡◌, [], ◌∷◌, OnOk};
 ghost use Rattle.std.specs.List.{AllByRecursion};
 ghost use Rattle.ant_base.specs.Sink.{Pushed};
 ghost use Rattle.brain_read.specs.Forms.{word_of_form, word_of_sight, word_of_side, word_of_condition, fields_of_condition, HasBound};
-ghost use Rattle.brain_read.specs.Forms.LineField.{Word, Number};
+ghost use Rattle.line_tokens.specs.Fields.LineField.{Word, Number};
 ghost use Rattle.brain_read.specs.declared.instr.Cond.TheVariants.{Marker};
 ghost use Rattle.brain_read.specs.declared.instr.Instr.TheVariants.{Sense, Drop, Turn, Flip};
 ghost use Rattle.brain_read.specs.Inner.Places.{place_of_form, place_of_sight, place_of_side, place_of_condition};
+ghost use Rattle.brain_read.specs.Drafts.{drafted};
 ghost use Rattle.brain_read.specs.Grammar.{IsBrainText};
-ghost use Rattle.brain_read.specs.Canonical.{line_text, further_text, instruction_text, brain_text};
+ghost use Rattle.line_tokens.specs.Fields.{line_text, further_text};
+ghost use Rattle.brain_read.specs.Canonical.{instruction_text, brain_text};
 
 use crate::brain::Brain;
+use crate::draft::Draft;
 use crate::form::{ConditionWord, Form, condition_table, form_table, side_table, sight_table};
 use crate::instr::{Cond, Instr};
 use ant_base::{Failed, Layout, Sink, layout};
@@ -38,33 +41,51 @@ fn push_lines<K: Sink>(list: &[Instr], sink: &mut K) -> Result<(), Failed>
 }
 
 // The line of an instruction.
-#[tactic(auto, unfolding(crate::specs::Canonical::instruction_text))]
 fn push_line<K: Sink>(instruction: Instr, sink: &mut K) -> Result<(), Failed>
     ensures pushed { Pushed (K.state sink.old) (K.state sink.new) (instruction_text instruction) result }
     ensures bound { HasBound instruction }
 {
-    match instruction {
-        Instr::Sense {
-            sight,
-            yes,
-            no,
-            cond,
-        } => push_sense(sight, yes, no, cond, sink),
-        Instr::Mark { mark, next } => push_numbers(Form::Mark, mark as u16, next, sink),
-        Instr::Unmark { mark, next } => push_numbers(Form::Unmark, mark as u16, next, sink),
-        Instr::PickUp { yes, no } => push_numbers(Form::PickUp, yes, no, sink),
-        Instr::Drop { next } => push_drop(next, sink),
-        Instr::Turn { side, next } => push_turn(side, next, sink),
-        Instr::Move { yes, no } => push_numbers(Form::Move, yes, no, sink),
-        Instr::Flip { bound, yes, no } => push_flip(bound, yes, no, sink),
+    instruction.push_to(sink)
+}
+
+/// Its canonical line: its words as the tables spell them and its numbers without leading zeros, one space between tokens, LF at the end.
+impl Layout for Instr {
+    ghost text = { instruction_text };
+
+    fn push_to<K: Sink>(&self, sink: &mut K) -> Result<(), Failed> {
+        Draft::of(*self).push_to(sink)
+    }
+}
+
+/// The canonical line of its instruction, with states of any size.
+impl Layout for Draft {
+    ghost text = { λ draft. instruction_text (drafted draft) };
+
+    #[tactic(auto, unfolding(crate::specs::Canonical::instruction_text))]
+    fn push_to<K: Sink>(&self, sink: &mut K) -> Result<(), Failed> {
+        match *self {
+            Draft::Sense {
+                sight,
+                yes,
+                no,
+                cond,
+            } => push_sense(sight, yes, no, cond, sink),
+            Draft::Mark { mark, next } => push_numbers(Form::Mark, u64::from(mark), next, sink),
+            Draft::Unmark { mark, next } => push_numbers(Form::Unmark, u64::from(mark), next, sink),
+            Draft::PickUp { yes, no } => push_numbers(Form::PickUp, yes, no, sink),
+            Draft::Drop { next } => push_drop(next, sink),
+            Draft::Turn { side, next } => push_turn(side, next, sink),
+            Draft::Move { yes, no } => push_numbers(Form::Move, yes, no, sink),
+            Draft::Flip { bound, yes, no } => push_flip(bound, yes, no, sink),
+        }
     }
 }
 
 #[tactic(auto, unfolding(crate::specs::Canonical::instruction_text))]
 fn push_sense<K: Sink>(
     sight: Sight,
-    yes: u16,
-    no: u16,
+    yes: u64,
+    no: u64,
     cond: Cond,
     sink: &mut K,
 ) -> Result<(), Failed>
@@ -77,7 +98,7 @@ fn push_sense<K: Sink>(
 }
 
 // A line of a word and two numbers.
-fn push_numbers<K: Sink>(form: Form, first: u16, second: u16, sink: &mut K) -> Result<(), Failed>
+fn push_numbers<K: Sink>(form: Form, first: u64, second: u64, sink: &mut K) -> Result<(), Failed>
     ensures { Pushed (K.state sink.old) (K.state sink.new)
         (line_text (Word (word_of_form form) ∷ Number first ∷ Number second ∷ [])) result }
 {
@@ -85,21 +106,21 @@ fn push_numbers<K: Sink>(form: Form, first: u16, second: u16, sink: &mut K) -> R
 }
 
 #[tactic(auto, unfolding(crate::specs::Canonical::instruction_text))]
-fn push_drop<K: Sink>(next: u16, sink: &mut K) -> Result<(), Failed>
+fn push_drop<K: Sink>(next: u64, sink: &mut K) -> Result<(), Failed>
     ensures { Pushed (K.state sink.old) (K.state sink.new) (instruction_text (Drop next)) result }
 {
     layout!(FormText(Form::Drop), " ", next, "\n").push_to(sink)
 }
 
 #[tactic(auto, unfolding(crate::specs::Canonical::instruction_text))]
-fn push_turn<K: Sink>(side: Side, next: u16, sink: &mut K) -> Result<(), Failed>
+fn push_turn<K: Sink>(side: Side, next: u64, sink: &mut K) -> Result<(), Failed>
     ensures { Pushed (K.state sink.old) (K.state sink.new) (instruction_text (Turn side next)) result }
 {
     layout!(FormText(Form::Turn), " ", SideText(side), " ", next, "\n").push_to(sink)
 }
 
 #[tactic(auto, unfolding(crate::specs::Canonical::instruction_text))]
-fn push_flip<K: Sink>(bound: u32, yes: u16, no: u16, sink: &mut K) -> Result<(), Failed>
+fn push_flip<K: Sink>(bound: u32, yes: u64, no: u64, sink: &mut K) -> Result<(), Failed>
     ensures { Pushed (K.state sink.old) (K.state sink.new) (instruction_text (Flip bound yes no)) result }
 {
     let word = FormText(Form::Flip);

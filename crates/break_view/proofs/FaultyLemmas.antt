@@ -1,9 +1,9 @@
 -- A text has exactly one list of breaks or exactly one fault, and the reading answers it.
 use Rattle.std.proofs.Common.{◌≡◌, ◌+◌, ◌≤◌, ℕ, List, [], ◌∷◌, length, Option, Ok, Err, ◌⊎◌, inl, inr, refl, sym, ap, ◌∙◌, subst, arith}
-use Rattle.brain_read.specs.Grammar.{TokenLine, lines_with_tokens}
-use Rattle.brain_read.specs.Inner.LineByLine.{read_lines, first_line_fault}
-use Rattle.brain_read.proofs.LineFaults.{IsFaithful, first_line_fault-found, first_line_fault-first}
-use Rattle.brain_read.proofs.LineLemmas.{fault_of_judged, judged_err, kept, lines_faulted, lines_read, lines_again}
+use Rattle.line_tokens.specs.TokenLines.{TokenLine, lines_with_tokens}
+use Rattle.line_tokens.specs.Inner.LineByLine.{read_lines, first_line_fault}
+use Rattle.line_tokens.proofs.LineFaults.{IsFaithful, first_line_fault-found, first_line_fault-first}
+use Rattle.line_tokens.proofs.LineLemmas.{fault_of_judged, judged_err, kept, lines_faulted, lines_read, lines_again}
 use Rattle.break_view.specs.declared.breaks.Break.{Break}
 use Rattle.break_view.specs.declared.fault.BreakFault.{BreakFault}
 use Rattle.break_view.specs.Forms.{BreakLine}

@@ -4,11 +4,11 @@ use Rattle.cell_world.specs.declared.ant.Colour.{Colour}
 use Rattle.cell_world.specs.declared.ant.Colour.TheVariants.{Red, Black}
 use Rattle.ant_base.specs.Number.{decimal_value}
 use Rattle.word_table.specs.Words.{IsSameWord}
-use Rattle.brain_read.specs.Steps.{take_word}
-use Rattle.brain_read.specs.Forms.{SpellsAll}
-use Rattle.brain_read.specs.Forms.LineField.{Word, Number}
-use Rattle.brain_read.proofs.PlacesLemmas.{Names}
-use Rattle.brain_read.proofs.FormsLemmas.{Takes, then_taken, then_again, bind_step, word_step, then_word, then_end, number_takes, named_takes, IsWithin, given, given_end}
+use Rattle.line_tokens.specs.Steps.{take_word}
+use Rattle.line_tokens.specs.Fields.{SpellsAll}
+use Rattle.line_tokens.specs.Fields.LineField.{Word, Number}
+use Rattle.line_tokens.proofs.PlacesLemmas.{Names}
+use Rattle.line_tokens.proofs.StepsLemmas.{Takes, then_taken, then_again, bind_step, word_step, then_word, then_end, number_takes, named_takes, IsWithin, given, given_end}
 use Rattle.break_view.specs.declared.breaks.Break.{Break}
 use Rattle.break_view.specs.declared.breaks.Break.TheVariants.{Round, State, Stand, Food, Killed, Score}
 use Rattle.break_view.specs.declared.words.BreakWord.{BreakWord}

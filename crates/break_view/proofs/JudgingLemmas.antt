@@ -3,18 +3,19 @@ use Rattle.std.proofs.Common.{◌≡◌, ℕ, List, [], ◌∷◌, ◌++◌, Opt
 use Rattle.ant_base.specs.Number.{number_within}
 use Rattle.cell_world.specs.declared.ant.Colour.{Colour}
 use Rattle.word_table.specs.Words.{word_place}
-use Rattle.brain_read.specs.declared.fault.LineFault.{LineFault}
-use Rattle.brain_read.specs.Steps.{Read, Step, ◌>>=◌, or_refused, take_word, take_number, take_end}
-use Rattle.brain_read.proofs.LineFaults.{fault_of_read}
-use Rattle.brain_read.proofs.PlacesLemmas.{named-place}
-use Rattle.brain_read.proofs.FormsLemmas.{bind_assoc, as_named}
+use Rattle.line_tokens.specs.declared.refusal.LineFault.{LineFault}
+use Rattle.line_tokens.specs.Judging.{nothing_more, judged}
+use Rattle.line_tokens.specs.Steps.{Read, Step, ◌>>=◌, or_refused, take_word, take_number, take_end}
+use Rattle.line_tokens.proofs.LineFaults.{fault_of_read}
+use Rattle.line_tokens.proofs.PlacesLemmas.{named-place}
+use Rattle.line_tokens.proofs.StepsLemmas.{bind_assoc, as_named}
 use Rattle.break_view.specs.declared.breaks.Break.{Break}
 use Rattle.break_view.specs.declared.breaks.Break.TheVariants.{Round, State, Stand, Food, Killed, Score}
 use Rattle.break_view.specs.declared.fault.BreakFault.{BreakFault}
 use Rattle.break_view.specs.declared.words.BreakWord.{BreakWord}
 use Rattle.break_view.specs.Forms.{word_of_break, word_of_colour, break_kinds, colours, most_number}
 use Rattle.break_view.specs.Inner.Places.{break_words, colour_words, break_at, colour_at}
-use Rattle.break_view.specs.Judging.{Position, positions_of, none_more, accepted, fault_of, judged, first_fault}
+use Rattle.break_view.specs.Judging.{Position, positions_of, accepted, fault_of, first_fault}
 use Rattle.break_view.specs.Judging.Position.{BreakToken, ColourToken, NumberToken}
 use Rattle.break_view.specs.Inner.Steps.{take_colour, take_any}
 use Rattle.break_view.specs.Inner.Reading.{read_number, read_coloured, read_stand, read_food, read_form, read_line}
@@ -58,7 +59,7 @@ colour_judges : Judges ColourToken take_colour (λ c. [])
 unfolding take_colour colour_words
 colour_judges =
     named_judges colour_words ColourToken
-    (word_judges colour_words ColourToken (λ i. []) (λ token. named-place word_of_colour colour_at none_more colours token (refl, (refl, tt))) (λ line. refl))
+    (word_judges colour_words ColourToken (λ i. []) (λ token. named-place word_of_colour colour_at nothing_more colours token (refl, (refl, tt))) (λ line. refl))
     colour_at
 
 any_judges : Judges NumberToken take_any (λ n. [])
@@ -68,7 +69,7 @@ any_judges = record { steps = steps }
     steps : (line : ℕ) (tokens : List (List ℕ)) (positions : List Position) (f : ℕ × List (List ℕ) → Read Break) → ((n : ℕ) (rest : List (List ℕ)) → first_fault line rest ([] ++ positions) ≡ fault_in line (f (n, rest))) → first_fault line tokens (NumberToken ∷ positions) ≡ fault_in line (take_number 0 most_number tokens >>= f)
     steps line [] positions f next = refl
     steps line (token ∷ rest) positions f next =
-        judge_token line token rest positions (number_within 0 most_number token) none_more LineFault.BadNumber f (λ n. next n rest)
+        judge_token line token rest positions (number_within 0 most_number token) nothing_more LineFault.BadNumber f (λ n. next n rest)
 
 -- the end of the line
 end_fault : (line : ℕ) (tokens : List (List ℕ)) (item : Break) → first_fault line tokens [] ≡ fault_in line (take_end tokens >>= (λ end. Ok item))

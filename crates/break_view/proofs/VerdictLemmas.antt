@@ -1,8 +1,8 @@
 -- What is answered of a text, and what was judged of it.
 use Rattle.std.proofs.Common.{◌≡◌, ℕ, List, [], Ok, Err, ◌⊎◌, inl, inr, refl, sym, ◌∙◌}
 use Rattle.ant_base.specs.Lines.{lines_of}
-use Rattle.brain_read.specs.Inner.LineByLine.{reading_from}
-use Rattle.brain_read.proofs.LineLemmas as lines
+use Rattle.line_tokens.specs.Inner.LineByLine.{reading_from}
+use Rattle.line_tokens.proofs.LineLemmas as lines
 use Rattle.break_view.specs.declared.breaks.Break.{Break}
 use Rattle.break_view.specs.declared.fault.BreakFault.{BreakFault}
 use Rattle.break_view.specs.declared.fault.BreakFault.TheVariants.{UnknownWord, MissingToken, BadNumber, ExtraToken, TooMany, OutOfMemory}

@@ -2,12 +2,12 @@
 use Rattle.std.proofs.Common.{◌≡◌, ℕ, zero, suc, List, [], ◌∷◌, ◌++◌, Some, None, codes, refl, arith}
 use Rattle.cell_world.specs.declared.ant.Colour.TheVariants.{Red, Black}
 use Rattle.ant_base.specs.Number.{decimal_value}
-use Rattle.brain_read.specs.Grammar.{lines_with_tokens}
+use Rattle.line_tokens.specs.TokenLines.{lines_with_tokens}
 use Rattle.break_view.specs.declared.breaks.Break.TheVariants.{Round, State, Stand, Food, Killed, Score}
 use Rattle.break_view.specs.declared.fault.BreakFault.TheVariants.{UnknownWord, MissingToken, BadNumber, ExtraToken, TooMany}
 use Rattle.break_view.specs.Grammar.{IsBreakText}
-use Rattle.brain_read.specs.Inner.LineByLine.{judged_line, first_line_fault}
-use Rattle.brain_read.proofs.LineFaults as faults
+use Rattle.line_tokens.specs.Inner.LineByLine.{judged_line, first_line_fault}
+use Rattle.line_tokens.proofs.LineFaults as faults
 use Rattle.break_view.specs.declared.fault.BreakFault.{BreakFault}
 use Rattle.break_view.specs.Forms.{BreakLine}
 use Rattle.break_view.specs.Faulty.{line_fault, IsBreakFault}

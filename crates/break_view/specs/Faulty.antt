@@ -1,8 +1,8 @@
 -- What is wrong with a text that is none of breaks.
 use Rattle.std.specs.Prelude.{ℕ, List, [], ◌∷◌, Option}
 use Rattle.std.specs.Option.{option_or}
-use Rattle.brain_read.specs.Grammar.{TokenLine}
-use Rattle.brain_read.specs.Faulty.{too_many, HasLineFault}
+use Rattle.line_tokens.specs.TokenLines.{TokenLine}
+use Rattle.line_tokens.specs.Faulty.{too_many, HasLineFault}
 use Rattle.break_view.specs.declared.fault.BreakFault.{BreakFault}
 use Rattle.break_view.specs.declared.fault.BreakFault.TheVariants.{TooMany}
 use Rattle.break_view.specs.Forms.{BreakLine}

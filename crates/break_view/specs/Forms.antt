@@ -3,8 +3,8 @@ use Rattle.std.specs.Prelude.{ℕ, ◌≤◌, List, [], ◌∷◌, codes}
 use Rattle.std.specs.List.{AllByRecursion}
 use Rattle.cell_world.specs.declared.ant.Colour.{Colour}
 use Rattle.cell_world.specs.declared.ant.Colour.TheVariants.{Red, Black}
-use Rattle.brain_read.specs.Forms.{LineField, SpellsAll}
-use Rattle.brain_read.specs.Forms.LineField.{Word, Number}
+use Rattle.line_tokens.specs.Fields.{LineField, SpellsAll}
+use Rattle.line_tokens.specs.Fields.LineField.{Word, Number}
 use Rattle.break_view.specs.declared.words.BreakWord.{BreakWord}
 use Rattle.break_view.specs.declared.breaks.Break.{Break}
 use Rattle.break_view.specs.declared.breaks.Break.TheVariants.{Round, State, Stand, Food, Killed, Score}

@@ -1,6 +1,6 @@
 -- Which texts are lists of breaks.
 use Rattle.std.specs.Prelude.{ℕ, ◌≤◌, List, length}
-use Rattle.brain_read.specs.Grammar.{TokenLine, AreLinesOf, lines_with_tokens}
+use Rattle.line_tokens.specs.TokenLines.{TokenLine, AreLinesOf, lines_with_tokens}
 use Rattle.break_view.specs.declared.breaks.Break.{Break}
 use Rattle.break_view.specs.Forms.{BreakLine}
 

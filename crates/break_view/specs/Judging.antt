@@ -1,7 +1,8 @@
 -- Which position of a line is at fault: the rule of faults, on which the clauses of `read_breaks` rest.
 use Rattle.std.specs.Prelude.{ℕ, List, [], ◌∷◌, ◌++◌, Option, Some, None, option_map}
 use Rattle.ant_base.specs.Number.{number_within}
-use Rattle.brain_read.specs.Forms.{named}
+use Rattle.line_tokens.specs.Fields.{named}
+use Rattle.line_tokens.specs.Judging.{nothing_more, judged}
 use Rattle.break_view.specs.declared.fault.BreakFault.{BreakFault}
 use Rattle.break_view.specs.declared.fault.BreakFault.TheVariants.{UnknownWord, MissingToken, BadNumber, ExtraToken}
 use Rattle.break_view.specs.declared.words.BreakWord.{BreakWord}
@@ -20,26 +21,17 @@ positions_of BreakWord.Food = NumberToken ∷ NumberToken ∷ NumberToken ∷ []
 positions_of BreakWord.Killed = NumberToken ∷ []
 positions_of BreakWord.Score = ColourToken ∷ NumberToken ∷ []
 
--- no further position, whatever the token stands for
-abbrev pub none_more : {A : Type 0} → A → List Position
-none_more x = []
-
 -- the positions that the token brings, where its position accepts it
 abbrev pub accepted : Position → List ℕ → Option (List Position)
 accepted BreakToken token = option_map positions_of (named word_of_break break_kinds token)
-accepted ColourToken token = option_map none_more (named word_of_colour colours token)
-accepted NumberToken token = option_map none_more (number_within 0 most_number token)
+accepted ColourToken token = option_map nothing_more (named word_of_colour colours token)
+accepted NumberToken token = option_map nothing_more (number_within 0 most_number token)
 
 -- the fault of a token that its position doesn't accept
 abbrev pub fault_of : Position → ℕ → BreakFault
 fault_of BreakToken line = UnknownWord line
 fault_of ColourToken line = UnknownWord line
 fault_of NumberToken line = BadNumber line
-
--- the fault of a position that doesn't accept its token; else what comes next, with the positions that the token brings
-abbrev pub judged : Option (List Position) → BreakFault → (List Position → Option BreakFault) → Option BreakFault
-judged None fault next = Some fault
-judged (Some brings) fault next = next brings
 
 -- The fault of the first position at fault, if there is one. The positions are judged from the left: one without a token is MissingToken, a token
 -- that its position doesn't accept has that position's fault, and one beyond the last position is ExtraToken.

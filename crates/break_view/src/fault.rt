@@ -2,7 +2,7 @@
 ghost use Rattle.std.specs.Prelude.{◌≡◌};
 ghost use Rattle.break_view.specs.Inner.Verdict.{fault_at};
 
-use brain_read::LineFault;
+use line_tokens::LineFault;
 use std::alloc::{AllocError, AllocFailed};
 
 /// The fault of a text that is no list of breaks: the first line at fault, with its first position at fault. Lines are counted from 1,

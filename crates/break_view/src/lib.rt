@@ -5,7 +5,7 @@
 //! killed, or that a hill has its food. [`read_breaks`] answers exactly the list of a text of breaks or exactly its fault;
 //! [`find_stop`] plays a game to the first turn after which some break holds, which is the least by round and then by id, and leaves the
 //! world as it is then; [`push_view`] pushes the text of it. This crate stands on `match_run`, `ant_turn`, `dump_print`, the tokens of
-//! `brain_read` and the tables of `word_table`.
+//! `line_tokens` and the tables of `word_table`.
 #![tactic(auto)]
 
 mod breaks;

@@ -1,14 +1,14 @@
 // One break from the tokens of a line.
 ghost use Rattle.std.specs.Prelude.{◌≡◌};
-ghost use Rattle.brain_read.specs.Steps.{with_rest};
+ghost use Rattle.line_tokens.specs.Steps.{with_rest};
 ghost use Rattle.break_view.specs.Inner.Reading as reading;
 ghost use Rattle.break_view.specs.Inner.Steps as steps;
 ghost use Rattle.break_view.specs.declared.breaks.Break.TheVariants.{Round, State, Killed, Score};
 
 use crate::breaks::Break;
 use crate::words::{BreakWord, break_at, break_table, colour_at, colour_table};
-use brain_read::{Refusal, Tokens};
 use cell_world::Colour;
+use line_tokens::{Refusal, Tokens};
 
 // The break of a line.
 #[tactic(auto, unfolding(crate::specs::Inner::Reading::read_line))]

@@ -6,7 +6,7 @@ ghost use Rattle.break_view.specs.declared.fault.BreakFault.{BreakFault};
 ghost use Rattle.break_view.specs.Grammar.{most_breaks, IsBreakText};
 ghost use Rattle.break_view.specs.Faulty.{IsBreakFault};
 ghost use Rattle.break_view.specs.Answers.{IsFaultOf, AnswersBreaks, AnswersFault};
-ghost use Rattle.brain_read.specs.Inner.LineByLine.{judged_line, reading_from};
+ghost use Rattle.line_tokens.specs.Inner.LineByLine.{judged_line, reading_from};
 ghost use Rattle.break_view.specs.Inner.Verdict.{break_reader, read_text};
 ghost use Rattle.break_view.specs.Inner.Answered.{FailsAs, Gives};
 
@@ -14,7 +14,7 @@ use crate::breaks::{Break, Breaks};
 use crate::fault::{BreakFault, fault_at};
 use crate::line::break_of;
 use ant_base::Lines;
-use brain_read::Tokens;
+use line_tokens::Tokens;
 use std::alloc::Global;
 
 // The most breaks of a text.
@@ -68,7 +68,7 @@ fn read_line(line: &[u8], number: u32, list: &mut Vec<Break>) -> Result<(), Brea
 }
 
 // The break of a line before which so many stand.
-#[tactic(auto, unfolding(brain_read::specs::Inner::LineByLine::judged_line))]
+#[tactic(auto, unfolding(line_tokens::specs::Inner::LineByLine::judged_line))]
 fn item_of(tokens: &mut Tokens, line: u32, before: usize) -> Result<Break, BreakFault>
     ensures read { judged_line break_reader before line tokens.old ≡ result }
     ensures few { IfOk result (λ item. before < most_breaks) }

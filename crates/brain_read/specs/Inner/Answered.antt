@@ -5,7 +5,7 @@ use Rattle.brain_read.specs.declared.fault.BrainFault.{BrainFault}
 use Rattle.brain_read.specs.declared.fault.BrainFault.TheVariants.{OutOfMemory}
 use Rattle.brain_read.specs.declared.instr.Instr.{Instr}
 use Rattle.brain_read.specs.declared.read.DraftLine.{DraftLine}
-use Rattle.brain_read.specs.Inner.Draft.{drafted}
+use Rattle.brain_read.specs.Drafts.{drafted}
 use Rattle.brain_read.specs.Inner.Verdict.{Placed, Judgement}
 
 -- the instruction of a draft, beside its line

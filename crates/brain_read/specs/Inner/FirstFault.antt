@@ -4,7 +4,8 @@ use Rattle.std.specs.Option.{option_or}
 use Rattle.brain_read.specs.declared.fault.BrainFault.{BrainFault}
 use Rattle.brain_read.specs.declared.fault.BrainFault.TheVariants.{NoSuchState}
 use Rattle.brain_read.specs.declared.instr.Instr.{Instr}
-use Rattle.brain_read.specs.Grammar.{TokenLine, states_of}
+use Rattle.line_tokens.specs.TokenLines.{TokenLine}
+use Rattle.brain_read.specs.Grammar.{states_of}
 use Rattle.brain_read.specs.Faulty.{first_not_below}
 
 -- the first line with a state that isn't below n, and its first such state

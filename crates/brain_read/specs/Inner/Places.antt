@@ -1,17 +1,11 @@
--- The form of the word at each place of its table, and the place of each word.
-use Rattle.std.specs.Prelude.{ℕ, if◌then◌else◌, ◌==◌}
+-- The place of each word in its table.
+use Rattle.std.specs.Prelude.{ℕ}
 use Rattle.hex_geometry.specs.declared.direction.Side.{Side}
 use Rattle.hex_geometry.specs.declared.direction.Side.TheVariants.{Left, Right}
 use Rattle.hex_geometry.specs.declared.neighbourhood.Sight.{Sight}
 use Rattle.hex_geometry.specs.declared.neighbourhood.Sight.TheVariants.{Here, Ahead, LeftAhead, RightAhead}
 use Rattle.brain_read.specs.declared.form.Form.{Form}
 use Rattle.brain_read.specs.declared.form.ConditionWord.{ConditionWord}
-
--- the form of the word at a place of its table
-abbrev pub form_at : ℕ → Form
-form_at i = if i == 0 then Form.Sense else (if i == 1 then Form.Mark
-    else (if i == 2 then Form.Unmark else (if i == 3 then Form.PickUp
-    else (if i == 4 then Form.Drop else (if i == 5 then Form.Turn else (if i == 6 then Form.Move else Form.Flip))))))
 
 -- the place of a form's word in its table
 abbrev pub place_of_form : Form → ℕ

@@ -1,14 +1,14 @@
 -- A whole text, line by line: the instructions that are read, or the fault.
-use Rattle.std.specs.Prelude.{ℕ, List, [], ◌∷◌, length, Option, Some, None, Result, Ok, Err}
+use Rattle.std.specs.Prelude.{ℕ, List, [], ◌∷◌, length, Result, Ok, Err}
 use Rattle.brain_read.specs.declared.fault.BrainFault.{BrainFault}
 use Rattle.brain_read.specs.declared.fault.BrainFault.TheVariants.{TooMany, Empty, NoSuchState}
 use Rattle.brain_read.specs.declared.instr.Instr.{Instr}
 use Rattle.brain_read.specs.Soundness.{most_states}
 use Rattle.brain_read.specs.Refusals.{refusal_at}
-use Rattle.brain_read.specs.Inner.Reading.{read_line}
-use Rattle.brain_read.specs.Inner.LineByLine.{Reader, put_before, read_lines}
-use Rattle.brain_read.specs.Grammar.{lines_with_tokens, states_of}
-use Rattle.brain_read.specs.Faulty.{first_not_below}
+use Rattle.brain_read.specs.Reading.{read_line}
+use Rattle.line_tokens.specs.Inner.LineByLine.{Reader, put_before, read_lines}
+use Rattle.line_tokens.specs.TokenLines.{lines_with_tokens}
+use Rattle.brain_read.specs.Drafts.{draft_settled}
 
 -- an instruction and the number of its line
 pub record Placed : Type 0 where
@@ -26,15 +26,6 @@ placed_at line instruction = record { line = line; instruction = instruction }
 -- how the lines of a brain are read
 abbrev pub brain_reader : Reader Instr Placed BrainFault
 brain_reader = record { most = most_states; beyond = TooMany; read = read_line; refused = refusal_at; keep = placed_at }
-
--- an instruction, unless there is a state that it may not name
-abbrev pub or_state : Option ℕ → Instr → Result Instr ℕ
-or_state None instruction = Ok instruction
-or_state (Some state) instruction = Err state
-
--- an instruction whose states are below n, or the first of them that isn't
-abbrev pub draft_settled : ℕ → Instr → Result Instr ℕ
-draft_settled n instruction = or_state (first_not_below n (states_of instruction)) instruction
 
 -- an instruction, and then those after it
 abbrev pub settled_then : ℕ → Result Instr ℕ → Judgement (List Instr) → Judgement (List Instr)

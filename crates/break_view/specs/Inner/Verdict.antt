@@ -1,9 +1,9 @@
 -- A whole text, line by line: the breaks that are read, or the fault.
 use Rattle.std.specs.Prelude.{ℕ, List, Result}
-use Rattle.brain_read.specs.declared.fault.LineFault.{LineFault}
-use Rattle.brain_read.specs.declared.fault.Refusal.{Refusal}
-use Rattle.brain_read.specs.Grammar.{lines_with_tokens}
-use Rattle.brain_read.specs.Inner.LineByLine.{Reader, read_lines}
+use Rattle.line_tokens.specs.declared.refusal.LineFault.{LineFault}
+use Rattle.line_tokens.specs.declared.refusal.Refusal.{Refusal}
+use Rattle.line_tokens.specs.TokenLines.{lines_with_tokens}
+use Rattle.line_tokens.specs.Inner.LineByLine.{Reader, read_lines}
 use Rattle.break_view.specs.declared.breaks.Break.{Break}
 use Rattle.break_view.specs.declared.fault.BreakFault.{BreakFault}
 use Rattle.break_view.specs.declared.fault.BreakFault.TheVariants.{UnknownWord, MissingToken, BadNumber, ExtraToken, TooMany}

@@ -1,9 +1,9 @@
 use Rattle.std.proofs.Common.{map, sym, ap, ◌∙◌, subst}
 use Rattle.std.proofs.lemmas.Result.{err_from_is_err_and}
-use Rattle.brain_read.specs.Inner.LineByLine.{reading_from}
+use Rattle.line_tokens.specs.Inner.LineByLine.{reading_from}
 use Rattle.brain_read.specs.Inner.Verdict.{brain_reader}
 use Rattle.brain_read.specs.Inner.Answered.{placed_of, FailsAs}
-use Rattle.brain_read.proofs.LineLemmas.{reading_from-start, reading_from-end}
+use Rattle.line_tokens.proofs.LineLemmas.{reading_from-start, reading_from-end}
 use Rattle.brain_read.proofs.read.read_drafts.Goals as goal
 
 pub returns-in_err-read_line-clause-lines : goal.returns-in_err-read_line-clause-lines

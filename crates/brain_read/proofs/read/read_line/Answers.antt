@@ -1,10 +1,10 @@
 use Rattle.std.proofs.Common.{◌≡◌, length, map, sym, ap, ◌∙◌}
 use Rattle.std.proofs.lemmas.Result.{err_from_is_err_and}
-use Rattle.brain_read.specs.Tokens.{tokens_of, has_token}
-use Rattle.brain_read.specs.Inner.LineByLine.{judged_line}
+use Rattle.line_tokens.specs.Tokens.{tokens_of, has_token}
+use Rattle.line_tokens.specs.Inner.LineByLine.{judged_line}
 use Rattle.brain_read.specs.Inner.Verdict.{brain_reader}
 use Rattle.brain_read.specs.Inner.Answered.{placed_of}
-use Rattle.brain_read.proofs.LineLemmas.{reading_from-skip}
+use Rattle.line_tokens.proofs.LineLemmas.{reading_from-skip}
 use Rattle.brain_read.proofs.VerdictLemmas.{reading_from-more, reading_from-fault, fails}
 use Rattle.brain_read.proofs.read.read_line.Goals as goal
 use Rattle.brain_read.proofs.read.read_line.Goals.{After-has_next, After-draft_of}

@@ -1,6 +1,6 @@
 use Rattle.std.proofs.Common.{◌≡◌, length, map, drop}
 use Rattle.brain_read.specs.Inner.Answered.{placed_of}
-use Rattle.brain_read.specs.Inner.LineByLine.{with_front}
+use Rattle.line_tokens.specs.Inner.LineByLine.{with_front}
 use Rattle.brain_read.specs.Inner.Verdict.{settle_all}
 use Rattle.brain_read.proofs.read.settle_all.Given as goal
 

@@ -1,8 +1,8 @@
 use Rattle.std.proofs.Common.{◌≡◌, length, sym, ap, ◌∙◌}
 use Rattle.std.proofs.lemmas.Result.{err_from_is_err_and}
-use Rattle.brain_read.specs.Tokens.{tokens_of, has_token}
-use Rattle.brain_read.specs.Inner.LineByLine.{judged_line}
-use Rattle.brain_read.proofs.LineLemmas.{reading_from-skip, reading_from-more, reading_from-fault}
+use Rattle.line_tokens.specs.Tokens.{tokens_of, has_token}
+use Rattle.line_tokens.specs.Inner.LineByLine.{judged_line}
+use Rattle.line_tokens.proofs.LineLemmas.{reading_from-skip, reading_from-more, reading_from-fault}
 use Rattle.break_view.specs.Inner.Verdict.{break_reader}
 use Rattle.break_view.proofs.VerdictLemmas.{fails}
 use Rattle.break_view.proofs.read.read_line.Goals as goal

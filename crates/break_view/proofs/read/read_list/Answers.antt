@@ -1,7 +1,7 @@
 use Rattle.std.proofs.Common.{sym, ap, ◌∙◌, subst}
 use Rattle.std.proofs.lemmas.Result.{err_from_is_err_and}
-use Rattle.brain_read.specs.Inner.LineByLine.{reading_from}
-use Rattle.brain_read.proofs.LineLemmas.{reading_from-end}
+use Rattle.line_tokens.specs.Inner.LineByLine.{reading_from}
+use Rattle.line_tokens.proofs.LineLemmas.{reading_from-end}
 use Rattle.break_view.specs.Inner.Verdict.{break_reader}
 use Rattle.break_view.specs.Inner.Answered.{FailsAs}
 use Rattle.break_view.proofs.VerdictLemmas.{reading_from-start}

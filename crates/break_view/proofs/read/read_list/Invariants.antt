@@ -1,4 +1,4 @@
-use Rattle.brain_read.proofs.LineLemmas.{IsUnderway}
+use Rattle.line_tokens.proofs.LineLemmas.{IsUnderway}
 use Rattle.break_view.specs.Inner.Verdict.{break_reader}
 use Rattle.break_view.proofs.read.read_list.Given as goal
 

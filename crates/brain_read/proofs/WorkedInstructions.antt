@@ -1,0 +1,42 @@
+-- One instruction, worked out: as it is read, settled against a number of states, and printed.
+use Rattle.std.proofs.Common.{◌≡◌, true, false, [], ◌∷◌, ◌++◌, map, Ok, Err, codes, refl, arith}
+use Rattle.std.proofs.lemmas.Fmt.{decimal_digit}
+use Rattle.hex_geometry.specs.declared.direction.Side.TheVariants.{Left}
+use Rattle.hex_geometry.specs.declared.neighbourhood.Sight.TheVariants.{Here}
+use Rattle.ant_base.specs.Number.{decimal_value}
+use Rattle.line_tokens.specs.declared.refusal.LineFault.TheVariants.{UnknownWord, MissingToken, BadNumber, ExtraToken}
+use Rattle.line_tokens.specs.Tokens.{tokens_of}
+use Rattle.brain_read.specs.declared.instr.Cond.TheVariants.{Marker}
+use Rattle.brain_read.specs.declared.instr.Instr.TheVariants.{Sense, Mark, Turn, Move, Flip}
+use Rattle.brain_read.specs.Canonical.{instruction_text}
+use Rattle.brain_read.specs.Drafts.{draft_settled}
+use Rattle.brain_read.specs.Forms.{form_words, sight_words, side_words, condition_words}
+use Rattle.brain_read.specs.Reading.{read_line, read_sense, read_marked, read_branches, read_drop, read_turn, read_flip}
+use Rattle.brain_read.specs.Steps.{take_sight, take_side, take_state, take_marker, take_bound, take_condition}
+
+-- words in any ASCII case, states of up to ten digits, and a comment
+instructions_read : map (λ line. read_line (tokens_of line)) (codes "turn LEFT 007 ; note" ∷ codes "Sense here 0 9999999999 marker 5" ∷ codes "Flip 4294967295 1 2" ∷ [])
+    ≡ Ok (Turn Left 7) ∷ Ok (Sense Here 0 9999999999 (Marker 5)) ∷ Ok (Flip 4294967295 1 2) ∷ []
+unfolding decimal_value read_line read_sense read_marked read_branches read_drop read_turn read_flip take_sight take_side take_state take_marker take_bound take_condition form_words sight_words side_words condition_words
+instructions_read = refl
+
+-- the first position at fault, and whether its token has a bad byte
+lines_refused : map (λ line. read_line (tokens_of line)) (codes "" ∷ codes "Jump 1" ∷ codes "Mark 6 0" ∷ codes "Move 1 2 3" ∷ (codes "Turn Left " ++ 200 ∷ []) ∷ [])
+    ≡ Err (record { fault = MissingToken; bad_byte = false }) ∷ Err (record { fault = UnknownWord; bad_byte = false }) ∷ Err (record { fault = BadNumber; bad_byte = false })
+    ∷ Err (record { fault = ExtraToken; bad_byte = false }) ∷ Err (record { fault = BadNumber; bad_byte = true }) ∷ []
+unfolding decimal_value read_line read_sense read_marked read_branches read_drop read_turn read_flip take_sight take_side take_state take_marker take_bound take_condition form_words sight_words side_words condition_words
+lines_refused = refl
+
+-- every state has to be below the number of states; else the first that isn't
+states_settled : draft_settled 8 (Turn Left 7) ∷ draft_settled 7 (Turn Left 7) ∷ draft_settled 4 (Move 5 4) ∷ draft_settled 5 (Move 4 5) ∷ draft_settled 1 (Mark 5 0) ∷ []
+    ≡ Ok (Turn Left 7) ∷ Err 7 ∷ Err 5 ∷ Err 5 ∷ Ok (Mark 5 0) ∷ []
+states_settled = refl
+
+-- a marker, a bound and a state are printed as they stand in the line
+marker_printed : instruction_text (Sense Here 1 2 (Marker 5)) ≡ codes "Sense Here 1 2 Marker 5\n"
+unfolding instruction_text
+marker_printed = rw (decimal_digit 1 (omega arith), decimal_digit 2 (omega arith), decimal_digit 5 (omega arith)) refl
+
+bound_printed : instruction_text (Flip 2 6 7) ≡ codes "Flip 2 6 7\n"
+unfolding instruction_text
+bound_printed = rw (decimal_digit 2 (omega arith), decimal_digit 6 (omega arith), decimal_digit 7 (omega arith)) refl
