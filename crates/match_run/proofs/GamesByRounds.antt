@@ -4,11 +4,10 @@ use Rattle.ant_turn.specs.HillLaws.{game_after}
 use Rattle.ant_turn.specs.Rounds.{Moment, after_rounds, start_of}
 use Rattle.ant_turn.proofs.HillsKept.{games_keep_hills}
 use Rattle.cell_world.specs.Grid.{Grid, world_of}
-use Rattle.cell_world.specs.World.{World}
 use Rattle.round_book.specs.Book.{FieldValue, field_moment}
-use Rattle.match_run.specs.Counts.{both, no_turns, totals_of}
-use Rattle.match_run.specs.GameLaws.{AreRounds, GamesFollowTheRules, GamesGoOnByRounds, GamesKeepTheirHills, IsAtRound, IsRoundAtLast}
-use Rattle.match_run.specs.Game.{GameValue, GoesOnFor, IsRoundPlayed, IsRoundRefused, beginning, now_of}
+use Rattle.match_run.specs.Counts.{totals_of}
+use Rattle.match_run.specs.GameLaws.{AreRounds, GamesFollowTheRules, GamesGoOnByRounds, GamesKeepTheirHills, IsRoundAtLast}
+use Rattle.match_run.specs.Game.{GameValue, GoesOnFor, IsRoundPlayed, IsRoundRefused, beginning}
 use Rattle.match_run.specs.Run.{world_after}
 use Rattle.match_run.proofs.CountLaws.{broken_rounds_go_on}
 use Rattle.match_run.proofs.CountLemmas.{none-both}

@@ -7,9 +7,6 @@ use Rattle.ant_turn.specs.Minds.{Minds}
 use Rattle.ant_turn.specs.Rounds.{Moment, after_round, after_rounds}
 use Rattle.ant_turn.proofs.KeptByRounds.{after_rounds-more}
 use Rattle.cell_world.specs.Grid.{world_of}
-use Rattle.cell_world.specs.Score.{score_of}
-use Rattle.cell_world.specs.World.{World}
-use Rattle.dump_print.specs.Texts.{score_text, seed_text}
 use Rattle.dump_print.specs.declared.totals.Totals.{Totals}
 use Rattle.match_run.specs.declared.fault.PlayFault.{PlayFault}
 use Rattle.match_run.specs.declared.fault.PlayFault.TheVariants.{WriteFault, OutOfMemory}

@@ -1,5 +1,5 @@
 -- What holds of the rest of a run.
-use Rattle.std.proofs.Common.{◌≡◌, ℕ, zero, suc, ◌+◌, ◌-◌, ◌≤◌, Bool, List, ◌++◌, refl, sym, ap, ◌∙◌, append_assoc, append-nil, arith}
+use Rattle.std.proofs.Common.{◌≡◌, ℕ, zero, suc, ◌+◌, ◌-◌, Bool, List, ◌++◌, refl, sym, ap, ◌∙◌, append_assoc, append-nil, arith}
 use Rattle.ant_base.specs.Layout.{numbered}
 use Rattle.ant_base.proofs.Numbered.{numbered-more, numbered-none, numbered-same}
 use Rattle.ant_turn.specs.Minds.{Minds}

@@ -1,5 +1,5 @@
 -- The rest of a run, worked out.
-use Rattle.std.proofs.Common.{◌≡◌, true, List, [], ◌∷◌, codes, refl}
+use Rattle.std.proofs.Common.{◌≡◌, true, [], ◌∷◌, codes, refl}
 use Rattle.std.specs.Fmt.{digits}
 use Rattle.ant_base.specs.Layout.{numbered, ◌+++◌}
 use Rattle.ant_turn.specs.Rounds.{after_round, start_of}

@@ -1,4 +1,4 @@
-use Rattle.std.proofs.Common.{◌≡◌, ◌+◌, ◌*◌}
+use Rattle.std.proofs.Common.{◌≡◌, ◌*◌}
 use Rattle.ant_base.specs.Sink.{PushedAll}
 use Rattle.match_run.specs.Dumps.{chooses}
 use Rattle.match_run.specs.Game.{GoesOnFor, counted_on, now_of}

@@ -1,4 +1,3 @@
-use Rattle.std.proofs.Common.{ℕ}
 use Rattle.match_run.proofs.GameLemmas.{IsGame-game_at_round}
 use Rattle.match_run.proofs.game.Game.at_round.Goals as goal
 
