@@ -3,13 +3,11 @@ ghost use Rattle.std.specs.Prelude.{◌≡◌, ◌≤◌, length};
 ghost use Rattle.world_read.specs.Opened.{IsOpeningWorld};
 
 use crate::{WorldFault, read_world, write_world};
-use ant_base::{Calls, MemSink};
+use ant_base::{Calls, LONGEST, MemSink};
 use cell_world::World;
 use hex_geometry::Pos;
 use std::alloc::Global;
 use std::test::Fail;
-
-const MOST_BYTES: usize = 4194304;
 
 #[test]
 fn a_text_cut_anywhere_has_the_fault_of_what_is_left(rt: HostRuntime) {
@@ -95,7 +93,7 @@ fn each_text_has_its_world_or_its_first_fault(rt: HostRuntime) {
         ("3\n3\n###\n#9#\n###\n", None),
     ] {
         let bytes = text.as_bytes();
-        assert!(rt; bytes.len() <= MOST_BYTES);
+        assert!(rt; bytes.len() <= LONGEST);
         assert_eq!(rt; read_world(rt.alloc(), bytes).err(), fault, "at {text:?}");
     }
 }
@@ -136,13 +134,13 @@ fn what_is_written_is_the_canonical_text_and_is_read_as_an_equal_world(
         "4\n4\n# # # #\n # . . #\n# . . #\n # # # #\n",
     ] {
         let bytes = text.as_bytes();
-        assert!(rt; bytes.len() <= MOST_BYTES);
+        assert!(rt; bytes.len() <= LONGEST);
         let world = read_world(rt.alloc(), bytes)?;
         let mut sink = MemSink::with_room(rt.alloc(), 100, Calls::new(rt.alloc()))?;
         write_world(&world, &mut sink)?;
         assert_eq!(rt; sink.held(), bytes, "at {text:?}");
         let written = sink.held();
-        assert!(rt; written.len() <= MOST_BYTES);
+        assert!(rt; written.len() <= LONGEST);
         let again = read_world(rt.alloc(), written)?;
         assert!(rt; are_equal(&world, &again), "at {text:?}");
     }
@@ -166,11 +164,11 @@ fn hill_text(alloc: Global, sizes: &str, width: u16, height: u16) -> Result<Vec<
 #[test]
 fn hills_fill_a_world_up_to_16384_ants(rt: HostRuntime) -> Result<(), Fail> {
     let most = hill_text(rt.alloc(), "130\n130\n", 130, 130)?;
-    assert!(rt; most.len() <= MOST_BYTES);
+    assert!(rt; most.len() <= LONGEST);
     let world = read_world(rt.alloc(), &most)?;
     assert_eq!(rt; world.ant_count(), 16384);
     let more = hill_text(rt.alloc(), "131\n130\n", 131, 130)?;
-    assert!(rt; more.len() <= MOST_BYTES);
+    assert!(rt; more.len() <= LONGEST);
     assert_eq!(rt;
         read_world(rt.alloc(), &more).err(),
         Some(WorldFault::TooManyAnts { count: 16512 })
