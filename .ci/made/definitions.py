@@ -1,5 +1,6 @@
 """docs/DEFINITIONS.md: each definition right in a crate's specs/, with its comment, file by file."""
 from crate_tables import lemma_table
+from gate_costs import cost_table
 from tree import crates
 
 
@@ -37,5 +38,7 @@ def page(tree):
                 above = says(definition, above)
                 out.append("| `%s` | [%d](../%s) | %s |" % (definition.name, definition.line, definition.link, cell(above)))
             out.append("")
+    out += ["## What the gate costs", "", "Processor seconds of one `rt ci` from nothing on two cores, with other work on the machine's two other cores. A tilde marks the time of"]
+    out += ["the proof that wrong bodies begin with, where the first one's was not measured.", "", cost_table()]
     out += ["## Lemmas that other crates cite", "", "The files of `proofs/`, all of them.", "", lemma_table()]
     return "\n".join(out).rstrip() + "\n"

@@ -1,4 +1,4 @@
-"""The table of CONTRIBUTING.md of what the gate costs, from docs/gate_costs.txt and the wrong bodies on disk."""
+"""The table of docs/DEFINITIONS.md of what the gate costs, from docs/gate_costs.txt and the wrong bodies on disk."""
 import glob
 
 from tree import Unknown, crates, read
