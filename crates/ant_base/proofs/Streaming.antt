@@ -1,9 +1,9 @@
 -- What writers took and readers gave.
-use Rattle.std.proofs.Common.{◌≡◌, ℕ, zero, suc, Result, Ok, Err, is_ok, if◌then◌else◌, ◌<◌, ◌≤◌, ◌^◌, ◌+◌, ◌-◌, List, [], ◌++◌, length, take, drop, Option, Some, None, IfSome, refl, sym, ◌∙◌, ap, subst, append_assoc, append-nil, take-append-drop, arith}
+use Rattle.std.proofs.Common.{◌≡◌, ℕ, zero, suc, Result, Ok, Err, is_ok, if◌then◌else◌, ◌<◌, ◌≤◌, ◌^◌, ◌+◌, ◌-◌, List, [], ◌∷◌, ◌++◌, length, take, drop, Option, Some, None, IfSome, inl, inr, refl, sym, ◌∙◌, ap, subst, append_assoc, append-nil, take-append-drop, arith}
 use Rattle.std.proofs.lemmas.List.{length-append, length-take}
 use Rattle.std.specs.Io.KnownBytes.{Appends, Consumes, IsAtEnd, Keeps, WriteAppends}
 use Rattle.std.specs.Counts.{IsPrefixLen}
-use Rattle.std.specs.Prelude.{IfOk, OnErr}
+use Rattle.std.specs.Prelude.{true, IfOk, OnOk, OnErr}
 use Rattle.std.specs.IoError.{error_kind}
 use Rattle.std.specs.declared.io.Error.{Error}
 use Rattle.std.specs.declared.io.ErrorKind.{ErrorKind}
@@ -11,10 +11,12 @@ use Rattle.std.specs.declared.io.ErrorKind.TheVariants.{Interrupted}
 use Rattle.ant_base.specs.declared.shelf.FetchFault.{FetchFault}
 use Rattle.ant_base.specs.declared.sink.Failed.{Failed}
 use Rattle.ant_base.specs.Faults.{one_more}
+use Rattle.ant_base.specs.Lines.{ends_in_lf}
 use Rattle.ant_base.specs.Inner.Answered.{TakesAtMost, given_at, given_of, taken_at, taken_of}
 use Rattle.ant_base.specs.Shelf.{longest}
 use Rattle.ant_base.specs.Sink.{Pushed}
-use Rattle.ant_base.specs.Streams.{StreamState, TookUpTo, Takes, sink_of_stream}
+use Rattle.ant_base.proofs.Pushing.{append_is_nil, ends_in_lf-append}
+use Rattle.ant_base.specs.Streams.{IsFlushedByLines, StreamState, TookUpTo, Takes, sink_of_stream}
 
 consumes_nothing : (known : Option (List ℕ)) → Consumes known known []
 consumes_nothing None = tt
@@ -127,12 +129,14 @@ write_failed tells told (Err error) rest failed appends is = appends
 
 -- a sink over a stream that took a piece, or a front of it, was pushed to
 pub pushed_by_taking : (old new : StreamState) (piece : List ℕ) (result : Result (Unit {0}) Failed) → old.faults ≤ 2 ^ 64 - 1 → Takes old.taken new.taken old.written new.written piece result → new.faults ≡ (if is_ok result then old.faults else one_more old.faults)
-    → Pushed (sink_of_stream old) (sink_of_stream new) piece result
-pushed_by_taking old new piece (Ok _) most takes count = record {
+    → OnOk result (ends_in_lf piece ≡ true → new.waiting ≡ []) → (piece ≡ [] → old.waiting ≡ [] → new.waiting ≡ []) → Pushed (sink_of_stream old) (sink_of_stream new) piece result
+pushed_by_taking old new piece (Ok _) most takes count sent kept = record {
   held = ap Some (takes.took ∙ ap (λ bytes. old.taken ++ bytes) (sym (append-nil takes.front) ∙ sym takes.whole));
-  later = omega (arith, count);
+  quiet = count;
+  flushed = sent;
+  kept = kept;
 }
-pushed_by_taking old new piece (Err _) most takes count = record {
+pushed_by_taking old new piece (Err _) most takes count sent kept = record {
   front = takes.1.front;
   rest = takes.0;
   whole = takes.1.whole;
@@ -140,3 +144,15 @@ pushed_by_taking old new piece (Err _) most takes count = record {
   rose = omega (arith, count);
   later = omega (arith, count);
 }
+
+-- a sink whose stream took a piece that has bytes, or failed, waits with nothing behind the end of a line as long as no push failed
+pub flushed_by_taking : (old new : StreamState) (piece : List ℕ) (result : Result (Unit {0}) Failed) → (piece ≡ [] → ⊥) → Takes old.taken new.taken old.written new.written piece result
+    → new.faults ≡ (if is_ok result then old.faults else one_more old.faults) → OnOk result (ends_in_lf piece ≡ true → new.waiting ≡ []) → IsFlushedByLines new.faults new.taken new.waiting
+flushed_by_taking old new [] (Ok _) some takes count sent none text = absurd (some refl)
+flushed_by_taking old new (byte ∷ piece) (Ok _) some takes count sent none text =
+    let taken : new.taken ≡ old.taken ++ byte ∷ piece = takes.took ∙ ap (λ bytes. old.taken ++ bytes) (sym (append-nil takes.front) ∙ sym takes.whole) in
+    elim text [
+      | inl empty ↦ absurd (some (append_is_nil old.taken (byte ∷ piece) (sym taken ∙ empty)).1)
+      | inr ends ↦ sent (sym (ends_in_lf-append old.taken byte piece) ∙ ap ends_in_lf (sym taken) ∙ ends)
+    ]
+flushed_by_taking old new piece (Err _) some takes count sent none text = absurd (omega (arith, count, none))

@@ -1,5 +1,5 @@
 -- A sink in memory (this project's own).
-use Rattle.std.specs.Prelude.{ℕ, ◌+◌, ◌-◌, min, Bool, not, ◌&&◌, List, length, Some, nat_le, if◌then◌else◌}
+use Rattle.std.specs.Prelude.{ℕ, ◌+◌, ◌-◌, min, Bool, not, ◌&&◌, List, [], length, Some, nat_le, if◌then◌else◌}
 use Rattle.ant_base.specs.Faults.{one_more}
 use Rattle.ant_base.specs.Sink.{SinkState}
 use Rattle.ant_base.specs.Calls.{is_failing}
@@ -24,6 +24,6 @@ takes_whole s piece = not (is_failing_push s) && nat_le (length s.held + length 
 abbrev pub bytes_taken : MemSinkState → List ℕ → ℕ
 bytes_taken s piece = if is_failing_push s then 0 else min (length piece) (s.room - length s.held)
 
--- it tells its bytes
+-- it tells its bytes, of which none waits
 abbrev pub sink_of : MemSinkState → SinkState
-sink_of s = record { held = Some s.held; faults = s.faults }
+sink_of s = record { held = Some s.held; waiting = Some []; faults = s.faults }

@@ -1,22 +1,31 @@
 -- What a sink holds, and what a push does to it (this project's own).
-use Rattle.std.specs.Prelude.{◌≡◌, ℕ, ◌≤◌, List, ◌++◌, Option, Some, None, Result, Ok, Err}
+use Rattle.std.specs.Prelude.{◌≡◌, ℕ, ◌≤◌, true, List, [], ◌++◌, Option, Some, None, Result, Ok, Err}
 use Rattle.ant_base.specs.Faults.{Rose}
+use Rattle.ant_base.specs.Lines.{ends_in_lf}
 use Rattle.ant_base.specs.declared.sink.Failed.{Failed}
 
--- the bytes held, where the sink tells them, and the count of faults
+-- the bytes held, where the sink tells them; those of them that wait in its buffer, to be flushed, where it tells that; and the count of faults
 pub record SinkState : Type 0 where
   pub held : Option (List ℕ)
+  pub waiting : Option (List ℕ)
   pub faults : ℕ
+
+-- where the sink can tell, nothing waits in its buffer: all that it holds was flushed
+abbrev pub NothingWaits : Option (List ℕ) → Type 0
+NothingWaits None = Unit {0}
+NothingWaits (Some waiting) = waiting ≡ []
 
 -- the bytes held after some more, where they are told
 abbrev pub with_more : Option (List ℕ) → List ℕ → Option (List ℕ)
 with_more None more = None
 with_more (Some held) more = Some (held ++ more)
 
--- all of the text was appended
+-- all of the text was appended, without a fault; nothing waits behind a text that ends in LF, and nothing begins to wait for a text without bytes
 pub record PushedAll (old new : SinkState) (text : List ℕ) : Type 0 where
   pub held : new.held ≡ with_more old.held text
-  pub later : old.faults ≤ new.faults
+  pub quiet : new.faults ≡ old.faults
+  pub flushed : ends_in_lf text ≡ true → NothingWaits new.waiting
+  pub kept : text ≡ [] → NothingWaits old.waiting → NothingWaits new.waiting
 
 -- a front of the text was appended, and the count of faults rose
 pub record PushedFront (old new : SinkState) (text : List ℕ) : Type 0 where

@@ -2,11 +2,12 @@
 --
 -- The bytes that a stream took and the log of a shelf of files are ghost data: no memory holds them. They are what the system's own calls
 -- answered: each write adds the bytes that it answered to have taken, and each fetch adds its name with its answer.
-use Rattle.std.specs.Prelude.{◌≡◌, ℕ, ◌<◌, Bool, List, ◌++◌, [], Option, Result, Ok, Err, false, None, Some}
+use Rattle.std.specs.Prelude.{◌≡◌, ◌⊎◌, ℕ, ◌<◌, Bool, List, ◌++◌, [], Option, Result, Ok, Err, true, false, None, Some}
 use Rattle.std.specs.Io.KnownBytes.{Appends}
 use Rattle.std.specs.declared.io.Error.{Error}
 use Rattle.ant_base.specs.declared.sink.Failed.{Failed}
 use Rattle.ant_base.specs.Fetched.{Fetched}
+use Rattle.ant_base.specs.Lines.{ends_in_lf}
 use Rattle.ant_base.specs.Shelf.{ShelfState}
 use Rattle.ant_base.specs.Sink.{SinkState}
 
@@ -19,6 +20,10 @@ pub record StreamState : Type 0 where
   pub faults : ℕ
   pub sure : Bool
 
+-- where no push failed, and what the stream took ends in LF or is nothing, nothing waits in its buffer
+abbrev pub IsFlushedByLines : (faults : ℕ) (taken waiting : List ℕ) → Type 0
+IsFlushedByLines faults taken waiting = faults ≡ 0 → (taken ≡ []) ⊎ (ends_in_lf taken ≡ true) → waiting ≡ []
+
 -- a write was done, and took one byte or more
 abbrev pub TakesSome : Result ℕ Error → Type 0
 TakesSome (Ok taken) = 0 < taken
@@ -26,7 +31,7 @@ TakesSome (Err _) = ⊥
 
 -- a sink over a stream holds the bytes that the stream took
 abbrev pub sink_of_stream : StreamState → SinkState
-sink_of_stream s = record { held = Some s.taken; faults = s.faults }
+sink_of_stream s = record { held = Some s.taken; waiting = Some s.waiting; faults = s.faults }
 
 -- a front of the piece was taken, and this rest of it is left; what the stream tells by itself grew by that front
 pub record TookUpTo (taken new_taken : List ℕ) (written new_written : Option (List ℕ)) (piece rest : List ℕ) : Type 0 where

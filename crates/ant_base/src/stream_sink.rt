@@ -1,11 +1,11 @@
 // Sinks over the writers of std.
-ghost use Rattle.std.specs.Prelude.{◌≡◌, ◌++◌, [], Some, is_ok, if◌then◌else◌, IsOk, OnOk, true};
+ghost use Rattle.std.specs.Prelude.{◌≡◌, [], is_ok, if◌then◌else◌, IsOk, OnOk, true};
 ghost use Rattle.std.specs.Io.KnownBytes.{Keeps};
 ghost use Rattle.ant_base.specs.Faults.{one_more};
 ghost use Rattle.ant_base.specs.Lines.{ends_in_lf};
 ghost use Rattle.ant_base.specs.Inner.Answered.{taken_of};
 ghost use Rattle.ant_base.specs.Sink.{Pushed};
-ghost use Rattle.ant_base.specs.Streams.{Takes, sink_of_stream};
+ghost use Rattle.ant_base.specs.Streams.{IsFlushedByLines, Takes, sink_of_stream};
 
 use crate::system_log::SystemLog;
 use crate::{Failed, Sink, Writer};
@@ -16,7 +16,8 @@ use std::marker::Model;
 ///
 /// It writes by a loop, in which a write that was interrupted is made again, and sends on what waits after each piece that ends in LF. A
 /// write that takes nothing of what is left is a fault, as is a failure to send on; over a stream that never fails no push does. The count
-/// of faults rises by one at each push that is `Failed` and at no other, and stays at the last value of a u64.
+/// of faults rises by one at each push that is `Failed` and at no other, and stays at the last value of a u64. So where it is 0, and the
+/// bytes that the stream took end in LF or are none, nothing waits in the stream's buffer.
 #[derive(Drop)]
 pub struct StreamSink<W: Writer> {
     stream: W,
@@ -31,16 +32,19 @@ pub type OutSink = StreamSink<BufWriter<Stdout>>;
 pub type ErrSink = StreamSink<Stderr>;
 
 impl<W: Writer> Model for StreamSink<W> {
-    ghost use Rattle.ant_base.specs.Streams.{StreamState};
+    ghost use Rattle.ant_base.specs.Streams.{IsFlushedByLines, StreamState};
 
     ghost Value = { StreamState };
 
     ghost view = { λ s. record { taken = s.system_log.bytes; waiting = W.waiting s.stream; written = W.contents s.stream; faults = s.faults; sure = W.sure s.stream } };
+
+    ghost invariant = { λ s. IsFlushedByLines s.faults s.system_log.bytes (W.waiting s.stream) };
 }
 
 impl<W: Writer> StreamSink<W> {
-    /// A sink over this stream, which took nothing yet, without a fault.
+    /// A sink over this stream, in which nothing waits and which took nothing yet, without a fault.
     pub fn new(stream: W) -> Self
+        requires { W.waiting stream ≡ [] }
         ensures { result ≡ record { taken = []; waiting = W.waiting stream; written = W.contents stream; faults = 0; sure = W.sure stream } }
     {
         StreamSink {
@@ -50,9 +54,10 @@ impl<W: Writer> StreamSink<W> {
         }
     }
 
-    /// The count of faults, from 0.
+    /// The count of faults, from 0. Where it is 0, all that the stream took up to the end of a line was flushed.
     pub fn faults(&self) -> u64
-        ensures { result ≡ self.now.faults }
+        ensures count { result ≡ self.now.faults }
+        ensures flushed { IsFlushedByLines self.now.faults self.now.taken self.now.waiting }
     {
         self.faults
     }
@@ -71,6 +76,9 @@ impl<W: Writer> Sink for StreamSink<W> {
         // It fails only where the stream does.
         ensures sure { self.old.sure ≡ true → IsOk result × (self.new.sure ≡ true) }
     {
+        if piece.is_empty() {
+            return Ok(());
+        }
         let written = write_whole(&mut self.stream, &mut self.system_log, piece);
         if written.is_err() {
             self.faults = self.faults.saturating_add(1);
