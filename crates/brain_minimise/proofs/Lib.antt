@@ -1,5 +1,6 @@
 pub mod Equivalences
 pub mod Exploring
+pub mod HasMinimised
 pub mod Merging
 pub mod Numbers
 pub mod Playing

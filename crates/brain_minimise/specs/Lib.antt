@@ -1,4 +1,5 @@
 pub mod Equivalence
+pub mod Existence
 pub mod Inner
 pub mod Laws
 pub mod Match

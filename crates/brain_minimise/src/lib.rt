@@ -9,6 +9,7 @@
 #![tactic(auto)]
 
 mod classes;
+mod existence;
 mod laws;
 mod merge;
 mod numbering;
@@ -17,6 +18,7 @@ mod redirect;
 mod state_map;
 mod text;
 
+pub use existence::has_minimised;
 pub use hex_geometry::OutOfMemory;
 pub use laws::{
     different_stay, dumps_alike, fewest_states, one_minimised, plays_alike, scores_alike,

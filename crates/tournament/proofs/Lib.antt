@@ -1,6 +1,7 @@
 pub mod GamesLemmas
 pub mod LawsLemmas
 pub mod PiecesLemmas
+pub mod Sorting
 pub mod StandingLemmas
 pub mod TotalLemmas
 pub mod Worked

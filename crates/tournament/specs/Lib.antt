@@ -1,3 +1,4 @@
+pub mod Existence
 pub mod Games
 pub mod Inner
 pub mod Laws

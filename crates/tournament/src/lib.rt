@@ -10,6 +10,7 @@
 //! `cell_world` for the score, on `ant_base` for texts, and on no rule of the game.
 #![tactic(auto)]
 
+mod existence;
 mod fork;
 mod games;
 mod laws;
@@ -21,6 +22,7 @@ mod standing;
 mod tally;
 mod text;
 
+pub use existence::has_standing;
 pub use hex_geometry::OutOfMemory;
 pub use laws::{one_standing, points_add_up, wins_are_losses};
 pub use names::{Added, Names};

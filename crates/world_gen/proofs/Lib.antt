@@ -3,6 +3,8 @@ pub mod Bares
 pub mod CellLists
 pub mod Follows
 pub mod Foods
+pub mod HasPlacings
+pub mod HasWorlds
 pub mod Lines
 pub mod Makings
 pub mod Separate

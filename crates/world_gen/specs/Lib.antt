@@ -1,4 +1,5 @@
 pub mod Elements
+pub mod Existence
 pub mod Fitting
 pub mod Food
 pub mod Inner

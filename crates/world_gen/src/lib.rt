@@ -9,6 +9,7 @@
 
 mod cells;
 mod element;
+mod existence;
 mod fits;
 mod food;
 mod generator;
@@ -19,6 +20,7 @@ mod tries;
 mod yard;
 
 pub use cell_world::World;
+pub use existence::has_outcome;
 pub use food::food_on_cells;
 pub use generator::{GenFault, generate};
 pub use hex_geometry::OutOfMemory;

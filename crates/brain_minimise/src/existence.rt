@@ -1,0 +1,7 @@
+// That each brain has a minimised one, as a law of its definition.
+ghost use Rattle.brain_minimise.specs.Existence.{HasMinimised};
+
+/// A law: each brain has a minimised one.
+pub fn has_minimised()
+    ensures { HasMinimised }
+{}

@@ -1,0 +1,5 @@
+use Rattle.tournament.proofs.Sorting.{has_standing}
+use Rattle.tournament.proofs.existence.has_standing.Goals as goal
+
+pub returns : goal.returns
+returns c = has_standing
