@@ -48,7 +48,6 @@ fits_generated seed shape world generated =
 pub carries_ungenerated : {U : Type 0} (command : PlainCommand) (seed : ℕ) (shape : Shape) (shelf : ShelfState) (out : SinkState) (result : Result U CommandStop) (why : CommandStop) → files_of command ≡ []
     → ((element : ℕ) → HasNoRoom seed shape element → LacksRoom command element) → IsErrAnd result (λ other. other ≡ why)
     → IsGenerating seed shape (Err why) → CarriesOut command shelf shelf out out (ending_of result)
-carries_ungenerated command seed shape shelf out result (stop.Words word) no_file room same none = absurd none
 carries_ungenerated command seed shape shelf out result (stop.Read name) no_file room same none = absurd none
 carries_ungenerated command seed shape shelf out result stop.Write no_file room same none = absurd none
 carries_ungenerated command seed shape shelf out result (stop.Input name fault) no_file room same none = absurd none
@@ -56,7 +55,7 @@ carries_ungenerated command seed shape shelf out result (stop.NoRoom element) no
     subst (CarriesOut command shelf shelf out out) (ending_stopped result (stop.NoRoom element) same) (record {
       fetches = [];
       fetched = fetches_none shelf;
-      ends = record { contents = []; accepted = subst (λ (files : List File). AreAccepted files [] []) (sym no_file) (refl, refl); lacks = room element none; unwritten = refl };
+      ends = λ err new_err. record { contents = []; accepted = subst (λ (files : List File). AreAccepted files [] []) (sym no_file) (refl, refl); lacks = room element none; unwritten = refl };
     })
 carries_ungenerated command seed shape shelf out result stop.Memory no_file room same none = carries_wanting command shelf out result same
 

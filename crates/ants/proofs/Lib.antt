@@ -1,11 +1,16 @@
 pub mod Accepted
 pub mod Cups
 pub mod Generated
+pub mod HasOutputs
+pub mod Headlines
+pub mod HelpWorked
 pub mod Judgements
 pub mod Listed
+pub mod OneTexts
 pub mod Planned
 pub mod Readings
 pub mod SampleWorked
+pub mod TextEnds
 pub mod Texts
 pub mod Verdicts
 pub mod Viewed

@@ -8,7 +8,8 @@ use Rattle.ant_base.specs.Shelf.{Fetches, FetchesEach, ShelfState}
 use Rattle.ant_base.specs.Sink.{SinkState, PushedAll, PushedFront}
 use Rattle.ant_base.specs.declared.shelf.FetchFault.{FetchFault}
 use Rattle.ant_base.specs.declared.shelf.FetchFault.TheVariants as answer
-use Rattle.command_words.specs.Command.{PlainCommand, IsCommand}
+use Rattle.command_words.proofs.WordLaws.{within_limits}
+use Rattle.command_words.specs.Command.{PlainCommand, IsCommand, IsRefusedAt}
 use Rattle.match_run.specs.declared.fault.PlayFault.{PlayFault}
 use Rattle.match_run.specs.declared.fault.PlayFault.TheVariants as play
 use Rattle.match_run.specs.Play.{PushedSome, StoppedBy}
@@ -18,14 +19,17 @@ use Rattle.ants.specs.declared.stop.CommandStop.{CommandStop}
 use Rattle.ants.specs.declared.stop.CommandStop.TheVariants as stop
 use Rattle.ants.specs.Files.{File, FileContent, AreAccepted, AreBegun, IsRefused, Refuses, StopsAt}
 use Rattle.ants.specs.Inner.Planning.{stop_of}
-use Rattle.ants.specs.Inner.Reading.{CarriesOut, CarriesOutWords, ComesTo, ReadOutcome, ReadingStops, ReadsFiles, ReadsText, TextStops, ending_of, fetch_reason, outcome_of}
+use Rattle.ants.specs.Inner.Reading.{CarriesOut, CarriesOutWords, ComesTo, EndsBy, ReadOutcome, ReadingStops, ReadsFiles, ReadsText, TextStops, ending_of, fetch_reason, outcome_of}
 use Rattle.ants.specs.Inner.Reading.ReadOutcome.{Contents, Stopped}
 use Rattle.ants.specs.Jobs.{files_of, IsJobText}
 use Rattle.ants.specs.Judged.{IsRefusedAs}
-use Rattle.ants.specs.Performing.{EndsBy, IsUnsure, StopsFor, WritesInPlay}
+use Rattle.ants.specs.Performing.{IsUnsure, StopsFor, WritesInPlay}
 use Rattle.ants.specs.Running.{Ends}
-use Rattle.ants.specs.Stopping.{Reason, reason_of}
-use Rattle.ants.specs.Stopping.Reason.{AtWord, AtFile, AtOutput, AtInput, AtRoom, AtMemory}
+use Rattle.ants.specs.Outside.{Outside, outside_of}
+use Rattle.ants.specs.Stopping.{Reason, ending_by, reason_of}
+use Rattle.ants.specs.Stopping.Ending.{RefusedWord}
+use Rattle.ants.specs.Stopping.Reason.{AtFile, AtOutput, AtInput, AtRoom, AtMemory}
+use Rattle.ants.proofs.TextEnds.{texts_end_in_lf}
 use Rattle.ants.proofs.Texts.{never_long}
 
 -- the files a were accepted, and then the files b
@@ -96,7 +100,6 @@ rose_before first second third later rose = omega arith
 
 reading_stops_later : (first second third : ShelfState) (a b : List File) (fetches more : List Fetched) (contents : List FileContent) (reason : Reason) → FetchesEach first second fetches → AreAccepted a fetches contents
     → ReadingStops second third b more reason → ReadingStops first third (a ++ b) (fetches ++ more) reason
-reading_stops_later first second third a b fetches more contents (AtWord word) each accepted stops = stops
 reading_stops_later first second third a b fetches more contents (AtFile name) each accepted stops =
     record {
       stopped = stops_later (IsUnsure first name) a b fetches more contents accepted
@@ -109,7 +112,6 @@ reading_stops_later first second third a b fetches more contents (AtRoom element
 reading_stops_later first second third a b fetches more contents AtMemory each accepted stops = begun_later a b fetches more contents accepted stops
 
 reading_stops_first : (first second : ShelfState) (a b : List File) (fetches : List Fetched) (reason : Reason) → ReadingStops first second a fetches reason → ReadingStops first second (a ++ b) fetches reason
-reading_stops_first first second a b fetches (AtWord word) stops = stops
 reading_stops_first first second a b fetches (AtFile name) stops = record { stopped = stops_first (IsUnsure first name) a b fetches stops.stopped; rose = stops.rose }
 reading_stops_first first second a b fetches AtOutput stops = stops
 reading_stops_first first second a b fetches (AtInput name fault) stops = stops_first (IsRefusedAs name fault) a b fetches stops
@@ -159,7 +161,6 @@ refused_text file fetch bytes (Breaks fault) got refuses = record { bytes = byte
 
 text_stops : (shelf new_shelf : ShelfState) (file : File) (fetch : Fetched) (bytes : List ℕ) (reason : Reason) → fetch ≡ record { name = file.name; answer = Ok bytes } → TextStops file.kind bytes file.name reason
     → ReadingStops shelf new_shelf (file ∷ []) (fetch ∷ []) reason
-text_stops shelf new_shelf file fetch bytes (AtWord word) got stops = stops
 text_stops shelf new_shelf file fetch bytes (AtFile name) got stops = absurd stops
 text_stops shelf new_shelf file fetch bytes AtOutput got stops = stops
 text_stops shelf new_shelf file fetch bytes (AtInput name fault) got stops = inl (record { named = sym stops.0; refused = refused_text file fetch bytes fault got stops.1 }, refl)
@@ -190,56 +191,66 @@ pub reads_no_text : {A : Type 0} (shelf new_shelf : ShelfState) (file : File) (f
 reads_no_text shelf new_shelf file fault fetches =
     record { fetches = record { name = file.name; answer = Err fault } ∷ []; fetched = fetches_one shelf new_shelf file.name (Err fault) fetches; comes = fetch_stops shelf new_shelf file fault fetches }
 
-stops_for : (command : PlainCommand) (shelf new_shelf : ShelfState) (fetches : List Fetched) (out : SinkState) (reason : Reason) → ReadingStops shelf new_shelf (files_of command) fetches reason → StopsFor command shelf new_shelf fetches out out reason
-stops_for command shelf new_shelf fetches out (AtWord word) stops = stops
-stops_for command shelf new_shelf fetches out (AtFile name) stops = record { stopped = stops.stopped; rose = stops.rose; unwritten = refl }
-stops_for command shelf new_shelf fetches out AtOutput stops = absurd stops
-stops_for command shelf new_shelf fetches out (AtInput name fault) stops = record { stopped = stops; unwritten = refl }
-stops_for command shelf new_shelf fetches out (AtRoom element) stops = absurd stops
-stops_for command shelf new_shelf fetches out AtMemory stops = inl (record { begun = stops; unwritten = refl })
+stops_for : (command : PlainCommand) (shelf new_shelf : ShelfState) (fetches : List Fetched) (out err new_err : SinkState) (reason : Reason) → ReadingStops shelf new_shelf (files_of command) fetches reason
+    → StopsFor command (outside_of shelf out err) (outside_of new_shelf out new_err) fetches reason
+stops_for command shelf new_shelf fetches out err new_err (AtFile name) stops = record { stopped = stops.stopped; rose = stops.rose; unwritten = refl }
+stops_for command shelf new_shelf fetches out err new_err AtOutput stops = absurd stops
+stops_for command shelf new_shelf fetches out err new_err (AtInput name fault) stops = record { stopped = stops; unwritten = refl }
+stops_for command shelf new_shelf fetches out err new_err (AtRoom element) stops = absurd stops
+stops_for command shelf new_shelf fetches out err new_err AtMemory stops = inl (record { begun = stops; unwritten = refl })
 
 -- a command stopped at its files, with nothing written
 pub carries_stopped : (command : PlainCommand) (shelf new_shelf : ShelfState) (out : SinkState) (reason : Reason) → ReadsFiles shelf new_shelf (files_of command) (Stopped reason) → CarriesOut command shelf new_shelf out out (Some reason)
 carries_stopped command shelf new_shelf out reason reads =
-    record { fetches = reads.fetches; fetched = reads.fetched; ends = stops_for command shelf new_shelf reads.fetches out reason reads.comes }
+    record { fetches = reads.fetches; fetched = reads.fetched; ends = λ err new_err. stops_for command shelf new_shelf reads.fetches out err new_err reason reads.comes }
 
 -- a command's files were read, and its whole text was written
 pub carries_done : (command : PlainCommand) (shelf new_shelf : ShelfState) (out new_out : SinkState) (contents : List FileContent) → ReadsFiles shelf new_shelf (files_of command) (Contents contents)
     → (text : List ℕ) → IsJobText command contents text → PushedAll out new_out text → CarriesOut command shelf new_shelf out new_out None
 carries_done command shelf new_shelf out new_out contents reads text is pushed =
-    record { fetches = reads.fetches; fetched = reads.fetched; ends = record { contents = contents; accepted = reads.comes; text = text; is_text = is; written = pushed } }
+    record { fetches = reads.fetches; fetched = reads.fetched; ends = λ err new_err. record { contents = contents; accepted = reads.comes; text = text; is_text = is; written = pushed } }
 
 -- a command's files were read, and a front of its text was written
 pub carries_cut : (command : PlainCommand) (shelf new_shelf : ShelfState) (out new_out : SinkState) (contents : List FileContent) → ReadsFiles shelf new_shelf (files_of command) (Contents contents)
     → (text : List ℕ) → IsJobText command contents text → PushedFront out new_out text → CarriesOut command shelf new_shelf out new_out (Some AtOutput)
 carries_cut command shelf new_shelf out new_out contents reads text is pushed =
-    record { fetches = reads.fetches; fetched = reads.fetched; ends = record { contents = contents; accepted = reads.comes; text = text; is_text = is; cut = pushed } }
+    record { fetches = reads.fetches; fetched = reads.fetched; ends = λ err new_err. record { contents = contents; accepted = reads.comes; text = text; is_text = is; cut = pushed } }
 
 -- a command's files were read, and a front of its text was written before memory was wanting
 carries_broken : (command : PlainCommand) (shelf new_shelf : ShelfState) (out new_out : SinkState) (contents : List FileContent) → ReadsFiles shelf new_shelf (files_of command) (Contents contents)
     → (text : List ℕ) → IsJobText command contents text → PushedSome out new_out text → WritesInPlay command → CarriesOut command shelf new_shelf out new_out (Some AtMemory)
 carries_broken command shelf new_shelf out new_out contents reads text is pushed in_play =
-    record { fetches = reads.fetches; fetched = reads.fetched; ends = inr (record { contents = contents; accepted = reads.comes; text = text; is_text = is; broken = pushed; in_play = in_play }) }
+    record { fetches = reads.fetches; fetched = reads.fetched; ends = λ err new_err. inr (record { contents = contents; accepted = reads.comes; text = text; is_text = is; broken = pushed; in_play = in_play }) }
 
 -- memory was wanting before a file was fetched
 pub carries_nothing : (command : PlainCommand) (shelf : ShelfState) (out : SinkState) → CarriesOut command shelf shelf out out (Some AtMemory)
-carries_nothing command shelf out = record { fetches = []; fetched = fetches_none shelf; ends = inl (record { begun = begun_none (files_of command); unwritten = refl }) }
+carries_nothing command shelf out = record { fetches = []; fetched = fetches_none shelf; ends = λ err new_err. inl (record { begun = begun_none (files_of command); unwritten = refl }) }
 
-ends_as : (words : List (List ℕ)) (command : PlainCommand) (shelf new_shelf : ShelfState) (fetches : List Fetched) (out new_out : SinkState) (ending : Option Reason) → IsCommand words command
-    → EndsBy command shelf new_shelf fetches out new_out ending → Ends words shelf new_shelf fetches out new_out ending
-ends_as words command shelf new_shelf fetches out new_out None is ends = record { command = command; is_command = is; ends = ends }
-ends_as words command shelf new_shelf fetches out new_out (Some (AtWord word)) is ends = absurd ends
-ends_as words command shelf new_shelf fetches out new_out (Some (AtFile name)) is ends = record { command = command; is_command = is; ends = ends }
-ends_as words command shelf new_shelf fetches out new_out (Some AtOutput) is ends = record { command = command; is_command = is; ends = ends }
-ends_as words command shelf new_shelf fetches out new_out (Some (AtInput name fault)) is ends = record { command = command; is_command = is; ends = ends }
-ends_as words command shelf new_shelf fetches out new_out (Some (AtRoom element)) is ends = record { command = command; is_command = is; ends = ends }
-ends_as words command shelf new_shelf fetches out new_out (Some AtMemory) is ends = record { command = command; is_command = is; ends = ends }
+ends_as : (words : List (List ℕ)) (command : PlainCommand) (before after : Outside) (fetches : List Fetched) (stop : Option Reason) → IsCommand words command → EndsBy command before after fetches stop
+    → Ends words before after fetches (ending_by stop)
+ends_as words command before after fetches None is ends =
+    record {
+      command = command;
+      is_command = is;
+      done = ends;
+      flushed = ends.written.flushed (texts_end_in_lf command fetches ends.contents ends.text (within_limits words command is) ends.accepted ends.is_text);
+    }
+ends_as words command before after fetches (Some reason) is ends = record { command = command; is_command = is; stopped = ends }
 
 -- words that are a command were carried out as it was
-pub carries_words : (words : List (List ℕ)) (command : PlainCommand) (shelf new_shelf : ShelfState) (out new_out : SinkState) (ending : Option Reason) → IsCommand words command
-    → CarriesOut command shelf new_shelf out new_out ending → CarriesOutWords words shelf new_shelf out new_out ending
-carries_words words command shelf new_shelf out new_out ending is carried =
-    record { fetches = carried.fetches; fetched = carried.fetched; ends = ends_as words command shelf new_shelf carried.fetches out new_out ending is carried.ends }
+pub carries_words : (words : List (List ℕ)) (command : PlainCommand) (shelf new_shelf : ShelfState) (out new_out : SinkState) (stop : Option Reason) → IsCommand words command
+    → CarriesOut command shelf new_shelf out new_out stop → CarriesOutWords words shelf new_shelf out new_out (ending_by stop)
+carries_words words command shelf new_shelf out new_out stop is carried =
+    record {
+      fetches = carried.fetches;
+      fetched = carried.fetched;
+      ends = λ err new_err. ends_as words command (outside_of shelf out err) (outside_of new_shelf new_out new_err) carried.fetches stop is (carried.ends err new_err);
+    }
+
+-- words that are no command were refused
+pub carries_no_words : (words : List (List ℕ)) (word : ℕ) (shelf : ShelfState) (out : SinkState) → IsRefusedAt words word → CarriesOutWords words shelf shelf out out (RefusedWord word)
+carries_no_words words word shelf out refused =
+    record { fetches = []; fetched = fetches_none shelf; ends = λ err new_err. record { refused = refused; unfetched = refl; kept = refl; unwritten = refl } }
 
 -- the outcome of a call that answers with a stop
 pub outcome_stopped : {V : Type 0} (contents_of : V → List FileContent) (result : Result V CommandStop) (why : CommandStop) → IsErrAnd result (λ other. other ≡ why) → Stopped (reason_of why) ≡ outcome_of contents_of result
@@ -291,9 +302,3 @@ pub carries_wanting_later : {U : Type 0} (command : PlainCommand) (shelf new_she
     → ReadsFiles shelf new_shelf (files_of command) (Contents contents) → CarriesOut command shelf new_shelf out out (ending_of result)
 carries_wanting_later command shelf new_shelf out contents result same reads =
     carries_stop command shelf new_shelf out result stop.Memory same (reads_wanting shelf new_shelf (files_of command) contents reads)
-
--- words that answer with want of memory before a file was fetched
-pub carries_want : {U : Type 0} (words : List (List ℕ)) (command : PlainCommand) (shelf : ShelfState) (out : SinkState) (result : Result U CommandStop) → IsErrAnd result (λ other. other ≡ stop.Memory) → IsCommand words command
-    → CarriesOutWords words shelf shelf out out (ending_of result)
-carries_want words command shelf out result same is_command =
-    subst (CarriesOutWords words shelf shelf out out) (ending_stopped result stop.Memory same) (carries_words words command shelf shelf out out (Some AtMemory) is_command (carries_nothing command shelf out))

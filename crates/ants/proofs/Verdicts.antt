@@ -6,24 +6,26 @@ use Rattle.std.proofs.lemmas.Bool.{false≢true}
 use Rattle.ant_base.specs.Fetched.{Fetched}
 use Rattle.ant_base.specs.Faults.{Rose}
 use Rattle.ant_base.specs.Shelf.{AreSure, IsContent, IsTold, IsTooLong, ShelfState, Told, longest}
-use Rattle.ant_base.specs.Sink.{SinkState}
 use Rattle.ant_base.specs.declared.shelf.FetchFault.TheVariants as answer
 use Rattle.command_words.proofs.WordLaws as words_laws
 use Rattle.command_words.specs.Command.{PlainCommand, IsCommand}
-use Rattle.command_words.specs.Command.PlainCommand.{ShowCommand, BrainCommand, MinimiseCommand, RunCommand, GenCommand, CupCommand, ViewCommand, WorkloadCommand}
+use Rattle.command_words.specs.Command.PlainCommand.{ShowCommand, BrainCommand, MinimiseCommand, RunCommand, GenCommand, CupCommand, ViewCommand, WorkloadCommand, HelpCommand, VersionCommand}
 use Rattle.world_gen.proofs.Unique.{one_outcome}
 use Rattle.ants.specs.declared.status.Status.{Status}
 use Rattle.ants.specs.declared.status.Status.TheVariants as status
 use Rattle.ants.specs.declared.stop.FileFault.{FileFault}
 use Rattle.ants.specs.declared.stop.FileFault.TheVariants.{TooLong, World, Brain, Breaks}
 use Rattle.ants.specs.Files.{AreAccepted, AreBegun, AreInOrder, FileContent, File, IsAccepted, IsFetched, IsNoText, IsRefused, Reads, Refuses, StopsAt}
+use Rattle.ants.specs.Inner.Reading.{EndsBy}
 use Rattle.ants.specs.Jobs.{HasRoom, IsJobText, LacksRoom, contest_shape, files_of, shape_named}
 use Rattle.ants.specs.Judged.{IsRefusedAs, Judged, FilesVerdict}
 use Rattle.ants.specs.Judged.FilesVerdict.{AllAccepted, FirstRefused}
-use Rattle.ants.specs.Performing.{EndsBy, IsUnsure}
-use Rattle.ants.specs.Running.{Ends, IsComplete, IsNoCommand, IsOrderly, NeverUnread, IsRefusing, IsRun, ending_status, IsCrowding}
-use Rattle.ants.specs.Stopping.{Reason}
-use Rattle.ants.specs.Stopping.Reason.{AtWord, AtFile, AtOutput, AtInput, AtRoom, AtMemory}
+use Rattle.ants.specs.Outside.{Outside}
+use Rattle.ants.specs.Performing.{IsUnsure}
+use Rattle.ants.specs.Running.{Ends, IsComplete, IsCrowding, IsNoCommand, IsOrderly, IsRefusing, IsRun, NeverUnread}
+use Rattle.ants.specs.Stopping.{Ending, Reason, ending_by, ending_status, status_of}
+use Rattle.ants.specs.Stopping.Ending.{Done, RefusedWord, Stopped}
+use Rattle.ants.specs.Stopping.Reason.{AtFile, AtOutput, AtInput, AtRoom, AtMemory}
 use Rattle.ants.proofs.Texts.{never_both, one_reading}
 
 -- the contents of each name
@@ -178,15 +180,14 @@ in_order_begun (file ∷ files) (fetch ∷ fetches) begun =
       | inr later ↦ in_order_then file files fetch fetches (accepted_name file fetch later.0 later.1) (in_order_begun files fetches later.2)
     ]
 
-in_order_by : (command : PlainCommand) (shelf new_shelf : ShelfState) (fetches : List Fetched) (out new_out : SinkState) (ending : Option Reason) → EndsBy command shelf new_shelf fetches out new_out ending → AreInOrder (files_of command) fetches
-in_order_by command shelf new_shelf fetches out new_out None ends = in_order_accepted (files_of command) fetches ends.contents ends.accepted
-in_order_by command shelf new_shelf fetches out new_out (Some (AtWord word)) ends = absurd ends
-in_order_by command shelf new_shelf fetches out new_out (Some (AtFile name)) ends = in_order_stopped (IsUnsure shelf name) (files_of command) fetches (λ file fetch is. ap (λ (f : Fetched). f.name) is.failed) ends.stopped
-in_order_by command shelf new_shelf fetches out new_out (Some AtOutput) ends = in_order_accepted (files_of command) fetches ends.contents ends.accepted
-in_order_by command shelf new_shelf fetches out new_out (Some (AtInput name fault)) ends =
+in_order_by : (command : PlainCommand) (before after : Outside) (fetches : List Fetched) (stop : Option Reason) → EndsBy command before after fetches stop → AreInOrder (files_of command) fetches
+in_order_by command before after fetches None ends = in_order_accepted (files_of command) fetches ends.contents ends.accepted
+in_order_by command before after fetches (Some (AtFile name)) ends = in_order_stopped (IsUnsure before.shelf name) (files_of command) fetches (λ file fetch is. ap (λ (f : Fetched). f.name) is.failed) ends.stopped
+in_order_by command before after fetches (Some AtOutput) ends = in_order_accepted (files_of command) fetches ends.contents ends.accepted
+in_order_by command before after fetches (Some (AtInput name fault)) ends =
     in_order_stopped (IsRefusedAs name fault) (files_of command) fetches (λ file fetch is. refused_name file fetch fault is.refused) ends.stopped
-in_order_by command shelf new_shelf fetches out new_out (Some (AtRoom element)) ends = in_order_accepted (files_of command) fetches ends.contents ends.accepted
-in_order_by command shelf new_shelf fetches out new_out (Some AtMemory) ends =
+in_order_by command before after fetches (Some (AtRoom element)) ends = in_order_accepted (files_of command) fetches ends.contents ends.accepted
+in_order_by command before after fetches (Some AtMemory) ends =
     elim ends [ inl unbegun ↦ in_order_begun (files_of command) fetches unbegun.begun | inr broken ↦ in_order_accepted (files_of command) fetches broken.contents broken.accepted ]
 
 -- lists with the same front are the same in their rests
@@ -195,51 +196,52 @@ same_rest [] a b same = same
 same_rest (x ∷ front) a b same = same_rest front a b (cc)
 
 -- how the words' command ended
-as_command : (words : List (List ℕ)) (command : PlainCommand) (shelf new_shelf : ShelfState) (fetches : List Fetched) (out new_out : SinkState) (ending : Option Reason) → IsCommand words command
-    → Ends words shelf new_shelf fetches out new_out ending → EndsBy command shelf new_shelf fetches out new_out ending
-as_command words command shelf new_shelf fetches out new_out None is ends =
-    subst (λ (c : PlainCommand). EndsBy c shelf new_shelf fetches out new_out None) (words_laws.one_command words ends.command command ends.is_command is) ends.ends
-as_command words command shelf new_shelf fetches out new_out (Some (AtWord word)) is ends = absurd (words_laws.never_both words command word is ends.refused)
-as_command words command shelf new_shelf fetches out new_out (Some (AtFile name)) is ends =
-    subst (λ (c : PlainCommand). EndsBy c shelf new_shelf fetches out new_out (Some (AtFile name))) (words_laws.one_command words ends.command command ends.is_command is) ends.ends
-as_command words command shelf new_shelf fetches out new_out (Some AtOutput) is ends =
-    subst (λ (c : PlainCommand). EndsBy c shelf new_shelf fetches out new_out (Some AtOutput)) (words_laws.one_command words ends.command command ends.is_command is) ends.ends
-as_command words command shelf new_shelf fetches out new_out (Some (AtInput name fault)) is ends =
-    subst (λ (c : PlainCommand). EndsBy c shelf new_shelf fetches out new_out (Some (AtInput name fault))) (words_laws.one_command words ends.command command ends.is_command is) ends.ends
-as_command words command shelf new_shelf fetches out new_out (Some (AtRoom element)) is ends =
-    subst (λ (c : PlainCommand). EndsBy c shelf new_shelf fetches out new_out (Some (AtRoom element))) (words_laws.one_command words ends.command command ends.is_command is) ends.ends
-as_command words command shelf new_shelf fetches out new_out (Some AtMemory) is ends =
-    subst (λ (c : PlainCommand). EndsBy c shelf new_shelf fetches out new_out (Some AtMemory)) (words_laws.one_command words ends.command command ends.is_command is) ends.ends
+record EndsAs (command : PlainCommand) (before after : Outside) (fetches : List Fetched) (ending : Ending) : Type 0 where
+  stop : Option Reason
+  is : ending ≡ ending_by stop
+  ends : EndsBy command before after fetches stop
+
+as_command : (words : List (List ℕ)) (command : PlainCommand) (before after : Outside) (fetches : List Fetched) (ending : Ending) → IsCommand words command → Ends words before after fetches ending
+    → EndsAs command before after fetches ending
+as_command words command before after fetches Done is ends =
+    record { stop = None; is = refl; ends = subst (λ (c : PlainCommand). EndsBy c before after fetches None) (words_laws.one_command words ends.command command ends.is_command is) ends.done }
+as_command words command before after fetches (RefusedWord word) is ends = absurd (words_laws.never_both words command word is ends.refused)
+as_command words command before after fetches (Stopped reason) is ends =
+    record { stop = Some reason; is = refl; ends = subst (λ (c : PlainCommand). EndsBy c before after fetches (Some reason)) (words_laws.one_command words ends.command command ends.is_command is) ends.stopped }
+
+-- the status of a run whose words are a command
+status_by : (words : List (List ℕ)) (command : PlainCommand) (before after : Outside) (ended : Status) → (run : IsRun words before after ended) → (it : EndsAs command before after run.fetches run.ending)
+    → ended ≡ ending_status (ending_by it.stop)
+status_by words command before after ended run it = run.is_status ∙ ap ending_status it.is
 
 -- the fetches of a run are in order
-pub orderly_run : (words : List (List ℕ)) (shelf new_shelf : ShelfState) (out new_out err new_err : SinkState) (ended : Status) → IsRun words shelf new_shelf out new_out err new_err ended → IsOrderly words shelf new_shelf
-orderly_run words shelf new_shelf out new_out err new_err ended run = λ command is fetches logged.
-    let same = same_rest shelf.log run.fetches fetches (sym run.fetched.log ∙ logged) in
-    subst (AreInOrder (files_of command)) same
-    (in_order_by command shelf new_shelf run.fetches out new_out run.ending (as_command words command shelf new_shelf run.fetches out new_out run.ending is run.ends))
+pub orderly_run : (words : List (List ℕ)) (before after : Outside) (ended : Status) → IsRun words before after ended → IsOrderly words before after
+orderly_run words before after ended run = λ command is fetches logged.
+    let it = as_command words command before after run.fetches run.ending is run.ends in
+    let same = same_rest before.shelf.log run.fetches fetches (sym run.fetched.log ∙ logged) in
+    subst (AreInOrder (files_of command)) same (in_order_by command before after run.fetches it.stop it.ends)
 
 -- a run whose files are all accepted is done, or wants memory
-complete_by : (at : At) (command : PlainCommand) (shelf new_shelf : ShelfState) (fetches told : List Fetched) (out new_out : SinkState) (contents : List FileContent) (ending : Option Reason) → AllByRecursion (IsTold (Some at)) fetches
-    → AllByRecursion (IsTold (Some at)) told → AreAccepted (files_of command) told contents → HasRoom command → EndsBy command shelf new_shelf fetches out new_out ending → ¬ Rose shelf.faults new_shelf.faults → ¬ Rose out.faults new_out.faults
-    → (ending_status ending ≡ status.Done) ⊎ (ending_status ending ≡ status.Memory)
-complete_by at command shelf new_shelf fetches told out new_out contents None one two are room ends shelf_held out_held = inl refl
-complete_by at command shelf new_shelf fetches told out new_out contents (Some (AtWord word)) one two are room ends shelf_held out_held = absurd ends
-complete_by at command shelf new_shelf fetches told out new_out contents (Some (AtFile name)) one two are room ends shelf_held out_held = absurd (shelf_held ends.rose)
-complete_by at command shelf new_shelf fetches told out new_out contents (Some AtOutput) one two are room ends shelf_held out_held = absurd (out_held ends.cut.rose)
-complete_by at command shelf new_shelf fetches told out new_out contents (Some (AtInput name fault)) one two are room ends shelf_held out_held =
+complete_by : (at : At) (command : PlainCommand) (before after : Outside) (fetches told : List Fetched) (contents : List FileContent) (stop : Option Reason) → AllByRecursion (IsTold (Some at)) fetches
+    → AllByRecursion (IsTold (Some at)) told → AreAccepted (files_of command) told contents → HasRoom command → EndsBy command before after fetches stop → ¬ Rose before.shelf.faults after.shelf.faults → ¬ Rose before.out.faults after.out.faults
+    → (ending_status (ending_by stop) ≡ status.Done) ⊎ (ending_status (ending_by stop) ≡ status.Memory)
+complete_by at command before after fetches told contents None one two are room ends shelf_held out_held = inl refl
+complete_by at command before after fetches told contents (Some (AtFile name)) one two are room ends shelf_held out_held = absurd (shelf_held ends.rose)
+complete_by at command before after fetches told contents (Some AtOutput) one two are room ends shelf_held out_held = absurd (out_held ends.cut.rose)
+complete_by at command before after fetches told contents (Some (AtInput name fault)) one two are room ends shelf_held out_held =
     absurd (accepted_never_refused at (files_of command) told fetches contents name fault two one are ends.stopped)
-complete_by at command shelf new_shelf fetches told out new_out contents (Some (AtRoom element)) one two are room ends shelf_held out_held = absurd (room element ends.lacks)
-complete_by at command shelf new_shelf fetches told out new_out contents (Some AtMemory) one two are room ends shelf_held out_held = inr refl
+complete_by at command before after fetches told contents (Some (AtRoom element)) one two are room ends shelf_held out_held = absurd (room element ends.lacks)
+complete_by at command before after fetches told contents (Some AtMemory) one two are room ends shelf_held out_held = inr refl
 
 -- the fetches of a run agree with what is told
-told_of_run : (words : List (List ℕ)) (shelf new_shelf : ShelfState) (out new_out err new_err : SinkState) (ended : Status) (at : At) → (run : IsRun words shelf new_shelf out new_out err new_err ended) → shelf.files ≡ Some at → AllByRecursion (IsTold (Some at)) run.fetches
-told_of_run words shelf new_shelf out new_out err new_err ended at run told = subst (λ (files : Told). AllByRecursion (IsTold files) run.fetches) told run.fetched.told
+told_of_run : (words : List (List ℕ)) (before after : Outside) (ended : Status) (at : At) → (run : IsRun words before after ended) → before.shelf.files ≡ Some at → AllByRecursion (IsTold (Some at)) run.fetches
+told_of_run words before after ended at run told = subst (λ (files : Told). AllByRecursion (IsTold files) run.fetches) told run.fetched.told
 
-pub complete_run : (words : List (List ℕ)) (shelf new_shelf : ShelfState) (out new_out err new_err : SinkState) (ended : Status) → IsRun words shelf new_shelf out new_out err new_err ended → IsComplete words shelf new_shelf out new_out ended
-complete_run words shelf new_shelf out new_out err new_err ended run = λ contents is room shelf_held out_held.
-    subst (λ (s : Status). (s ≡ status.Done) ⊎ (s ≡ status.Memory)) (sym run.is_status)
-    (complete_by is.at is.command shelf new_shelf run.fetches is.judged.fetches out new_out contents run.ending (told_of_run words shelf new_shelf out new_out err new_err ended is.at run is.told) is.judged.told is.judged.judged room
-    (as_command words is.command shelf new_shelf run.fetches out new_out run.ending is.is_command run.ends) shelf_held out_held)
+pub complete_run : (words : List (List ℕ)) (before after : Outside) (ended : Status) → IsRun words before after ended → IsComplete words before after ended
+complete_run words before after ended run = λ contents is room shelf_held out_held.
+    let it = as_command words is.command before after run.fetches run.ending is.is_command run.ends in
+    subst (λ (s : Status). (s ≡ status.Done) ⊎ (s ≡ status.Memory)) (sym (status_by words is.command before after ended run it))
+    (complete_by is.at is.command before after run.fetches is.judged.fetches contents it.stop (told_of_run words before after ended is.at run is.told) is.judged.told is.judged.judged room it.ends shelf_held out_held)
 
 -- a text that is written of a generated world is none where an element has no room
 text_has_room : (command : PlainCommand) (contents : List FileContent) (text : List ℕ) (element : ℕ) → IsJobText command contents text → LacksRoom command element → ⊥
@@ -253,6 +255,8 @@ text_has_room (MinimiseCommand file) contents text element is lacks = lacks
 text_has_room (RunCommand world red black setup) contents text element is lacks = lacks
 text_has_room (CupCommand worlds brains seed rounds workers) contents text element is lacks = lacks
 text_has_room (ViewCommand world red black breaks seed rounds) contents text element is lacks = lacks
+text_has_room HelpCommand contents text element is lacks = lacks
+text_has_room VersionCommand contents text element is lacks = lacks
 
 -- a command that lacks room fetches nothing
 lacks_no_file : (command : PlainCommand) (element : ℕ) → LacksRoom command element → files_of command ≡ []
@@ -264,82 +268,81 @@ lacks_no_file (MinimiseCommand file) element lacks = absurd lacks
 lacks_no_file (RunCommand world red black setup) element lacks = absurd lacks
 lacks_no_file (CupCommand worlds brains seed rounds workers) element lacks = absurd lacks
 lacks_no_file (ViewCommand world red black breaks seed rounds) element lacks = absurd lacks
+lacks_no_file HelpCommand element lacks = absurd lacks
+lacks_no_file VersionCommand element lacks = absurd lacks
 
 -- a run of which an element has no room ends so, or wants memory
-crowding_by : (command : PlainCommand) (shelf new_shelf : ShelfState) (fetches : List Fetched) (out new_out : SinkState) (element : ℕ) (ending : Option Reason) → LacksRoom command element → EndsBy command shelf new_shelf fetches out new_out ending
-    → (ending_status ending ≡ status.Input) ⊎ (ending_status ending ≡ status.Memory)
-crowding_by command shelf new_shelf fetches out new_out element None lacks ends = absurd (text_has_room command ends.contents ends.text element ends.is_text lacks)
-crowding_by command shelf new_shelf fetches out new_out element (Some (AtWord word)) lacks ends = absurd ends
-crowding_by command shelf new_shelf fetches out new_out element (Some (AtFile name)) lacks ends = absurd (subst (λ files. StopsAt (IsUnsure shelf name) files fetches) (lacks_no_file command element lacks) ends.stopped)
-crowding_by command shelf new_shelf fetches out new_out element (Some AtOutput) lacks ends = absurd (text_has_room command ends.contents ends.text element ends.is_text lacks)
-crowding_by command shelf new_shelf fetches out new_out element (Some (AtInput name fault)) lacks ends = inl refl
-crowding_by command shelf new_shelf fetches out new_out element (Some (AtRoom other)) lacks ends = inl refl
-crowding_by command shelf new_shelf fetches out new_out element (Some AtMemory) lacks ends = inr refl
+crowding_by : (command : PlainCommand) (before after : Outside) (fetches : List Fetched) (element : ℕ) (stop : Option Reason) → LacksRoom command element → EndsBy command before after fetches stop
+    → (ending_status (ending_by stop) ≡ status.Input) ⊎ (ending_status (ending_by stop) ≡ status.Memory)
+crowding_by command before after fetches element None lacks ends = absurd (text_has_room command ends.contents ends.text element ends.is_text lacks)
+crowding_by command before after fetches element (Some (AtFile name)) lacks ends = absurd (subst (λ files. StopsAt (IsUnsure before.shelf name) files fetches) (lacks_no_file command element lacks) ends.stopped)
+crowding_by command before after fetches element (Some AtOutput) lacks ends = absurd (text_has_room command ends.contents ends.text element ends.is_text lacks)
+crowding_by command before after fetches element (Some (AtInput name fault)) lacks ends = inl refl
+crowding_by command before after fetches element (Some (AtRoom other)) lacks ends = inl refl
+crowding_by command before after fetches element (Some AtMemory) lacks ends = inr refl
 
-pub crowding_run : (words : List (List ℕ)) (shelf new_shelf : ShelfState) (out new_out err new_err : SinkState) (ended : Status) → IsRun words shelf new_shelf out new_out err new_err ended → IsCrowding words ended
-crowding_run words shelf new_shelf out new_out err new_err ended run = λ command element is lacks.
-    subst (λ (s : Status). (s ≡ status.Input) ⊎ (s ≡ status.Memory)) (sym run.is_status)
-    (crowding_by command shelf new_shelf run.fetches out new_out element run.ending lacks (as_command words command shelf new_shelf run.fetches out new_out run.ending is run.ends))
+pub crowding_run : (words : List (List ℕ)) (before after : Outside) (ended : Status) → IsRun words before after ended → IsCrowding words ended
+crowding_run words before after ended run = λ command element is lacks.
+    let it = as_command words command before after run.fetches run.ending is run.ends in
+    subst (λ (s : Status). (s ≡ status.Input) ⊎ (s ≡ status.Memory)) (sym (status_by words command before after ended run it))
+    (crowding_by command before after run.fetches element it.stop lacks it.ends)
 
 -- a run of which a file is refused ends so, or wants memory
-refusing_by : (at : At) (command : PlainCommand) (shelf new_shelf : ShelfState) (fetches told : List Fetched) (out new_out : SinkState) (name : List ℕ) (fault : FileFault) (ending : Option Reason) → AllByRecursion (IsTold (Some at)) fetches
-    → AllByRecursion (IsTold (Some at)) told → StopsAt (IsRefusedAs name fault) (files_of command) told → EndsBy command shelf new_shelf fetches out new_out ending → ¬ Rose shelf.faults new_shelf.faults
-    → (ending_status ending ≡ status.Input) ⊎ (ending_status ending ≡ status.Memory)
-refusing_by at command shelf new_shelf fetches told out new_out name fault None one two stops ends shelf_held =
+refusing_by : (at : At) (command : PlainCommand) (before after : Outside) (fetches told : List Fetched) (name : List ℕ) (fault : FileFault) (stop : Option Reason) → AllByRecursion (IsTold (Some at)) fetches
+    → AllByRecursion (IsTold (Some at)) told → StopsAt (IsRefusedAs name fault) (files_of command) told → EndsBy command before after fetches stop → ¬ Rose before.shelf.faults after.shelf.faults
+    → (ending_status (ending_by stop) ≡ status.Input) ⊎ (ending_status (ending_by stop) ≡ status.Memory)
+refusing_by at command before after fetches told name fault None one two stops ends shelf_held =
     absurd (accepted_never_refused at (files_of command) fetches told ends.contents name fault one two ends.accepted stops)
-refusing_by at command shelf new_shelf fetches told out new_out name fault (Some (AtWord word)) one two stops ends shelf_held = absurd ends
-refusing_by at command shelf new_shelf fetches told out new_out name fault (Some (AtFile other)) one two stops ends shelf_held = absurd (shelf_held ends.rose)
-refusing_by at command shelf new_shelf fetches told out new_out name fault (Some AtOutput) one two stops ends shelf_held =
+refusing_by at command before after fetches told name fault (Some (AtFile other)) one two stops ends shelf_held = absurd (shelf_held ends.rose)
+refusing_by at command before after fetches told name fault (Some AtOutput) one two stops ends shelf_held =
     absurd (accepted_never_refused at (files_of command) fetches told ends.contents name fault one two ends.accepted stops)
-refusing_by at command shelf new_shelf fetches told out new_out name fault (Some (AtInput other another)) one two stops ends shelf_held = inl refl
-refusing_by at command shelf new_shelf fetches told out new_out name fault (Some (AtRoom element)) one two stops ends shelf_held = inl refl
-refusing_by at command shelf new_shelf fetches told out new_out name fault (Some AtMemory) one two stops ends shelf_held = inr refl
+refusing_by at command before after fetches told name fault (Some (AtInput other another)) one two stops ends shelf_held = inl refl
+refusing_by at command before after fetches told name fault (Some (AtRoom element)) one two stops ends shelf_held = inl refl
+refusing_by at command before after fetches told name fault (Some AtMemory) one two stops ends shelf_held = inr refl
 
-pub refusing_run : (words : List (List ℕ)) (shelf new_shelf : ShelfState) (out new_out err new_err : SinkState) (ended : Status) → IsRun words shelf new_shelf out new_out err new_err ended → IsRefusing words shelf new_shelf ended
-refusing_run words shelf new_shelf out new_out err new_err ended run = λ name fault is shelf_held.
-    subst (λ (s : Status). (s ≡ status.Input) ⊎ (s ≡ status.Memory)) (sym run.is_status)
-    (refusing_by is.at is.command shelf new_shelf run.fetches is.judged.fetches out new_out name fault run.ending (told_of_run words shelf new_shelf out new_out err new_err ended is.at run is.told) is.judged.told is.judged.judged
-    (as_command words is.command shelf new_shelf run.fetches out new_out run.ending is.is_command run.ends) shelf_held)
+pub refusing_run : (words : List (List ℕ)) (before after : Outside) (ended : Status) → IsRun words before after ended → IsRefusing words before after ended
+refusing_run words before after ended run = λ name fault is shelf_held.
+    let it = as_command words is.command before after run.fetches run.ending is.is_command run.ends in
+    subst (λ (s : Status). (s ≡ status.Input) ⊎ (s ≡ status.Memory)) (sym (status_by words is.command before after ended run it))
+    (refusing_by is.at is.command before after run.fetches is.judged.fetches name fault it.stop (told_of_run words before after ended is.at run is.told) is.judged.told is.judged.judged it.ends shelf_held)
 
 -- no run ends at a file that was not read where the shelf is sure of the files up to the verdict
-read_by : (at : At) (command : PlainCommand) (shelf new_shelf : ShelfState) (fetches told : List Fetched) (out new_out : SinkState) (verdict : FilesVerdict) (ending : Option Reason) → AllByRecursion (IsTold (Some at)) fetches
-    → AllByRecursion (IsTold (Some at)) told → Judged (files_of command) told verdict → AreSure shelf told → EndsBy command shelf new_shelf fetches out new_out ending → ending_status ending ≢ status.Read
-read_by at command shelf new_shelf fetches told out new_out verdict None one two judged sure ends = λ same. cc
-read_by at command shelf new_shelf fetches told out new_out verdict (Some (AtWord word)) one two judged sure ends = λ same. cc
-read_by at command shelf new_shelf fetches told out new_out verdict (Some (AtFile name)) one two judged sure ends = λ same. sure_judged at shelf name (files_of command) fetches told verdict one two sure ends.stopped judged
-read_by at command shelf new_shelf fetches told out new_out verdict (Some AtOutput) one two judged sure ends = λ same. cc
-read_by at command shelf new_shelf fetches told out new_out verdict (Some (AtInput name fault)) one two judged sure ends = λ same. cc
-read_by at command shelf new_shelf fetches told out new_out verdict (Some (AtRoom element)) one two judged sure ends = λ same. cc
-read_by at command shelf new_shelf fetches told out new_out verdict (Some AtMemory) one two judged sure ends = λ same. cc
+read_by : (at : At) (command : PlainCommand) (before after : Outside) (fetches told : List Fetched) (verdict : FilesVerdict) (stop : Option Reason) → AllByRecursion (IsTold (Some at)) fetches
+    → AllByRecursion (IsTold (Some at)) told → Judged (files_of command) told verdict → AreSure before.shelf told → EndsBy command before after fetches stop → ending_status (ending_by stop) ≢ status.Read
+read_by at command before after fetches told verdict None one two judged sure ends = λ same. cc
+read_by at command before after fetches told verdict (Some (AtFile name)) one two judged sure ends = λ same. sure_judged at before.shelf name (files_of command) fetches told verdict one two sure ends.stopped judged
+read_by at command before after fetches told verdict (Some AtOutput) one two judged sure ends = λ same. cc
+read_by at command before after fetches told verdict (Some (AtInput name fault)) one two judged sure ends = λ same. cc
+read_by at command before after fetches told verdict (Some (AtRoom element)) one two judged sure ends = λ same. cc
+read_by at command before after fetches told verdict (Some AtMemory) one two judged sure ends = λ same. cc
 
-pub read_run : (words : List (List ℕ)) (shelf new_shelf : ShelfState) (out new_out err new_err : SinkState) (ended : Status) → IsRun words shelf new_shelf out new_out err new_err ended → NeverUnread words shelf ended
-read_run words shelf new_shelf out new_out err new_err ended run = λ verdict is sure same.
-    read_by is.at is.command shelf new_shelf run.fetches is.judged.fetches out new_out verdict run.ending (told_of_run words shelf new_shelf out new_out err new_err ended is.at run is.told) is.judged.told is.judged.judged sure
-    (as_command words is.command shelf new_shelf run.fetches out new_out run.ending is.is_command run.ends) (sym run.is_status ∙ same)
+pub read_run : (words : List (List ℕ)) (before after : Outside) (ended : Status) → IsRun words before after ended → NeverUnread words before ended
+read_run words before after ended run = λ verdict is sure same.
+    let it = as_command words is.command before after run.fetches run.ending is.is_command run.ends in
+    read_by is.at is.command before after run.fetches is.judged.fetches verdict it.stop (told_of_run words before after ended is.at run is.told) is.judged.told is.judged.judged sure it.ends
+    (sym (status_by words is.command before after ended run it) ∙ same)
+
+-- no stop of a command has the status of a refused word
+stops_apart : (reason : Reason) → status_of reason ≡ status.Words → ⊥
+stops_apart (AtFile name) same = cc
+stops_apart AtOutput same = cc
+stops_apart (AtInput name fault) same = cc
+stops_apart (AtRoom element) same = cc
+stops_apart AtMemory same = cc
 
 -- the status says Words exactly where the words are no command
-no_command_by : (words : List (List ℕ)) (shelf new_shelf : ShelfState) (fetches : List Fetched) (out new_out : SinkState) (ending : Option Reason) → Ends words shelf new_shelf fetches out new_out ending → ending_status ending ≡ status.Words → IsNoCommand words
-no_command_by words shelf new_shelf fetches out new_out None ends same = cc
-no_command_by words shelf new_shelf fetches out new_out (Some (AtWord word)) ends same = λ command is. words_laws.never_both words command word is ends.refused
-no_command_by words shelf new_shelf fetches out new_out (Some (AtFile name)) ends same = cc
-no_command_by words shelf new_shelf fetches out new_out (Some AtOutput) ends same = cc
-no_command_by words shelf new_shelf fetches out new_out (Some (AtInput name fault)) ends same = cc
-no_command_by words shelf new_shelf fetches out new_out (Some (AtRoom element)) ends same = cc
-no_command_by words shelf new_shelf fetches out new_out (Some AtMemory) ends same = cc
+no_command_by : (words : List (List ℕ)) (before after : Outside) (fetches : List Fetched) (ending : Ending) → Ends words before after fetches ending → ending_status ending ≡ status.Words → IsNoCommand words
+no_command_by words before after fetches Done ends same = cc
+no_command_by words before after fetches (RefusedWord word) ends same = λ command is. words_laws.never_both words command word is ends.refused
+no_command_by words before after fetches (Stopped reason) ends same = absurd (stops_apart reason same)
 
-words_by : (words : List (List ℕ)) (shelf new_shelf : ShelfState) (fetches : List Fetched) (out new_out : SinkState) (ending : Option Reason) → Ends words shelf new_shelf fetches out new_out ending → IsNoCommand words → ending_status ending ≡ status.Words
-words_by words shelf new_shelf fetches out new_out None ends none = absurd (none ends.command ends.is_command)
-words_by words shelf new_shelf fetches out new_out (Some (AtWord word)) ends none = refl
-words_by words shelf new_shelf fetches out new_out (Some (AtFile name)) ends none = absurd (none ends.command ends.is_command)
-words_by words shelf new_shelf fetches out new_out (Some AtOutput) ends none = absurd (none ends.command ends.is_command)
-words_by words shelf new_shelf fetches out new_out (Some (AtInput name fault)) ends none = absurd (none ends.command ends.is_command)
-words_by words shelf new_shelf fetches out new_out (Some (AtRoom element)) ends none = absurd (none ends.command ends.is_command)
-words_by words shelf new_shelf fetches out new_out (Some AtMemory) ends none = absurd (none ends.command ends.is_command)
+words_by : (words : List (List ℕ)) (before after : Outside) (fetches : List Fetched) (ending : Ending) → Ends words before after fetches ending → IsNoCommand words → ending_status ending ≡ status.Words
+words_by words before after fetches Done ends none = absurd (none ends.command ends.is_command)
+words_by words before after fetches (RefusedWord word) ends none = refl
+words_by words before after fetches (Stopped reason) ends none = absurd (none ends.command ends.is_command)
 
-pub no_command_run : (words : List (List ℕ)) (shelf new_shelf : ShelfState) (out new_out err new_err : SinkState) (ended : Status) → IsRun words shelf new_shelf out new_out err new_err ended → ended ≡ status.Words → IsNoCommand words
-no_command_run words shelf new_shelf out new_out err new_err ended run same =
-    no_command_by words shelf new_shelf run.fetches out new_out run.ending run.ends (sym run.is_status ∙ same)
+pub no_command_run : (words : List (List ℕ)) (before after : Outside) (ended : Status) → IsRun words before after ended → ended ≡ status.Words → IsNoCommand words
+no_command_run words before after ended run same = no_command_by words before after run.fetches run.ending run.ends (sym run.is_status ∙ same)
 
-pub words_run : (words : List (List ℕ)) (shelf new_shelf : ShelfState) (out new_out err new_err : SinkState) (ended : Status) → IsRun words shelf new_shelf out new_out err new_err ended → IsNoCommand words → ended ≡ status.Words
-words_run words shelf new_shelf out new_out err new_err ended run none =
-    run.is_status ∙ words_by words shelf new_shelf run.fetches out new_out run.ending run.ends none
+pub words_run : (words : List (List ℕ)) (before after : Outside) (ended : Status) → IsRun words before after ended → IsNoCommand words → ended ≡ status.Words
+words_run words before after ended run none = run.is_status ∙ words_by words before after run.fetches run.ending run.ends none

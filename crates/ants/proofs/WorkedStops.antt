@@ -6,16 +6,23 @@ use Rattle.world_read.specs.declared.fault.WorldFault.TheVariants as world
 use Rattle.ants.specs.declared.status.Status.TheVariants.{Done, Words, Read, Write, Input, Memory}
 use Rattle.ants.specs.declared.stop.FileFault.TheVariants as file
 use Rattle.ants.specs.Status.{status_number}
-use Rattle.ants.specs.Stopping.{fault_line, status_of}
-use Rattle.ants.specs.Stopping.Reason.{AtFile, AtInput, AtMemory, AtOutput, AtRoom, AtWord}
+use Rattle.ants.specs.Stopping.{ending_status, fault_line, word_line}
+use Rattle.ants.specs.Stopping.Ending.{Done as Finished, RefusedWord, Stopped}
+use Rattle.ants.specs.Stopping.Reason.{AtFile, AtInput, AtMemory, AtOutput, AtRoom}
 
 -- the numbers with which the program exits
 pub numbers : map status_number (Done ∷ Words ∷ Read ∷ Write ∷ Input ∷ Memory ∷ []) ≡ 0 ∷ 2 ∷ 3 ∷ 4 ∷ 5 ∷ 6 ∷ []
 numbers = refl
 
--- the status of each reason
-pub statuses : map status_of (AtWord 3 ∷ AtFile (codes "w") ∷ AtOutput ∷ AtInput (codes "w") file.TooLong ∷ AtRoom 1 ∷ AtMemory ∷ []) ≡ Words ∷ Read ∷ Write ∷ Input ∷ Input ∷ Memory ∷ []
+-- the status of each ending
+pub statuses : map ending_status (Finished ∷ RefusedWord 3 ∷ Stopped (AtFile (codes "w")) ∷ Stopped AtOutput ∷ Stopped (AtInput (codes "w") file.TooLong) ∷ Stopped (AtRoom 1) ∷ Stopped AtMemory ∷ [])
+    ≡ Done ∷ Words ∷ Read ∷ Write ∷ Input ∷ Input ∷ Memory ∷ []
 statuses = refl
+
+-- a refused word
+pub refused_line : word_line 3 ≡ codes "ants: word 3 refused\n"
+unfolding digits word_line
+refused_line = refl
 
 -- want of memory
 pub memory_line : fault_line AtMemory ≡ codes "ants: out of memory\n"

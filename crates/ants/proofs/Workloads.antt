@@ -10,21 +10,13 @@ use Rattle.cell_world.specs.World.{World}
 use Rattle.cell_world.specs.declared.ant.Colour.TheVariants.{Red, Black}
 use Rattle.command_words.specs.Table.{default_window}
 use Rattle.dump_print.specs.declared.totals.Totals.{Totals}
-use Rattle.match_run.proofs.PlayLemmas.{IsAtRound-none, IsAtRound-world}
 use Rattle.match_run.specs.Counts.{totals_of}
-use Rattle.match_run.specs.Game.{GameValue, beginning}
-use Rattle.match_run.specs.Inner.Rounds.{IsAtRound}
+use Rattle.match_run.specs.Game.{GameValue}
 use Rattle.match_run.specs.Run.{world_after}
-use Rattle.round_book.specs.Book.{FieldValue}
 use Rattle.world_gen.specs.Food.{food_on}
 use Rattle.ants.specs.declared.workload.Summary.{Summary}
 use Rattle.ants.specs.Jobs.{sample_minds, summary_of}
 use Rattle.ants.specs.Sample.{sample_brain}
-
--- a game that begins on a field from the start of its random numbers has played no round
-pub begun : (field : FieldValue) (size : ℕ) (game : GameValue) → game ≡ beginning field size → field.place ≡ 0 → IsAtRound field.minds field.seed (world_of field.world) size 0 game
-begun field size game begins first =
-    subst (IsAtRound field.minds field.seed (world_of field.world) size 0) (sym begins) (IsAtRound-none (beginning field size) size refl first)
 
 -- two lent brains that are the sample brain, by the contest's rules
 pub sample_minds-of : (brain : List Instr) (sheet : Sheet) → brain ≡ sample_brain → sheet ≡ contest → ◌≡◌ {A = Minds} (record { red = brain; black = brain; sheet = sheet }) sample_minds
@@ -39,9 +31,10 @@ abbrev told : World → World → Totals → Summary
 told w end totals = record { ants = w.ids; food = food_on w; red = alive_of end Red; black = alive_of end Black; score = score_of end; totals = totals }
 
 -- what is told of a game after its rounds
-pub summary_of-played : (seed rounds : ℕ) (w : World) (minds : Minds) (game : GameValue) → minds ≡ sample_minds → IsAtRound minds seed w default_window rounds game
+pub summary_of-played : (seed rounds : ℕ) (w : World) (minds : Minds) (game : GameValue) → minds ≡ sample_minds → world_of game.field.world ≡ world_after minds seed w rounds
+    → game.totals ≡ totals_of minds seed default_window (start_of w) rounds
     → record { ants = w.ids; food = food_on w; red = alive_of (world_of game.field.world) Red; black = alive_of (world_of game.field.world) Black; score = score_of (world_of game.field.world); totals = game.totals } ≡ summary_of seed rounds w
 unfolding summary_of
-summary_of-played seed rounds w minds game same at =
-    ap₂ (told w) (IsAtRound-world at) at.totals
+summary_of-played seed rounds w minds game same end totals =
+    ap₂ (told w) end totals
     ∙ ap (λ (m : Minds). told w (world_after m seed w rounds) (totals_of m seed default_window (start_of w) rounds)) same

@@ -23,7 +23,7 @@ use Rattle.match_run.specs.Dumps.{has_round}
 use Rattle.match_run.specs.Run.{world_after}
 use Rattle.dump_print.specs.Texts.{seed_text, dump_text, score_text, stats_text}
 use Rattle.command_words.specs.Command.{PlainCommand, RunSetup}
-use Rattle.command_words.specs.Command.PlainCommand.{ShowCommand, BrainCommand, MinimiseCommand, RunCommand, GenCommand, CupCommand, ViewCommand, WorkloadCommand}
+use Rattle.command_words.specs.Command.PlainCommand.{ShowCommand, BrainCommand, MinimiseCommand, RunCommand, GenCommand, CupCommand, ViewCommand, WorkloadCommand, HelpCommand, VersionCommand}
 use Rattle.tournament.specs.Text.{IsCupText}
 use Rattle.world_gen.specs.declared.shape.Shape.{Shape}
 use Rattle.world_gen.specs.Food.{food_on}
@@ -35,6 +35,7 @@ use Rattle.ants.specs.declared.workload.Summary.{Summary}
 use Rattle.ants.specs.Files.{File, FileContent}
 use Rattle.ants.specs.Files.FileKind.{WorldFile, BrainFile, BreakFile}
 use Rattle.ants.specs.Files.FileContent.{WorldContent, BrainContent, BreakContent}
+use Rattle.ants.specs.Help.{help_text, version_text}
 use Rattle.ants.specs.Sample.{sample_brain}
 
 -- a file with a world, one with a brain, and one with breaks
@@ -65,6 +66,8 @@ files_of (GenCommand seed shape) = []
 files_of (CupCommand worlds brains seed rounds workers) = cup_files worlds brains
 files_of (ViewCommand world red black breaks seed rounds) = game_files world red black ++ break_file breaks ∷ []
 files_of (WorkloadCommand seed rounds workers) = []
+files_of HelpCommand = []
+files_of VersionCommand = []
 
 -- the output of `show`: the line of the seed, and the dump after round 0
 unfoldable pub show_output : ℕ → FileContent → List ℕ
@@ -194,12 +197,8 @@ pub record TellsWorkload (seed rounds : ℕ) (text : List ℕ) : Type 0 where
 abbrev pub LacksRoom : PlainCommand → ℕ → Type 0
 LacksRoom (GenCommand seed shape) element = HasNoRoom seed (shape_named shape) element
 LacksRoom (WorkloadCommand seed rounds workers) element = HasNoRoom seed contest_shape element
-LacksRoom (ShowCommand world seed) element = ⊥
-LacksRoom (BrainCommand file) element = ⊥
-LacksRoom (MinimiseCommand file) element = ⊥
-LacksRoom (RunCommand world red black setup) element = ⊥
-LacksRoom (CupCommand worlds brains seed rounds workers) element = ⊥
-LacksRoom (ViewCommand world red black breaks seed rounds) element = ⊥
+-- never: no other command generates a world
+LacksRoom command element = ⊥
 
 -- each element of the world that a command generates has room
 abbrev pub HasRoom : PlainCommand → Type 0
@@ -215,5 +214,7 @@ IsJobText (CupCommand worlds brains seed rounds workers) contents text = IsCupOu
 IsJobText (ViewCommand world red black breaks seed rounds) (first ∷ second ∷ third ∷ fourth ∷ []) text = IsViewOutput seed rounds first second third fourth text
 IsJobText (GenCommand seed shape) [] text = TellsGenerated seed (shape_named shape) text
 IsJobText (WorkloadCommand seed rounds workers) [] text = TellsWorkload seed rounds text
+IsJobText HelpCommand [] text = text ≡ help_text
+IsJobText VersionCommand [] text = text ≡ version_text
 -- never: a command's files are as many as its contents
 IsJobText command contents text = ⊥

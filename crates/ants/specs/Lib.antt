@@ -1,7 +1,11 @@
 pub mod Files
+pub mod Headline
+pub mod Help
 pub mod Inner
 pub mod Jobs
 pub mod Judged
+pub mod Laws
+pub mod Outside
 pub mod Performing
 pub mod Running
 pub mod Sample

@@ -1,5 +1,5 @@
--- Why a command stops, and the line that says so.
-use Rattle.std.specs.Prelude.{ℕ, List, codes, decimal}
+-- How a run ends, why a command stops, and the line that says so.
+use Rattle.std.specs.Prelude.{ℕ, List, Option, Some, None, codes, decimal}
 use Rattle.ant_base.specs.Layout.{◌+++◌}
 use Rattle.brain_read.specs.declared.fault.BrainFault.{BrainFault}
 use Rattle.brain_read.specs.declared.fault.BrainFault.TheVariants as brain
@@ -13,34 +13,56 @@ use Rattle.ants.specs.declared.stop.FileFault.{FileFault}
 use Rattle.ants.specs.declared.stop.FileFault.TheVariants.{TooLong, World, Brain, Breaks}
 use Rattle.ants.specs.declared.stop.CommandStop.{CommandStop}
 use Rattle.ants.specs.declared.stop.CommandStop.TheVariants as stop
+use Rattle.ants.specs.declared.stop.Ended.{Ended}
+use Rattle.ants.specs.declared.stop.Ended.TheVariants as ended
 
--- why a command stopped: at a word, at a file that was not read, at the output, at a file that was refused, at an element of a
--- generated world that has no room, or for want of memory
+-- why a command stopped: at a file that was not read, at the output, at a file that was refused, at an element of a generated world that
+-- has no room, or for want of memory
 pub data Reason : Type 0 where
-  AtWord : ℕ → Reason
   AtFile : List ℕ → Reason
   AtOutput : Reason
   AtInput : List ℕ → FileFault → Reason
   AtRoom : ℕ → Reason
   AtMemory : Reason
 
+-- how a run ended: with its whole text, at a word that is refused, or as its command stopped
+pub data Ending : Type 0 where
+  Done : Ending
+  RefusedWord : ℕ → Ending
+  Stopped : Reason → Ending
+
 -- a stop without the addresses of its names
 abbrev pub reason_of : CommandStop → Reason
-reason_of (stop.Words word) = AtWord word
 reason_of (stop.Read name) = AtFile name.now
 reason_of stop.Write = AtOutput
 reason_of (stop.Input name fault) = AtInput name.now fault
 reason_of (stop.NoRoom element) = AtRoom element
 reason_of stop.Memory = AtMemory
 
+-- the ending of a command that stopped for a reason, or for none
+abbrev pub ending_by : Option Reason → Ending
+ending_by None = Done
+ending_by (Some reason) = Stopped reason
+
+-- an ending without the addresses of its names
+abbrev pub plain_ending : Ended → Ending
+plain_ending ended.Done = Done
+plain_ending (ended.RefusedWord word) = RefusedWord word
+plain_ending (ended.Stopped why) = Stopped (reason_of why)
+
 -- the status of a command that stopped so
 abbrev pub status_of : Reason → Status
-status_of (AtWord word) = status.Words
 status_of (AtFile name) = status.Read
 status_of AtOutput = status.Write
 status_of (AtInput name fault) = status.Input
 status_of (AtRoom element) = status.Input
 status_of AtMemory = status.Memory
+
+-- the status of an ending
+abbrev pub ending_status : Ending → Status
+ending_status Done = status.Done
+ending_status (RefusedWord word) = status.Words
+ending_status (Stopped reason) = status_of reason
 
 -- what a world file's fault says
 abbrev pub world_fault_text : WorldFault → List ℕ
@@ -85,13 +107,16 @@ file_fault_text (Breaks fault) = break_fault_text fault
 
 -- what a reason says
 abbrev pub reason_text : Reason → List ℕ
-reason_text (AtWord word) = codes "word " +++ decimal word +++ codes " refused"
 reason_text (AtFile name) = name +++ codes ": not read"
 reason_text AtOutput = codes "output failed"
 reason_text (AtInput name fault) = name +++ codes ": " +++ file_fault_text fault
 reason_text (AtRoom element) = codes "no room for element " +++ decimal element
 reason_text AtMemory = codes "out of memory"
 
--- the line that is written to the errors
+-- the line of a refused word, which is written to the errors
+unfoldable pub word_line : ℕ → List ℕ
+word_line word = codes "ants: word " +++ decimal word +++ codes " refused\n"
+
+-- the line of a command that stopped, which is written to the errors
 unfoldable pub fault_line : Reason → List ℕ
 fault_line reason = codes "ants: " +++ reason_text reason +++ codes "\n"

@@ -1,8 +1,42 @@
 // Laws on the definitions of what a command does. Each is proved by a function that does nothing.
+ghost use Rattle.ants.specs.Headline.{Headline};
 ghost use Rattle.ants.specs.Judged.{JudgesOnce};
+ghost use Rattle.ants.specs.Laws.{HasOutput, OneText, TextsEndInLf, WindowsChangeCountsAlone, WorkersChangeNothing};
+
+/// The promise on one page: each run of the program ends with the status 0, 2, 3, 4, 5 or 6, and each of them says what was fetched, accepted
+/// and written. It follows from the one clause of `run_to_exit`.
+pub fn headline()
+    ensures { Headline }
+{}
 
 /// Contents judge the files of a command in exactly one way: all are accepted, as the same contents, or one and the same file is the first
 /// that is refused, with the same fault.
 pub fn contents_judge_once()
     ensures { JudgesOnce }
+{}
+
+/// Each output of a command whose numbers and names are within the limits, and whose files were accepted, ends in LF. So where the output
+/// can tell, nothing of it waits to be flushed once all of it was written.
+pub fn texts_end_in_lf()
+    ensures { TextsEndInLf }
+{}
+
+/// A command has at most one output for the same contents of its files.
+pub fn one_text()
+    ensures { OneText }
+{}
+
+/// The number of workers of a `run`, a `cup` or a `workload` changes nothing of its output.
+pub fn workers_change_nothing()
+    ensures { WorkersChangeNothing }
+{}
+
+/// Without its counts the output of a `run` is the same for every number of turns that a window has.
+pub fn windows_change_counts_alone()
+    ensures { WindowsChangeCountsAlone }
+{}
+
+/// A command within the limits whose files were accepted, and whose elements have room, has an output.
+pub fn has_output()
+    ensures { HasOutput }
 {}

@@ -10,6 +10,7 @@ mod brain;
 mod cup;
 mod fetching;
 mod generating;
+mod help;
 mod laws;
 mod minimise;
 mod program;

@@ -1,5 +1,5 @@
 // The whole program, over any shelf and any sinks.
-ghost use Rattle.std.specs.Prelude.{◌≡◌, ◌↔◌, ◌≤◌, Some};
+ghost use Rattle.std.specs.Prelude.{◌≡◌, ◌↔◌, ◌≤◌};
 ghost use Rattle.command_words.specs.Command.PlainCommand.{CupCommand, RunCommand, WorkloadCommand};
 ghost use Rattle.command_words.specs.Laws.{CommandWithin, CupWithin, IsWithin, SetupWithin};
 ghost use Rattle.command_words.specs.declared.limits.NumberKind.TheVariants.{WorkerCount};
@@ -9,23 +9,25 @@ ghost use Rattle.round_book.specs.Book.{CanBegin};
 ghost use Rattle.round_book.specs.Led.{IsWindow};
 ghost use Rattle.ants.specs.Inner.Planning.{IsPlanned};
 ghost use Rattle.ants.specs.Inner.Reading.{CarriesOut, CarriesOutWords, ending_of};
-ghost use Rattle.ants.specs.Running.{IsComplete, IsCrowding, IsNoCommand, IsOrderly, NeverUnread, IsRefusing, IsRun, IsRunTo, Reports};
+ghost use Rattle.ants.specs.Outside.{outside_of};
+ghost use Rattle.ants.specs.Running.{GotLine, IsComplete, IsCrowding, IsNoCommand, IsOrderly, NeverUnread, IsRefusing, IsRun, IsRunTo, Reports};
 ghost use Rattle.ants.specs.Status.{status_number};
-ghost use Rattle.ants.specs.Stopping.{reason_of, status_of};
+ghost use Rattle.ants.specs.Stopping.{ending_status, fault_line, plain_ending, reason_of, status_of, word_line};
 ghost use Rattle.ants.specs.Stopping.Reason.{AtMemory};
 ghost use Rattle.std.specs.Process.{exit_status};
 
 use crate::brain::brain;
 use crate::cup::{Entry, cup};
 use crate::generating::gen_world;
+use crate::help::{help, version};
 use crate::minimise::minimise;
 use crate::run::{FileNames, dumps_of, run};
 use crate::show::show;
 use crate::status::Status;
-use crate::stop::CommandStop;
+use crate::stop::{CommandStop, Ended};
 use crate::view::view;
 use crate::workload::workload;
-use ant_base::{Gate, Layout, Shelf, Sink};
+use ant_base::{Gate, Layout, Shelf, Sink, layout};
 use ant_turn::Sheet;
 use command_words::{Command, RunOptions, read_words};
 use match_run::{OutOfMemory, Plan};
@@ -175,6 +177,8 @@ fn carry_out_command<'w, R: Threads + Sync, S: Shelf, K: Sink, G: Gate>(
             rounds,
             workers,
         } => carry_out_workload(rt, alloc, seed, rounds, workers, shelf, out, gate),
+        Command::Help => help(shelf, out),
+        Command::Version => version(shelf, out),
     }
 }
 
@@ -186,12 +190,12 @@ fn carry_out<'w, R: Threads + Sync, S: Shelf, K: Sink, G: Gate>(
     shelf: &mut S,
     out: &mut K,
     gate: &G,
-) -> Result<(), CommandStop<'w>>
-    ensures { CarriesOutWords (texts words.now) (S.state shelf.old) (S.state shelf.new) (K.state out.old) (K.state out.new) (ending_of result) }
+) -> Ended<'w>
+    ensures { CarriesOutWords (texts words.now) (S.state shelf.old) (S.state shelf.new) (K.state out.old) (K.state out.new) (plain_ending result) }
 {
     match read_words(words) {
-        Ok(command) => carry_out_command(rt, alloc, command, shelf, out, gate),
-        Err(refused) => Err(CommandStop::Words(refused.word)),
+        Ok(command) => Ended::after(carry_out_command(rt, alloc, command, shelf, out, gate)),
+        Err(refused) => Ended::RefusedWord(refused.word),
     }
 }
 
@@ -213,6 +217,9 @@ fn carry_out<'w, R: Threads + Sync, S: Shelf, K: Sink, G: Gate>(
 /// where they failed. The shelf keeps its contents and all of which it is sure, its log grows by the fetches, and its count of faults rises
 /// only where it isn't sure of each name that was fetched. The runtime serves the workers of a game and of a cup; a game's workers call the
 /// gate before each look.
+///
+/// The first clause says all of it: the others follow from it, by `no_command_run`, `words_run`, `orderly_run`, `complete_run`,
+/// `crowding_run`, `refusing_run` and `read_run` of proofs/Verdicts.antt. They stand here for callers, each in words of its own.
 pub fn run_ants<R: Threads + Sync, S: Shelf, K: Sink, E: Sink, G: Gate>(
     rt: &R,
     alloc: Global,
@@ -222,23 +229,47 @@ pub fn run_ants<R: Threads + Sync, S: Shelf, K: Sink, E: Sink, G: Gate>(
     err: &mut E,
     gate: &G,
 ) -> Status
-    ensures run { IsRun (texts words.now) (S.state shelf.old) (S.state shelf.new) (K.state out.old) (K.state out.new) (E.state err.old) (E.state err.new) result }
+    ensures run { IsRun (texts words.now) (outside_of (S.state shelf.old) (K.state out.old) (E.state err.old))
+        (outside_of (S.state shelf.new) (K.state out.new) (E.state err.new)) result }
     ensures words { (result ≡ Status.Words) ↔ IsNoCommand (texts words.now) }
-    ensures orderly { IsOrderly (texts words.now) (S.state shelf.old) (S.state shelf.new) }
-    ensures complete { IsComplete (texts words.now) (S.state shelf.old) (S.state shelf.new) (K.state out.old) (K.state out.new) result }
+    ensures orderly { IsOrderly (texts words.now) (outside_of (S.state shelf.old) (K.state out.old) (E.state err.old))
+        (outside_of (S.state shelf.new) (K.state out.new) (E.state err.new)) }
+    ensures complete { IsComplete (texts words.now) (outside_of (S.state shelf.old) (K.state out.old) (E.state err.old))
+        (outside_of (S.state shelf.new) (K.state out.new) (E.state err.new)) result }
     ensures crowding { IsCrowding (texts words.now) result }
-    ensures refusing { IsRefusing (texts words.now) (S.state shelf.old) (S.state shelf.new) result }
-    ensures read { NeverUnread (texts words.now) (S.state shelf.old) result }
+    ensures refusing { IsRefusing (texts words.now) (outside_of (S.state shelf.old) (K.state out.old) (E.state err.old))
+        (outside_of (S.state shelf.new) (K.state out.new) (E.state err.new)) result }
+    ensures read { NeverUnread (texts words.now) (outside_of (S.state shelf.old) (K.state out.old) (E.state err.old)) result }
 {
-    match carry_out(rt, alloc, words, shelf, out, gate) {
-        Ok(()) => Status::Done,
-        Err(stop) => report(&stop, err),
+    let ended = carry_out(rt, alloc, words, shelf, out, gate);
+    report(ended, err)
+}
+
+// Says how a run ended, where it is not done.
+fn report<E: Sink>(ended: Ended<'_>, err: &mut E) -> Status
+    ensures reports { Reports (E.state err.old) (E.state err.new) (plain_ending ended.entry) }
+    ensures status { result ≡ ending_status (plain_ending ended.entry) }
+{
+    match ended {
+        Ended::Done => Status::Done,
+        Ended::RefusedWord(word) => report_word(word, err),
+        Ended::Stopped(stop) => report_stop(&stop, err),
     }
 }
 
+// Says which word is refused.
+#[tactic(auto, unfolding(crate::specs::Stopping::word_line))]
+fn report_word<E: Sink>(word: usize, err: &mut E) -> Status
+    ensures reports { GotLine (E.state err.old) (E.state err.new) (word_line word) }
+    ensures status { result ≡ Status.Words }
+{
+    let _ = layout!("ants: word ", word, " refused\n").push_to(err);
+    Status::Words
+}
+
 // Says why a command stopped.
-fn report<E: Sink>(stop: &CommandStop<'_>, err: &mut E) -> Status
-    ensures reports { Reports (E.state err.old) (E.state err.new) (Some (reason_of stop.now)) }
+fn report_stop<E: Sink>(stop: &CommandStop<'_>, err: &mut E) -> Status
+    ensures reports { GotLine (E.state err.old) (E.state err.new) (fault_line (reason_of stop.now)) }
     ensures status { result ≡ status_of (reason_of stop.now) }
 {
     let _ = stop.push_to(err);
@@ -255,18 +286,18 @@ pub fn run_to_exit<R: Threads + Sync, S: Shelf, K: Sink, E: Sink, G: Gate>(
     err: &mut E,
     gate: &G,
 ) -> ExitCode
-    ensures { IsRunTo (texts words.now) (S.state shelf.old) (S.state shelf.new) (K.state out.old) (K.state out.new)
-        (E.state err.old) (E.state err.new) (exit_status result) }
+    ensures { IsRunTo (texts words.now) (outside_of (S.state shelf.old) (K.state out.old) (E.state err.old))
+        (outside_of (S.state shelf.new) (K.state out.new) (E.state err.new)) (exit_status result) }
 {
     exit_of(run_ants(rt, alloc, words, shelf, out, err, gate))
 }
 
 /// Says that memory can't be had, and gives that status as an exit code: what `main` does before it has a command.
 pub fn exit_without_memory<E: Sink>(err: &mut E) -> ExitCode
-    ensures reports { Reports (E.state err.old) (E.state err.new) (Some AtMemory) }
+    ensures reports { GotLine (E.state err.old) (E.state err.new) (fault_line AtMemory) }
     ensures status { exit_status result ≡ status_number Status.Memory }
 {
-    exit_of(report(&CommandStop::Memory, err))
+    exit_of(report_stop(&CommandStop::Memory, err))
 }
 
 fn exit_of(status: Status) -> ExitCode

@@ -1,6 +1,7 @@
-// Why a command stopped, and the line that says so.
+// How a run ended, why a command stopped, and the line that says so.
 ghost use Rattle.std.specs.Prelude.{◌≡◌};
-ghost use Rattle.ants.specs.Stopping.{file_fault_text, brain_fault_text, break_fault_text, world_fault_text, reason_of, reason_text, fault_line, status_of};
+ghost use Rattle.ants.specs.Stopping.{file_fault_text, brain_fault_text, break_fault_text, world_fault_text, ending_by, plain_ending, reason_of, reason_text, fault_line, status_of};
+ghost use Rattle.ants.specs.Inner.Reading.{ending_of};
 
 use crate::status::Status;
 use ant_base::{Failed, Layout, Sink, layout};
@@ -26,8 +27,6 @@ pub enum FileFault {
 /// Why a command stopped before its whole text was written.
 #[derive(Clone, Copy, Debug)]
 pub enum CommandStop<'w> {
-    /// The words are no command, and this word, counted from 1, is the first with which they begin none.
-    Words(usize),
     /// The file of this name was not read.
     Read(&'w str),
     /// The output failed.
@@ -38,6 +37,29 @@ pub enum CommandStop<'w> {
     NoRoom(u32),
     /// Memory could not be had.
     Memory,
+}
+
+/// How a run of the program ended.
+#[derive(Clone, Copy, Debug)]
+pub enum Ended<'w> {
+    /// The whole text was written.
+    Done,
+    /// The words are no command, and this word, counted from 1, is the first with which they begin none.
+    RefusedWord(usize),
+    /// The words are a command, which stopped.
+    Stopped(CommandStop<'w>),
+}
+
+impl<'w> Ended<'w> {
+    /// The ending of a command with this result.
+    pub fn after(answer: Result<(), CommandStop<'w>>) -> Self
+        ensures { plain_ending result ≡ ending_by (ending_of answer.entry) }
+    {
+        match answer {
+            Ok(()) => Ended::Done,
+            Err(stop) => Ended::Stopped(stop),
+        }
+    }
 }
 
 impl From<Failed> for CommandStop<'_> {
@@ -189,7 +211,6 @@ impl Layout for StopWords<'_> {
 
     fn push_to<K: Sink>(&self, sink: &mut K) -> Result<(), Failed> {
         match self.0 {
-            CommandStop::Words(word) => layout!("word ", word, " refused").push_to(sink),
             CommandStop::Read(name) => layout!(name, ": not read").push_to(sink),
             CommandStop::Write => "output failed".push_to(sink),
             CommandStop::Input(name, fault) => layout!(name, ": ", FileWords(fault)).push_to(sink),
@@ -214,7 +235,6 @@ impl CommandStop<'_> {
         ensures { result ≡ status_of (reason_of self.now) }
     {
         match self {
-            CommandStop::Words(_) => Status::Words,
             CommandStop::Read(_) => Status::Read,
             CommandStop::Write => Status::Write,
             CommandStop::Input(_, _) | CommandStop::NoRoom(_) => Status::Input,

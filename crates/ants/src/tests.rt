@@ -4,6 +4,7 @@ mod counts;
 mod cups;
 mod games;
 mod generated;
+mod helped;
 mod outside;
 mod runs;
 mod settling;

@@ -7,7 +7,7 @@ ghost use Rattle.cell_world.specs.Grid.{world_of};
 ghost use Rattle.command_words.specs.Command.PlainCommand.{WorkloadCommand};
 ghost use Rattle.command_words.specs.Table.{default_window};
 ghost use Rattle.dump_print.specs.Texts.{score_text, stats_text};
-ghost use Rattle.match_run.specs.Inner.Rounds.{IsAtRound};
+ghost use Rattle.match_run.specs.GameLaws.{IsAtRound};
 ghost use Rattle.match_run.specs.Run.{most_rounds};
 ghost use Rattle.ants.specs.Inner.Reading.{CarriesOut, ending_of};
 ghost use Rattle.ants.specs.Inner.Planning.{IsGenerating};
@@ -63,7 +63,7 @@ fn played<'b, C: Crew>(
     requires whole { field.whole ≡ true }
     requires first { field.place ≡ 0 }
     requires few_rounds { rounds ≤ most_rounds }
-    ensures { IfOk result (λ game. IsAtRound field.entry.minds field.entry.seed (world_of field.entry.world) default_window rounds game) }
+    ensures { IfOk result (λ game. IsAtRound field.entry default_window rounds game) }
 {
     let mut game = Game::begin(field, DEFAULT_WINDOW);
     for _ in 0..rounds {

@@ -6,7 +6,7 @@ use Rattle.command_words.specs.declared.command.GenShape.{GenShape}
 use Rattle.command_words.specs.Slots.{is_file_name, is_dumps, dumps_of, DumpChoice}
 use Rattle.command_words.specs.Slots.DumpChoice.{NoDump, EveryDump, ChosenDumps}
 use Rattle.command_words.specs.Command.{RunSetup, IsCommand, IsRefusedAt}
-use Rattle.command_words.specs.Command.PlainCommand.{ShowCommand, BrainCommand, MinimiseCommand, RunCommand, GenCommand, CupCommand, ViewCommand, WorkloadCommand}
+use Rattle.command_words.specs.Command.PlainCommand.{ShowCommand, BrainCommand, MinimiseCommand, RunCommand, GenCommand, CupCommand, ViewCommand, WorkloadCommand, HelpCommand, VersionCommand}
 use Rattle.command_words.specs.Inner.Walk.{command_kind_of, choice_of, is_among, rest_after}
 use Rattle.command_words.proofs.ReadLemmas.{read-accepts, read-refuses}
 
@@ -114,6 +114,32 @@ cup_sixteen = read-accepts (words_of (codes "cup --worlds a b c d e f g h i j k 
     (codes "k") ∷ (codes "l") ∷ (codes "m") ∷ (codes "n") ∷ (codes "o") ∷ (codes "p") ∷ [])
     ((codes "a") ∷ (codes "b") ∷ (codes "c") ∷ (codes "d") ∷ (codes "e") ∷ (codes "f") ∷ (codes "g") ∷ (codes "h") ∷ (codes "i") ∷ (codes "j") ∷ (codes "k") ∷
     (codes "l") ∷ (codes "m") ∷ (codes "n") ∷ (codes "o") ∷ (codes "p") ∷ []) 1 1 1) refl
+
+-- the words that ask for the commands, and for the version
+pub help_command : IsCommand (words_of (codes "--help")) HelpCommand
+unfolding command_kind_of choice_of is_among rest_after is_file_name is_dumps dumps_of decimal_value
+help_command = read-accepts (words_of (codes "--help")) HelpCommand refl
+
+pub version_command : IsCommand (words_of (codes "--version")) VersionCommand
+unfolding command_kind_of choice_of is_among rest_after is_file_name is_dumps dumps_of decimal_value
+version_command = read-accepts (words_of (codes "--version")) VersionCommand refl
+
+-- they stand alone, and behind no other command
+pub help_alone : IsRefusedAt (words_of (codes "--help run")) 2
+unfolding command_kind_of choice_of is_among rest_after is_file_name is_dumps dumps_of decimal_value
+help_alone = read-refuses (words_of (codes "--help run")) 2 refl
+
+pub help_of_a_command : IsRefusedAt (words_of (codes "run --help")) 2
+unfolding command_kind_of choice_of is_among rest_after is_file_name is_dumps dumps_of decimal_value
+help_of_a_command = read-refuses (words_of (codes "run --help")) 2 refl
+
+pub version_alone : IsRefusedAt (words_of (codes "--version 1")) 2
+unfolding command_kind_of choice_of is_among rest_after is_file_name is_dumps dumps_of decimal_value
+version_alone = read-refuses (words_of (codes "--version 1")) 2 refl
+
+pub short_help : IsRefusedAt (words_of (codes "-h")) 1
+unfolding command_kind_of choice_of is_among rest_after is_file_name is_dumps dumps_of decimal_value
+short_help = read-refuses (words_of (codes "-h")) 1 refl
 
 -- `view`
 pub view_command : IsCommand (words_of (codes "view w r b k --rounds 5 --seed 12345")) (ViewCommand (codes "w") (codes "r") (codes "b") (codes "k") 12345 5)

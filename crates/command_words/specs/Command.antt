@@ -10,7 +10,7 @@ use Rattle.command_words.specs.declared.limits.NumberKind.TheVariants.{ElementCo
 use Rattle.command_words.specs.declared.table.NameList.TheVariants.{Worlds, Brains}
 use Rattle.command_words.specs.declared.slot.Place.{Place}
 use Rattle.command_words.specs.declared.table.CommandKind.{CommandKind}
-use Rattle.command_words.specs.declared.table.CommandKind.TheVariants.{Show, Brain, Minimise, Run, Gen, Cup, View, Workload}
+use Rattle.command_words.specs.declared.table.CommandKind.TheVariants.{Show, Brain, Minimise, Run, Gen, Cup, View, Workload, Help, Version}
 use Rattle.command_words.specs.declared.table.Choice.{Choice}
 use Rattle.command_words.specs.declared.table.Choice.TheVariants.{Seed, Rounds, Dump, Workers, Window, Surround, Corpse, Rest, Stats, Width, Height, Rocks, Blobs}
 use Rattle.command_words.specs.Limits.{number_in}
@@ -41,6 +41,8 @@ pub data PlainCommand : Type 0 where
   CupCommand : (worlds brains : List (List ℕ)) (seed rounds workers : ℕ) → PlainCommand
   ViewCommand : (world red black breaks : List ℕ) (seed rounds : ℕ) → PlainCommand
   WorkloadCommand : (seed rounds workers : ℕ) → PlainCommand
+  HelpCommand : PlainCommand
+  VersionCommand : PlainCommand
 
 -- the kind of a command
 abbrev pub kind_in : PlainCommand → CommandKind
@@ -52,6 +54,8 @@ kind_in (GenCommand seed shape) = Gen
 kind_in (CupCommand worlds brains seed rounds workers) = Cup
 kind_in (ViewCommand world red black breaks seed rounds) = View
 kind_in (WorkloadCommand seed rounds workers) = Workload
+kind_in HelpCommand = Help
+kind_in VersionCommand = Version
 
 -- words place by place, one after another
 abbrev pub joined : List (List (List ℕ)) → List (List ℕ)
@@ -176,6 +180,10 @@ Says (ViewCommand world red black breaks seed rounds) front given =
 Says (WorkloadCommand seed rounds workers) front given =
     (a : List ℕ) × (b : List ℕ) × (c : List ℕ) × (front ≡ one a ∷ one b ∷ one c ∷ [])
     × (number_in SeedNumber a ≡ Some seed) × (number_in RoundCount b ≡ Some rounds) × (number_in WorkerCount c ≡ Some workers)
+Says HelpCommand front given =
+    front ≡ []
+Says VersionCommand front given =
+    front ≡ []
 
 -- the words are this command
 pub record IsCommand (words : List (List ℕ)) (command : PlainCommand) : Type 0 where

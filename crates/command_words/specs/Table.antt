@@ -8,13 +8,13 @@ use Rattle.command_words.specs.declared.slot.Slot.TheVariants.{FileName, Number,
 use Rattle.command_words.specs.declared.slot.Place.{Place}
 use Rattle.command_words.specs.declared.slot.Place.TheVariants.{Word, Names}
 use Rattle.command_words.specs.declared.table.CommandKind.{CommandKind}
-use Rattle.command_words.specs.declared.table.CommandKind.TheVariants.{Show, Brain, Minimise, Run, Gen, Cup, View, Workload}
+use Rattle.command_words.specs.declared.table.CommandKind.TheVariants.{Show, Brain, Minimise, Run, Gen, Cup, View, Workload, Help, Version}
 use Rattle.command_words.specs.declared.table.Choice.{Choice}
 use Rattle.command_words.specs.declared.table.Choice.TheVariants.{Seed, Rounds, Dump, Workers, Window, Surround, Corpse, Rest, Stats, Width, Height, Rocks, Blobs}
 
 -- all commands that are known
 abbrev pub kinds : List CommandKind
-kinds = Show ∷ Brain ∷ Minimise ∷ Run ∷ Gen ∷ Cup ∷ View ∷ Workload ∷ []
+kinds = Show ∷ Brain ∷ Minimise ∷ Run ∷ Gen ∷ Cup ∷ View ∷ Workload ∷ Help ∷ Version ∷ []
 
 -- a command's first word
 abbrev pub word_of : CommandKind → List ℕ
@@ -26,6 +26,8 @@ word_of Gen = codes "gen"
 word_of Cup = codes "cup"
 word_of View = codes "view"
 word_of Workload = codes "workload"
+word_of Help = codes "--help"
+word_of Version = codes "--version"
 
 -- what stands after a command's first word
 abbrev pub places_of : CommandKind → List Place
@@ -37,6 +39,8 @@ places_of Gen = Word (Number SeedNumber) ∷ []
 places_of Cup = Word (Keyword Worlds) ∷ Names Worlds ∷ Word (Keyword Brains) ∷ Names Brains ∷ []
 places_of View = Word FileName ∷ Word FileName ∷ Word FileName ∷ Word FileName ∷ []
 places_of Workload = Word (Number SeedNumber) ∷ Word (Number RoundCount) ∷ Word (Number WorkerCount) ∷ []
+places_of Help = []
+places_of Version = []
 
 -- the options of a command that are known, which follow in any order
 abbrev pub choices_of : CommandKind → List Choice
@@ -48,6 +52,8 @@ choices_of Gen = Width ∷ Height ∷ Rocks ∷ Blobs ∷ []
 choices_of Cup = Seed ∷ Rounds ∷ Workers ∷ []
 choices_of View = Seed ∷ Rounds ∷ []
 choices_of Workload = []
+choices_of Help = []
+choices_of Version = []
 
 -- an option's word
 abbrev pub option_of : Choice → List ℕ

@@ -2,14 +2,14 @@
 use Rattle.std.specs.Prelude.{ℕ, List, map, String, string_bytes}
 use Rattle.std.specs.declared.alloc.Global.{Global}
 use Rattle.command_words.specs.declared.command.Command.{Command}
-use Rattle.command_words.specs.declared.command.Command.TheVariants.{Show, Brain, Minimise, Run, Gen, Cup, View, Workload}
+use Rattle.command_words.specs.declared.command.Command.TheVariants.{Show, Brain, Minimise, Run, Gen, Cup, View, Workload, Help, Version}
 use Rattle.command_words.specs.declared.command.RunOptions.{RunOptions}
 use Rattle.command_words.specs.declared.dumps.DumpWord.{DumpWord}
 use Rattle.command_words.specs.declared.dumps.DumpWord.TheVariants.{Nothing, All, Chosen}
 use Rattle.command_words.specs.Slots.{DumpChoice}
 use Rattle.command_words.specs.Slots.DumpChoice.{NoDump, EveryDump, ChosenDumps}
 use Rattle.command_words.specs.Command.{PlainCommand, RunSetup}
-use Rattle.command_words.specs.Command.PlainCommand.{ShowCommand, BrainCommand, MinimiseCommand, RunCommand, GenCommand, CupCommand, ViewCommand, WorkloadCommand}
+use Rattle.command_words.specs.Command.PlainCommand.{ShowCommand, BrainCommand, MinimiseCommand, RunCommand, GenCommand, CupCommand, ViewCommand, WorkloadCommand, HelpCommand, VersionCommand}
 
 -- the bytes of words
 abbrev pub texts : List (String Global) → List (List ℕ)
@@ -45,3 +45,5 @@ plain (Gen seed shape) = GenCommand seed shape
 plain (Cup worlds brains seed rounds workers) = CupCommand (texts worlds.now) (texts brains.now) seed rounds workers
 plain (View world red black breaks seed rounds) = ViewCommand world.now red.now black.now breaks.now seed rounds
 plain (Workload seed rounds workers) = WorkloadCommand seed rounds workers
+plain Help = HelpCommand
+plain Version = VersionCommand

@@ -76,6 +76,10 @@ pub enum Command<'w> {
         /// how many workers play, from 1 to 16
         workers: u32,
     },
+    /// `--help`
+    Help,
+    /// `--version`
+    Version,
 }
 
 /// What the options of `run` say, or what holds where they aren't given.

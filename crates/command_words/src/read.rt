@@ -59,6 +59,8 @@ fn command_in<'w>(kind: CommandKind, words: &'w [String]) -> Option<Command<'w>>
         CommandKind::Cup => cup_in(words),
         CommandKind::View => view_in(words),
         CommandKind::Workload => workload_in(words),
+        CommandKind::Help => Some(Command::Help),
+        CommandKind::Version => Some(Command::Version),
     }
 }
 

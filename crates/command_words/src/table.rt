@@ -23,6 +23,10 @@ pub enum CommandKind {
     View,
     /// `workload SEED ROUNDS WORKERS`: a game of a world made from a number
     Workload,
+    /// `--help`: the commands
+    Help,
+    /// `--version`: which program this is
+    Version,
 }
 
 /// An option that may follow the words of a command's places, in any order and at most once.
@@ -97,6 +101,8 @@ pub(crate) fn kinds() -> &'static [CommandKind]
         CommandKind::Cup,
         CommandKind::View,
         CommandKind::Workload,
+        CommandKind::Help,
+        CommandKind::Version,
     ]
 }
 
@@ -113,6 +119,8 @@ impl CommandKind {
             CommandKind::Cup => "cup",
             CommandKind::View => "view",
             CommandKind::Workload => "workload",
+            CommandKind::Help => "--help",
+            CommandKind::Version => "--version",
         }
     }
 
@@ -150,6 +158,8 @@ impl CommandKind {
                 Place::Word(Slot::Number(NumberKind::RoundCount)),
                 Place::Word(Slot::Number(NumberKind::WorkerCount)),
             ],
+            CommandKind::Help => &[],
+            CommandKind::Version => &[],
         }
     }
 
@@ -176,6 +186,8 @@ impl CommandKind {
             CommandKind::Cup => &[Choice::Seed, Choice::Rounds, Choice::Workers],
             CommandKind::View => &[Choice::Seed, Choice::Rounds],
             CommandKind::Workload => &[],
+            CommandKind::Help => &[],
+            CommandKind::Version => &[],
         }
     }
 }

@@ -17,10 +17,11 @@ use Rattle.ants.specs.declared.stop.FileFault.TheVariants.{TooLong, World, Brain
 use Rattle.ants.specs.declared.stop.CommandStop.{CommandStop}
 use Rattle.ants.specs.Files.{File, FileKind, FileContent, AreAccepted, AreBegun, Reads, Refuses, StopsAt}
 use Rattle.ants.specs.Judged.{IsRefusedAs}
-use Rattle.ants.specs.Performing.{EndsBy, IsUnsure}
+use Rattle.ants.specs.Outside.{Outside, outside_of}
+use Rattle.ants.specs.Performing.{IsDone, IsUnsure, StopsFor}
 use Rattle.ants.specs.Running.{Ends}
-use Rattle.ants.specs.Stopping.{Reason, reason_of}
-use Rattle.ants.specs.Stopping.Reason.{AtWord, AtFile, AtOutput, AtInput, AtRoom, AtMemory}
+use Rattle.ants.specs.Stopping.{Ending, Reason, reason_of}
+use Rattle.ants.specs.Stopping.Reason.{AtFile, AtInput, AtMemory}
 
 -- what the reading of some files came to: their contents, or why it stopped
 pub data ReadOutcome : Type 0 where
@@ -39,12 +40,11 @@ pub record FailsAt (shelf new_shelf : ShelfState) (files : List File) (fetches :
 
 -- why the reading of files stopped
 abbrev pub ReadingStops : ShelfState → ShelfState → List File → List Fetched → Reason → Type 0
-ReadingStops shelf new_shelf files fetches (AtWord word) = ⊥
 ReadingStops shelf new_shelf files fetches (AtFile name) = FailsAt shelf new_shelf files fetches name
-ReadingStops shelf new_shelf files fetches AtOutput = ⊥
 ReadingStops shelf new_shelf files fetches (AtInput name fault) = StopsAt (IsRefusedAs name fault) files fetches
-ReadingStops shelf new_shelf files fetches (AtRoom element) = ⊥
 ReadingStops shelf new_shelf files fetches AtMemory = AreBegun files fetches
+-- never: files are read before a world is generated, and before anything is written
+ReadingStops shelf new_shelf files fetches reason = ⊥
 
 -- the reading of files came to this
 abbrev pub ComesTo : ShelfState → ShelfState → List File → List Fetched → ReadOutcome → Type 0
@@ -85,31 +85,34 @@ break_reason name fault = AtInput name (Breaks fault)
 
 -- why the reading of the bytes of a file of this kind and name stopped
 abbrev pub TextStops : FileKind → List ℕ → List ℕ → Reason → Type 0
-TextStops kind bytes name (AtWord word) = ⊥
-TextStops kind bytes name (AtFile other) = ⊥
-TextStops kind bytes name AtOutput = ⊥
 TextStops kind bytes name (AtInput other fault) = (other ≡ name) × Refuses kind bytes fault
-TextStops kind bytes name (AtRoom element) = ⊥
 TextStops kind bytes name AtMemory = Unit {0}
+-- never: the bytes have come
+TextStops kind bytes name reason = ⊥
 
 -- what the reading of the bytes of a file gave: its content, or why it stopped
 abbrev pub ReadsText : {A : Type 0} → (A → FileContent) → FileKind → List ℕ → List ℕ → Result A CommandStop → Type 0
 ReadsText content_of kind bytes name (Ok value) = Reads kind bytes (content_of value)
 ReadsText content_of kind bytes name (Err stop) = TextStops kind bytes name (reason_of stop)
 
--- how a result ends the program
+-- why a command with this result stopped, if it did
 abbrev pub ending_of : {U : Type 0} → Result U CommandStop → Option Reason
 ending_of (Ok done) = None
 ending_of (Err stop) = Some (reason_of stop)
 
--- a command was carried out, and ended so
-pub record CarriesOut (command : PlainCommand) (shelf new_shelf : ShelfState) (out new_out : SinkState) (ending : Option Reason) : Type 0 where
-  pub fetches : List Fetched
-  pub fetched : FetchesEach shelf new_shelf fetches
-  pub ends : EndsBy command shelf new_shelf fetches out new_out ending
+-- how a command ended: with its text, or for a reason
+abbrev pub EndsBy : PlainCommand → Outside → Outside → List Fetched → Option Reason → Type 0
+EndsBy command before after fetches None = IsDone command before after fetches
+EndsBy command before after fetches (Some reason) = StopsFor command before after fetches reason
 
--- words were carried out, and ended so
-pub record CarriesOutWords (words : List (List ℕ)) (shelf new_shelf : ShelfState) (out new_out : SinkState) (ending : Option Reason) : Type 0 where
+-- a command was carried out, and ended so; it sees the shelf and the output alone, so whatever the errors hold
+pub record CarriesOut (command : PlainCommand) (shelf new_shelf : ShelfState) (out new_out : SinkState) (stop : Option Reason) : Type 0 where
   pub fetches : List Fetched
   pub fetched : FetchesEach shelf new_shelf fetches
-  pub ends : Ends words shelf new_shelf fetches out new_out ending
+  pub ends : (err new_err : SinkState) → EndsBy command (outside_of shelf out err) (outside_of new_shelf new_out new_err) fetches stop
+
+-- words were carried out, and it ended so, whatever the errors hold
+pub record CarriesOutWords (words : List (List ℕ)) (shelf new_shelf : ShelfState) (out new_out : SinkState) (ending : Ending) : Type 0 where
+  pub fetches : List Fetched
+  pub fetched : FetchesEach shelf new_shelf fetches
+  pub ends : (err new_err : SinkState) → Ends words (outside_of shelf out err) (outside_of new_shelf new_out new_err) fetches ending

@@ -4,9 +4,13 @@ use crate::tests::{CLOSED, Given, Job, NO_JOB, check_rows};
 use std::test::Fail;
 
 // Words, and the line that names the first one with which no command begins.
-const REFUSED: [(&str, &str); 66] = [
+const REFUSED: [(&str, &str); 70] = [
     ("", "ants: word 1 refused\n"),
     ("jump", "ants: word 1 refused\n"),
+    ("-h", "ants: word 1 refused\n"),
+    ("--help x", "ants: word 2 refused\n"),
+    ("--version 1", "ants: word 2 refused\n"),
+    ("run --help", "ants: word 2 refused\n"),
     ("Show w 1", "ants: word 1 refused\n"),
     ("shows w 1", "ants: word 1 refused\n"),
     ("show", "ants: word 2 refused\n"),

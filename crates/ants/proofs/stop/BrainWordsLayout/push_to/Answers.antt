@@ -6,3 +6,12 @@ returns-in-NoSuchState g c = rw c.in-NoSuchState.is c.push_to-in-NoSuchState.ens
 
 pub returns-in-OutOfMemory : goal.returns-in-OutOfMemory
 returns-in-OutOfMemory g c = rw c.in-OutOfMemory.is c.push_to-in-OutOfMemory.ensures
+
+pub returns-in-MissingToken : goal.returns-in-MissingToken
+returns-in-MissingToken g c = rw c.in-MissingToken.is c.push_to-in-MissingToken.ensures
+
+pub returns-in-ExtraToken : goal.returns-in-ExtraToken
+returns-in-ExtraToken g c = rw c.in-ExtraToken.is c.push_to-in-ExtraToken.ensures
+
+pub returns-in-Empty : goal.returns-in-Empty
+returns-in-Empty g c = rw c.in-Empty.is c.push_to-in-Empty.ensures

@@ -1,5 +1,7 @@
 -- the line was pushed
-use Rattle.ants.proofs.program.report.Goals as goal
+use Rattle.ants.specs.Stopping.{word_line}
+use Rattle.ants.proofs.program.report_word.Goals as goal
 
 pub returns-clause-reports : goal.returns-clause-reports
+unfolding word_line
 returns-clause-reports g c = (c.push_to.result, c.push_to.ensures)

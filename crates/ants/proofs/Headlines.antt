@@ -1,0 +1,196 @@
+-- What a status says follows from the record that each run meets.
+use Rattle.std.proofs.Common.{◌≡◌, ◌⊎◌, inl, inr, ℕ, List, [], ◌∷◌, Ok, Option, refl, sym, ◌∙◌, ap, subst, arith}
+use Rattle.ant_base.specs.Fetched.{Fetched}
+use Rattle.ant_base.specs.Shelf.{FetchesEach}
+use Rattle.ant_base.specs.Sink.{NothingWaits, PushedAll}
+use Rattle.command_words.proofs.WordLaws as words_laws
+use Rattle.command_words.specs.Command.{IsCommand, PlainCommand, RunSetup}
+use Rattle.command_words.specs.Command.PlainCommand.{RunCommand}
+use Rattle.match_run.specs.Counts.{whole_text}
+use Rattle.match_run.specs.Run.{run_text}
+use Rattle.ants.specs.declared.stop.FileFault.{FileFault}
+use Rattle.ants.specs.Files.{AreAccepted, FileContent, IsAccepted}
+use Rattle.ants.specs.Files.FileContent.{BrainContent, BreakContent, WorldContent}
+use Rattle.ants.specs.Headline.{Headline, NamesTheReason, NamesTheWord, PrintsItsOutput, PrintsTheGame, KeepsPromise}
+use Rattle.ants.specs.Jobs.{IsJobText, brain_file, game_files, match_output, world_file}
+use Rattle.ants.specs.Outside.{Outside}
+use Rattle.ants.specs.Performing.{IsDone}
+use Rattle.ants.specs.Running.{Ends, IsRunTo, IsStopped, Reports}
+use Rattle.ants.specs.Status.{status_number}
+use Rattle.ants.specs.Stopping.{Ending, Reason, ending_status}
+use Rattle.ants.specs.Stopping.Ending.{Done, RefusedWord, Stopped}
+use Rattle.ants.specs.Stopping.Reason.{AtFile, AtInput, AtMemory, AtOutput, AtRoom}
+
+-- a run that ended so
+record HasEnded (words : List (List ℕ)) (before after : Outside) (ending : Ending) : Type 0 where
+  fetches : List Fetched
+  fetched : FetchesEach before.shelf after.shelf fetches
+  ends : Ends words before after fetches ending
+  reports : Reports before.err after.err ending
+
+printed : (words : List (List ℕ)) (before after : Outside) → HasEnded words before after Done → PrintsItsOutput words before after
+printed words before after it = record {
+  command = it.ends.command;
+  is_command = it.ends.is_command;
+  fetches = it.fetches;
+  fetched = it.fetched;
+  contents = it.ends.done.contents;
+  accepted = it.ends.done.accepted;
+  text = it.ends.done.text;
+  is_text = it.ends.done.is_text;
+  written = it.ends.done.written;
+  flushed = it.ends.flushed;
+  silent = it.reports;
+}
+
+-- the game of a world and two brains that were accepted
+game_of : (world red black : List ℕ) (setup : RunSetup) (before after : Outside) (a b c : Fetched) (fetches : List Fetched) (first second third : FileContent) (text : List ℕ) → FetchesEach before.shelf after.shelf (a ∷ b ∷ c ∷ fetches)
+    → IsAccepted (world_file world) a first → IsAccepted (brain_file red) b second → IsAccepted (brain_file black) c third → fetches ≡ [] → text ≡ match_output setup first second third → PushedAll before.out after.out text
+    → NothingWaits after.out.waiting → after.err ≡ before.err → PrintsTheGame world red black setup before after
+unfolding match_output whole_text run_text
+game_of world red black setup before after a b c fetches (WorldContent grid) (BrainContent one) (BrainContent two) text fetched x y z last is written flushed silent =
+    let got : List ℕ → List ℕ → Fetched = λ name bytes. record { name = name; answer = Ok bytes } in
+    let same : a ∷ b ∷ c ∷ fetches ≡ got world x.bytes ∷ got red y.bytes ∷ got black z.bytes ∷ [] =
+    ap (λ (f : Fetched). f ∷ b ∷ c ∷ fetches) x.got ∙ ap (λ (f : Fetched). got world x.bytes ∷ f ∷ c ∷ fetches) y.got
+    ∙ ap (λ (f : Fetched). got world x.bytes ∷ got red y.bytes ∷ f ∷ fetches) z.got ∙ ap (λ (more : List Fetched). got world x.bytes ∷ got red y.bytes ∷ got black z.bytes ∷ more) last in
+    record {
+      world_bytes = x.bytes;
+      red_bytes = y.bytes;
+      black_bytes = z.bytes;
+      fetched = subst (FetchesEach before.shelf after.shelf) same fetched;
+      start = grid;
+      is_world = x.reads;
+      red_brain = one;
+      is_red = y.reads;
+      black_brain = two;
+      is_black = z.reads;
+      written = subst (PushedAll before.out after.out) is written;
+      flushed = flushed;
+      silent = silent;
+    }
+game_of world red black setup before after a b c fetches (WorldContent grid) (BrainContent one) (WorldContent third) text fetched x y z last is written flushed silent = absurd z.reads
+game_of world red black setup before after a b c fetches (WorldContent grid) (BrainContent one) (BreakContent third) text fetched x y z last is written flushed silent = absurd z.reads
+game_of world red black setup before after a b c fetches (WorldContent grid) (WorldContent second) third text fetched x y z last is written flushed silent = absurd y.reads
+game_of world red black setup before after a b c fetches (WorldContent grid) (BreakContent second) third text fetched x y z last is written flushed silent = absurd y.reads
+game_of world red black setup before after a b c fetches (BrainContent first) second third text fetched x y z last is written flushed silent = absurd x.reads
+game_of world red black setup before after a b c fetches (BreakContent first) second third text fetched x y z last is written flushed silent = absurd x.reads
+
+game_done : (world red black : List ℕ) (setup : RunSetup) (before after : Outside) (fetches : List Fetched) (contents : List FileContent) (text : List ℕ) → FetchesEach before.shelf after.shelf fetches
+    → AreAccepted (game_files world red black) fetches contents → IsJobText (RunCommand world red black setup) contents text → PushedAll before.out after.out text
+    → NothingWaits after.out.waiting → after.err ≡ before.err → PrintsTheGame world red black setup before after
+game_done world red black setup before after fetches [] text fetched are is written flushed silent = absurd is
+game_done world red black setup before after fetches (first ∷ []) text fetched are is written flushed silent = absurd is
+game_done world red black setup before after fetches (first ∷ second ∷ []) text fetched are is written flushed silent = absurd is
+game_done world red black setup before after [] (first ∷ second ∷ third ∷ []) text fetched are is written flushed silent = absurd are
+game_done world red black setup before after (a ∷ []) (first ∷ second ∷ third ∷ []) text fetched are is written flushed silent = absurd are.1
+game_done world red black setup before after (a ∷ b ∷ []) (first ∷ second ∷ third ∷ []) text fetched are is written flushed silent = absurd are.1.1
+game_done world red black setup before after (a ∷ b ∷ c ∷ fetches) (first ∷ second ∷ third ∷ []) text fetched are is written flushed silent =
+    game_of world red black setup before after a b c fetches first second third text fetched are.0 are.1.0 are.1.1.0 are.1.1.1.0 is written flushed silent
+game_done world red black setup before after fetches (first ∷ second ∷ third ∷ next ∷ more) text fetched are is written flushed silent = absurd is
+
+game : (words : List (List ℕ)) (before after : Outside) → HasEnded words before after Done → (world red black : List ℕ) (setup : RunSetup) → IsCommand words (RunCommand world red black setup) → PrintsTheGame world red black setup before after
+game words before after it world red black setup is =
+    let done : IsDone (RunCommand world red black setup) before after it.fetches =
+    subst (λ (command : PlainCommand). IsDone command before after it.fetches) (words_laws.one_command words it.ends.command (RunCommand world red black setup) it.ends.is_command is) it.ends.done in
+    game_done world red black setup before after it.fetches done.contents done.text it.fetched done.accepted done.is_text done.written it.ends.flushed it.reports
+
+no_command : (words : List (List ℕ)) (before after : Outside) (word : ℕ) → HasEnded words before after (RefusedWord word) → NamesTheWord words before after
+no_command words before after word it = record {
+  none = λ command is. words_laws.never_both words command word is it.ends.refused;
+  word = word;
+  refused = it.ends.refused;
+  kept = it.ends.kept;
+  unwritten = it.ends.unwritten;
+  line = it.reports;
+}
+
+stopped : (words : List (List ℕ)) (before after : Outside) (reason : Reason) → HasEnded words before after (Stopped reason) → NamesTheReason words before after reason
+stopped words before after reason it = record {
+  command = it.ends.command;
+  is_command = it.ends.is_command;
+  fetches = it.fetches;
+  fetched = it.fetched;
+  stopped = it.ends.stopped;
+  line = it.reports;
+}
+
+-- one number is not another
+never : {P : Type 0} (number a b : ℕ) → number ≡ a → number ≡ b → (a ≡ b → ⊥) → P
+never number a b one two apart = absurd (apart (sym one ∙ two))
+
+-- what an ending says, by its number
+by_ending : (words : List (List ℕ)) (before after : Outside) (number : ℕ) (ending : Ending) → HasEnded words before after ending → number ≡ status_number (ending_status ending) → KeepsPromise words before after number
+by_ending words before after number Done it is = record {
+  printed = λ n. printed words before after it;
+  game = λ n. game words before after it;
+  no_command = λ n. never number 0 2 is n (λ same. omega arith);
+  not_read = λ n. never number 0 3 is n (λ same. omega arith);
+  output_failed = λ n. never number 0 4 is n (λ same. omega arith);
+  refused = λ n. never number 0 5 is n (λ same. omega arith);
+  out_of_memory = λ n. never number 0 6 is n (λ same. omega arith);
+  no_other = inl is;
+}
+by_ending words before after number (RefusedWord word) it is = record {
+  printed = λ n. never number 2 0 is n (λ same. omega arith);
+  game = λ n. never number 2 0 is n (λ same. omega arith);
+  no_command = λ n. no_command words before after word it;
+  not_read = λ n. never number 2 3 is n (λ same. omega arith);
+  output_failed = λ n. never number 2 4 is n (λ same. omega arith);
+  refused = λ n. never number 2 5 is n (λ same. omega arith);
+  out_of_memory = λ n. never number 2 6 is n (λ same. omega arith);
+  no_other = inr (inl is);
+}
+by_ending words before after number (Stopped (AtFile name)) it is = record {
+  printed = λ n. never number 3 0 is n (λ same. omega arith);
+  game = λ n. never number 3 0 is n (λ same. omega arith);
+  no_command = λ n. never number 3 2 is n (λ same. omega arith);
+  not_read = λ n. (name, stopped words before after (AtFile name) it);
+  output_failed = λ n. never number 3 4 is n (λ same. omega arith);
+  refused = λ n. never number 3 5 is n (λ same. omega arith);
+  out_of_memory = λ n. never number 3 6 is n (λ same. omega arith);
+  no_other = inr (inr (inl is));
+}
+by_ending words before after number (Stopped AtOutput) it is = record {
+  printed = λ n. never number 4 0 is n (λ same. omega arith);
+  game = λ n. never number 4 0 is n (λ same. omega arith);
+  no_command = λ n. never number 4 2 is n (λ same. omega arith);
+  not_read = λ n. never number 4 3 is n (λ same. omega arith);
+  output_failed = λ n. stopped words before after AtOutput it;
+  refused = λ n. never number 4 5 is n (λ same. omega arith);
+  out_of_memory = λ n. never number 4 6 is n (λ same. omega arith);
+  no_other = inr (inr (inr (inl is)));
+}
+by_ending words before after number (Stopped (AtInput name fault)) it is = record {
+  printed = λ n. never number 5 0 is n (λ same. omega arith);
+  game = λ n. never number 5 0 is n (λ same. omega arith);
+  no_command = λ n. never number 5 2 is n (λ same. omega arith);
+  not_read = λ n. never number 5 3 is n (λ same. omega arith);
+  output_failed = λ n. never number 5 4 is n (λ same. omega arith);
+  refused = λ n. inl (name, fault, stopped words before after (AtInput name fault) it);
+  out_of_memory = λ n. never number 5 6 is n (λ same. omega arith);
+  no_other = inr (inr (inr (inr (inl is))));
+}
+by_ending words before after number (Stopped (AtRoom element)) it is = record {
+  printed = λ n. never number 5 0 is n (λ same. omega arith);
+  game = λ n. never number 5 0 is n (λ same. omega arith);
+  no_command = λ n. never number 5 2 is n (λ same. omega arith);
+  not_read = λ n. never number 5 3 is n (λ same. omega arith);
+  output_failed = λ n. never number 5 4 is n (λ same. omega arith);
+  refused = λ n. inr (element, stopped words before after (AtRoom element) it);
+  out_of_memory = λ n. never number 5 6 is n (λ same. omega arith);
+  no_other = inr (inr (inr (inr (inl is))));
+}
+by_ending words before after number (Stopped AtMemory) it is = record {
+  printed = λ n. never number 6 0 is n (λ same. omega arith);
+  game = λ n. never number 6 0 is n (λ same. omega arith);
+  no_command = λ n. never number 6 2 is n (λ same. omega arith);
+  not_read = λ n. never number 6 3 is n (λ same. omega arith);
+  output_failed = λ n. never number 6 4 is n (λ same. omega arith);
+  refused = λ n. never number 6 5 is n (λ same. omega arith);
+  out_of_memory = λ n. stopped words before after AtMemory it;
+  no_other = inr (inr (inr (inr (inr is))));
+}
+
+pub headline : Headline
+headline words before after number it =
+    by_ending words before after number it.run.ending (record { fetches = it.run.fetches; fetched = it.run.fetched; ends = it.run.ends; reports = it.run.reports }) (it.is_number ∙ ap status_number it.run.is_status)

@@ -1,0 +1,351 @@
+-- Each text that a command writes ends in LF.
+use Rattle.std.proofs.Common.{◌≡◌, ◌⊎◌, inl, inr, ℕ, zero, suc, ◌≤◌, Bool, true, false, List, [], ◌∷◌, ◌++◌, length, map, get_or, Option, Some, None, ◌+◌, refl, sym, ◌∙◌, ap, subst, append-nil, arith}
+use Rattle.std.proofs.lemmas.Bool.{false≢true}
+use Rattle.std.proofs.lemmas.List.{length-map}
+use Rattle.std.proofs.lemmas.List.Sorted.{length_permutation}
+use Rattle.std.specs.List.{flat_map}
+use Rattle.std.specs.Prelude.{◌*◌, ◌%◌, ◌==◌, codes, decimal, slice_index_or}
+use Rattle.ant_base.proofs.Numbered.{numbered-list}
+use Rattle.ant_base.proofs.Pushing.{ends_in_lf-append}
+use Rattle.ant_base.specs.Fetched.{Fetched}
+use Rattle.ant_base.specs.Layout.{numbered, ◌+++◌}
+use Rattle.ant_base.specs.Lines.{ends_in_lf}
+use Rattle.ant_turn.specs.Rounds.{start_of}
+use Rattle.brain_minimise.specs.Text.{minimised_text}
+use Rattle.brain_read.proofs.SoundnessLemmas.{brain_of}
+use Rattle.brain_read.specs.Canonical.{brain_text, instruction_text}
+use Rattle.brain_read.specs.Forms.{fields_of}
+use Rattle.brain_read.specs.declared.instr.Instr.{Instr}
+use Rattle.break_view.specs.Texts.{end_text, no_stop_line, stop_line, view_text}
+use Rattle.break_view.specs.declared.stop.Stop.{Stop}
+use Rattle.cell_world.specs.Grid.{Grid, world_of}
+use Rattle.cell_world.specs.Score.{score_of}
+use Rattle.cell_world.specs.World.{World}
+use Rattle.cell_world.specs.declared.cell.Cell.{Cell}
+use Rattle.cell_world.specs.declared.kind.Kind.{Kind}
+use Rattle.cell_world.specs.declared.kind.Kind.TheVariants.{Rock}
+use Rattle.cell_world.specs.declared.score.Score.{Score}
+use Rattle.command_words.specs.Command.{PlainCommand, RunSetup}
+use Rattle.command_words.specs.Command.PlainCommand.{ShowCommand, BrainCommand, MinimiseCommand, RunCommand, GenCommand, CupCommand, ViewCommand, WorkloadCommand, HelpCommand, VersionCommand}
+use Rattle.command_words.specs.Laws.{CommandWithin, CupWithin}
+use Rattle.dump_print.specs.Content.{content_text}
+use Rattle.dump_print.specs.Texts.{cell_line, cells_text, dump_text, row_text, score_text, seed_text, stats_text}
+use Rattle.dump_print.specs.declared.totals.Totals.{Totals}
+use Rattle.line_tokens.specs.Fields.{LineField, field_text, further_text, line_text}
+use Rattle.match_run.specs.Counts.{counts_text, totals_of, whole_text}
+use Rattle.match_run.specs.Run.{dumps_text, run_text, world_after}
+use Rattle.tournament.proofs.GamesLemmas.{length-below}
+use Rattle.tournament.specs.Games.{all_played, below}
+use Rattle.tournament.specs.Names.{name_of}
+use Rattle.tournament.specs.Standing.{Ranks, line_of}
+use Rattle.tournament.specs.Text.{standing_text, table_line_text}
+use Rattle.tournament.specs.declared.standing.Line.{Line}
+use Rattle.world_read.specs.Bytes.{byte_of}
+use Rattle.world_read.specs.Canonical.{canonical_text, cell_text, line_of_row, space_if}
+use Rattle.world_read.specs.Opened.{kinds_of}
+use Rattle.ants.specs.declared.workload.Summary.{Summary}
+use Rattle.ants.specs.Files.{AreAccepted, FileContent, IsAccepted}
+use Rattle.ants.specs.Help.{file_lines, game_lines, game_option_lines, head_lines, help_text, status_lines, version_text, world_option_lines}
+use Rattle.ants.specs.Files.FileContent.{BrainContent, BreakContent, WorldContent}
+use Rattle.ants.specs.Jobs.{IsCupOutput, IsJobText, IsMinimisedOutput, IsViewOutput, brain_file, brain_output, chosen_rounds, cup_files, match_output, minds_named, score_between, show_output, summary_lines, summary_of, workload_text, world_file}
+use Rattle.ants.specs.Laws.{TextsEndInLf}
+use Rattle.ants.proofs.Cups.{players_counted}
+
+-- a text that ends in LF
+record EndsInLf (text : List ℕ) : Type 0 where
+  is : ends_in_lf text ≡ true
+
+-- a text that ends in LF, or has no bytes
+abbrev AreLines : List ℕ → Type 0
+AreLines text = (text ≡ []) ⊎ EndsInLf text
+
+-- what stands before a text that ends in LF changes nothing
+lf_last : (a b : List ℕ) → EndsInLf b → EndsInLf (a ++ b)
+lf_last a [] ends = absurd (false≢true ends.is)
+lf_last a (byte ∷ b) ends = record { is = ends_in_lf-append a byte b ∙ ends.is }
+
+-- nor does what stands behind it, if that are lines
+lf_then : (a b : List ℕ) → EndsInLf a → AreLines b → EndsInLf (a ++ b)
+lf_then a b ends lines =
+    elim lines [
+      | inl none ↦ subst (λ (t : List ℕ). EndsInLf (a ++ t)) (sym none) (subst EndsInLf (sym (append-nil a)) ends)
+      | inr last ↦ lf_last a b last
+    ]
+
+lines_then : (a b : List ℕ) → AreLines a → AreLines b → AreLines (a ++ b)
+lines_then a b first second =
+    elim second [
+      | inl none ↦ subst (λ (t : List ℕ). AreLines (a ++ t)) (sym none) (subst AreLines (sym (append-nil a)) first)
+      | inr last ↦ inr (lf_last a b last)
+    ]
+
+lines_numbered : (f : ℕ → List ℕ) (n : ℕ) → ((i : ℕ) → AreLines (f i)) → AreLines (numbered f n)
+unfolding numbered
+lines_numbered f zero each = inl refl
+lines_numbered f (suc n) each = lines_then (numbered f n) (f n) (lines_numbered f n each) (each n)
+
+lf_numbered : (f : ℕ → List ℕ) (n : ℕ) → 1 ≤ n → ((i : ℕ) → EndsInLf (f i)) → EndsInLf (numbered f n)
+unfolding numbered
+lf_numbered f zero some each = absurd (omega arith)
+lf_numbered f (suc n) some each = lf_last (numbered f n) (f n) (each n)
+
+lf_flat_map : {X : Type 0} (f : X → List ℕ) (xs : List X) → 1 ≤ length xs → ((x : X) → EndsInLf (f x)) → EndsInLf (flat_map f xs)
+lf_flat_map f [] some each = absurd (omega arith)
+lf_flat_map f (x ∷ xs) some each = subst EndsInLf (numbered-list f (x ∷ xs) x) (lf_numbered (λ i. f (get_or (x ∷ xs) i x)) (length (x ∷ xs)) some (λ i. each (get_or (x ∷ xs) i x)))
+
+lines_flat_map : {X : Type 0} (f : X → List ℕ) (xs : List X) → ((x : X) → EndsInLf (f x)) → AreLines (flat_map f xs)
+lines_flat_map f [] each = inl refl
+lines_flat_map f (x ∷ xs) each = inr (lf_flat_map f (x ∷ xs) (omega arith) each)
+
+-- the end of a line
+lf_end : EndsInLf (codes "\n")
+lf_end = record { is = refl }
+
+-- a brain's lines
+lf_further : (fields : List LineField) → EndsInLf (further_text fields)
+lf_further [] = lf_end
+lf_further (field ∷ fields) = lf_last (codes " ") (field_text field +++ further_text fields) (lf_last (field_text field) (further_text fields) (lf_further fields))
+
+lf_line : (fields : List LineField) → EndsInLf (line_text fields)
+lf_line [] = lf_end
+lf_line (field ∷ fields) = lf_last (field_text field) (further_text fields) (lf_further fields)
+
+lf_instruction : (instruction : Instr) → EndsInLf (instruction_text instruction)
+unfolding instruction_text
+lf_instruction instruction = lf_line (fields_of instruction)
+
+lf_brain : (list : List Instr) → 1 ≤ length list → EndsInLf (brain_text list)
+unfolding brain_text
+lf_brain list some = lf_flat_map instruction_text list some lf_instruction
+
+lf_minimised : (old new : List Instr) → EndsInLf (minimised_text old new)
+unfolding minimised_text brain_text
+lf_minimised old new =
+    let kept : List ℕ = codes " kept\n" +++ flat_map instruction_text new in
+    let counted : List ℕ = decimal (length new) +++ kept in
+    let states : List ℕ = codes " states, " +++ counted in
+    let all : List ℕ = decimal (length old) +++ states in
+    lf_last (codes "; ") all (lf_last (decimal (length old)) states (lf_last (codes " states, ") counted (lf_last (decimal (length new)) kept
+    (lf_then (codes " kept\n") (flat_map instruction_text new) (record { is = refl }) (lines_flat_map instruction_text new lf_instruction)))))
+
+-- a dump's lines
+lf_cell : (x y : ℕ) (cell : Cell) → EndsInLf (cell_line x y cell)
+unfolding cell_line
+lf_cell x y cell =
+    let content : List ℕ = content_text cell +++ codes "\n" in
+    let opened : List ℕ = codes "): " +++ content in
+    let row : List ℕ = decimal y +++ opened in
+    let between : List ℕ = codes ", " +++ row in
+    let column : List ℕ = decimal x +++ between in
+    lf_last (codes "cell (") column (lf_last (decimal x) between (lf_last (codes ", ") row (lf_last (decimal y) opened (lf_last (codes "): ") content (lf_last (content_text cell) (codes "\n") lf_end)))))
+
+lines_row : (w : World) (y : ℕ) → AreLines (row_text w y)
+unfolding row_text
+lines_row w y = lines_numbered (λ x. cell_line x y (w.cells (record { x = x; y = y }))) w.width (λ x. inr (lf_cell x y (w.cells (record { x = x; y = y }))))
+
+lines_cells : (w : World) → AreLines (cells_text w)
+unfolding cells_text
+lines_cells w = lines_numbered (row_text w) w.height (lines_row w)
+
+lf_dump : (w : World) (round : ℕ) → EndsInLf (dump_text w round)
+unfolding dump_text
+lf_dump w round =
+    let end : List ℕ = codes "...\n" +++ cells_text w in
+    lf_last (codes "\nAfter round ") (decimal round +++ end) (lf_last (decimal round) end (lf_then (codes "...\n") (cells_text w) (record { is = refl }) (lines_cells w)))
+
+-- the line of a score, and that of the counts
+lf_score : (score : Score) → EndsInLf (score_text score)
+unfolding score_text
+lf_score score =
+    let black : List ℕ = decimal score.black +++ codes "\n" in
+    let between : List ℕ = codes " black " +++ black in
+    let red : List ℕ = decimal score.red +++ between in
+    lf_last (codes "\nscore: red ") red (lf_last (decimal score.red) between (lf_last (codes " black ") black (lf_last (decimal score.black) (codes "\n") lf_end)))
+
+lf_stats : (totals : Totals) → EndsInLf (stats_text totals)
+unfolding stats_text
+lf_stats totals =
+    let redone : List ℕ = decimal totals.redone +++ codes "\n" in
+    let last : List ℕ = codes " redone " +++ redone in
+    let taken : List ℕ = decimal totals.taken +++ last in
+    let between : List ℕ = codes " taken " +++ taken in
+    let turns : List ℕ = decimal totals.turns +++ between in
+    lf_last (codes "turns ") turns (lf_last (decimal totals.turns) between (lf_last (codes " taken ") taken (lf_last (decimal totals.taken) last (lf_last (codes " redone ") redone (lf_last (decimal totals.redone) (codes "\n") lf_end)))))
+
+lines_counts : (asked : Bool) (totals : Totals) → AreLines (counts_text asked totals)
+lines_counts false totals = inl refl
+lines_counts true totals = inr (lf_stats totals)
+
+-- the output of each command
+lf_show : (seed : ℕ) (grid : Grid) → EndsInLf (show_output seed (WorldContent grid))
+unfolding show_output
+lf_show seed grid = lf_last (seed_text seed) (dump_text (world_of grid) 0) (lf_dump (world_of grid) 0)
+
+lf_match : (setup : RunSetup) (grid : Grid) (red black : List Instr) → EndsInLf (match_output setup (WorldContent grid) (BrainContent red) (BrainContent black))
+unfolding match_output whole_text run_text
+lf_match setup grid red black =
+    let minds = minds_named setup red black in
+    let w : World = world_of grid in
+    let dumps : List ℕ = dumps_text minds setup.seed (chosen_rounds setup.dumps) w (setup.rounds + 1) in
+    let score : List ℕ = score_text (score_of (world_after minds setup.seed w setup.rounds)) in
+    let counts : List ℕ = counts_text setup.stats (totals_of minds setup.seed setup.window (start_of w) setup.rounds) in
+    lf_then (seed_text setup.seed +++ dumps +++ score) counts
+    (lf_last (seed_text setup.seed) (dumps +++ score) (lf_last dumps score (lf_score (score_of (world_after minds setup.seed w setup.rounds)))))
+    (lines_counts setup.stats (totals_of minds setup.seed setup.window (start_of w) setup.rounds))
+
+lf_row : (width : ℕ) (kinds : List Kind) (y : ℕ) → EndsInLf (line_of_row width kinds y)
+unfolding line_of_row
+lf_row width kinds y =
+    let cells : List ℕ = numbered (λ x. cell_text x (byte_of (slice_index_or kinds (y * width + x) Rock))) width in
+    lf_last (space_if (y % 2 == 1)) (cells +++ codes "\n") (lf_last cells (codes "\n") lf_end)
+
+lf_canonical : (width height : ℕ) (kinds : List Kind) → EndsInLf (canonical_text width height kinds)
+unfolding canonical_text
+lf_canonical width height kinds =
+    let rows : List ℕ = numbered (line_of_row width kinds) height in
+    let high : List ℕ = decimal height +++ codes "\n" +++ rows in
+    lf_last (decimal width) (codes "\n" +++ high) (lf_last (codes "\n") high (lf_last (decimal height) (codes "\n" +++ rows)
+    (lf_then (codes "\n") rows lf_end (lines_numbered (line_of_row width kinds) height (λ y. inr (lf_row width kinds y))))))
+
+lf_stop : (stop : Stop) → EndsInLf (stop_line stop)
+unfolding stop_line
+lf_stop stop =
+    let which : List ℕ = decimal stop.which +++ codes "\n" in
+    let broken : List ℕ = codes ", break " +++ which in
+    let id : List ℕ = decimal stop.id +++ broken in
+    let ant : List ℕ = codes ", ant " +++ id in
+    let round : List ℕ = decimal stop.round +++ ant in
+    lf_last (codes "stop: round ") round (lf_last (decimal stop.round) ant (lf_last (codes ", ant ") id (lf_last (decimal stop.id) broken (lf_last (codes ", break ") which (lf_last (decimal stop.which) (codes "\n") lf_end)))))
+
+lf_no_stop : (rounds : ℕ) → EndsInLf (no_stop_line rounds)
+unfolding no_stop_line
+lf_no_stop rounds = lf_last (codes "no stop in ") (decimal rounds +++ codes " rounds\n") (lf_last (decimal rounds) (codes " rounds\n") (record { is = refl }))
+
+lf_end_of : (w : World) (rounds : ℕ) (stop : Option Stop) → EndsInLf (end_text w rounds stop)
+lf_end_of w rounds None = lf_no_stop rounds
+lf_end_of w rounds (Some stop) = lf_then (stop_line stop) (cells_text w) (lf_stop stop) (lines_cells w)
+
+lf_view : (w : World) (seed rounds : ℕ) (stop : Option Stop) → EndsInLf (view_text w seed rounds stop)
+unfolding view_text
+lf_view w seed rounds stop = lf_last (seed_text seed) (end_text w rounds stop) (lf_end_of w rounds stop)
+
+lf_table_line : (names : List (List ℕ)) (line : Line) → EndsInLf (table_line_text names line)
+unfolding table_line_text
+lf_table_line names line =
+    let lost : List ℕ = decimal line.lost +++ codes " lost)\n" in
+    let third : List ℕ = codes " drawn, " +++ lost in
+    let drawn : List ℕ = decimal line.drawn +++ third in
+    let second : List ℕ = codes " won, " +++ drawn in
+    let won : List ℕ = decimal line.won +++ second in
+    let first : List ℕ = codes " (" +++ won in
+    let name : List ℕ = name_of names line.player +++ first in
+    let points : List ℕ = codes " points: " +++ name in
+    lf_last (decimal line.points) points (lf_last (codes " points: ") name (lf_last (name_of names line.player) first (lf_last (codes " (") won (lf_last (decimal line.won) second
+    (lf_last (codes " won, ") drawn (lf_last (decimal line.drawn) third (lf_last (codes " drawn, ") lost (lf_last (decimal line.lost) (codes " lost)\n") (record { is = refl })))))))))
+
+lf_workload : (seed rounds : ℕ) (summary : Summary) → EndsInLf (workload_text seed rounds summary)
+unfolding workload_text
+lf_workload seed rounds summary =
+    lf_last (summary_lines seed rounds summary) (score_text summary.score +++ stats_text summary.totals) (lf_last (score_text summary.score) (stats_text summary.totals) (lf_stats summary.totals))
+
+lf_help : EndsInLf help_text
+unfolding help_text status_lines
+lf_help =
+    lf_last head_lines _ (lf_last game_lines _ (lf_last file_lines _ (lf_last game_option_lines _ (lf_last world_option_lines status_lines (record { is = refl })))))
+
+lf_version : EndsInLf version_text
+unfolding version_text
+lf_version = record { is = refl }
+
+-- a standing has a line for each player
+lf_standing : (names : List (List ℕ)) (players worlds : ℕ) (score : ℕ → ℕ → ℕ → Score) (lines : List Line) → 1 ≤ players → Ranks players (all_played players worlds score) lines → EndsInLf (standing_text names lines)
+lf_standing names players worlds score lines some at =
+    let counted = length_permutation (map (line_of (all_played players worlds score)) (below players)) lines at.each in
+    let each = length-map (below players) (line_of (all_played players worlds score)) in
+    let all = length-below players in
+    lf_flat_map (table_line_text names) lines (omega (arith, counted, each, all, some)) (lf_table_line names)
+
+ends : {text other : List ℕ} → text ≡ other → EndsInLf other → ends_in_lf text ≡ true
+ends {text} {other} is last = subst (λ (t : List ℕ). ends_in_lf t ≡ true) (sym is) last.is
+
+show_ends : (name : List ℕ) (seed : ℕ) (fetch : Fetched) (content : FileContent) (text : List ℕ) → IsAccepted (world_file name) fetch content → text ≡ show_output seed content → ends_in_lf text ≡ true
+show_ends name seed fetch (WorldContent grid) text got is = ends is (lf_show seed grid)
+show_ends name seed fetch (BrainContent list) text got is = absurd got.reads
+show_ends name seed fetch (BreakContent items) text got is = absurd got.reads
+
+brain_ends : (name : List ℕ) (fetch : Fetched) (content : FileContent) (text : List ℕ) → IsAccepted (brain_file name) fetch content → text ≡ brain_output content → ends_in_lf text ≡ true
+unfolding brain_output
+brain_ends name fetch (WorldContent grid) text got is = absurd got.reads
+brain_ends name fetch (BrainContent list) text got is = ends is (lf_brain list (brain_of got.bytes list got.reads).some)
+brain_ends name fetch (BreakContent items) text got is = absurd got.reads
+
+minimised_ends : (content : FileContent) (text : List ℕ) → IsMinimisedOutput content text → ends_in_lf text ≡ true
+minimised_ends (WorldContent grid) text is = absurd is
+minimised_ends (BrainContent list) text is = ends is.told (lf_minimised list is.new)
+minimised_ends (BreakContent items) text is = absurd is
+
+match_ends : (world red black : List ℕ) (setup : RunSetup) (a b c : Fetched) (first second third : FileContent) (text : List ℕ) → IsAccepted (world_file world) a first → IsAccepted (brain_file red) b second → IsAccepted (brain_file black) c third
+    → text ≡ match_output setup first second third → ends_in_lf text ≡ true
+match_ends world red black setup a b c (WorldContent grid) (BrainContent one) (BrainContent two) text x y z is = ends is (lf_match setup grid one two)
+match_ends world red black setup a b c (WorldContent grid) (BrainContent one) (WorldContent third) text x y z is = absurd z.reads
+match_ends world red black setup a b c (WorldContent grid) (BrainContent one) (BreakContent third) text x y z is = absurd z.reads
+match_ends world red black setup a b c (WorldContent grid) (WorldContent second) third text x y z is = absurd y.reads
+match_ends world red black setup a b c (WorldContent grid) (BreakContent second) third text x y z is = absurd y.reads
+match_ends world red black setup a b c (BrainContent first) second third text x y z is = absurd x.reads
+match_ends world red black setup a b c (BreakContent first) second third text x y z is = absurd x.reads
+
+view_ends : (seed rounds : ℕ) (first second third fourth : FileContent) (text : List ℕ) → IsViewOutput seed rounds first second third fourth text → ends_in_lf text ≡ true
+view_ends seed rounds (WorldContent grid) (BrainContent red) (BrainContent black) (BreakContent items) text is = ends is.view (lf_view is.end seed rounds is.stop)
+view_ends seed rounds (WorldContent grid) (BrainContent red) (BrainContent black) (WorldContent fourth) text is = absurd is
+view_ends seed rounds (WorldContent grid) (BrainContent red) (BrainContent black) (BrainContent fourth) text is = absurd is
+view_ends seed rounds (WorldContent grid) (BrainContent red) (WorldContent third) fourth text is = absurd is
+view_ends seed rounds (WorldContent grid) (BrainContent red) (BreakContent third) fourth text is = absurd is
+view_ends seed rounds (WorldContent grid) (WorldContent second) third fourth text is = absurd is
+view_ends seed rounds (WorldContent grid) (BreakContent second) third fourth text is = absurd is
+view_ends seed rounds (BrainContent first) second third fourth text is = absurd is
+view_ends seed rounds (BreakContent first) second third fourth text is = absurd is
+
+cup_ends : (worlds brains : List (List ℕ)) (seed rounds workers : ℕ) (fetches : List Fetched) (contents : List FileContent) (text : List ℕ) → CupWithin worlds brains seed rounds workers
+    → AreAccepted (cup_files worlds brains) fetches contents → IsCupOutput brains seed rounds contents text → ends_in_lf text ≡ true
+cup_ends worlds brains seed rounds workers fetches contents text within are is =
+    let counted = players_counted worlds brains fetches is.worlds is.players (subst (AreAccepted (cup_files worlds brains) fetches) is.read are) in
+    let enough : 2 ≤ length brains = within.brain_names.enough in
+    let some : 1 ≤ length is.players = omega (arith, counted, enough) in
+    ends is.told.is (lf_standing brains (length is.players) (length is.worlds) (score_between is.worlds is.players seed rounds) is.told.lines some is.told.standing)
+
+pub texts_end_in_lf : TextsEndInLf
+texts_end_in_lf (ShowCommand world seed) fetches [] text within are is = absurd is
+texts_end_in_lf (ShowCommand world seed) [] (content ∷ []) text within are is = absurd are
+texts_end_in_lf (ShowCommand world seed) (fetch ∷ fetches) (content ∷ []) text within are is = show_ends world seed fetch content text are.0 is
+texts_end_in_lf (ShowCommand world seed) fetches (content ∷ next ∷ more) text within are is = absurd is
+texts_end_in_lf (BrainCommand file) fetches [] text within are is = absurd is
+texts_end_in_lf (BrainCommand file) [] (content ∷ []) text within are is = absurd are
+texts_end_in_lf (BrainCommand file) (fetch ∷ fetches) (content ∷ []) text within are is = brain_ends file fetch content text are.0 is
+texts_end_in_lf (BrainCommand file) fetches (content ∷ next ∷ more) text within are is = absurd is
+texts_end_in_lf (MinimiseCommand file) fetches [] text within are is = absurd is
+texts_end_in_lf (MinimiseCommand file) fetches (content ∷ []) text within are is = minimised_ends content text is
+texts_end_in_lf (MinimiseCommand file) fetches (content ∷ next ∷ more) text within are is = absurd is
+texts_end_in_lf (RunCommand world red black setup) fetches [] text within are is = absurd is
+texts_end_in_lf (RunCommand world red black setup) fetches (first ∷ []) text within are is = absurd is
+texts_end_in_lf (RunCommand world red black setup) fetches (first ∷ second ∷ []) text within are is = absurd is
+texts_end_in_lf (RunCommand world red black setup) [] (first ∷ second ∷ third ∷ []) text within are is = absurd are
+texts_end_in_lf (RunCommand world red black setup) (a ∷ []) (first ∷ second ∷ third ∷ []) text within are is = absurd are.1
+texts_end_in_lf (RunCommand world red black setup) (a ∷ b ∷ []) (first ∷ second ∷ third ∷ []) text within are is = absurd are.1.1
+texts_end_in_lf (RunCommand world red black setup) (a ∷ b ∷ c ∷ fetches) (first ∷ second ∷ third ∷ []) text within are is =
+    match_ends world red black setup a b c first second third text are.0 are.1.0 are.1.1.0 is
+texts_end_in_lf (RunCommand world red black setup) fetches (first ∷ second ∷ third ∷ next ∷ more) text within are is = absurd is
+texts_end_in_lf (GenCommand seed shape) fetches [] text within are is = ends is.told (lf_canonical is.world.width is.world.height (kinds_of is.world))
+texts_end_in_lf (GenCommand seed shape) fetches (content ∷ contents) text within are is = absurd is
+texts_end_in_lf (CupCommand worlds brains seed rounds workers) fetches contents text within are is = cup_ends worlds brains seed rounds workers fetches contents text within are is
+texts_end_in_lf (ViewCommand world red black breaks seed rounds) fetches [] text within are is = absurd is
+texts_end_in_lf (ViewCommand world red black breaks seed rounds) fetches (first ∷ []) text within are is = absurd is
+texts_end_in_lf (ViewCommand world red black breaks seed rounds) fetches (first ∷ second ∷ []) text within are is = absurd is
+texts_end_in_lf (ViewCommand world red black breaks seed rounds) fetches (first ∷ second ∷ third ∷ []) text within are is = absurd is
+texts_end_in_lf (ViewCommand world red black breaks seed rounds) fetches (first ∷ second ∷ third ∷ fourth ∷ []) text within are is = view_ends seed rounds first second third fourth text is
+texts_end_in_lf (ViewCommand world red black breaks seed rounds) fetches (first ∷ second ∷ third ∷ fourth ∷ next ∷ more) text within are is = absurd is
+texts_end_in_lf (WorkloadCommand seed rounds workers) fetches [] text within are is = ends is.told (lf_workload seed rounds (summary_of seed rounds (world_of is.world)))
+texts_end_in_lf (WorkloadCommand seed rounds workers) fetches (content ∷ contents) text within are is = absurd is
+texts_end_in_lf HelpCommand fetches [] text within are is = ends is lf_help
+texts_end_in_lf HelpCommand fetches (content ∷ contents) text within are is = absurd is
+texts_end_in_lf VersionCommand fetches [] text within are is = ends is lf_version
+texts_end_in_lf VersionCommand fetches (content ∷ contents) text within are is = absurd is

@@ -1,0 +1,5 @@
+use Rattle.ants.proofs.HasOutputs.{has_output}
+use Rattle.ants.proofs.laws.has_output.Goals as goal
+
+pub returns : goal.returns
+returns c = has_output

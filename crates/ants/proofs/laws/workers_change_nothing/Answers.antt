@@ -1,0 +1,5 @@
+use Rattle.ants.proofs.OneTexts.{workers_change_nothing}
+use Rattle.ants.proofs.laws.workers_change_nothing.Goals as goal
+
+pub returns : goal.returns
+returns c = workers_change_nothing

@@ -1,0 +1,36 @@
+// What the program tells of itself.
+use crate::status::Status;
+use crate::tests::{Given, Job, NO_JOB, Told, check, check_rows, check_text, cut};
+use std::test::Fail;
+
+// The line of the version.
+const VERSION: [(&str, &str); 1] = [("--version", "ants 1.0.0\n")];
+
+// How the page of all commands begins, some of its lines, and how it ends.
+const PAGE: Told<'static> = Told {
+    start: "ants 1.0.0 plays the ant world of the ICFP Programming Contest 2004.\n\nusage: ants COMMAND WORD.. [OPTION]..\n",
+    lines: "  run WORLD RED BLACK --seed N --rounds N [OPTION]..\n  --help\n  --corpse N    food that a dead ant leaves, 0 to 9; 3\n",
+    end: "README.md and docs/RULES.md have the rules, the form of each file and examples.\n",
+};
+
+// The words that ask for the page.
+const HELP: Job<'static> = Job {
+    line: "--help",
+    ..NO_JOB
+};
+
+#[test]
+fn the_page_and_the_version_are_printed(rt: HostRuntime) -> Result<(), Fail> {
+    check_text(&rt, rt.alloc(), &HELP, PAGE)?;
+    check_rows(&rt, rt.alloc(), NO_JOB, Given::Line, Status::Done, &VERSION)
+}
+
+#[test]
+fn a_page_that_is_cut_is_a_failed_output(rt: HostRuntime) -> Result<(), Fail> {
+    let job = Job {
+        failing_push: 2,
+        ..HELP
+    };
+    let front = "ants 1.0.0 plays the ant world of the ICFP Programming Contest 2004.\n";
+    check(&rt, rt.alloc(), &job, cut(front, "ants: output failed\n"))
+}
