@@ -31,7 +31,7 @@ use Rattle.round_book.specs.declared.verdict.Verdict.TheVariants.{Taken, Redone}
 use Rattle.round_book.specs.Book.{AgreesUnwritten, BookValue, CanPatchIn, CanTake, HoldsInBook, IsCause, IsEnded, IsRedone, IsSameWindow, IsTaken, Stands, Wrote, moment_of}
 use Rattle.round_book.specs.Machine.{taken}
 use Rattle.round_book.specs.Window.{HoldsIn, IsPlayable, IsVerdict, AreVerdicts, Window, guess_for, look_for, moment_before}
-use Rattle.round_book.proofs.MachineLemmas.{Keeps-moment_before, moment_before-suc}
+use Rattle.round_book.proofs.MachineLemmas.{IsSound-playable, Keeps-moment_before, moment_before-suc}
 use Rattle.round_book.proofs.MarkLemmas.{Contains-cons, none_contained}
 use Rattle.round_book.proofs.PassLemmas.{patched_cells-other}
 use Rattle.round_book.proofs.WindowLemmas.{GoesOn-Keeps, LookIsTurn-window}
@@ -89,7 +89,7 @@ IsRedone-ended minds found look book new valid is ended = record {
 -- where a book stands
 module _ (window : Window) (book : BookValue) (playable : IsPlayable window) (stands : Stands window book) where
   pub keeps : Keeps window.minds window.base (world_of book.world)
-  keeps = subst (λ (m : Moment). Keeps window.minds window.base m.world) (sym stands.now) (Keeps-moment_before window book.next playable)
+  keeps = subst (λ (m : Moment). Keeps window.minds window.base m.world) (sym stands.now) (Keeps-moment_before window book.next (IsSound-playable window playable))
 
   -- what a look read that wasn't written is there
   unwritten_all : (claims : List Claim) → AllByRecursion (AgreesUnwritten book) (with_cells_at window.base.cells claims)
@@ -113,7 +113,7 @@ module _ (window : Window) (book : BookValue) (playable : IsPlayable window) (st
   pub look_for-CanTake : (t : ℕ) → HoldsInBook book (look_for window t) → CanTake (world_of book.world) (look_for window t).writes
   unfolding look_for
   look_for-CanTake t holds =
-      look-CanTake window.minds window.seed window.base (guess_for window t) (world_of book.world) book.place t playable.sound playable.valid keeps.valid keeps.fits (GoesOn-Keeps window (world_of book.world) t playable keeps) (look_for-holds t holds)
+      look-CanTake window.minds window.seed window.base (guess_for window t) (world_of book.world) book.place t playable.sound playable.valid keeps.valid keeps.fits (GoesOn-Keeps window (world_of book.world) t (IsSound-playable window playable) keeps) (look_for-holds t holds)
 
 -- what isn't contained is apart
 apart_from : (writes : List Sighting) (p : Pos) → ¬ Contains (seen_positions writes) p → AllByRecursion (λ q. q ≢ p) (seen_positions writes)
@@ -194,7 +194,7 @@ module _ (window : Window) (book new : BookValue) (playable : IsPlayable window)
         seed = same.seed ∙ stands.seed;
         from = same.from ∙ stands.from;
         to = same.to ∙ stands.to;
-        now = now_more begun taken_so.ended.next (taken_so.ended.now ∙ LookIsTurn-window window playable (moment_of book) book.next below (keeps window book playable stands) holds);
+        now = now_more begun taken_so.ended.next (taken_so.ended.now ∙ LookIsTurn-window window (IsSound-playable window playable) (moment_of book) book.next below (keeps window book playable stands) holds);
         verdicts = verdicts_more Taken begun taken_so.ended.next taken_so.ended.verdicts holds;
         unwritten = λ p none.
             ap (λ (m : Moment). m.world.cells p) taken_so.ended.now

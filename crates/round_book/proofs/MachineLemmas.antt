@@ -12,7 +12,7 @@ use Rattle.round_book.specs.declared.verdict.Verdict.TheVariants.{Taken, Redone}
 use Rattle.round_book.specs.Machine.{AreDealt, AreLawful, CanSettle, Event, IsReached, State, dealt, first_state, happens, run, settled, taken, times}
 use Rattle.round_book.specs.Machine.Event.{Draws, Puts, Settles}
 use Rattle.round_book.specs.Machine.{IsLawful}
-use Rattle.round_book.specs.Window.{Window, AreVerdicts, HoldsIn, IsPlayable, IsVerdict, look_for, moment_before}
+use Rattle.round_book.specs.Window.{Window, AreVerdicts, HoldsIn, IsPlayable, IsSound, IsVerdict, look_for, moment_before}
 
 -- a look that holds is worth its turn
 abbrev pub LookIsTurn : Window → Type 0
@@ -34,11 +34,15 @@ moment_before-suc window t before =
     ap (λ n. after_turns window.minds window.seed (record { world = window.base; place = window.place }) window.from n) more
     ∙ ap (λ u. after_turn window.minds window.seed (after_turns window.minds window.seed (record { world = window.base; place = window.place }) window.from (t - window.from)) u) here
 
+-- a window that may be played is one whose turns are turns
+pub IsSound-playable : (window : Window) → IsPlayable window → IsSound window
+IsSound-playable window playable = record { valid = playable.valid; sound = playable.sound; fits = playable.fits; forwards = playable.forwards }
+
 -- what the turns of a window keep of its base
-pub Keeps-moment_before : (window : Window) (t : ℕ) → IsPlayable window → Keeps window.minds window.base (moment_before window t).world
+pub Keeps-moment_before : (window : Window) (t : ℕ) → IsSound window → Keeps window.minds window.base (moment_before window t).world
 unfolding moment_before
-Keeps-moment_before window t playable =
-    Keeps-after_turns window.minds window.seed (record { world = window.base; place = window.place }) window.from (t - window.from) playable.sound playable.valid playable.fits
+Keeps-moment_before window t sound =
+    Keeps-after_turns window.minds window.seed (record { world = window.base; place = window.place }) window.from (t - window.from) sound.sound sound.valid sound.fits
 
 -- how often a number stands in a list with one more at its end
 times-append : (x : ℕ) (xs : List ℕ) (y : ℕ) → times x (xs ++ y ∷ []) ≡ times x xs + one_if (nat_eq y x)
@@ -89,14 +93,14 @@ AreDealt-more c hands hand before = record {
   own = ap (times c) (dealt-own hands hand c) ∙ times-same c (hands hand) ∙ ap (λ n. n + 1) (before.no_other c (omega arith) hand)
 
 -- the moment after the next turn, however it is settled
-settled-next : (window : Window) (state : State) (verdict : Verdict) → IsPlayable window → LookIsTurn window → IsReached window state → CanSettle window state verdict → settled window state.now state.next verdict ≡ after_turn window.minds window.seed state.now state.next
-settled-next window state Taken playable worth reached can =
-    worth state.now state.next can.in_window (subst (λ m. Keeps window.minds window.base m.world) (sym reached.now) (Keeps-moment_before window state.next playable)) can.is_verdict
-settled-next window state (Redone cause) playable worth reached can = refl
+settled-next : (window : Window) (state : State) (verdict : Verdict) → IsSound window → LookIsTurn window → IsReached window state → CanSettle window state verdict → settled window state.now state.next verdict ≡ after_turn window.minds window.seed state.now state.next
+settled-next window state Taken sound worth reached can =
+    worth state.now state.next can.in_window (subst (λ m. Keeps window.minds window.base m.world) (sym reached.now) (Keeps-moment_before window state.next sound)) can.is_verdict
+settled-next window state (Redone cause) sound worth reached can = refl
 
 -- one event
-IsReached-happens : (window : Window) (state : State) (event : Event) → IsPlayable window → LookIsTurn window → IsReached window state → IsLawful window state event → IsReached window (happens window state event)
-IsReached-happens window state (Draws hand) playable worth reached lawful = record {
+IsReached-happens : (window : Window) (state : State) (event : Event) → IsSound window → LookIsTurn window → IsReached window state → IsLawful window state event → IsReached window (happens window state event)
+IsReached-happens window state (Draws hand) sound worth reached lawful = record {
   from_first = reached.from_first;
   to_last = reached.to_last;
   now = reached.now;
@@ -104,7 +108,7 @@ IsReached-happens window state (Draws hand) playable worth reached lawful = reco
   dealt = AreDealt-more state.drawn state.hands hand reached.dealt;
   drew_it = λ put is_put. dealt-Contains state.hands hand state.drawn put.ticket put.hand (reached.drew_it put is_put);
 }
-IsReached-happens window state (Puts hand ticket) playable worth reached lawful = record {
+IsReached-happens window state (Puts hand ticket) sound worth reached lawful = record {
   from_first = reached.from_first;
   to_last = reached.to_last;
   now = reached.now;
@@ -115,10 +119,10 @@ IsReached-happens window state (Puts hand ticket) playable worth reached lawful 
       (λ new. subst (λ one. Contains (state.hands one.hand) one.ticket) new lawful.is_held)
       (Contains-push_cases state.put (record { hand = hand; ticket = ticket }) put is_put);
 }
-IsReached-happens window state (Settles verdict) playable worth reached lawful = record {
+IsReached-happens window state (Settles verdict) sound worth reached lawful = record {
   from_first = let l = reached.from_first in omega arith;
   to_last = let l : state.next < window.to = lawful.in_window in omega arith;
-  now = settled-next window state verdict playable worth reached lawful
+  now = settled-next window state verdict sound worth reached lawful
       ∙ ap (λ m. after_turn window.minds window.seed m state.next) reached.now
       ∙ sym (moment_before-suc window state.next reached.from_first);
   verdicts =
@@ -137,16 +141,16 @@ AreLawful-append window state [] more lawful then = then
 AreLawful-append window state (event ∷ first) more lawful then = (lawful.0, AreLawful-append window (happens window state event) first more lawful.1 then)
 
 -- events, one after another
-IsReached-run : (window : Window) (state : State) (events : List Event) → IsPlayable window → LookIsTurn window → IsReached window state → AreLawful window state events → IsReached window (run window state events)
-IsReached-run window state [] playable worth reached lawful = reached
-IsReached-run window state (event ∷ events) playable worth reached lawful =
-    IsReached-run window (happens window state event) events playable worth (IsReached-happens window state event playable worth reached lawful.0) lawful.1
+IsReached-run : (window : Window) (state : State) (events : List Event) → IsSound window → LookIsTurn window → IsReached window state → AreLawful window state events → IsReached window (run window state events)
+IsReached-run window state [] sound worth reached lawful = reached
+IsReached-run window state (event ∷ events) sound worth reached lawful =
+    IsReached-run window (happens window state event) events sound worth (IsReached-happens window state event sound worth reached lawful.0) lawful.1
 
 -- the first state
-IsReached-first : (window : Window) → IsPlayable window → IsReached window (first_state window)
-IsReached-first window playable = record {
+IsReached-first : (window : Window) → IsSound window → IsReached window (first_state window)
+IsReached-first window sound = record {
   from_first = omega arith;
-  to_last = playable.forwards;
+  to_last = sound.forwards;
   now = sym (moment_before-from window);
   verdicts = subst (λ k. AreVerdicts window k []) (let none : 0 ≡ window.from - window.from = omega arith in none) refl;
   dealt = record { each = λ x below. absurd (omega arith); no_other = λ x above hand. refl };
@@ -154,5 +158,5 @@ IsReached-first window playable = record {
 }
 
 -- the law, where a look that holds is worth its turn
-pub IsReached-every : (window : Window) (events : List Event) → IsPlayable window → LookIsTurn window → AreLawful window (first_state window) events → IsReached window (run window (first_state window) events)
-IsReached-every window events playable worth lawful = IsReached-run window (first_state window) events playable worth (IsReached-first window playable) lawful
+pub IsReached-every : (window : Window) (events : List Event) → IsSound window → LookIsTurn window → AreLawful window (first_state window) events → IsReached window (run window (first_state window) events)
+IsReached-every window events sound worth lawful = IsReached-run window (first_state window) events sound worth (IsReached-first window sound) lawful

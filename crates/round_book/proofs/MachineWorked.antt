@@ -1,5 +1,5 @@
 -- Workers on windows, worked out.
-use Rattle.std.proofs.Common.{◌≡◌, ⊎_elim, ℕ, ◌+◌, ◌-◌, ◌<◌, Bool, true, false, ◌||◌, nat_eq, List, [], ◌∷◌, ◌++◌, None, refl, sym, ◌∙◌, ap, arith}
+use Rattle.std.proofs.Common.{◌≡◌, ⊎_elim, ℕ, zero, suc, ◌+◌, ◌-◌, ◌<◌, Bool, true, false, ◌||◌, nat_eq, slice_get, List, [], ◌∷◌, ◌++◌, None, Some, refl, sym, ◌∙◌, ap, subst, arith}
 use Rattle.std.proofs.lemmas.Bool.{eq-eqb, false≢true, or_left, or_right}
 use Rattle.std.specs.List.{Contains}
 use Rattle.hex_geometry.specs.declared.position.Pos.{Pos}
@@ -13,12 +13,19 @@ use Rattle.cell_world.specs.Grid.{cell_in}
 use Rattle.cell_world.specs.Opening.{floor, opening}
 use Rattle.cell_world.specs.World.{place_in, put_cell}
 use Rattle.ant_random.specs.Stream.{drawn, random_at, state_at}
+use Rattle.cell_world.proofs.OpeningValid.{IsWorld-opening}
+use Rattle.cell_world.proofs.Plans.{IsPlan-test}
+use Rattle.brain_read.specs.Soundness.{IsBrain, IsSound as IsSoundInstr}
+use Rattle.brain_read.specs.declared.instr.Instr.{Instr}
+use Rattle.brain_read.specs.declared.instr.Instr.TheVariants.{Flip, Move}
+use Rattle.ant_turn.proofs.Fitting.{Fits-opening}
 use Rattle.ant_turn.specs.Kills.{check_at, is_surrounded, killed_at, places_around}
 use Rattle.ant_turn.specs.Rounds.{Moment, after_turn}
 use Rattle.ant_turn.specs.Turn.{stepped, turn}
 use Rattle.spec_record.specs.Claims.{Claim, merged}
 use Rattle.spec_record.specs.Guess.{flips, guess}
 use Rattle.spec_record.specs.Look.{look_of}
+use Rattle.spec_record.proofs.LooksWorked.{kinds, minds}
 use Rattle.spec_record.specs.Reads.{reads}
 use Rattle.spec_record.specs.Writes.{writes}
 use Rattle.round_book.specs.declared.verdict.Cause.{Cause}
@@ -28,11 +35,12 @@ use Rattle.round_book.specs.declared.verdict.Verdict.TheVariants.{Taken, Redone}
 use Rattle.round_book.specs.Counts.{look_holds}
 use Rattle.round_book.specs.Machine.{AreLawful, Event, IsLawful, IsPut, Put, State, first_state, run}
 use Rattle.round_book.specs.Machine.Event.{Draws, Puts, Settles}
-use Rattle.round_book.specs.Window.{IsVerdict, Window, guess_for, look_for}
+use Rattle.round_book.specs.Window.{IsSound, IsVerdict, Window, guess_for, look_for, moment_before}
 use Rattle.round_book.proofs.CountLemmas.{Redone-refutes, parts-test}
 use Rattle.round_book.proofs.CountsWorked.{all_seven}
-use Rattle.round_book.proofs.MachineLemmas.{AreLawful-append}
+use Rattle.round_book.proofs.MachineLemmas.{AreLawful-append, IsReached-every}
 use Rattle.round_book.proofs.MarkLemmas.{Contains-cons, none_contained}
+use Rattle.round_book.proofs.WindowLemmas.{LookIsTurn-window}
 use Rattle.round_book.proofs.VerdictLemmas.{held, not_held, unlike}
 
 -- whether a ticket's look is among those that were put
@@ -285,3 +293,60 @@ beyond can = let late : 4 + 1 < 5 = can.is_turn in omega arith
 
 settled-all : (verdict : Verdict) → ¬ IsLawful only_four (run only_four (first_state only_four) four_taken) (Settles verdict)
 settled-all verdict can = let late : 5 < 5 = can.in_window in omega arith
+
+-- a brain of one instruction whose states are its own
+one_brain : (instruction : Instr) → IsSoundInstr 1 instruction → IsBrain (instruction ∷ [])
+one_brain instruction own = record { some = omega arith; few = omega arith; sound = at-most-one } where
+  at-most-one : (i : ℕ) (one : Instr) → slice_get (instruction ∷ []) i ≡ Some one → IsSoundInstr 1 one
+  at-most-one zero one is = let same : instruction ≡ one = (let e : Some instruction ≡ Some one = is in cc) in subst (IsSoundInstr 1) same own
+  at-most-one (suc i) one is = let never : None ≡ Some one = is in absurd (cc)
+
+-- the window of all seven turns is one whose turns are turns
+seven-sound : IsSound all_seven
+seven-sound = record {
+  valid = (IsWorld-opening 7 6 kinds (IsPlan-test 7 6 kinds refl)).valid;
+  sound = record {
+    red = one_brain (Flip 2 0 0) (omega arith, omega arith, omega arith);
+    black = one_brain (Move 0 0) (omega arith, omega arith);
+    corpse = omega arith;
+  };
+  fits = Fits-opening 7 6 kinds minds (omega arith) (omega arith);
+  forwards = omega arith;
+}
+
+-- the window is closed: its last two looks are put, and their turns settled
+abbrev all_settled : List Event
+all_settled = five_settled ++ Draws 1 ∷ Draws 0 ∷ Puts 0 6 ∷ Puts 1 5 ∷ Settles Taken ∷ Settles Taken ∷ []
+
+all-lawful : AreLawful all_seven (first_state all_seven) all_settled
+unfolding patched look_for look_of guess_for after_turn turn reads writes merged stepped is_surrounded check_at killed_at places_around put_cell same_pos neighbours_of adjacent_pos directions guess flips opening cell_in rock floor place_in drawn random_at state_at
+all-lawful = AreLawful-append all_seven (first_state all_seven) five_settled (Draws 1 ∷ Draws 0 ∷ Puts 0 6 ∷ Puts 1 5 ∷ Settles Taken ∷ Settles Taken ∷ []) five-lawful (
+  tt,
+  (
+    tt,
+    (
+      put_so all_seven _ 0 6 (omega arith) (3, omega arith, refl) refl,
+      (
+        put_so all_seven _ 1 5 (omega arith) (2, omega arith, refl) refl,
+        (
+          take_so all_seven _ (omega arith) (1, (6, omega arith, refl)) refl,
+          (
+            take_so all_seven _ (omega arith) (0, (5, omega arith, refl)) refl,
+            tt,
+          ),
+        ),
+      ),
+    ),
+  ),
+)
+
+all-state :
+    ((after all_settled).next ≡ 7)
+    × ((after all_settled).verdicts ≡ Taken ∷ Taken ∷ killed ∷ Taken ∷ guessed ∷ Taken ∷ Taken ∷ [])
+    × ((after all_settled).drawn ≡ 7)
+unfolding patched look_for look_of guess_for after_turn turn reads writes merged stepped is_surrounded check_at killed_at places_around put_cell same_pos neighbours_of adjacent_pos directions guess flips opening cell_in rock floor place_in drawn random_at state_at
+all-state = (refl, refl, refl)
+
+-- so the law says of these very events that they led where the seven turns lead one after another
+all-reached : (after all_settled).now ≡ moment_before all_seven 7
+all-reached = (IsReached-every all_seven all_settled seven-sound (LookIsTurn-window all_seven seven-sound) all-lawful).now ∙ ap (moment_before all_seven) all-state.0

@@ -13,7 +13,7 @@ use Rattle.round_book.specs.Machine.Event.{Draws, Puts, Settles}
 use Rattle.round_book.specs.Window.{AreVerdicts, HoldsIn, IsPlayable, IsVerdict, Window, look_for, moment_before}
 use Rattle.round_book.proofs.BookLemmas.{IsVerdict-cause, look_for-holds}
 use Rattle.round_book.proofs.FieldLemmas.{on-keeps, on-redone, on-taken, on-turn, on-unwritten, on-writes}
-use Rattle.round_book.proofs.MachineLemmas.{AreLawful-append, IsReached-every}
+use Rattle.round_book.proofs.MachineLemmas.{AreLawful-append, IsReached-every, IsSound-playable}
 use Rattle.round_book.proofs.MarkLemmas.{none_contained}
 use Rattle.round_book.proofs.WindowLemmas.{LookIsTurn-window}
 
@@ -101,7 +101,7 @@ module _ (window : Window) (playable : IsPlayable window) where
 
   -- where the events led
   way-now : (n : ℕ) (verdicts : List Verdict) (way : Way window n verdicts) → (run window (first_state window) way.events).now ≡ moment_before window (window.from + n)
-  way-now n verdicts way = (IsReached-every window way.events playable (LookIsTurn-window window playable) way.lawful).now ∙ ap (moment_before window) way.went.next
+  way-now n verdicts way = (IsReached-every window way.events (IsSound-playable window playable) (LookIsTurn-window window (IsSound-playable window playable)) way.lawful).now ∙ ap (moment_before window) way.went.next
 
   way_more : (n : ℕ) (verdicts before : List Verdict) (last : Verdict) → verdicts ≡ before ++ last ∷ [] → window.from + n < window.to → IsVerdict window (moment_before window (window.from + n)) (window.from + n) last →
       Way window n before → Way window (suc n) verdicts

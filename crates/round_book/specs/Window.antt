@@ -27,6 +27,13 @@ pub record Window : Type 0 where
   pub from : ℕ
   pub to : ℕ
 
+-- a window whose turns are turns: its base is a world, its brains are brains and fit it, and it doesn't end before it begins
+pub record IsSound (window : Window) : Type 0 where
+  pub valid : Valid window.base
+  pub sound : AreSound window.minds
+  pub fits : Fits window.base window.minds
+  pub forwards : window.from ≤ window.to
+
 -- a window that may be played: its brains are brains and fit its base, its turns are ids of it, and the stream lasts for them
 pub record IsPlayable (window : Window) : Type 0 where
   pub valid : Valid window.base

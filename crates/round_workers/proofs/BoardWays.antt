@@ -13,7 +13,7 @@ use Rattle.round_book.specs.Machine as machine
 use Rattle.round_book.specs.Machine.{IsReached, times}
 use Rattle.round_book.specs.Machine.Event.{Draws, Puts, Settles}
 use Rattle.round_book.specs.Window.{AreVerdicts, IsPlayable, IsVerdict, Window, moment_before}
-use Rattle.round_book.proofs.MachineLemmas.{AreLawful-append, IsReached-every}
+use Rattle.round_book.proofs.MachineLemmas.{AreLawful-append, IsReached-every, IsSound-playable}
 use Rattle.round_book.proofs.WindowLemmas.{LookIsTurn-window}
 use Rattle.round_workers.specs.declared.board.view.Basis.{Basis}
 use Rattle.round_workers.specs.declared.board.view.BoardSlot.{BoardSlot}
@@ -34,7 +34,7 @@ module _ (window : Window) (playable : IsPlayable window) where
   way-more : (P Q : machine.State → Type 0) (event : machine.Event)
       → ((m : machine.State) → P m → IsReached window m → machine.IsLawful window m event × Q (machine.happens window m event)) → Way window P → Way window Q
   way-more P Q event next way =
-      let reached = IsReached-every window way.events playable (LookIsTurn-window window playable) way.lawful in
+      let reached = IsReached-every window way.events (IsSound-playable window playable) (LookIsTurn-window window (IsSound-playable window playable)) way.lawful in
       let more = next (machine.run window (machine.first_state window) way.events) way.there reached in record {
         events = way.events ++ event ∷ [];
         lawful = AreLawful-append window (machine.first_state window) way.events (event ∷ []) way.lawful (more.0, tt);
@@ -47,7 +47,7 @@ module _ (window : Window) (playable : IsPlayable window) where
     events = way.events;
     lawful = way.lawful;
     there = known (machine.run window (machine.first_state window) way.events) way.there
-        (IsReached-every window way.events playable (LookIsTurn-window window playable) way.lawful);
+        (IsReached-every window way.events (IsSound-playable window playable) (LookIsTurn-window window (IsSound-playable window playable)) way.lawful);
   }
 
 pub way-map : (window : Window) (P Q : machine.State → Type 0) → ((m : machine.State) → P m → Q m) → Way window P → Way window Q

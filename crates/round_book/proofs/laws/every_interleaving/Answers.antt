@@ -3,4 +3,4 @@ use Rattle.round_book.proofs.WindowLemmas.{LookIsTurn-window}
 use Rattle.round_book.proofs.laws.every_interleaving.Goals as goal
 
 pub returns : goal.returns
-returns c = λ window events playable lawful. IsReached-every window events playable (LookIsTurn-window window playable) lawful
+returns c = λ window events sound lawful. IsReached-every window events sound (LookIsTurn-window window sound) lawful
