@@ -1,7 +1,7 @@
 -- What the two seats of a table know, from step to step (this project's own).
 use Rattle.std.specs.Prelude.{◌≡◌, ℕ, ◌+◌, ◌-◌, ◌≤◌, ◌<◌, ◌^◌, true, false, [], ◌∷◌, ◌++◌, slice_index_or, None}
 use Rattle.board_steps.specs.declared.Laid.{Laid}
-use Rattle.round_book.specs.Book.{FieldValue}
+use Rattle.round_book.specs.Book.{FieldValue, IsLentFor, StandsFor}
 use Rattle.round_book.specs.Machine.{times}
 use Rattle.round_workers.specs.declared.board.closing.Closed.{Closed}
 use Rattle.round_workers.specs.declared.board.seat.Board.{Board}
@@ -11,11 +11,9 @@ use Rattle.round_workers.specs.declared.board.view.Phase.TheVariants.{Resting}
 use Rattle.round_workers.specs.declared.board.view.Try.TheVariants.{Never}
 use Rattle.round_workers.specs.declared.board.view.View.{View}
 use Rattle.round_workers.specs.BoardPlays.{has_seen, made_one, newcomer}
-use Rattle.round_workers.specs.BoardRule.{StandsFor}
 use Rattle.round_workers.specs.BoardSeats.{IsSeatOf, basis_of, known, left_look, board_window}
 use Rattle.round_workers.specs.BoardTotals.{once_below}
 use Rattle.round_workers.specs.BoardView.{first_seat}
-use Rattle.round_workers.specs.BoardWorker.{IsLentFor}
 
 -- what a seat knows, but for its tries
 abbrev pub calm : View → View

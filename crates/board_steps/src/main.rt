@@ -9,11 +9,10 @@
 #![tactic(auto)]
 
 ghost use Rattle.std.specs.Prelude.{◌≡◌, ◌≢◌, ℕ, ◌+◌, ◌<◌, ◌≤◌, ◌^◌, true, slice_index_or, IfSome, OnSome};
-ghost use Rattle.round_book.specs.Book.{CanBegin, StandsOn, window_of};
+ghost use Rattle.round_book.specs.Book.{CanBegin, StandsFor, StandsOn, window_of};
 ghost use Rattle.round_book.specs.Machine.{times};
 ghost use Rattle.round_book.specs.Window.{look_for};
 ghost use Rattle.round_workers.specs.BoardPlays.{drew, has_put, views_joined};
-ghost use Rattle.round_workers.specs.BoardRule.{StandsFor};
 ghost use Rattle.round_workers.specs.BoardSeats as seats;
 ghost use Rattle.round_workers.specs.BoardSeats.{IsSeatOf, basis_of, known};
 ghost use Rattle.board_steps.specs.Seats.{AreLeft, IsFirst, IsFor, IsLaid, IsSecond, Shows, calm, first_at, second_at, view_taking};

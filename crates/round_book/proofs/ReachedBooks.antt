@@ -6,30 +6,30 @@ use Rattle.ant_turn.specs.Rounds.{Moment, after_turn}
 use Rattle.round_book.specs.declared.verdict.Cause.{Cause}
 use Rattle.round_book.specs.declared.verdict.Verdict.{Verdict}
 use Rattle.round_book.specs.declared.verdict.Verdict.TheVariants.{Taken, Redone}
-use Rattle.round_book.specs.Book.{BookValue, FieldValue, IsSameWindow, StandsOn, moment_of}
-use Rattle.round_book.specs.BookLaws.{BooksAreReached, IsAt, IsSettled, StandingBooksSettle, next_look, verdict_of, window_of_book}
+use Rattle.round_book.specs.Book.{BookValue, IsSameWindow, StandsFor, moment_of}
+use Rattle.round_book.specs.BookLaws.{BooksAreReached, IsAt, IsSettled, StandingBooksSettle, next_look, verdict_of}
 use Rattle.round_book.specs.Machine.{AreLawful, Event, IsLawful, IsPut, Put, State, first_state, happens, run, taken}
 use Rattle.round_book.specs.Machine.Event.{Draws, Puts, Settles}
 use Rattle.round_book.specs.Window.{AreVerdicts, HoldsIn, IsPlayable, IsVerdict, Window, look_for, moment_before}
 use Rattle.round_book.proofs.BookLemmas.{IsVerdict-cause, look_for-holds}
-use Rattle.round_book.proofs.FieldLemmas.{on-keeps, on-redone, on-taken, on-turn, on-unwritten, on-writes}
+use Rattle.round_book.proofs.FieldLemmas.{for-keeps, for-redone, for-taken, for-turn, for-unwritten, for-writes}
 use Rattle.round_book.proofs.MachineLemmas.{AreLawful-append, IsReached-every, IsSound-playable}
 use Rattle.round_book.proofs.MarkLemmas.{none_contained}
 use Rattle.round_book.proofs.WindowLemmas.{LookIsTurn-window}
 
 pub standing_books_settle : StandingBooksSettle
 standing_books_settle = record {
-  may = λ field book on below. record {
-    turn = on-turn field book on (next_look field book) refl;
-    unwritten = on-unwritten field book on (next_look field book) refl;
-    writes = on-writes field book on (next_look field book) refl;
-    fit = (on-keeps field book on).fits;
+  may = λ window book for below. record {
+    turn = for-turn window book for (next_look window book) refl;
+    unwritten = for-unwritten window book for (next_look window book) refl;
+    writes = for-writes window book for (next_look window book) refl;
+    fit = (for-keeps window book for).fits;
   };
   stands = settled_stands;
 } where
-  settled_stands : (field : FieldValue) (answer : Option Cause) (book new : BookValue) → StandsOn field book → book.next < book.to → IsSettled field.minds (next_look field book) answer book new → IsSameWindow book new → StandsOn field new
-  settled_stands field None book new on below settled same = on-taken field book on new (next_look field book) refl below settled same
-  settled_stands field (Some found) book new on below settled same = on-redone field book on new (next_look field book) field.minds found refl refl settled.0 settled.1 same
+  settled_stands : (window : Window) (answer : Option Cause) (book new : BookValue) → StandsFor window book → book.next < book.to → IsSettled window.minds (next_look window book) answer book new → IsSameWindow book new → StandsFor window new
+  settled_stands window None book new for below settled same = for-taken window book for new (next_look window book) refl below settled same
+  settled_stands window (Some found) book new for below settled same = for-redone window book for new (next_look window book) window.minds found refl refl settled.0 settled.1 same
 
 -- events after events
 run-append : (window : Window) (state : State) (first more : List Event) → run window state (first ++ more) ≡ run window (run window state first) more
@@ -120,49 +120,50 @@ module _ (window : Window) (playable : IsPlayable window) where
       way_more n verdicts before last is (omega arith) said (find_way n before (omega arith) rest)
 
 -- a book that stands
-book_reached : (field : FieldValue) (book : BookValue) → StandsOn field book → book.next ≤ book.to →
-    (events : List Event) × AreLawful (window_of_book field book) (first_state (window_of_book field book)) events × IsAt (run (window_of_book field book) (first_state (window_of_book field book)) events) book
-book_reached field book on within =
-    let its : Window = window_of_book field book in
-    let begun_so : book.from ≤ book.next = on.begun in
-    let end : book.from + (book.next - book.from) ≡ book.next = omega arith in
-    let way = find_way its on.playable (book.next - book.from) book.verdicts (omega arith) on.stands.verdicts in (
+book_reached : (window : Window) (book : BookValue) → StandsFor window book → book.next ≤ book.to →
+    (events : List Event) × AreLawful window (first_state window) events × IsAt (run window (first_state window) events) book
+book_reached window book for within =
+    let begun_so : book.from ≤ book.next = for.begun in
+    let from : book.from ≡ window.from = for.stands.from in
+    let to : book.to ≡ window.to = for.stands.to in
+    let end : window.from + (book.next - window.from) ≡ book.next = omega arith in
+    let way = find_way window for.playable (book.next - window.from) book.verdicts (omega arith) for.stands.verdicts in (
       way.events,
       way.lawful,
       record {
         next = way.went.next ∙ end;
-        now = way-now its on.playable (book.next - book.from) book.verdicts way ∙ ap (moment_before its) end ∙ sym on.stands.now;
+        now = way-now window for.playable (book.next - window.from) book.verdicts way ∙ ap (moment_before window) end ∙ sym for.stands.now;
         verdicts = way.went.verdicts;
       },
     )
 
 -- a turn that was settled is one event
-settled_event : (field : FieldValue) (answer : Option Cause) (book new : BookValue) (state : State) →
-    StandsOn field book → book.next < book.to → IsSettled field.minds (next_look field book) answer book new → IsAt state book → IsPut state (book.next - book.from) →
-    IsLawful (window_of_book field book) state (Settles (verdict_of answer)) × IsAt (happens (window_of_book field book) state (Settles (verdict_of answer))) new
-settled_event field None book new state on below settled at is_put = (
+settled_event : (window : Window) (answer : Option Cause) (book new : BookValue) (state : State) →
+    StandsFor window book → book.next < book.to → IsSettled window.minds (next_look window book) answer book new → IsAt state book → IsPut state (book.next - book.from) →
+    IsLawful window state (Settles (verdict_of answer)) × IsAt (happens window state (Settles (verdict_of answer))) new
+settled_event window None book new state for below settled at is_put = (
   record {
-    in_window = (let e : state.next ≡ book.next = at.next in omega arith);
-    is_put = subst (λ t. IsPut state (t - book.from)) (sym at.next) is_put;
-    is_verdict = subst (λ (m : Moment). HoldsIn (window_of_book field book) m state.next) (sym at.now)
-        (subst (HoldsIn (window_of_book field book) (moment_of book)) (sym at.next) (look_for-holds (window_of_book field book) book on.playable on.stands book.next settled.holds));
+    in_window = (let e : state.next ≡ book.next = at.next in let to : book.to ≡ window.to = for.stands.to in omega arith);
+    is_put = subst (λ n. IsPut state n) (ap₂ (λ (t from : ℕ). t - from) (sym at.next) for.stands.from) is_put;
+    is_verdict = subst (λ (m : Moment). HoldsIn window m state.next) (sym at.now)
+        (subst (HoldsIn window (moment_of book)) (sym at.next) (look_for-holds window book for.playable for.stands book.next settled.holds));
   },
   record {
     next = (let e : state.next ≡ book.next = at.next in let m : new.next ≡ book.next + 1 = settled.ended.next in omega arith);
-    now = ap₂ (λ m t. taken m (look_for (window_of_book field book) t)) at.now at.next ∙ sym settled.ended.now;
+    now = ap₂ (λ m t. taken m (look_for window t)) at.now at.next ∙ sym settled.ended.now;
     verdicts = ap (λ said. said ++ Taken ∷ []) at.verdicts ∙ sym settled.ended.verdicts;
   },
 )
-settled_event field (Some found) book new state on below settled at is_put = (
+settled_event window (Some found) book new state for below settled at is_put = (
   record {
-    in_window = (let e : state.next ≡ book.next = at.next in omega arith);
-    is_put = subst (λ t. IsPut state (t - book.from)) (sym at.next) is_put;
-    is_verdict = subst (λ (m : Moment). IsVerdict (window_of_book field book) m state.next (Redone found)) (sym at.now)
-        (subst (λ t. IsVerdict (window_of_book field book) (moment_of book) t (Redone found)) (sym at.next) (IsVerdict-cause (window_of_book field book) (moment_of book) book.next found settled.0));
+    in_window = (let e : state.next ≡ book.next = at.next in let to : book.to ≡ window.to = for.stands.to in omega arith);
+    is_put = subst (λ n. IsPut state n) (ap₂ (λ (t from : ℕ). t - from) (sym at.next) for.stands.from) is_put;
+    is_verdict = subst (λ (m : Moment). IsVerdict window m state.next (Redone found)) (sym at.now)
+        (subst (λ t. IsVerdict window (moment_of book) t (Redone found)) (sym at.next) (IsVerdict-cause window (moment_of book) book.next found settled.0));
   },
   record {
     next = (let e : state.next ≡ book.next = at.next in let m : new.next ≡ book.next + 1 = settled.1.next in omega arith);
-    now = ap₂ (λ m t. after_turn field.minds field.seed m t) at.now at.next ∙ ap (λ s. after_turn field.minds s (moment_of book) book.next) (sym on.stands.seed) ∙ sym settled.1.now;
+    now = ap₂ (λ m t. after_turn window.minds window.seed m t) at.now at.next ∙ ap (λ s. after_turn window.minds s (moment_of book) book.next) (sym for.stands.seed) ∙ sym settled.1.now;
     verdicts = ap (λ said. said ++ Redone found ∷ []) at.verdicts ∙ sym settled.1.verdicts;
   },
 )

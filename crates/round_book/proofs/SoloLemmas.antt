@@ -53,10 +53,10 @@ Going-none field from to book guess stands begins ends at guessed = record { sta
 
 module _ (field : FieldValue) (from to id : ℕ) (book : BookValue) (guess : ℕ) (going : Going field from to id book guess) where
   pub going-first : from ≤ id
-  going-first = let a : book.from ≡ from = going.begins in let b : book.next ≡ id = going.at in let d : book.from ≤ book.next = going.stands.begun in omega arith
+  going-first = let a : book.from ≡ from = going.begins in let b : book.next ≡ id = going.at in let d : book.from ≤ book.next = going.stands.stands.begun in omega arith
 
   pub going-id : id < to → id < field.world.ids
-  going-id below = let e : book.to ≡ to = going.ends in let l : book.to ≤ field.world.ids = going.stands.playable.ids in omega arith
+  going-id below = let e : book.to ≡ to = going.ends in let l : book.to ≤ field.world.ids = going.stands.stands.playable.ids in omega arith
 
   pub going-guess : id < to → guess + 1 < 2 ^ 63
   going-guess below =
@@ -65,7 +65,7 @@ module _ (field : FieldValue) (from to id : ℕ) (book : BookValue) (guess : ℕ
       let a : book.from ≡ from = going.begins in
       let b : book.to ≡ to = going.ends in
       let first : from ≤ id = going-first in
-      let lasting : field.place + (book.to - book.from) < 2 ^ 63 = going.stands.playable.lasting in
+      let lasting : field.place + (book.to - book.from) < 2 ^ 63 = going.stands.stands.playable.lasting in
       omega arith
 
   module _ (look : LookValue) (minds : Minds) (seed : ℕ) (world : Grid) (own : minds ≡ field.minds) (same_seed : seed ≡ field.seed) (same_world : world ≡ field.world) (is : look ≡ look_of minds seed (world_of world) guess id) where

@@ -21,13 +21,15 @@ use Rattle.round_book.specs.declared.verdict.Verdict.{Verdict}
 use Rattle.round_book.specs.declared.verdict.Verdict.TheVariants.{Taken, Redone}
 use Rattle.round_book.specs.Window.{Window, AreVerdicts, IsPlayable, moment_before}
 
--- what a contract sees of a field: a game's world, brains, seed and place in the stream, and whether it is whole or lent for a window
+-- what a contract sees of a field: a game's world, brains, seed and place in the stream; whether it is whole; and where it is lent, between
+-- which ends its window's turns are
 pub record FieldValue : Type 0 where
   pub world : Grid
   pub minds : Minds
   pub seed : ℕ
   pub place : ℕ
   pub whole : Bool
+  pub lent : Option (ℕ × ℕ)
 
 -- what a contract sees of a book: the window's seed and turns, the next turn, the world and the place that the turns before it left, the
 -- positions that they wrote, and their verdicts in order
@@ -62,6 +64,12 @@ pub record Stands (window : Window) (book : BookValue) : Type 0 where
   pub now : moment_of book ≡ moment_before window book.next
   pub verdicts : AreVerdicts window (book.next - window.from) book.verdicts
   pub unwritten : (p : Pos) → ¬ Contains book.written p → (world_of book.world).cells p ≡ window.base.cells p
+
+-- a book stands for a window: the window may be played, and the book stands on it
+pub record StandsFor (window : Window) (book : BookValue) : Type 0 where
+  pub playable : IsPlayable window
+  pub begun : book.from ≤ book.next
+  pub stands : Stands window book
 
 -- the book with which a window of a field begins
 abbrev pub begun : FieldValue → ℕ → ℕ → BookValue
@@ -151,12 +159,19 @@ pub record CanBegin (field : FieldValue) (from to : ℕ) : Type 0 where
   pub ids : to ≤ field.world.ids
   pub lasting : field.place + (to - from) < 2 ^ 63
 
--- a book stands on a field that is lent for its window
+-- a field that is lent for the window of these turns
+abbrev pub lent_for : FieldValue → ℕ → ℕ → FieldValue
+lent_for field from to = record field { whole = false; lent = Some (from, to) }
+
+-- a field is lent for a window, which is one of its own
+pub record IsLentFor (field : FieldValue) (window : Window) : Type 0 where
+  pub lent : field.lent ≡ Some (window.from, window.to)
+  pub same : window_of field window.from window.to ≡ window
+
+-- a book stands on a field: the field is lent for the window of the book's turns, and the book stands for that window
 pub record StandsOn (field : FieldValue) (book : BookValue) : Type 0 where
-  pub lent : field.whole ≡ false
-  pub playable : IsPlayable (window_of field book.from book.to)
-  pub begun : book.from ≤ book.next
-  pub stands : Stands (window_of field book.from book.to) book
+  pub lent : field.lent ≡ Some (book.from, book.to)
+  pub stands : StandsFor (window_of field book.from book.to) book
 
 -- a field after the turns of a window: it is whole, and stands where they lead to
 pub record IsPlayed (old : FieldValue) (from to : ℕ) (new : FieldValue) : Type 0 where

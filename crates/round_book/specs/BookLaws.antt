@@ -7,18 +7,14 @@ use Rattle.spec_record.specs.Look.{LookValue}
 use Rattle.round_book.specs.declared.verdict.Cause.{Cause}
 use Rattle.round_book.specs.declared.verdict.Verdict.{Verdict}
 use Rattle.round_book.specs.declared.verdict.Verdict.TheVariants.{Taken, Redone}
-use Rattle.round_book.specs.Book.{AgreesUnwritten, BookValue, CanTake, FieldValue, HoldsInBook, IsCause, IsRedone, IsSameWindow, IsTaken, StandsOn, begun, moment_of, window_of}
+use Rattle.round_book.specs.Book.{AgreesUnwritten, BookValue, CanTake, FieldValue, HoldsInBook, IsCause, IsRedone, IsSameWindow, IsTaken, StandsFor, begun, moment_of, window_of}
 use Rattle.round_book.specs.Machine.{AreLawful, Event, IsLawful, IsPut, State, first_state, happens, run}
 use Rattle.round_book.specs.Machine.Event.{Settles}
 use Rattle.round_book.specs.Window.{Window, look_for}
 
--- the window of a field that a book is for
-abbrev pub window_of_book : FieldValue → BookValue → Window
-window_of_book field book = window_of field book.from book.to
-
--- the look at a book's next turn, on the field's world at the turn's guess
-abbrev pub next_look : FieldValue → BookValue → LookValue
-next_look field book = look_for (window_of_book field book) book.next
+-- the look at a book's next turn, on the window's base at the turn's guess
+abbrev pub next_look : Window → BookValue → LookValue
+next_look window book = look_for window book.next
 
 -- what settling a look asks for, and what executing its turn anew with these brains asks for
 pub record MaySettle (minds : Minds) (book : BookValue) (look : LookValue) : Type 0 where
@@ -33,12 +29,12 @@ abbrev pub IsSettled : Minds → LookValue → Option Cause → BookValue → Bo
 IsSettled minds look None book new = IsTaken look book new
 IsSettled minds look (Some found) book new = IsCause look (moment_of book) found × IsRedone minds found book new
 
--- where a book stands on a field, and its next turn is one of the window, the look at that turn may be settled; and once it is settled the
--- book stands on the field
+-- where a book stands for a window, and its next turn is one of the window's, the look at that turn may be settled; and once it is settled
+-- the book stands for the window
 pub record StandingBooksSettle : Type 0 where
-  pub may : (field : FieldValue) (book : BookValue) → StandsOn field book → book.next < book.to → MaySettle field.minds book (next_look field book)
-  pub stands : (field : FieldValue) (answer : Option Cause) (book new : BookValue) →
-      StandsOn field book → book.next < book.to → IsSettled field.minds (next_look field book) answer book new → IsSameWindow book new → StandsOn field new
+  pub may : (window : Window) (book : BookValue) → StandsFor window book → book.next < book.to → MaySettle window.minds book (next_look window book)
+  pub stands : (window : Window) (answer : Option Cause) (book new : BookValue) →
+      StandsFor window book → book.next < book.to → IsSettled window.minds (next_look window book) answer book new → IsSameWindow book new → StandsFor window new
 
 -- a state of the workers on a window and a book of it have the same next turn, world, place and verdicts
 pub record IsAt (state : State) (book : BookValue) : Type 0 where
@@ -55,9 +51,9 @@ verdict_of (Some found) = Redone found
 -- next turn, whose look was put, is one lawful event
 pub record BooksAreReached : Type 0 where
   pub first : (field : FieldValue) (from to : ℕ) → IsAt (first_state (window_of field from to)) (begun field from to)
-  pub reached : (field : FieldValue) (book : BookValue) → StandsOn field book → book.next ≤ book.to →
-      (events : List Event) × AreLawful (window_of_book field book) (first_state (window_of_book field book)) events
-      × IsAt (run (window_of_book field book) (first_state (window_of_book field book)) events) book
-  pub settled : (field : FieldValue) (answer : Option Cause) (book new : BookValue) (state : State) →
-      StandsOn field book → book.next < book.to → IsSettled field.minds (next_look field book) answer book new → IsAt state book → IsPut state (book.next - book.from) →
-      IsLawful (window_of_book field book) state (Settles (verdict_of answer)) × IsAt (happens (window_of_book field book) state (Settles (verdict_of answer))) new
+  pub reached : (window : Window) (book : BookValue) → StandsFor window book → book.next ≤ book.to →
+      (events : List Event) × AreLawful window (first_state window) events
+      × IsAt (run window (first_state window) events) book
+  pub settled : (window : Window) (answer : Option Cause) (book new : BookValue) (state : State) →
+      StandsFor window book → book.next < book.to → IsSettled window.minds (next_look window book) answer book new → IsAt state book → IsPut state (book.next - book.from) →
+      IsLawful window state (Settles (verdict_of answer)) × IsAt (happens window state (Settles (verdict_of answer))) new

@@ -1,9 +1,9 @@
 // A game's field.
-ghost use Rattle.std.specs.Prelude.{◌≡◌, ◌+◌, ◌-◌, ◌<◌, ◌≤◌, ◌^◌, true, false, IfOk, OnOk, OnErr};
+ghost use Rattle.std.specs.Prelude.{◌≡◌, ◌+◌, ◌-◌, ◌<◌, ◌≤◌, ◌^◌, true, None, IfOk, OnOk, OnErr};
 ghost use Rattle.std.specs.List.{Contains};
 ghost use Rattle.cell_world.specs.Grid.{IsWorld, world_of};
 ghost use Rattle.ant_turn.specs.Minds.{AreSound, Fits, minds_of};
-ghost use Rattle.round_book.specs.Book.{CanBegin, FieldValue, StandsOn, begun};
+ghost use Rattle.round_book.specs.Book.{CanBegin, FieldValue, StandsOn, begun, lent_for};
 ghost use Rattle.round_book.specs.Inner.Workspace.{AreMarked};
 
 use crate::book::{Book, vouch};
@@ -14,12 +14,13 @@ use hex_geometry::{OutOfMemory, Pos};
 use std::alloc::Global;
 use std::marker::Model;
 
-/// Where a game stands: its world, its brains, its seed and its place in the stream. It is whole, or lent for a window of turns; while it
-/// is lent it shows what it was when the window began.
+/// Where a game stands: its world, its brains, its seed and its place in the stream. It is whole, or lent for a window of turns, whose ends
+/// it knows; while it is lent it shows what it was when the window began.
 #[derive(Drop)]
 pub struct Field<'b> {
     world: World,
     workspace: Option<Workspace>,
+    lent: Option<(u32, u32)>,
     brains: Brains<'b>,
     seed: u32,
     place: u64,
@@ -39,6 +40,7 @@ impl<'b> Model for Field<'b> {
       seed = field.seed;
       place = field.place;
       whole = is_some field.workspace;
+      lent = field.lent;
     } };
 
     ghost invariant = { λ field. IsFieldKept field.world (minds_of field.brains) field.workspace };
@@ -56,13 +58,14 @@ impl<'b> Field<'b> {
     ) -> Result<Field<'b>, OutOfMemory>
         requires fit { Fits (world_of world) (minds_of brains) }
         requires place { place < 2 ^ 62 }
-        ensures { IfOk result (λ field. field ≡ record { world = world; minds = minds_of brains.entry; seed = seed; place = place; whole = true }) }
+        ensures { IfOk result (λ field. field ≡ record { world = world; minds = minds_of brains.entry; seed = seed; place = place; whole = true; lent = None }) }
     {
         vouch(brains, &world);
         let workspace = Workspace::over(alloc, &world)?;
         Ok(Field {
             world,
             workspace: Some(workspace),
+            lent: None,
             brains,
             seed,
             place,
@@ -103,13 +106,13 @@ impl<'b> Field<'b> {
         self.place
     }
 
-    /// Begins the window of the turns of the ids from `from` up to, and not including, `to`: the field is lent, and the book stands on it,
-    /// with no turn settled yet. The field is whole, `from` is at most `to`, `to` at most the number of ids, and the place with the number
+    /// Begins the window of the turns of the ids from `from` up to, and not including, `to`: the field is lent for them, and the book stands
+    /// on it, with no turn settled yet. The field is whole, `from` is at most `to`, `to` at most the number of ids, and the place with the number
     /// of turns is below 2^63. It is refused for want of memory alone; the field is whole and as before then. No call on the book takes
     /// memory.
     pub fn begin(&mut self, _alloc: Global, from: u32, to: u32) -> Result<Book, OutOfMemory>
         requires { CanBegin self.old from to }
-        ensures lent { OnOk result (self.new ≡ record self.old { whole = false }) }
+        ensures lent { OnOk result (self.new ≡ lent_for self.old from to) }
         ensures book { IfOk result (λ book. book ≡ begun self.old from to) }
         ensures stands { IfOk result (λ book. StandsOn self.new book) }
         ensures unchanged { OnErr result (self.new ≡ self.old) }
@@ -120,7 +123,7 @@ impl<'b> Field<'b> {
     // Lends the workspace, once it has room for the window.
     fn lend(&mut self, from: u32, to: u32) -> Result<Book, OutOfMemory>
         requires { CanBegin self.old from to }
-        ensures lent { OnOk result (self.new ≡ record self.old { whole = false }) }
+        ensures lent { OnOk result (self.new ≡ lent_for self.old from to) }
         ensures book { IfOk result (λ book. book ≡ begun self.old from to) }
         ensures unchanged { OnErr result (self.new ≡ self.old) }
         ensures world { IsWorld self.old.world }
@@ -136,24 +139,25 @@ impl<'b> Field<'b> {
             self.workspace = Some(work);
             return Err(OutOfMemory);
         }
+        self.lent = Some((from, to));
         Ok(Book::over(work, self.seed, self.place, from, to))
     }
 
     // Takes back what was lent, with the world and the place to which the window led: the field's own world is brought up to it at the
     // positions that were written.
     pub(crate) fn take_back(&mut self, mut work: Workspace, place: u64)
-        requires lent { self.old.whole ≡ false }
         requires marks { AreMarked work.world work.marked.items work.written.items }
         requires width { self.old.world.width ≡ work.world.width }
         requires height { self.old.world.height ≡ work.world.height }
         requires ids { self.old.world.ids ≡ work.world.ids }
         requires unwritten { (p : _) → ¬ Contains work.written.items p → (world_of self.old.world).cells p ≡ (world_of work.world).cells p }
         requires fit { Fits (world_of work.world) self.old.minds }
-        ensures { self.new ≡ record self.old { world = work.world; place = place; whole = true } }
+        ensures { self.new ≡ record self.old { world = work.world; place = place; whole = true; lent = None } }
     {
         self.world.catch_up(&work.world, &work.written);
         work.clear();
         self.workspace = Some(work);
+        self.lent = None;
         self.place = place;
     }
 }

@@ -16,9 +16,9 @@ pub fn put_turns_settle()
     ensures { PutTurnsSettle }
 {}
 
-/// Where a book stands on a field, and its next turn is one of the window, the conditions of `settle` are met by the look at that turn on the
-/// field's world at its guess; and after a `settle` that answers nothing, or one that answers a cause and the `redo` for that cause by the
-/// field's brains, the book stands on the field. The call does nothing: its clause is the law.
+/// Where a book stands for a window, and its next turn is one of the window's, the conditions of `settle` are met by the look at that turn on
+/// the window's base at its guess; and after a `settle` that answers nothing, or one that answers a cause and the `redo` for that cause by
+/// the window's brains, the book stands for the window. The call does nothing: its clause is the law.
 pub fn standing_books_settle()
     ensures { StandingBooksSettle }
 {}

@@ -8,7 +8,7 @@ use Rattle.std.specs.Prelude.{IsSomeAnd, slice_index}
 use Rattle.atomic_table.specs.Table.{Act, Allows, Me, State, Valid, carried_after, gives, keeps, step, stepped, takes}
 use Rattle.atomic_table.proofs.Lists.{exchanged, set_else, set_here}
 use Rattle.cell_world.specs.Cell.{one_if}
-use Rattle.round_book.specs.Book.{BookValue}
+use Rattle.round_book.specs.Book.{BookValue, StandsFor}
 use Rattle.round_book.specs.Machine.{times}
 use Rattle.round_book.specs.Window.{Window}
 use Rattle.round_workers.specs.declared.board.view.Basis.{Basis}
@@ -20,7 +20,7 @@ use Rattle.round_workers.specs.declared.board.view.View.{View}
 use Rattle.round_workers.specs.BoardTotals.{summed}
 use Rattle.round_workers.specs.BoardView.{window_about, window_for}
 use Rattle.round_workers.specs.BoardPlays.{after_try, has_seen, opens_now, tells_give_book, tells_open, tells_opened, tells_take_book, with_book, without_book}
-use Rattle.round_workers.specs.BoardRule.{HasHome, IsBookKept, IsKept, StandsFor, has_opened, is_first, only_if, phase_opening, putting, taking}
+use Rattle.round_workers.specs.BoardRule.{HasHome, IsBookKept, IsKept, has_opened, is_first, only_if, phase_opening, putting, taking}
 use Rattle.round_workers.proofs.BoardTotalLemmas.{total-add, total-at, total-gap, total-same, total-set}
 use Rattle.round_workers.proofs.BoardKeeps.{book-stays, first-seat, seated}
 use Rattle.round_workers.proofs.BoardSteps.{IsSameAt, book-kept}

@@ -9,7 +9,7 @@ use Rattle.std.specs.Prelude.{IfSome, slice_index, slice_index_or}
 use Rattle.atomic_table.specs.Table.{Final, Seen, State}
 use Rattle.cell_world.specs.Cell.{one_if}
 use Rattle.spec_record.specs.Look.{LookValue}
-use Rattle.round_book.specs.Book.{BookValue}
+use Rattle.round_book.specs.Book.{BookValue, StandsFor}
 use Rattle.round_book.specs.Machine.{times}
 use Rattle.round_book.specs.Window.{Window, look_for}
 use Rattle.round_workers.specs.declared.board.view.Basis.{Basis}
@@ -19,7 +19,7 @@ use Rattle.round_workers.specs.declared.board.view.Phase.TheVariants.{Resting}
 use Rattle.round_workers.specs.declared.board.view.View.{View}
 use Rattle.round_workers.specs.BoardTotals.{once_below, summed}
 use Rattle.round_workers.specs.BoardView.{spent_seat, window_for}
-use Rattle.round_workers.specs.BoardRule.{HasHome, IsKept, IsLookKept, StandsFor, made_by, putting, taking, turns_of}
+use Rattle.round_workers.specs.BoardRule.{HasHome, IsKept, IsLookKept, made_by, putting, taking, turns_of}
 use Rattle.round_workers.specs.Inner.BoardPlaces.{AreTaken, book_in, look_in}
 use Rattle.round_workers.specs.BoardSeats.{left_if, left_look}
 use Rattle.round_workers.proofs.BoardTotalLemmas.{below-where, once-le, total-alone, total-at, total-two}

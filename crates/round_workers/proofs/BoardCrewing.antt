@@ -9,7 +9,7 @@ use Rattle.cell_world.specs.World.{World}
 use Rattle.ant_turn.specs.Minds.{Minds}
 use Rattle.spec_record.specs.Guess.{guesses_of}
 use Rattle.spec_record.specs.Look.{LookValue}
-use Rattle.round_book.specs.Book.{BookValue, FieldValue, Stands, StandsOn, window_of}
+use Rattle.round_book.specs.Book.{BookValue, FieldValue, IsLentFor, Stands, StandsFor, StandsOn, window_of}
 use Rattle.round_book.specs.Machine.{times}
 use Rattle.round_book.specs.Window.{IsPlayable, Window, look_for}
 use Rattle.round_workers.specs.declared.board.seat.Board.{Board}
@@ -22,11 +22,10 @@ use Rattle.round_workers.specs.declared.board.worker.Worker.{Worker}
 use Rattle.round_workers.specs.Inner.BoardCrew.{AreLooks, HasWorked, IsHired, IsManned, seat_numbers}
 use Rattle.round_workers.specs.Inner.BoardPlaces.{look_in}
 use Rattle.round_workers.specs.BoardPlays.{has_seen, made_one}
-use Rattle.round_workers.specs.BoardRule.{StandsFor}
 use Rattle.round_workers.specs.BoardSeats.{IsSeatOf, known, left_if, left_look}
 use Rattle.round_workers.specs.BoardTotals.{once_below}
 use Rattle.round_workers.specs.BoardView.{first_seat, window_about}
-use Rattle.round_workers.specs.BoardWorker.{IsLentFor, IsWorker, ascends, those_below, guesses_for, turns_in}
+use Rattle.round_workers.specs.BoardWorker.{IsWorker, ascends, those_below, guesses_for, turns_in}
 use Rattle.round_workers.proofs.BoardTotalLemmas.{above-none, below-one, once-suc, times-append}
 
 numbers-snoc : (workers : List Worker) (w : Worker) → seat_numbers (workers ++ w ∷ []) ≡ seat_numbers workers ++ (known w.seat).number ∷ []
@@ -130,10 +129,13 @@ looks-left window v places are k h = subst (λ (o : Option LookValue). IfSome o 
 module _ (field : FieldValue) (from to : ℕ) (window : Window) (is : window ≡ window_of field from to) where
   pub book-for : (book : BookValue) → StandsOn field book → book.from ≡ from → book.to ≡ to → StandsFor window book
   book-for book on begins ends = let one : window_of field book.from book.to ≡ window = ap₂ (window_of field) begins ends ∙ sym is in
-      record { playable = subst IsPlayable one on.playable; begun = on.begun; stands = subst (λ (w : Window). Stands w book) one on.stands }
+      subst (λ (w : Window). StandsFor w book) one on.stands
 
-  pub lent-for : field.whole ≡ false → IsLentFor field window
-  lent-for lent = record { lent = lent; same = subst (λ (w : Window). window_of field w.from w.to ≡ w) (sym is) refl }
+  pub lent-for : (book : BookValue) → StandsOn field book → book.from ≡ from → book.to ≡ to → IsLentFor field window
+  lent-for book on begins ends = record {
+    lent = on.lent ∙ ap₂ (λ (a b : ℕ). Some (a, b)) (begins ∙ sym (ap (λ (w : Window). w.from) is)) (ends ∙ sym (ap (λ (w : Window). w.to) is));
+    same = subst (λ (w : Window). window_of field w.from w.to ≡ w) (sym is) refl;
+  }
 
 -- what holds of all holds of those in front, and of the last
 pub all-front : {X : Type 0} (P : X → Type 0) (all front back : List X) → all ≡ front ++ back → All P all → All P front

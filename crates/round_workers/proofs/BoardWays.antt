@@ -7,7 +7,7 @@ use Rattle.std.proofs.lemmas.List.Elements.{Contains-append_left, Contains-appen
 use Rattle.atomic_table.specs.Table.{State}
 use Rattle.ant_turn.specs.Rounds.{Moment}
 use Rattle.round_book.specs.declared.verdict.Verdict.{Verdict}
-use Rattle.round_book.specs.Book.{BookValue}
+use Rattle.round_book.specs.Book.{BookValue, StandsFor}
 use Rattle.round_book.specs.BookLaws.{IsAt}
 use Rattle.round_book.specs.Machine as machine
 use Rattle.round_book.specs.Machine.{IsReached, times}
@@ -19,7 +19,7 @@ use Rattle.round_workers.specs.declared.board.view.Basis.{Basis}
 use Rattle.round_workers.specs.declared.board.view.BoardSlot.{BoardSlot}
 use Rattle.round_workers.specs.declared.board.view.View.{View}
 use Rattle.round_workers.specs.BoardLaws.{BoardsAreReached, Mirrors, Way, putters}
-use Rattle.round_workers.specs.BoardRule.{IsKept, StandsFor, putting, turns_of}
+use Rattle.round_workers.specs.BoardRule.{IsKept, putting, turns_of}
 use Rattle.round_workers.specs.BoardView.{window_for}
 use Rattle.round_workers.proofs.BoardLawLemmas.{drew-first, turns-alone}
 use Rattle.round_workers.proofs.BoardTotalLemmas.{below-where, total-add, total-le}

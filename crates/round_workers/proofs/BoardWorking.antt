@@ -1,5 +1,5 @@
 -- What a worker does with a ticket.
-use Rattle.std.proofs.Common.{◌≡◌, ◌≢◌, ℕ, zero, suc, ◌+◌, ◌-◌, ◌<◌, ◌≤◌, Bool, true, false, ◌&&◌, cond, nat_eq, nat_le, nat_lt, List, [], ◌∷◌, ◌++◌, map, length, slice_index_or, sym, refl, ap, ap₂, ◌∙◌, subst, arith, length-append, lt_of_not-le, Option}
+use Rattle.std.proofs.Common.{◌≡◌, ◌≢◌, ℕ, zero, suc, ◌+◌, ◌-◌, ◌<◌, ◌≤◌, Bool, true, false, ◌&&◌, cond, nat_eq, nat_le, nat_lt, List, [], ◌∷◌, ◌++◌, map, length, slice_index_or, Some, sym, refl, ap, ap₂, ◌∙◌, subst, arith, length-append, lt_of_not-le, Option}
 use native.Mathlib.Decide.{dec_le}
 use Rattle.std.specs.List.{AllByRecursion}
 use Rattle.std.proofs.lemmas.Bool.{false≢true, le-leb, leb-true, lt-ltb, le-ltb}
@@ -8,14 +8,13 @@ use Rattle.cell_world.specs.World.{World}
 use Rattle.ant_turn.specs.Minds.{Minds}
 use Rattle.spec_record.specs.Guess.{guess, guesses_of}
 use Rattle.spec_record.specs.Look.{LookValue, look_of}
-use Rattle.round_book.specs.Book.{BookValue, FieldValue, IsSameWindow, Stands, StandsOn, window_of}
+use Rattle.round_book.specs.Book.{BookValue, FieldValue, IsLentFor, IsSameWindow, Stands, StandsFor, StandsOn, window_of}
 use Rattle.round_book.specs.Machine.{times}
 use Rattle.round_book.specs.Window.{IsPlayable, Window, guess_for, look_for}
 use Rattle.round_workers.specs.declared.board.view.View.{View}
 use Rattle.round_workers.specs.BoardPlays.{drew, has_put}
-use Rattle.round_workers.specs.BoardRule.{StandsFor}
 use Rattle.round_workers.specs.BoardView.{window_about}
-use Rattle.round_workers.specs.BoardWorker.{HasServed, IsLentFor, IsSameButTook, IsWorker, ascends, those_below, guesses_for, turns_in}
+use Rattle.round_workers.specs.BoardWorker.{HasServed, IsSameButTook, IsWorker, ascends, those_below, guesses_for, turns_in}
 use Rattle.round_workers.proofs.BoardTotalLemmas.{late-append, late-one, other-none, same-one, times-append}
 
 and_both : (x y : Bool) → (x && y) ≡ true → (x ≡ true) × (y ≡ true)
@@ -199,11 +198,11 @@ module _ (field : FieldValue) (window : Window) (lent : IsLentFor field window) 
 
   pub on-for : (book : BookValue) → StandsFor window book → StandsOn field book
   on-for book for = let one = its-window book for.stands.from for.stands.to in
-      record { lent = lent.lent; playable = subst IsPlayable (sym one) for.playable; begun = for.begun; stands = subst (λ (w : Window). Stands w book) (sym one) for.stands }
+      record { lent = lent.lent ∙ ap₂ (λ (from to : ℕ). Some (from, to)) (sym for.stands.from) (sym for.stands.to); stands = subst (λ (w : Window). StandsFor w book) (sym one) for }
 
   pub for-on : (old book : BookValue) → StandsFor window old → IsSameWindow old book → StandsOn field book → StandsFor window book
   for-on old book for same on = let one = its-window book (same.from ∙ for.stands.from) (same.to ∙ for.stands.to) in
-      record { playable = for.playable; begun = on.begun; stands = subst (λ (w : Window). Stands w book) one on.stands }
+      subst (λ (w : Window). StandsFor w book) one on.stands
 
   pub look-on : (book : BookValue) (look : LookValue) → StandsFor window book → look ≡ look_for window book.next → look ≡ look_for (window_of field book.from book.to) book.next
   look-on book look for is = is ∙ ap (λ (w : Window). look_for w book.next) (sym (its-window book for.stands.from for.stands.to))

@@ -7,7 +7,7 @@ use Rattle.cell_world.specs.Cell.{one_if}
 use Rattle.round_book.specs.Machine as machine
 use Rattle.round_book.specs.Machine.{times}
 use Rattle.round_book.specs.Machine.Event.{Draws, Puts}
-use Rattle.round_book.specs.Book.{BookValue}
+use Rattle.round_book.specs.Book.{BookValue, StandsFor}
 use Rattle.round_book.specs.BookLaws.{IsAt}
 use Rattle.round_book.specs.Window.{Window, look_for}
 use Rattle.round_workers.specs.declared.board.view.Basis.{Basis}
@@ -16,7 +16,7 @@ use Rattle.round_workers.specs.declared.board.view.BoardSlot.TheVariants.{OneLoo
 use Rattle.round_workers.specs.declared.board.view.Phase.TheVariants.{Putting}
 use Rattle.round_workers.specs.declared.board.view.View.{View}
 use Rattle.round_workers.specs.BoardPlays.{drew, has_put}
-use Rattle.round_workers.specs.BoardRule.{HasBook, HasHome, IsKept, IsSpare, StandsFor, has_opened, putting, taking, turns_of}
+use Rattle.round_workers.specs.BoardRule.{HasBook, HasHome, IsKept, IsSpare, has_opened, putting, taking, turns_of}
 use Rattle.round_workers.specs.BoardTotals.{summed}
 use Rattle.round_workers.specs.BoardView.{book_home, book_out, look_emptied, look_empty, look_full, look_in_hand, window_for}
 

@@ -3,7 +3,7 @@ use Rattle.std.specs.Prelude.{◌≡◌, ◌≢◌, ℕ, suc, ◌+◌, ◌<◌, 
 use Rattle.std.specs.List.{AllByRecursion}
 use Rattle.atomic_table.specs.Table.{Me, Step, rest}
 use Rattle.spec_record.specs.Look.{LookValue}
-use Rattle.round_book.specs.Book.{BookValue}
+use Rattle.round_book.specs.Book.{BookValue, StandsFor}
 use Rattle.round_book.specs.Machine.{times}
 use Rattle.round_book.specs.Window.{look_for}
 use Rattle.round_workers.specs.declared.board.view.BoardSlot.{BoardSlot}
@@ -12,7 +12,6 @@ use Rattle.round_workers.specs.declared.board.view.Phase.TheVariants.{Resting, O
 use Rattle.round_workers.specs.declared.board.view.Try.{Try}
 use Rattle.round_workers.specs.declared.board.view.Try.TheVariants.{Never, OfBook, OfLook}
 use Rattle.round_workers.specs.declared.board.view.View.{View}
-use Rattle.round_workers.specs.BoardRule.{StandsFor}
 use Rattle.round_workers.specs.BoardView.{book_home, book_out, look_full, window_about}
 
 abbrev At : Type 0

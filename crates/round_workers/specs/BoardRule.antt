@@ -8,7 +8,7 @@ use lib.ListN.{get_elem?}
 use Rattle.atomic_table.specs.Table.{State}
 use Rattle.cell_world.specs.Cell.{one_if}
 use Rattle.spec_record.specs.Look.{LookValue}
-use Rattle.round_book.specs.Book.{BookValue, Stands}
+use Rattle.round_book.specs.Book.{BookValue, StandsFor}
 use Rattle.round_book.specs.Machine.{times}
 use Rattle.round_book.specs.Window.{IsPlayable, Window, look_for}
 use Rattle.round_workers.specs.declared.board.view.Basis.{Basis}
@@ -19,12 +19,6 @@ use Rattle.round_workers.specs.declared.board.view.Phase.TheVariants.{Resting, O
 use Rattle.round_workers.specs.declared.board.view.View.{View}
 use Rattle.round_workers.specs.BoardTotals.{late_among, once_below, summed}
 use Rattle.round_workers.specs.BoardView.{spent_seat, window_for}
-
--- a book stands for a window: the window may be played, and the book stands on it
-pub record StandsFor (window : Window) (book : BookValue) : Type 0 where
-  pub playable : IsPlayable window
-  pub begun : book.from ≤ book.next
-  pub stands : Stands window book
 
 -- how many turns a board's window has
 abbrev pub turns_of : Basis → ℕ

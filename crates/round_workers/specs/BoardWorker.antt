@@ -1,7 +1,6 @@
 -- Workers on a board (this project's own).
 use Rattle.std.specs.Prelude.{◌≡◌, ◌≢◌, ℕ, ◌+◌, ◌-◌, ◌<◌, ◌≤◌, Bool, true, false, ◌&&◌, cond, nat_le, nat_lt, List, [], ◌∷◌, map, length}
 use Rattle.std.specs.List.{AllByRecursion}
-use Rattle.round_book.specs.Book.{FieldValue, window_of}
 use Rattle.round_book.specs.Window.{Window}
 use Rattle.spec_record.specs.Guess.{guesses_of}
 use Rattle.round_workers.specs.declared.board.view.View.{View}
@@ -31,11 +30,6 @@ pub record IsWorker (v : View) (made : List ℕ) : Type 0 where
   pub in_order : ascends 0 v.drawn ≡ true
   pub puts : v.put ≡ those_below (turns_in (window_about v.about)) v.drawn
   pub made_them : made ≡ map (λ ticket. (window_about v.about).from + ticket) v.put
-
--- a field is lent for a window
-pub record IsLentFor (field : FieldValue) (window : Window) : Type 0 where
-  pub lent : field.whole ≡ false
-  pub same : window_of field window.from window.to ≡ window
 
 -- the guesses of a window's turns, in order
 abbrev pub guesses_for : Window → List ℕ

@@ -1,13 +1,13 @@
 // The book of a board: it is opened, taken and given.
 ghost use Rattle.std.specs.Prelude.{◌≡◌, ◌+◌, ◌≤◌, ◌∷◌, true, false, Some, IfSome, IfNone, IsSomeAnd, OnSome};
 ghost use Rattle.atomic_table.specs.Table.{rest};
+ghost use Rattle.round_book.specs.Book.{IsLentFor, StandsFor};
 ghost use Rattle.round_workers.specs.declared.board.view.BoardSlot.TheVariants.{Nothing};
 ghost use Rattle.round_workers.specs.declared.board.view.Try.TheVariants.{OfBook};
 ghost use Rattle.round_workers.specs.BoardPlays.{after_try, has_seen, with_book, without_book};
-ghost use Rattle.round_workers.specs.BoardRule.{StandsFor};
 ghost use Rattle.round_workers.specs.BoardSeats.{IsSeatOf, basis_of, known, board_window};
 ghost use Rattle.round_workers.specs.BoardView.{book_out};
-ghost use Rattle.round_workers.specs.BoardWorker.{IsLentFor, IsSameButTook};
+ghost use Rattle.round_workers.specs.BoardWorker.{IsSameButTook};
 
 use crate::board::law::{GivesBook, Opened, Opens, TakesBook};
 use crate::board::places::book_room;

@@ -2,13 +2,13 @@
 ghost use Rattle.std.specs.Prelude.{◌≡◌, ◌+◌, ◌-◌, ◌<◌, ◌≤◌, ℕ, true, false, [], length, map, slice_index_or, None};
 ghost use Rattle.std.specs.Mem.Slots.{slots_filled, slots_items, slots_len};
 ghost use Rattle.std.specs.Vec.{vec_capacity, vec_len};
+ghost use Rattle.round_book.specs.Book.{StandsFor};
 ghost use Rattle.round_workers.specs.declared.board.view.BoardSlot.TheVariants.{Nothing};
 ghost use mathlib.Core.Option.{some};
 ghost use lib.ListN.{get_elem?};
 ghost use Rattle.round_book.specs.Machine.{times};
 ghost use Rattle.round_workers.specs.Inner.BoardPlaces.{AreTaken, look_in};
 ghost use Rattle.round_workers.specs.BoardLaws.{IsWhereClosed, Way};
-ghost use Rattle.round_workers.specs.BoardRule.{StandsFor};
 ghost use Rattle.round_workers.specs.BoardTotals.{once_below};
 ghost use Rattle.round_workers.specs.BoardSeats.{IsSeatOf, basis_of, known, left_look, board_window};
 

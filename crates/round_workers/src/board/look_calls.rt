@@ -4,15 +4,14 @@
 ghost use Rattle.std.specs.Prelude.{◌≡◌, ◌≢◌, ◌+◌, ◌-◌, ◌<◌, ◌≤◌, ◌^◌, ◌∷◌, ℕ, true, false, Some, IfSome, IfNone, OnSome, MatchBool};
 ghost use Rattle.atomic_table.specs.Table.{rest};
 ghost use Rattle.round_book.specs.Book as books;
-ghost use Rattle.round_book.specs.Book.{IsSameWindow, StandsOn};
+ghost use Rattle.round_book.specs.Book.{IsLentFor, IsSameWindow, StandsFor, StandsOn};
 ghost use Rattle.round_book.specs.Machine.{times};
 ghost use Rattle.round_book.specs.Window.{guess_for, look_for};
 ghost use Rattle.round_workers.specs.declared.board.view.Phase.TheVariants.{Resting, Putting, Taking};
 ghost use Rattle.round_workers.specs.declared.board.view.BoardSlot.TheVariants.{Nothing};
 ghost use Rattle.round_workers.specs.BoardPlays.{has_put, has_taken, puts_now, takes_now, took_look};
-ghost use Rattle.round_workers.specs.BoardRule.{StandsFor, turns_of};
+ghost use Rattle.round_workers.specs.BoardRule.{turns_of};
 ghost use Rattle.round_workers.specs.BoardSeats.{IsMiss, IsSeatOf, basis_of, known, board_window};
-ghost use Rattle.round_workers.specs.BoardWorker.{IsLentFor};
 
 use crate::board::law::{HasPut, HasTaken, Puts, TakesLook};
 use crate::board::places::look_room;

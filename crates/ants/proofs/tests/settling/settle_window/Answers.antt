@@ -49,7 +49,7 @@ going-at field old book guesses k id given below stands same next here =
 pub look-look-requires-clause-id : goal.look-look-requires-clause-id
 look-look-requires-clause-id c =
     let ids = ap (λ (grid : Grid). grid.ids) c.world.ensures.world in
-    let last = c.requires.stands.playable.ids in
+    let last = c.requires.stands.stands.playable.ids in
     let many = length-given c.args.field.now c.args.book.now c.args.guesses.now c.requires.guesses in
     let next = c.loop-guess.invariant.next in
     let here = c.next-id.ensures.next in
@@ -79,5 +79,5 @@ returns-clause-done c =
     let many = length-given c.args.field.now c.args.book.now c.args.guesses.now c.requires.guesses in
     let next = c.loop-guess.invariant.next in
     let to = c.loop-guess.invariant.same.to in
-    let forwards = c.requires.stands.playable.forwards in
+    let forwards = c.requires.stands.stands.playable.forwards in
     omega (arith, many, next, to, forwards, c.loop-guess-test.false, c.loop-guess.auto.guess-index-end)

@@ -1,5 +1,5 @@
 use Rattle.std.proofs.Common.{false, sym, subst}
-use Rattle.round_book.specs.Book.{BookValue, FieldValue, StandsOn}
+use Rattle.round_book.specs.Book.{BookValue, FieldValue, StandsOn, lent_for}
 use Rattle.round_book.proofs.FieldLemmas.{ok_both, on-begun}
 use Rattle.round_book.proofs.field.Field.begin.Goals as goal
 
@@ -8,6 +8,6 @@ returns-clause-stands c =
     ok_both c.lend.result
     (λ (book : BookValue) is lent.
     subst (λ (field : FieldValue). StandsOn field book) (sym lent)
-    (subst (StandsOn (record c.args.self.now { whole = false })) (sym is)
+    (subst (StandsOn (lent_for c.args.self.now c.args.from c.args.to)) (sym is)
     (on-begun c.args.self.now c.args.from c.args.to c.requires c.lend.ensures.world c.lend.ensures.sound c.lend.ensures.fit)))
     c.lend.ensures.book c.lend.ensures.lent

@@ -1,4 +1,4 @@
-use Rattle.std.proofs.Common.{◌≡◌, ℕ, ◌-◌, ◌≤◌, ◌<◌, ◌^◌, length, true, sym, ◌∙◌, ap, ap₂, subst, arith}
+use Rattle.std.proofs.Common.{◌≡◌, ℕ, ◌-◌, ◌≤◌, ◌<◌, ◌^◌, length, true, None, sym, ◌∙◌, ap, ap₂, subst, arith}
 use Rattle.std.specs.List.{count_by}
 use Rattle.cell_world.specs.Grid.{Grid, world_of}
 use Rattle.ant_turn.specs.Minds.{Fits}
@@ -46,7 +46,7 @@ overflow_sub-result c =
 
 pub returns-clause-played : goal.returns-clause-played
 returns-clause-played c =
-    let made : Grid → ℕ → FieldValue = λ g n. record c.args.self.now { world = g; place = n; whole = true } in
+    let made : Grid → ℕ → FieldValue = λ g n. record c.args.self.now { world = g; place = n; whole = true; lent = None } in
     end-played c.args.self.now c.args.book c.requires.stands c.requires.done c.take_back.new.self
     (c.take_back.ensures ∙ ap₂ made c.close-work.ensures.world c.close-work.ensures.place)
 

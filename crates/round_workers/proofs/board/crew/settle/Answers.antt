@@ -26,7 +26,7 @@ open_book-requires-clause-begins g c = c.requires.next ∙ sym c.requires.from
 pub hire-requires-clause-manned : goal.hire-requires-clause-manned
 hire-requires-clause-manned g c =
     let board = c.args.laid.board in let field = c.args.field.now in let laid = c.requires.laid in
-    let lent = lent-for field c.args.from c.args.to (board_window board) laid.window c.requires.stands.lent in
+    let lent = lent-for field c.args.from c.args.to (board_window board) laid.window c.args.book c.requires.stands c.requires.from c.requires.to in
     subst (IsManned board c.open_book.new.seat) (sym laid.bare) (manned-first board c.open_book.new.seat (basis_of board) c.open_book.ensures.board (c.open_book.ensures.opened ∙ ap has_seen laid.first))
 
 pub hire-requires-clause-hired : goal.hire-requires-clause-hired
@@ -38,7 +38,7 @@ hire-requires-clause-lists g c = subst (λ (w : Window). All (IsRoom (turns_in w
 pub work_all-requires-clause-field : goal.work_all-requires-clause-field
 work_all-requires-clause-field g c κs within =
     let board = c.args.laid.board in let field = c.args.field.now in let laid = c.requires.laid in
-    let lent = lent-for field c.args.from c.args.to (board_window board) laid.window c.requires.stands.lent in
+    let lent = lent-for field c.args.from c.args.to (board_window board) laid.window c.args.book c.requires.stands c.requires.from c.requires.to in
     lent
 
 pub work_all-requires-clause-guesses : goal.work_all-requires-clause-guesses
@@ -47,7 +47,7 @@ work_all-requires-clause-guesses g c κs within = c.requires.guesses ∙ ap gues
 pub settle_left-requires-clause-stands : goal.settle_left-requires-clause-stands
 settle_left-requires-clause-stands g c =
     let board = c.args.laid.board in let field = c.args.field.now in let laid = c.requires.laid in
-    let lent = lent-for field c.args.from c.args.to (board_window board) laid.window c.requires.stands.lent in
+    let lent = lent-for field c.args.from c.args.to (board_window board) laid.window c.args.book c.requires.stands c.requires.from c.requires.to in
     on-for field (board_window board) lent c.take_apart-ended.result.book c.take_apart-ended.ensures.book
 
 pub settle_left-requires-clause-from : goal.settle_left-requires-clause-from
@@ -59,7 +59,7 @@ settle_left-requires-clause-to g c = c.take_apart-ended.ensures.book.stands.to �
 pub settle_left-requires-clause-looks : goal.settle_left-requires-clause-looks
 settle_left-requires-clause-looks g c =
     let board = c.args.laid.board in let field = c.args.field.now in let laid = c.requires.laid in
-    let lent = lent-for field c.args.from c.args.to (board_window board) laid.window c.requires.stands.lent in
+    let lent = lent-for field c.args.from c.args.to (board_window board) laid.window c.args.book c.requires.stands c.requires.from c.requires.to in
     subst (λ (w : Window). AreLooks w c.take_apart-ended.result.places.items) laid.window (looks-left (board_window board) (known c.gather.new.first) c.take_apart-ended.result.places.items c.take_apart-ended.ensures.looks)
 
 pub gather-requires-clause-manned : goal.gather-requires-clause-manned

@@ -1,8 +1,8 @@
 use Rattle.std.proofs.Common.{Some, arith, sym, ap, ◌∙◌, subst}
 use Rattle.std.specs.Prelude.{IsSomeAnd}
+use Rattle.round_book.specs.Book.{StandsFor}
 use Rattle.round_workers.specs.declared.board.view.BoardSlot.TheVariants.{Nothing, TheBook}
 use Rattle.round_workers.specs.Inner.BoardPlaces.{book_room}
-use Rattle.round_workers.specs.BoardRule.{StandsFor}
 use Rattle.round_workers.specs.BoardSeats.{basis_of, board_window}
 use Rattle.round_workers.specs.BoardView.{window_about}
 use Rattle.round_workers.proofs.BoardBook.{takes-book}

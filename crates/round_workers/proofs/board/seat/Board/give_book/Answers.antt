@@ -1,8 +1,8 @@
 use Rattle.std.proofs.Common.{None, sym, ap, ◌∙◌, [], subst}
 use Rattle.std.specs.Prelude.{IsSomeAnd}
+use Rattle.round_book.specs.Book.{StandsFor}
 use Rattle.round_workers.specs.declared.board.view.BoardSlot.TheVariants.{Nothing, TheBook}
 use Rattle.round_workers.specs.Inner.BoardPlaces.{book_room}
-use Rattle.round_workers.specs.BoardRule.{StandsFor}
 use Rattle.round_workers.specs.BoardSeats.{board_window}
 use Rattle.round_workers.specs.BoardView.{out_with}
 use Rattle.round_workers.proofs.BoardMoves.{At, lay-in, slot-held, some-there, swapped}
