@@ -1,7 +1,7 @@
 // A board: the tickets, the book and the looks of a window, passed between threads.
-ghost use Rattle.std.specs.Prelude.{◌≡◌, ◌≢◌, ℕ, false, ◌+◌, ◌-◌, ◌<◌, ◌≤◌, ◌^◌, [], length, IfOk};
+ghost use Rattle.std.specs.Prelude.{◌≡◌, ◌≢◌, ℕ, false, ◌+◌, ◌-◌, ◌<◌, ◌≤◌, ◌^◌, [], length, IfOk, OnOk};
 ghost use Rattle.std.specs.List.{AllByRecursion};
-ghost use Rattle.std.specs.Vec.{vec_capacity};
+ghost use Rattle.std.specs.Vec.{vec_capacity, vec_len};
 ghost use Rattle.round_book.specs.Book.{CanBegin, window_of};
 ghost use Rattle.round_book.specs.Machine.{times};
 ghost use Rattle.round_book.specs.Window.{IsPlayable};
@@ -58,7 +58,8 @@ impl Board {
         Board::over(alloc, field, from, to, &mut kept)
     }
 
-    // The same, with the rooms for looks that were kept, and such as are wanted besides. Where it is refused, the rooms are kept still.
+    // The same, with the rooms for looks that were kept, and such as are wanted besides. Where it is refused, the rooms are kept still; else
+    // their list has room for those of the window.
     pub(crate) fn over(
         alloc: Global,
         field: &Field<'_>,
@@ -70,9 +71,11 @@ impl Board {
         ensures window { IfOk result (λ made. window_for (basis_of made.0) ≡ window_of field.now from to) }
         ensures board { IfOk result (λ made. IsSeatOf made.0 made.1) }
         ensures first { IfOk result (λ made. known made.1 ≡ first_seat (basis_of made.0)) }
+        ensures room { OnOk result (vec_len kept.new + (to - from) ≤ vec_capacity kept.new) }
     {
         let basis = basis(field, from, to);
         let turns = (to - from) as usize;
+        kept.reserve(turns + 1)?;
         let words = vec![in alloc; 0u64; turns + 2]?;
         let places = Vec::with_capacity(alloc, turns)?;
         let room = Vec::with_capacity(alloc, turns)?;
@@ -198,8 +201,10 @@ fn bare(
     turns: usize,
     kept: &mut Vec<Room<Look>>,
 ) -> Result<Vec<BoardSlot>, OutOfMemory>
-    requires { turns < 2 ^ 32 }
-    ensures { IfOk result (λ slots. AreBare turns slots.items) }
+    requires turns { turns < 2 ^ 32 }
+    requires room { vec_len kept.old + turns + 1 ≤ vec_capacity kept.old }
+    ensures bare { IfOk result (λ slots. AreBare turns slots.items) }
+    ensures room { OnOk result (vec_len kept.new + turns + 1 ≤ vec_capacity kept.new) }
 {
     let mut slots = Vec::with_capacity(alloc, turns + 1)?;
     let book = Room::new(alloc)?;
@@ -216,7 +221,10 @@ fn bare(
 
 // A room for a look: one that was kept, or a new one.
 #[inline]
-fn spare(alloc: Global, kept: &mut Vec<Room<Look>>) -> Result<Room<Look>, OutOfMemory> {
+fn spare(alloc: Global, kept: &mut Vec<Room<Look>>) -> Result<Room<Look>, OutOfMemory>
+    ensures fewer { vec_len kept.new ≤ vec_len kept.old }
+    ensures capacity { vec_capacity kept.new ≡ vec_capacity kept.old }
+{
     match kept.pop() {
         Some(room) => Ok(room),
         None => Room::new(alloc),

@@ -196,7 +196,7 @@ struct Laid {
     workers: Vec<Worker>,
 }
 
-// A board of the window, its first seat, and room for so many workers.
+// A board of the window, its first seat, and room for so many workers, and for the rooms of all looks in the list of those that are kept.
 fn lay(
     alloc: Global,
     rooms: &mut Vec<Room<Look>>,
@@ -207,7 +207,8 @@ fn lay(
 ) -> Result<Laid, OutOfMemory>
     requires window { books.CanBegin field.now from to }
     requires few { hired ≤ 16 }
-    ensures { IfOk result (IsLaid (books.window_of field.now from to)) }
+    ensures laid { IfOk result (IsLaid (books.window_of field.now from to)) }
+    ensures room { OnOk result (vec_len rooms.new + (to - from) ≤ vec_capacity rooms.new) }
 {
     let lists = lists(alloc, hired, (to - from) as usize)?;
     let workers = Vec::with_capacity(alloc, hired)?;
@@ -247,6 +248,7 @@ fn settle<R: Threads + Sync, G: Gate>(
 ) -> Book
     requires threads { 0 < threads }
     requires laid { IsLaid (books.window_of field.now from to) laid }
+    requires room { vec_len rooms.old + (to - from) ≤ vec_capacity rooms.old }
     requires stands { books.StandsOn field.now book }
     requires from { book.from ≡ from }
     requires next { book.next ≡ from }
@@ -376,7 +378,8 @@ fn settle_left(
     requires from { ended.book.from ≡ from }
     requires to { ended.book.to ≡ to }
     requires looks { AreLooks (books.window_of field.now from to) ended.places.items }
-    requires all { to - from ≤ vec_len ended.places }
+    requires all { vec_len ended.places ≡ to - from }
+    requires room { vec_len rooms.old + (to - from) ≤ vec_capacity rooms.old }
     requires guesses { guesses.now ≡ guesses_for (books.window_of field.now from to) }
     ensures stands { books.StandsOn field.now result }
     ensures from { result.from ≡ from }

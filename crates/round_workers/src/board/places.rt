@@ -1,5 +1,6 @@
 // What lies in a place.
-ghost use Rattle.std.specs.Prelude.{◌≡◌, ◌≢◌, Some, None, MatchOption};
+ghost use Rattle.std.specs.Prelude.{◌≡◌, ◌≢◌, ◌+◌, ◌≤◌, Some, None, MatchOption};
+ghost use Rattle.std.specs.Vec.{vec_capacity, vec_len};
 ghost use Rattle.round_workers.specs.Inner.BoardPlaces.{book_in, book_room, look_in, look_room};
 
 use crate::board::room::Room;
@@ -46,11 +47,13 @@ fn room_of(place: BoardSlot) -> Option<Room<Look>> {
     }
 }
 
-// Keeps the rooms of looks in these places for another window, as far as there is memory for their list.
-pub(crate) fn keep(rooms: &mut Vec<Room<Look>>, mut places: Vec<BoardSlot>) {
+// Keeps the rooms of looks in these places for another window, in the room that their list has.
+pub(crate) fn keep(rooms: &mut Vec<Room<Look>>, mut places: Vec<BoardSlot>)
+    requires { vec_len rooms.old + vec_len places ≤ vec_capacity rooms.old }
+{
     while let Some(place) = places.pop() {
         if let Some(room) = room_of(place) {
-            let _ = rooms.push(room);
+            rooms.push_reserved(room);
         }
     }
 }

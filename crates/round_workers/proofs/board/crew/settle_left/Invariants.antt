@@ -1,4 +1,4 @@
-use Rattle.std.proofs.Common.{◌≡◌, ◌-◌, ◌≤◌}
+use Rattle.std.proofs.Common.{◌≡◌, ◌-◌}
 use Rattle.std.specs.Vec.{vec_len}
 use Rattle.round_book.specs.Book.{StandsOn, window_of}
 use Rattle.round_workers.specs.Inner.BoardCrew.{AreLooks}
@@ -10,7 +10,7 @@ invariant-loop-book l = record {
   begins : l.book.from ≡ l.from;
   ends : l.book.to ≡ l.to;
   looks : AreLooks (window_of l.field l.from l.to) l.places.items;
-  all : l.to - l.from ≤ vec_len l.places;
+  all : vec_len l.places ≡ l.to - l.from;
 }
 
 abbrev pub decreases-loop-book : goal.decreases-loop-book
