@@ -2,6 +2,7 @@ pub mod BookLemmas
 pub mod CountLemmas
 pub mod CountsWorked
 pub mod FieldLemmas
+pub mod GuessLemmas
 pub mod LedLemmas
 pub mod LoneTurns
 pub mod MachineLemmas

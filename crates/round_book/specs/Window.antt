@@ -9,7 +9,7 @@ use Rattle.cell_world.specs.World.{World}
 use Rattle.ant_turn.specs.Minds.{Minds, Fits, AreSound}
 use Rattle.ant_turn.specs.Rounds.{Moment, after_turns}
 use Rattle.spec_record.specs.Claims.{Claim}
-use Rattle.spec_record.specs.Guess.{flips, guess}
+use Rattle.spec_record.specs.Guess.{flips, guess, guesses_of}
 use Rattle.spec_record.specs.Holds.{Holds}
 use Rattle.spec_record.specs.Look.{LookValue, look_of}
 use Rattle.spec_record.specs.Reads.{reads}
@@ -50,6 +50,10 @@ moment_before window t = after_turns window.minds window.seed (record { world = 
 -- the guess for a turn of the window
 unfoldable pub guess_for : Window → ℕ → ℕ
 guess_for window t = guess window.minds window.base window.place window.from t
+
+-- the guesses of the window's turns, in order
+abbrev pub guesses_for : Window → List ℕ
+guesses_for window = guesses_of window.minds window.base window.place window.from window.from (window.to - window.from)
 
 -- the look at a turn of the window, on the base at the turn's guess
 unfoldable pub look_for : Window → ℕ → LookValue

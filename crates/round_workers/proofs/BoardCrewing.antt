@@ -11,7 +11,7 @@ use Rattle.spec_record.specs.Guess.{guesses_of}
 use Rattle.spec_record.specs.Look.{LookValue}
 use Rattle.round_book.specs.Book.{BookValue, FieldValue, IsLentFor, Stands, StandsFor, StandsOn, window_of}
 use Rattle.round_book.specs.Machine.{times}
-use Rattle.round_book.specs.Window.{IsPlayable, Window, look_for}
+use Rattle.round_book.specs.Window.{IsPlayable, Window, guesses_for, look_for}
 use Rattle.round_workers.specs.declared.board.seat.Board.{Board}
 use Rattle.round_workers.specs.declared.board.seat.Seat.{Seat}
 use Rattle.round_workers.specs.declared.board.view.Basis.{Basis}
@@ -25,7 +25,7 @@ use Rattle.round_workers.specs.BoardPlays.{has_seen, made_one}
 use Rattle.round_workers.specs.BoardSeats.{IsSeatOf, known, left_if, left_look}
 use Rattle.round_workers.specs.BoardTotals.{once_below}
 use Rattle.round_workers.specs.BoardView.{first_seat, window_about}
-use Rattle.round_workers.specs.BoardWorker.{IsWorker, ascends, those_below, guesses_for, turns_in}
+use Rattle.round_workers.specs.BoardWorker.{IsWorker, ascends, those_below, turns_in}
 use Rattle.round_workers.proofs.BoardTotalLemmas.{above-none, below-one, once-suc, times-append}
 
 numbers-snoc : (workers : List Worker) (w : Worker) → seat_numbers (workers ++ w ∷ []) ≡ seat_numbers workers ++ (known w.seat).number ∷ []

@@ -6,7 +6,6 @@ use Rattle.std.proofs.lemmas.Bool.{false≢true, le-leb, leb-true, lt-ltb, le-lt
 use Rattle.cell_world.specs.Cell.{one_if}
 use Rattle.cell_world.specs.World.{World}
 use Rattle.ant_turn.specs.Minds.{Minds}
-use Rattle.spec_record.specs.Guess.{guess, guesses_of}
 use Rattle.spec_record.specs.Look.{LookValue, look_of}
 use Rattle.round_book.specs.Book.{BookValue, FieldValue, IsLentFor, IsSameWindow, Stands, StandsFor, StandsOn, window_of}
 use Rattle.round_book.specs.Machine.{times}
@@ -14,7 +13,7 @@ use Rattle.round_book.specs.Window.{IsPlayable, Window, guess_for, look_for}
 use Rattle.round_workers.specs.declared.board.view.View.{View}
 use Rattle.round_workers.specs.BoardPlays.{drew, has_put}
 use Rattle.round_workers.specs.BoardView.{window_about}
-use Rattle.round_workers.specs.BoardWorker.{HasServed, IsSameButTook, IsWorker, ascends, those_below, guesses_for, turns_in}
+use Rattle.round_workers.specs.BoardWorker.{HasServed, IsSameButTook, IsWorker, ascends, those_below, turns_in}
 use Rattle.round_workers.proofs.BoardTotalLemmas.{late-append, late-one, other-none, same-one, times-append}
 
 and_both : (x y : Bool) → (x && y) ≡ true → (x ≡ true) × (y ≡ true)
@@ -173,23 +172,6 @@ module _ (v drawn put w : View) (made : List ℕ) (t n : ℕ) (same_n : n ≡ tu
 
   pub more-served : HasServed n v w true
   more-served = subst (λ (m : ℕ). HasServed m v w true) (sym same_n) (served-more v made is t above (subst (λ (m : ℕ). t < m) same_n within) w same-is tried-is)
-
--- the guesses of a window
-guesses-length : (minds : Minds) (w : World) (place from t n : ℕ) → length (guesses_of minds w place from t n) ≡ n
-guesses-length minds w place from t zero = refl
-guesses-length minds w place from t (suc n) = ap suc (guesses-length minds w place from (suc t) n)
-
-guesses-at : (minds : Minds) (w : World) (place from t n k : ℕ) (d : ℕ) → k < n → slice_index_or (guesses_of minds w place from t n) k d ≡ guess minds w place from (t + k)
-guesses-at minds w place from t zero k d h = absurd (omega arith)
-guesses-at minds w place from t (suc n) zero d h = ap (guess minds w place from) (let e : t ≡ t + 0 = omega arith in e)
-guesses-at minds w place from t (suc n) (suc k) d h = guesses-at minds w place from (suc t) n k d (omega arith) ∙ ap (guess minds w place from) (let e : suc t + k ≡ t + suc k = omega arith in e)
-
-pub guess-length : (window : Window) → length (guesses_for window) ≡ turns_in window
-guess-length window = guesses-length window.minds window.base window.place window.from window.from (turns_in window)
-
-pub guess-at : (window : Window) (k d : ℕ) → k < turns_in window → slice_index_or (guesses_for window) k d ≡ guess_for window (window.from + k)
-unfolding guess_for
-guess-at window k d h = guesses-at window.minds window.base window.place window.from window.from (turns_in window) k d h
 
 -- a book stands on a field that is lent for a window exactly where it stands for the window
 module _ (field : FieldValue) (window : Window) (lent : IsLentFor field window) where

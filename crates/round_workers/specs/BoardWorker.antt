@@ -2,7 +2,6 @@
 use Rattle.std.specs.Prelude.{◌≡◌, ◌≢◌, ℕ, ◌+◌, ◌-◌, ◌<◌, ◌≤◌, Bool, true, false, ◌&&◌, cond, nat_le, nat_lt, List, [], ◌∷◌, map, length}
 use Rattle.std.specs.List.{AllByRecursion}
 use Rattle.round_book.specs.Window.{Window}
-use Rattle.spec_record.specs.Guess.{guesses_of}
 use Rattle.round_workers.specs.declared.board.view.View.{View}
 use Rattle.round_workers.specs.BoardTotals.{late_among}
 use Rattle.round_workers.specs.BoardView.{window_about}
@@ -31,9 +30,6 @@ pub record IsWorker (v : View) (made : List ℕ) : Type 0 where
   pub puts : v.put ≡ those_below (turns_in (window_about v.about)) v.drawn
   pub made_them : made ≡ map (λ ticket. (window_about v.about).from + ticket) v.put
 
--- the guesses of a window's turns, in order
-abbrev pub guesses_for : Window → List ℕ
-guesses_for window = guesses_of window.minds window.base window.place window.from window.from (turns_in window)
 
 -- a seat is what it was, but for the looks that it took and for its tries
 pub record IsSameButTook (old new : View) : Type 0 where

@@ -14,7 +14,7 @@ use ant_base::Gate;
 use ant_random::Stream;
 use hex_geometry::OutOfMemory;
 use round_book::Field;
-use spec_record::{Look, guess_at, look_by};
+use spec_record::{Look, guess_at, look_into};
 use std::alloc::Global;
 
 // A worker's turns, and rooms for its looks. The looks of the turns are the first of the list; behind them stand those of an earlier window
@@ -85,11 +85,7 @@ fn make_look(looks: &mut Vec<Look>, at: usize, field: &Field<'_>, stream: &mut S
     ensures len { at + 1 ≤ vec_len looks.new }
     ensures capacity { vec_capacity looks.new ≡ vec_capacity looks.old }
 {
-    if at < looks.len() {
-        looks[at].renew(field.world(), field.brains(), stream, id);
-    } else {
-        looks.push_reserved(look_by(field.world(), field.brains(), stream, id));
-    }
+    look_into(looks, at, field.world(), field.brains(), stream, id);
 }
 
 // Gives each worker that has a turn of the window its share, in a piece with room for its looks, from the first piece on; answers how many

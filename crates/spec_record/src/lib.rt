@@ -22,4 +22,4 @@ pub use look_laws::{
 };
 pub use record::Look;
 pub use trail::Trail;
-pub use working::{look, look_by};
+pub use working::{look, look_by, look_into};

@@ -1,5 +1,6 @@
 // A look at a turn of its own.
-ghost use Rattle.std.specs.Prelude.{◌≡◌, ◌+◌, ◌<◌, ◌≤◌, ◌^◌, true};
+ghost use Rattle.std.specs.Prelude.{◌≡◌, ◌+◌, ◌<◌, ◌≤◌, ◌^◌, ◌∷◌, [], ◌++◌, take, true};
+ghost use Rattle.std.specs.Vec.{vec_capacity, vec_len};
 ghost use Rattle.cell_world.specs.Cell.{one_if};
 ghost use Rattle.cell_world.specs.Grid.{world_of};
 ghost use Rattle.ant_turn.specs.Minds.{Fits, minds_of};
@@ -44,6 +45,40 @@ pub fn look_by(base: &World, brains: Brains<'_>, stream: &mut Stream, id: u32) -
     let mut look = Look::blank(id, stream.place());
     look.renew(base, brains, stream, id);
     look
+}
+
+/// The same look, put into a list: in place of the look with this number, or behind the last one, where the list has room. The looks before
+/// it stay. It takes no memory, so that the looks of one window are made in the rooms of those of another.
+///
+/// Each ant's state is below the length of its colour's brain, the id is below the number of ids, and the stream stands below 2^63 - 1.
+#[inline]
+pub fn look_into(
+    looks: &mut Vec<Look>,
+    at: usize,
+    base: &World,
+    brains: Brains<'_>,
+    stream: &mut Stream,
+    id: u32,
+)
+    requires fit { Fits (world_of base.now) (minds_of brains) }
+    requires id { id < base.now.ids }
+    requires place { stream.old.place + 1 < 2 ^ 63 }
+    requires next { at ≤ vec_len looks.old }
+    requires room { at < vec_capacity looks.old }
+    ensures made { take (at + 1) looks.new.items ≡ take at looks.old.items ++ look_of (minds_of brains.entry) stream.old.seed
+        (world_of base.now) stream.old.place id ∷ [] }
+    ensures stream { stream.new ≡ record stream.old {
+      place = stream.old.place + one_if
+          (look_of (minds_of brains.entry) stream.old.seed (world_of base.now) stream.old.place id).drew;
+    } }
+    ensures len { at + 1 ≤ vec_len looks.new }
+    ensures capacity { vec_capacity looks.new ≡ vec_capacity looks.old }
+{
+    if at < looks.len() {
+        looks[at].renew(base, brains, stream, id);
+    } else {
+        looks.push_reserved(look_by(base, brains, stream, id));
+    }
 }
 
 // A stream of the seed on which the turn of this id draws what it draws at the guess. It stands there only where the turn draws, since

@@ -4,11 +4,12 @@ ghost use Rattle.std.specs.Vec.{vec_capacity, vec_len};
 ghost use Rattle.round_book.specs.Book.{IsLentFor, StandsFor};
 ghost use Rattle.round_book.specs.Book as books;
 ghost use Rattle.round_book.specs.Counts.{counts_of};
+ghost use Rattle.round_book.specs.Window.{guesses_for};
 ghost use Rattle.round_workers.specs.declared.board.worker.Worker.{Worker};
 ghost use Rattle.round_workers.specs.Inner.BoardCrew.{AreLooks, HasWorked, IsHired, IsLaid, IsManned, IsRoom};
 ghost use Rattle.round_workers.specs.BoardPlays.{newcomer};
 ghost use Rattle.round_workers.specs.BoardSeats.{IsSeatOf, known, board_window};
-ghost use Rattle.round_workers.specs.BoardWorker.{guesses_for, turns_in};
+ghost use Rattle.round_workers.specs.BoardWorker.{turns_in};
 
 use crate::board::closing::Ended;
 use crate::board::looking::look_at;

@@ -1,8 +1,7 @@
 // Looks at the turns of a window, at their guesses.
 ghost use Rattle.std.specs.Prelude.{◌≡◌, ◌+◌, ◌-◌, ◌<◌, ◌≤◌, ◌^◌};
 ghost use Rattle.round_book.specs.Book.{window_of};
-ghost use Rattle.round_book.specs.Window.{look_for};
-ghost use Rattle.round_workers.specs.BoardWorker.{guesses_for};
+ghost use Rattle.round_book.specs.Window.{guesses_for, look_for};
 
 use ant_random::Stream;
 use round_book::Field;

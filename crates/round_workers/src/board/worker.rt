@@ -4,11 +4,11 @@ ghost use Rattle.std.specs.List.{AllByRecursion};
 ghost use Rattle.std.specs.Vec.{vec_capacity};
 ghost use Rattle.round_book.specs.Book.{IsLentFor, StandsFor};
 ghost use Rattle.round_book.specs.Machine.{times};
-ghost use Rattle.round_book.specs.Window.{look_for};
+ghost use Rattle.round_book.specs.Window.{guesses_for, look_for};
 ghost use Rattle.round_workers.specs.declared.board.view.Phase.TheVariants.{Resting};
 ghost use Rattle.round_workers.specs.BoardSeats.{IsSeatOf, basis_of, known, board_window};
 ghost use Rattle.round_workers.specs.BoardTotals.{late_among};
-ghost use Rattle.round_workers.specs.BoardWorker.{HasServed, IsSameButTook, IsWorker, guesses_for, turns_in};
+ghost use Rattle.round_workers.specs.BoardWorker.{HasServed, IsSameButTook, IsWorker, turns_in};
 
 use crate::board::looking::reach;
 use crate::board::room::Room;

@@ -1,7 +1,7 @@
 use Rattle.std.proofs.Common.{sym, ap, ◌∙◌, subst}
 use Rattle.round_book.specs.Book.{FieldValue, window_of}
 use Rattle.round_workers.specs.Inner.BoardCrew.{IsLaid}
-use Rattle.round_workers.specs.BoardWorker.{guesses_for}
+use Rattle.round_book.specs.Window.{guesses_for}
 use Rattle.round_workers.proofs.board.crew.play_on_board.Goals as goal
 
 pub settle-book-requires-clause-laid : goal.settle-book-requires-clause-laid

@@ -6,7 +6,8 @@ use Rattle.round_workers.specs.BoardSeats.{basis_of, known, board_window}
 use Rattle.round_workers.specs.BoardView.{window_about}
 use Rattle.round_workers.specs.BoardWorker.{turns_in}
 use Rattle.round_workers.specs.declared.board.view.View.{View}
-use Rattle.round_workers.proofs.BoardWorking.{guess-at, guess-length, late-is, late-served, made-few, more-is, more-served, new-drawn, unput}
+use Rattle.round_book.proofs.GuessLemmas.{guesses_for-at, guesses_for-length}
+use Rattle.round_workers.proofs.BoardWorking.{late-is, late-served, made-few, more-is, more-served, new-drawn, unput}
 use Rattle.round_workers.proofs.board.worker.serve.Goals as goal
 
 pub returns-then-ticket-turns-clause-worker : goal.returns-then-ticket-turns-clause-worker
@@ -29,13 +30,13 @@ push_reserved-requires g c =
 
 pub bounds-guesses-ticket : goal.bounds-guesses-ticket
 bounds-guesses-ticket g c =
-    let long : length c.args.guesses.now ≡ turns_in (board_window c.args.board.now) = ap length c.requires.guesses ∙ guess-length (board_window c.args.board.now) in
+    let long : length c.args.guesses.now ≡ turns_in (board_window c.args.board.now) = ap length c.requires.guesses ∙ guesses_for-length (board_window c.args.board.now) in
     let l = c.if-ticket-turns.false in let b = c.turns.ensures in omega arith
 
 pub reach-requires : goal.reach-requires
 reach-requires g c =
     let board = c.args.board.now in let w = board_window board in let t : ℕ = c.draw-ticket.result in let inside : t < turns_in w = (let l = c.if-ticket-turns.false in let b = c.turns.ensures in omega arith) in
-    let is : slice_index_or c.args.guesses.now t 0 ≡ guess_for w (w.from + t) = ap (λ (l : List ℕ). slice_index_or l t 0) c.requires.guesses ∙ guess-at w t 0 inside in
+    let is : slice_index_or c.args.guesses.now t 0 ≡ guess_for w (w.from + t) = ap (λ (l : List ℕ). slice_index_or l t 0) c.requires.guesses ∙ guesses_for-at w t 0 inside in
     let few = guess_for-le w (w.from + t) in let lasting = board.lasting in let a = board.first in let b = board.last in omega arith
 
 pub look_and_put-requires-clause-ticket : goal.look_and_put-requires-clause-ticket
@@ -55,7 +56,7 @@ look_and_put-requires-clause-seed g c = c.reach.ensures.seed ∙ c.requires.seed
 pub look_and_put-requires-clause-guess : goal.look_and_put-requires-clause-guess
 look_and_put-requires-clause-guess g c =
     let w = board_window c.args.board.now in let t : ℕ = c.draw-ticket.result in let inside : t < turns_in w = (let l = c.if-ticket-turns.false in let b = c.turns.ensures in omega arith) in
-    c.reach.ensures.place ∙ (ap (λ (l : List ℕ). slice_index_or l t 0) c.requires.guesses ∙ guess-at w t 0 inside)
+    c.reach.ensures.place ∙ (ap (λ (l : List ℕ). slice_index_or l t 0) c.requires.guesses ∙ guesses_for-at w t 0 inside)
 
 pub returns-clause-worker : goal.returns-clause-worker
 returns-clause-worker g c =
