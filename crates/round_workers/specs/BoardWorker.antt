@@ -30,7 +30,6 @@ pub record IsWorker (v : View) (made : List ℕ) : Type 0 where
   pub puts : v.put ≡ those_below (turns_in (window_about v.about)) v.drawn
   pub made_them : made ≡ map (λ ticket. (window_about v.about).from + ticket) v.put
 
-
 -- a seat is what it was, but for the looks that it took and for its tries
 pub record IsSameButTook (old new : View) : Type 0 where
   pub about : new.about ≡ old.about
