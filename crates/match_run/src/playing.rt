@@ -1,5 +1,5 @@
 // A whole run, played by a crew.
-ghost use Rattle.std.specs.Prelude.{◌≡◌, ◌+◌, ◌-◌, ◌*◌, ◌<◌, ◌≤◌, true, IfOk, OnErr, OnOk};
+ghost use Rattle.std.specs.Prelude.{◌≡◌, ◌+◌, ◌-◌, ◌*◌, ◌<◌, ◌≤◌, true, None, IfOk, OnErr, OnOk};
 ghost use Rattle.ant_base.specs.Layout.{◌+++◌};
 ghost use Rattle.ant_base.specs.Sink.{Pushed};
 ghost use Rattle.ant_turn.specs.Minds.{Fits, minds_of};
@@ -83,6 +83,7 @@ fn game_of<'b>(
       seed = plan.now.seed;
       place = 0;
       whole = true;
+      lent = None;
     }) plan.now.window) }
 {
     let field = Field::new(alloc, world, brains, plan.seed, 0)?;
