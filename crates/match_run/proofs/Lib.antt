@@ -7,6 +7,7 @@ pub mod LoneWindows
 pub mod PlayLemmas
 pub mod RestLaws
 pub mod RestWorked
+pub mod RisingRounds
 pub mod RunLaws
 pub mod RunLemmas
 pub mod RunWorked

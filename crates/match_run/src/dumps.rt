@@ -1,5 +1,6 @@
 // Which rounds are dumped, and their dumps.
-ghost use Rattle.std.specs.Prelude.{◌≡◌, ◌+◌, ◌≤◌, [], ◌∷◌, ◌++◌, OnOk, OnErr};
+ghost use Rattle.std.specs.Prelude.{◌≡◌, ◌+◌, ◌≤◌, [], ◌∷◌, ◌++◌, ℕ, ◌-◌, ◌<◌, IsPermutation, IsTrue, OnOk, OnErr, length, slice_index};
+ghost use Rattle.std.specs.List.Sorted.{IsNonDecreasing};
 ghost use Rattle.ant_base.specs.Sink.{Pushed};
 ghost use Rattle.cell_world.specs.Grid.{world_of};
 ghost use Rattle.match_run.specs.Dumps.{chooses, has_round};
@@ -13,19 +14,24 @@ use std::alloc::Global;
 use std::marker::Model;
 
 /// A list of rounds, each counted from 0 for the start of the game; contracts see their numbers, and how many more it takes before it is full.
-/// Order and repeats make no difference to a run.
+/// Order and repeats make no difference to a run. Whether a round is in a list that never falls is found by halving, in any other by a look at
+/// each of its numbers: `sort` makes it such a list.
 #[derive(Drop)]
 pub struct Rounds {
     list: Vec<u32>,
+    rises: bool,
 }
 
 impl Model for Rounds {
-    ghost use Rattle.std.specs.Prelude.{◌-◌, vec_len, vec_capacity};
+    ghost use Rattle.std.specs.Prelude.{◌≡◌, ◌-◌, true, vec_len, vec_capacity};
+    ghost use Rattle.std.specs.List.Sorted.{IsNonDecreasing};
     ghost use Rattle.ant_base.specs.NumberList.{NumberList};
 
     ghost Value = { NumberList };
 
     ghost view = { λ rounds. record { numbers = rounds.list.items; spare = vec_capacity rounds.list - vec_len rounds.list } };
+
+    ghost invariant = { λ rounds. rounds.rises ≡ true → IsNonDecreasing rounds.list.items };
 }
 
 impl Rounds {
@@ -35,6 +41,7 @@ impl Rounds {
     {
         Rounds {
             list: Vec::new(alloc),
+            rises: true,
         }
     }
 
@@ -47,15 +54,43 @@ impl Rounds {
         ensures spare { self.old.spare ≤ self.new.spare + 1 }
     {
         self.list.reserve(1)?;
+        let rises = self.rises && no_later(&self.list, round);
         self.list.push(round)?;
+        self.rises = rises;
         Ok(())
+    }
+
+    /// Puts the rounds into rising order, so that each of them is found by halving from then on. The list has the same numbers as before, each
+    /// as often, and so chooses the same rounds; as many places are spare. It takes no memory.
+    pub fn sort(&mut self)
+        ensures permutation { IsPermutation self.old.numbers self.new.numbers }
+        ensures rising { IsNonDecreasing self.new.numbers }
+        ensures same { (round : ℕ) → has_round self.new.numbers round ≡ has_round self.old.numbers round }
+        ensures spare { self.new.spare ≡ self.old.spare }
+    {
+        self.list.sort_unstable();
+        self.rises = true;
     }
 
     // Whether the round is in the list.
     fn has(&self, round: u32) -> bool
         ensures { result ≡ has_round self.now.numbers round }
     {
-        self.list.contains(&round)
+        if self.rises {
+            self.list.binary_search(&round).is_ok()
+        } else {
+            self.list.contains(&round)
+        }
+    }
+}
+
+// Whether the last of some numbers is at most this one, or there is none.
+fn no_later(list: &[u32], round: u32) -> bool
+    ensures { IsTrue result → 0 < length list.now → slice_index list.now (length list.now - 1) ≤ round }
+{
+    match list.last() {
+        Some(last) => *last <= round,
+        None => true,
     }
 }
 
