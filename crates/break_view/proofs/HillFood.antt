@@ -42,14 +42,14 @@ put-counts w p cell inside colour =
     hill_food_of-put w colour p cell inside ∙ ap (λ c. hill_food_of w colour + hill_food_in colour c) (sym (put_cell-same w.cells p cell))
 
 -- a cell of the same hill and food is put
-put-keeps : (w : World) (p : Pos) (cell : Cell) → IsInside w.width w.height p → cell.hill ≡ (w.cells p).hill → cell.food ≡ (w.cells p).food → (colour : Colour) → hill_food_of (put w p cell) colour ≡ hill_food_of w colour
+pub put-keeps : (w : World) (p : Pos) (cell : Cell) → IsInside w.width w.height p → cell.hill ≡ (w.cells p).hill → cell.food ≡ (w.cells p).food → (colour : Colour) → hill_food_of (put w p cell) colour ≡ hill_food_of w colour
 put-keeps w p cell inside hill food colour =
     let counted = hill_food_of-put w colour p cell inside in
     let same : hill_food_in colour cell ≡ hill_food_in colour (w.cells p) = ap₂ (λ (h : Option Colour) (f : ℕ). cond (is_hill_of colour h) f 0) hill food in
     omega (arith, counted, same)
 
 -- the cell that a stepping ant leaves
-stepped-left : (sheet : Sheet) (cells : Cells) (p : Pos) (ant : Ant) (q : Pos) (next : ℕ) → p ≢ q → stepped sheet cells p ant q next p ≡ left_by_ant (cells p)
+pub stepped-left : (sheet : Sheet) (cells : Cells) (p : Pos) (ant : Ant) (q : Pos) (next : ℕ) → p ≢ q → stepped sheet cells p ant q next p ≡ left_by_ant (cells p)
 unfolding stepped
 stepped-left sheet cells p ant q next apart =
     put_cell-other (put_cell cells p (left_by_ant (cells p))) q (with_ant (cells q) (arrived sheet ant next)) p (λ (e : q ≡ p). apart (sym e)) ∙ put_cell-same cells p (left_by_ant (cells p))
@@ -71,7 +71,7 @@ both_empty [] b e = (refl, e)
 both_empty (x ∷ a) b e = (let never : x ∷ (a ++ b) ≡ [] = e in absurd (cc))
 
 -- checks that kill nobody change nothing
-spared : (sheet : Sheet) (places : List Pos) (cells : Cells) → killed_all sheet cells places ≡ [] → check_all sheet cells places ≡ cells
+pub spared : (sheet : Sheet) (places : List Pos) (cells : Cells) → killed_all sheet cells places ≡ [] → check_all sheet cells places ≡ cells
 spared sheet [] cells none = refl
 spared sheet (p ∷ places) cells none =
     let parts = both_empty (killed_at sheet cells p) (killed_all sheet (check_at sheet cells p) places) none in

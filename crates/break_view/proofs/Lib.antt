@@ -4,6 +4,7 @@ pub mod FormsLemmas
 pub mod HillFood
 pub mod JudgingLemmas
 pub mod Meeting
+pub mod QuietTurns
 pub mod Stopping
 pub mod VerdictLemmas
 pub mod ViewLaws

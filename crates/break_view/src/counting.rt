@@ -1,5 +1,5 @@
 // The score of a world, counted on from turn to turn.
-ghost use Rattle.std.specs.Prelude.{◌≡◌, ◌+◌, ◌-◌, ◌<◌, ◌^◌, Some};
+ghost use Rattle.std.specs.Prelude.{◌≡◌, ◌+◌, ◌-◌, ◌<◌, ◌^◌, [], IsTrue, Some};
 ghost use Rattle.ant_turn.specs.Minds.{Fits, minds_of};
 ghost use Rattle.ant_turn.specs.Turn.{turn};
 ghost use Rattle.cell_world.specs.Cell.{one_if};
@@ -16,14 +16,14 @@ use cell_world::{Cell, Colour, Score, World};
 use hex_geometry::Pos;
 
 // Takes the turn of an id, and keeps the score: where nobody was killed, the food changed on the ant's own cell alone, if at all. So off the
-// hills nothing is counted.
+// hills nothing is counted. Gives whether nobody was killed.
 pub(crate) fn take_counted(
     world: &mut World,
     brains: Brains<'_>,
     stream: &mut Stream,
     score: &mut Score,
     id: u32,
-)
+) -> bool
     requires fit { Fits (world_of world.old) (minds_of brains) }
     requires id { id < world.old.ids }
     requires place { stream.old.place + 1 < 2 ^ 63 }
@@ -34,14 +34,17 @@ pub(crate) fn take_counted(
     } }
     ensures fit { Fits (world_of world.new) (minds_of brains.entry) }
     ensures score { score.new ≡ score_of (world_of world.new) }
+    ensures calm { IsTrue result → (turn (minds_of brains.entry) stream.old.seed (world_of world.old) stream.old.place id).killed ≡ [] }
 {
     let place = hill_place(world, id);
     let before = score_at(world, place);
     let deed = take_turn(world, brains, stream, id);
     if deed.killed.is_empty() {
         *score = recounted(*score, before, score_at(world, place));
+        true
     } else {
         *score = world.score();
+        false
     }
 }
 

@@ -15,8 +15,10 @@ mod laws;
 mod line;
 mod met;
 mod read;
+mod states;
 mod stop;
 mod view;
+mod watching;
 mod words;
 
 pub use breaks::{Break, Breaks};

@@ -1,14 +1,17 @@
 // Whether breaks hold.
-ghost use Rattle.std.specs.Prelude.{◌≡◌, ℕ, ◌+◌, ◌≤◌, ◌&&◌, nat_lt, not, length};
+ghost use Rattle.std.specs.Prelude.{◌≡◌, ℕ, ◌+◌, ◌<◌, ◌≤◌, ◌&&◌, IsTrue, false, nat_lt, not, length};
+ghost use Rattle.std.specs.List.{All};
 ghost use Rattle.std.specs.Option.{is_some};
 ghost use Rattle.cell_world.specs.Grid.{world_of};
 ghost use Rattle.cell_world.specs.Score.{hill_food_of, score_of};
 ghost use Rattle.cell_world.specs.World.{place_in};
 ghost use Rattle.cell_world.specs.World as worlds;
 ghost use Rattle.break_view.specs.Grammar.{most_breaks};
+ghost use Rattle.break_view.specs.Inner.Watching.{IsNamed, IsQuietButStates};
 ghost use Rattle.break_view.specs.Met as met;
 
 use crate::breaks::Break;
+use crate::states::{Watch, names_ant};
 use cell_world::{Ant, Cell, Colour, Score, World};
 use hex_geometry::Pos;
 
@@ -33,6 +36,37 @@ pub(crate) fn first_met(
         number += 1;
     }
     None
+}
+
+// The same after a turn of which it is known whether breaks other than those of states can hold otherwise than before it. In the first
+// turn of a round each is asked, since then it is another round.
+pub(crate) fn met_now(
+    watch: Watch<'_>,
+    world: &World,
+    score: Score,
+    round: u32,
+    id: u32,
+    same: bool,
+) -> Option<u32>
+    requires few { length watch.items.now ≤ most_breaks }
+    requires score { score ≡ score_of (world_of world.now) }
+    requires named { All (IsNamed watch.red.now watch.black.now) watch.items.now }
+    requires quiet { IsTrue same → 0 < id → IsQuietButStates watch.items.now (world_of world.now) round id }
+    ensures { result ≡ met.first_met 1 watch.entry.items.now (world_of world.now) round id }
+{
+    let named = names_ant(watch.red, watch.black, ant_of(world, id));
+    if is_skipped(named, id, same) {
+        return None;
+    }
+    first_met(watch.items, world, score, round, id)
+}
+
+// Whether no break has to be asked.
+#[inline]
+fn is_skipped(named: bool, id: u32, same: bool) -> bool
+    ensures { IsTrue result → (named ≡ false) × (0 < id) × IsTrue same }
+{
+    !named && id > 0 && same
 }
 
 // The ant of an id, if it is alive.

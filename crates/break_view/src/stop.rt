@@ -1,5 +1,6 @@
 // A game played to its first stop.
 ghost use Rattle.std.specs.Prelude.{◌≡◌, ◌+◌, ◌≤◌, length};
+ghost use Rattle.std.specs.List.{All};
 ghost use Rattle.ant_turn.specs.Minds.{Fits, minds_of};
 ghost use Rattle.cell_world.specs.Grid.{world_of};
 ghost use Rattle.cell_world.specs.Limits.{most_ants};
@@ -9,13 +10,18 @@ ghost use Rattle.match_run.specs.Run.{most_rounds};
 ghost use Rattle.break_view.specs.Grammar.{most_breaks};
 ghost use Rattle.break_view.specs.Stops.{EndsAt};
 ghost use Rattle.break_view.specs.Inner.Rounds.{RoundEnds};
+ghost use Rattle.break_view.specs.Inner.Watching.{IsNamed};
 
-use crate::breaks::{Break, Breaks};
-use crate::counting::take_counted;
-use crate::met::first_met;
+use crate::breaks::Breaks;
+use crate::met::met_now;
+use crate::states::{Watch, name_states};
+use crate::watching::take_watched;
 use ant_random::Stream;
 use ant_turn::Brains;
 use cell_world::{Score, World};
+
+// How many states a table names: a brain has no more. Of a longer brain's states beyond these each break is asked.
+const STATES: usize = 10_000;
 
 /// A stop of a game: the turn after which a break held, and which break.
 #[derive(Clone, Copy, Debug, PartialEq, Eq)]
@@ -36,9 +42,10 @@ pub struct Stop {
 /// on; the turn of a dead id is a turn. The world is left as it is after the stop's turn, or after all rounds. A break that holds before
 /// the first turn counts only if it holds after it.
 ///
-/// It takes no memory. After a turn each break costs one look-up at most: of a cell, of the place of an ant, or of the food on the hills,
-/// which is kept from turn to turn. All cells are looked at only once, and once more after each turn that killed: any other turn changes the
-/// food on the ant's own cell alone.
+/// It takes no memory. The breaks are asked one by one only after the first turn of a round, after a turn in which an ant went, was killed or
+/// changed the food of its cell, and where a break asks for the state that the ant has then, which a table of each colour names; no other
+/// turn can make a break hold. Each costs one look-up at most: of a cell, of the place of an ant, or of the food on the hills, which is kept
+/// from turn to turn. All cells are looked at only once, and once more after each turn that killed.
 pub fn find_stop(
     world: &mut World,
     brains: Brains<'_>,
@@ -53,8 +60,15 @@ pub fn find_stop(
     let items = breaks.items();
     let mut stream = Stream::from_seed(seed);
     let mut score = world.score();
+    let (mut red, mut black) = ([false; STATES], [false; STATES]);
+    name_states(items, &mut red, &mut black);
+    let watch = Watch {
+        items,
+        red: &red,
+        black: &black,
+    };
     for round in 0..rounds {
-        let stop = stop_in_round(world, brains, &mut stream, &mut score, round + 1, items);
+        let stop = stop_in_round(world, brains, &mut stream, &mut score, round + 1, watch);
         if stop.is_some() {
             return stop;
         }
@@ -69,21 +83,22 @@ fn stop_in_round(
     stream: &mut Stream,
     score: &mut Score,
     round: u32,
-    items: &[Break],
+    watch: Watch<'_>,
 ) -> Option<Stop>
     requires fit { Fits (world_of world.old) (minds_of brains) }
     requires place { LastsARound stream.old }
-    requires few { length items.now ≤ most_breaks }
+    requires few { length watch.items.now ≤ most_breaks }
+    requires named { All (IsNamed watch.red.now watch.black.now) watch.items.now }
     requires score { score.old ≡ score_of (world_of world.old) }
-    ensures end { RoundEnds (minds_of brains.entry) stream.old.seed (moment_from world.old stream.old) items.now round result (moment_from world.new stream.new) }
+    ensures end { RoundEnds (minds_of brains.entry) stream.old.seed (moment_from world.old stream.old) watch.entry.items.now round result (moment_from world.new stream.new) }
     ensures seed { stream.new.seed ≡ stream.old.seed }
     ensures place { stream.new.place ≤ stream.old.place + most_ants }
     ensures fit { Fits (world_of world.new) (minds_of brains.entry) }
     ensures score { score.new ≡ score_of (world_of world.new) }
 {
     for id in 0..world.ant_count() {
-        take_counted(world, brains, stream, score, id);
-        if let Some(which) = first_met(items, world, *score, round, id) {
+        let same = take_watched(world, brains, stream, score, id);
+        if let Some(which) = met_now(watch, world, *score, round, id, same) {
             return Some(Stop { round, id, which });
         }
     }

@@ -1,0 +1,75 @@
+// The states for which breaks ask, in a table for each colour.
+ghost use Rattle.std.specs.Prelude.{◌≡◌, ℕ, true, length, slice_index_or};
+ghost use Rattle.std.specs.List.{All};
+ghost use Rattle.cell_world.specs.declared.ant.Colour.TheVariants.{Red, Black};
+ghost use Rattle.break_view.specs.declared.breaks.Break as breaks;
+ghost use Rattle.break_view.specs.Inner.Watching as watching;
+
+use crate::breaks::Break;
+use cell_world::{Ant, Colour};
+
+// The breaks of a list, and the tables that name the states for which they ask.
+#[derive(Clone, Copy)]
+pub(crate) struct Watch<'a> {
+    pub(crate) items: &'a [Break],
+    pub(crate) red: &'a [bool],
+    pub(crate) black: &'a [bool],
+}
+
+// Names the states for which these breaks ask, in the table of each colour. A table names every state beyond its length.
+pub(crate) fn name_states(items: &[Break], red: &mut [bool], black: &mut [bool])
+    ensures { All (watching.IsNamed red.new black.new) items.now }
+{
+    for item in items {
+        name_state(*item, red, black);
+    }
+}
+
+// Names the state of one break.
+fn name_state(item: Break, red: &mut [bool], black: &mut [bool])
+    ensures named { watching.IsNamed red.new black.new item }
+    ensures kept { (other : breaks.Break) → watching.IsNamed red.old black.old other → watching.IsNamed red.new black.new other }
+{
+    if let Break::State { colour, state } = item {
+        match colour {
+            Colour::Red => name(red, state),
+            Colour::Black => name(black, state),
+        }
+    }
+}
+
+// Names a state in a table.
+fn name(table: &mut [bool], state: u32)
+    ensures named { slice_index_or table.new state true ≡ true }
+    ensures kept { (other : ℕ) → slice_index_or table.old other true ≡ true → slice_index_or table.new other true ≡ true }
+{
+    let place = state as usize;
+    if place < table.len() {
+        table[place] = true;
+    }
+}
+
+// Whether the tables name the state of an ant.
+#[inline]
+pub(crate) fn names_ant(red: &[bool], black: &[bool], ant: Option<Ant>) -> bool
+    ensures { result ≡ watching.names_ant red.now black.now ant }
+{
+    match ant {
+        Some(ant) => match ant.colour {
+            Colour::Red => names(red, ant.state),
+            Colour::Black => names(black, ant.state),
+        },
+        None => false,
+    }
+}
+
+// Whether a table names a state.
+#[inline]
+fn names(table: &[bool], state: u16) -> bool
+    ensures { result ≡ slice_index_or table.now state true }
+{
+    match table.get(usize::from(state)) {
+        Some(named) => *named,
+        None => true,
+    }
+}

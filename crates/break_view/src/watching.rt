@@ -1,0 +1,80 @@
+// Turns that are watched: after which of them a break has to be asked.
+ghost use Rattle.std.specs.Prelude.{◌≡◌, ◌+◌, ◌<◌, ◌^◌, ◌==◌, ◌&&◌, IsTrue, Some};
+ghost use Rattle.ant_turn.specs.Minds.{Fits, minds_of};
+ghost use Rattle.ant_turn.specs.Turn.{has_ant, turn};
+ghost use Rattle.cell_world.specs.Cell.{one_if};
+ghost use Rattle.cell_world.specs.Grid.{world_of};
+ghost use Rattle.cell_world.specs.Score.{score_of};
+ghost use Rattle.cell_world.specs.World.{with_cells};
+ghost use Rattle.hex_geometry.specs.Position.{IsInside};
+ghost use Rattle.hex_geometry.specs.declared.position.Pos.{Pos};
+ghost use Rattle.break_view.specs.Inner.Watching as watching;
+
+use crate::counting::take_counted;
+use ant_random::Stream;
+use ant_turn::Brains;
+use cell_world::{Cell, Score, World};
+use hex_geometry::Pos;
+
+// Takes the turn of an id, and keeps the score. Gives whether no break can hold otherwise than before, but those of states: nobody was
+// killed, and the ant is left where it stood, on as much food, or it was dead.
+pub(crate) fn take_watched(
+    world: &mut World,
+    brains: Brains<'_>,
+    stream: &mut Stream,
+    score: &mut Score,
+    id: u32,
+) -> bool
+    requires fit { Fits (world_of world.old) (minds_of brains) }
+    requires id { id < world.old.ids }
+    requires place { stream.old.place + 1 < 2 ^ 63 }
+    requires score { score.old ≡ score_of (world_of world.old) }
+    ensures world { world_of world.new ≡ with_cells (world_of world.old) (turn (minds_of brains.entry) stream.old.seed (world_of world.old) stream.old.place id).cells }
+    ensures stream { stream.new ≡ record stream.old {
+      place = stream.old.place + one_if (turn (minds_of brains.entry) stream.old.seed (world_of world.old) stream.old.place id).drew;
+    } }
+    ensures fit { Fits (world_of world.new) (minds_of brains.entry) }
+    ensures score { score.new ≡ score_of (world_of world.new) }
+    ensures same { IsTrue result → watching.LooksSame (world_of world.old) (world_of world.new) }
+{
+    let place = world.ant_place(id);
+    let food = food_at(world, place);
+    let calm = take_counted(world, brains, stream, score, id);
+    if calm {
+        is_left(world, place, food)
+    } else {
+        false
+    }
+}
+
+// The food on the cell at a place: none where there is no place.
+#[inline]
+fn food_at(world: &World, place: Option<Pos>) -> u32
+    requires { (p : Pos) → place ≡ Some p → IsInside world.now.width world.now.height p }
+    ensures { result ≡ watching.food_at (world_of world.now) place }
+{
+    match place {
+        Some(place) => world.cell(place).food,
+        None => 0,
+    }
+}
+
+// Whether an ant stands at a place on so much food, or there is no place.
+#[inline]
+fn is_left(world: &World, place: Option<Pos>, food: u32) -> bool
+    requires { (p : Pos) → place ≡ Some p → IsInside world.now.width world.now.height p }
+    ensures { result ≡ watching.is_left (world_of world.now) place food }
+{
+    match place {
+        Some(place) => has_ant_on(world.cell(place), food),
+        None => true,
+    }
+}
+
+// Whether a cell has an ant and so much food.
+#[inline]
+fn has_ant_on(cell: Cell, food: u32) -> bool
+    ensures { result ≡ (has_ant cell.ant && (cell.food == food)) }
+{
+    cell.ant.is_some() && cell.food == food
+}
