@@ -21,7 +21,7 @@ use crate::cup::{Entry, cup};
 use crate::generating::gen_world;
 use crate::help::{help, version};
 use crate::minimise::minimise;
-use crate::run::{FileNames, dumps_of, run};
+use crate::run::{FileNames, dumps_of, run, run_alone};
 use crate::show::show;
 use crate::status::Status;
 use crate::stop::{CommandStop, Ended};
@@ -51,7 +51,7 @@ fn plan_of<'w>(alloc: Global, options: RunOptions<'_>) -> Result<Plan, CommandSt
     })
 }
 
-// Plays the game that the words ask for, by as many workers as they say.
+// Plays the game that the words ask for: by as many workers as they say, or, where one is to play and no counts are asked for, turn by turn.
 fn carry_out_run<'w, R: Threads + Sync, S: Shelf, K: Sink, G: Gate>(
     rt: &R,
     alloc: Global,
@@ -66,8 +66,12 @@ fn carry_out_run<'w, R: Threads + Sync, S: Shelf, K: Sink, G: Gate>(
         (S.state shelf.old) (S.state shelf.new) (K.state out.old) (K.state out.new) (ending_of result) }
 {
     let sheet = Sheet::new(options.surround, options.corpse, options.rest);
+    let alone = options.workers == 1;
     let mut board = BoardCrew::new(rt, options.workers, gate);
     let plan = plan_of(alloc, options)?;
+    if alone && !plan.stats {
+        return run_alone(alloc, names, sheet, &plan, shelf, out);
+    }
     let mut crew = Led::by(
         |field: &mut Field<'_>, from: u32, to: u32| -> Result<Counts, OutOfMemory>
             requires { CanBegin field.now from to }

@@ -1,5 +1,5 @@
 // The command `run`.
-ghost use Rattle.std.specs.Prelude.{◌≡◌, IfOk};
+ghost use Rattle.std.specs.Prelude.{◌≡◌, IfOk, false};
 ghost use Rattle.ant_turn.specs.Minds.{Fits};
 ghost use Rattle.ant_turn.specs.Sheet.{sheet_of};
 ghost use Rattle.cell_world.specs.Grid.{world_of};
@@ -20,7 +20,7 @@ use ant_turn::{Brains, Sheet};
 use brain_read::Brain;
 use cell_world::World;
 use command_words::{DumpWord, Numbers};
-use match_run::{Dumps, OutOfMemory, Plan, PlayFault, Rounds, play};
+use match_run::{Dumps, OutOfMemory, Plan, PlayFault, Rounds, play, play_alone};
 use round_book::Crew;
 use std::alloc::Global;
 
@@ -58,7 +58,11 @@ pub fn dumps_of(alloc: Global, word: DumpWord<'_>) -> Result<Dumps, OutOfMemory>
     match word {
         DumpWord::Nothing => Ok(Dumps::Nothing),
         DumpWord::All => Ok(Dumps::All),
-        DumpWord::Chosen(numbers) => Ok(Dumps::Chosen(rounds_of(alloc, numbers)?)),
+        DumpWord::Chosen(numbers) => {
+            let mut rounds = rounds_of(alloc, numbers)?;
+            rounds.sort();
+            Ok(Dumps::Chosen(rounds))
+        }
     }
 }
 
@@ -106,6 +110,51 @@ fn play_setting<C: Crew, K: Sink>(
         Ok(_) => Ok(()),
         Err(fault) => Err(fault),
     }
+}
+
+// Plays a game that asks for no counts turn by turn, and pushes its text.
+fn play_setting_alone<K: Sink>(
+    setting: Setting,
+    sheet: Sheet,
+    plan: &Plan,
+    out: &mut K,
+) -> Result<(), PlayFault>
+    requires fit { Fits (world_of setting.world) (record { red = setting.red; black = setting.black; sheet = sheet_of sheet }) }
+    requires planned { CanPlay plan.now }
+    requires uncounted { plan.now.stats ≡ false }
+    ensures { PushedBy (K.state out.old) (K.state out.new)
+        (whole_text (record { red = setting.red; black = setting.black; sheet = sheet_of sheet }) plan.now.seed plan.now.rounds
+        (chooses plan.now.dumps) plan.now.window plan.now.stats (world_of setting.world)) result }
+{
+    let Setting { world, red, black } = setting;
+    let brains = Brains {
+        red: &red,
+        black: &black,
+        sheet,
+    };
+    play_alone(world, brains, plan, out)?;
+    Ok(())
+}
+
+/// Plays a game of at most 1,000,000 rounds that asks for no counts, turn by turn, and writes its text. It makes no looks, since nobody asked
+/// for their counts, and takes no memory for a second world.
+pub fn run_alone<'w, S: Shelf, K: Sink>(
+    alloc: Global,
+    names: FileNames<'w>,
+    sheet: Sheet,
+    plan: &Plan,
+    shelf: &mut S,
+    out: &mut K,
+) -> Result<(), CommandStop<'w>>
+    requires planned { CanPlay plan.now }
+    requires uncounted { plan.now.stats ≡ false }
+    ensures { (setup : RunSetup) → Plans setup plan.now → IsSheetOf setup sheet
+        → CarriesOut (RunCommand names.entry.world.now names.entry.red.now names.entry.black.now setup) (S.state shelf.old) (S.state shelf.new)
+        (K.state out.old) (K.state out.new) (ending_of result) }
+{
+    let setting = setting_of(alloc, names, shelf)?;
+    play_setting_alone(setting, sheet, plan, out)?;
+    Ok(())
 }
 
 /// Plays a game of at most 1,000,000 rounds by a crew, in windows of at least one turn, and writes its text.
