@@ -292,4 +292,8 @@ def in_readme(spec):
         ["all that a `run` rests on, with words, faults and endings", number(run)],
         ["all commands", number(whole)],
     ]
+    if spec.headline:
+        game, uncounted, words = spec.game_lines()
+        rows.insert(2, ["the promise on one page, the law `%s`" % LAW, number(spec.headline.lines)])
+        rows.insert(3, ["what it says of a `run` rests on, without the counts of `--stats`, and on what words mean", "%s and %s" % (number(uncounted), number(words))])
     return table(["to believe", "lines"], rows)

@@ -47,7 +47,7 @@ class Words:
 def missing(page, words, line_of):
     """What a page leaves out of the table. `line_of` gives what the page says of an option, or nothing."""
     for command in words.commands:
-        if not re.search(r"\b%s\b" % re.escape(command), page):
+        if not re.search(r"(?<![\w-])%s(?![\w-])" % re.escape(command), page):
             yield "says nothing of the command %s" % command
     for keyword in words.keywords:
         if keyword not in page:
