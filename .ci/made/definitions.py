@@ -1,7 +1,7 @@
 """docs/DEFINITIONS.md: each definition right in a crate's specs/, with its comment, file by file."""
 from crate_tables import lemma_table
 from gate_costs import cost_table
-from tree import crates
+from tree import Unknown, crates, read
 
 
 def cell(text):
@@ -14,6 +14,18 @@ def says(definition, above):
     return text or above
 
 
+def glossary():
+    """The words of docs/glossary.txt."""
+    lines = ["| word | sense |", "|---|---|"]
+    for number, line in enumerate(read("docs/glossary.txt").split("\n"), 1):
+        if line and not line.startswith("#"):
+            word, colon, sense = line.partition(": ")
+            if not colon:
+                raise Unknown("docs/glossary.txt:%d: not a word, a colon and a sense" % number)
+            lines.append("| %s | %s |" % (word, cell(sense)))
+    return "\n".join(lines) + "\n"
+
+
 def page(tree):
     out = [
         "# Definitions",
@@ -21,7 +33,7 @@ def page(tree):
         "Made from the tree by `.ci/make-documents`; not edited by hand. Each definition that stands right in a crate's `specs/`, with its comment.",
         "What stands in `specs/Inner/` is a stepping stone of private functions and proofs, and isn't listed. A file's first comment says from which",
         "section of the contest's task it comes, where it comes from there. [SPECIFICATION.md](SPECIFICATION.md) has those that the program's promise",
-        "needs, with their texts; the [glossary](GLOSSARY.md) has the words that are coined here.",
+        "needs, with their texts; the [glossary](#glossary) has the words that are coined here.",
         "",
     ]
     for crate in crates():
@@ -41,4 +53,5 @@ def page(tree):
     out += ["## What the gate costs", "", "Processor seconds of one `rt ci` from nothing on two cores, with other work on the machine's two other cores. A tilde marks the time of"]
     out += ["the proof that wrong bodies begin with, where the first one's was not measured.", "", cost_table()]
     out += ["## Lemmas that other crates cite", "", "The files of `proofs/`, all of them.", "", lemma_table()]
+    out += ["## Glossary", "", "Words that are coined here, or used in a sense of their own, from `docs/glossary.txt`.", "", glossary()]
     return "\n".join(out).rstrip() + "\n"
