@@ -1,0 +1,97 @@
+-- Worked programs, by computation.
+use Rattle.std.proofs.Common.{◌≡◌, ℕ, suc, List, [], ◌∷◌, Some, None, refl, map}
+use Rattle.std.specs.Prelude.{codes}
+use Rattle.hex_geometry.specs.declared.direction.Side.TheVariants.{Left}
+use Rattle.brain_read.specs.declared.instr.Instr.{Instr}
+use Rattle.brain_read.specs.declared.instr.Instr.TheVariants as instr
+use Rattle.ant_asm.specs.declared.action.Action.TheVariants.{Drop, Move, Turn}
+use Rattle.ant_asm.specs.declared.fault.AsmFault.TheVariants.{NoLabel, Twice, NoBlock, EmptyBlock, UnknownWord, BadName, ExtraToken}
+use Rattle.ant_asm.specs.Program.{Items}
+use Rattle.ant_asm.specs.Names.Named.{NextWord, Name}
+use Rattle.ant_asm.specs.Lines.{Line}
+use Rattle.ant_asm.specs.Lines.Line.{Marks, Begins, Ends, Uses, Instructs}
+use Rattle.ant_asm.specs.LineFaults.{spelling_fault}
+use Rattle.ant_asm.specs.Names.{is_name, is_next}
+use Rattle.ant_asm.specs.Places.{Address, beginning, placed, places}
+use Rattle.ant_asm.specs.LabelGame.{instruction_by}
+use Rattle.ant_asm.specs.Assembled.{number_in}
+use Rattle.ant_asm.specs.Standing.{Standing, below, items_of, nothing_yet, place_fault}
+use Rattle.ant_asm.specs.Text.{last_fault}
+
+-- what stands below some lines, the first of which has this number
+abbrev below_all : Standing → ℕ → List Line → Standing
+below_all standing number [] = standing
+below_all standing number (line ∷ lines) = below_all (below standing number line) (suc number) lines
+
+-- block back done / Turn Left next / Turn Left next / Turn Left done / end / go: / Move go stuck / stuck: / use back go
+abbrev row : Standing
+row = below_all nothing_yet 1
+    (Begins (codes "back") (codes "done" ∷ []) ∷ Instructs (Turn Left NextWord) ∷ Instructs (Turn Left NextWord) ∷ Instructs (Turn Left (Name (codes "done"))) ∷ Ends
+    ∷ Marks (codes "go") ∷ Instructs (Move (Name (codes "go")) (Name (codes "stuck"))) ∷ Marks (codes "stuck") ∷ Uses (codes "back") (Name (codes "go") ∷ []) ∷ [])
+
+-- the instruction at an address, with numbers for labels
+abbrev assembled : Items → Address → Instr
+assembled program address = instruction_by (λ label. number_in (places program) ((placed program address).target label)) (placed program address).action
+
+worked_good : last_fault row.begun row ≡ None
+worked_good = refl
+
+worked_places : places (items_of row.main) ≡ (0 ∷ []) ∷ (1 ∷ 0 ∷ []) ∷ (1 ∷ 1 ∷ []) ∷ (1 ∷ 2 ∷ []) ∷ []
+worked_places = refl
+
+worked_brain : map (assembled (items_of row.main)) (places (items_of row.main)) ≡ instr.Move 0 1 ∷ instr.Turn Left 2 ∷ instr.Turn Left 3 ∷ instr.Turn Left 0 ∷ []
+unfolding placed beginning
+worked_brain = refl
+
+-- Move go go
+worked_unknown : (let s : Standing = below_all nothing_yet 1 (Instructs (Move (Name (codes "go")) (Name (codes "go"))) ∷ []) in last_fault s.begun s) ≡ Some (NoLabel 1)
+worked_unknown = refl
+
+-- Drop zz / block a / Drop nope / end: the first line counts, though the block ended before main did
+worked_first : (let s : Standing = below_all nothing_yet 1 (Instructs (Drop (Name (codes "zz"))) ∷ Begins (codes "a") [] ∷ Instructs (Drop (Name (codes "nope"))) ∷ Ends ∷ []) in last_fault s.begun s) ≡ Some (NoLabel 1)
+worked_first = refl
+
+-- block b p / p:
+worked_twice : place_fault (below nothing_yet 1 (Begins (codes "b") (codes "p" ∷ []))) 2 (Marks (codes "p")) ≡ Some (Twice 2)
+worked_twice = refl
+
+-- block a / use a; block a / end
+worked_no_block : place_fault (below nothing_yet 1 (Begins (codes "a") [])) 2 (Uses (codes "a") []) ≡ Some (NoBlock 2)
+worked_no_block = refl
+
+worked_empty : place_fault (below nothing_yet 1 (Begins (codes "a") [])) 2 Ends ≡ Some (EmptyBlock 2)
+worked_empty = refl
+
+-- next: · move: · end x · Move go 1 · block next · a: b
+module _ where
+  worked_next : spelling_fault 1 (codes "next:" ∷ []) ≡ Some (UnknownWord 1)
+  unfolding spelling_fault is_name is_next
+  worked_next = refl
+
+  worked_keyword : spelling_fault 1 (codes "move:" ∷ []) ≡ None
+  unfolding spelling_fault is_name is_next
+  worked_keyword = refl
+
+  worked_end : spelling_fault 3 (codes "end" ∷ codes "x" ∷ []) ≡ Some (ExtraToken 3)
+  unfolding spelling_fault is_name is_next
+  worked_end = refl
+
+  worked_number : spelling_fault 1 (codes "Move" ∷ codes "go" ∷ codes "1" ∷ []) ≡ Some (BadName 1)
+  unfolding spelling_fault is_name is_next
+  worked_number = refl
+
+  worked_block : spelling_fault 1 (codes "block" ∷ codes "next" ∷ []) ≡ Some (BadName 1)
+  unfolding spelling_fault is_name is_next
+  worked_block = refl
+
+  worked_two : spelling_fault 1 (codes "a:" ∷ codes "b" ∷ []) ≡ Some (UnknownWord 1)
+  unfolding spelling_fault is_name is_next
+  worked_two = refl
+
+  worked_many : spelling_fault 1 (codes "block" ∷ codes "b" ∷ codes "p1" ∷ codes "p2" ∷ codes "p3" ∷ codes "p4" ∷ codes "p5" ∷ codes "p6" ∷ codes "p7" ∷ codes "p8" ∷ codes "9" ∷ []) ≡ Some (ExtraToken 1)
+  unfolding spelling_fault is_name is_next
+  worked_many = refl
+
+  worked_long : spelling_fault 1 (codes "a23456789012345678901234567890123:" ∷ []) ≡ Some (UnknownWord 1)
+  unfolding spelling_fault is_name is_next
+  worked_long = refl

@@ -1,0 +1,21 @@
+use Rattle.std.proofs.Common.{ℕ, suc, ◌+◌, ◌-◌, ap, ◌∙◌}
+use Rattle.std.proofs.lemmas.Result.{err_from_is_err_and}
+use Rattle.ant_asm.specs.Inner.Reading.{read_label, take_all}
+use Rattle.ant_asm.specs.Inner.ReadLine.{all_before, labels_seen}
+use Rattle.ant_asm.proofs.TakeAll.{all-stops, left-one, stops-same}
+use Rattle.ant_asm.proofs.line.labels_to_end.Goals as goal
+
+pub returns-in_err-add_label : goal.returns-in_err-add_label
+returns-in_err-add_label c =
+    let p = err_from_is_err_and c.from_residual.result c.from_residual.ensures.1 in
+    let k = c.loop-k._k in
+    rw (p.1, p.2) (all-stops read_label 8 c.args.tokens.now c.in_err-add_label.field-0.0
+    (stops-same (all_before (labels_seen c.loop-k.labels.items) (take_all read_label (suc (8 - (k + 1))) c.loop-k.tokens)) (take_all read_label 8 c.args.tokens.now) c.in_err-add_label.field-0.0
+    (ap (λ (n : ℕ). all_before (labels_seen c.loop-k.labels.items) (take_all read_label n c.loop-k.tokens)) (left-one k c.loop-k-test.true) ∙ c.loop-k.invariant)
+    (c.in_err-add_label.ensures.fault (8 - (k + 1)))))
+
+pub loop-k-preserved : goal.loop-k-preserved
+loop-k-preserved c =
+    let k = c.loop-k._k in
+    c.in_ok-add_label.ensures.on (8 - (k + 1))
+    ∙ ap (λ (n : ℕ). all_before (labels_seen c.loop-k.labels.items) (take_all read_label n c.loop-k.tokens)) (left-one k c.loop-k-test.true) ∙ c.loop-k.invariant

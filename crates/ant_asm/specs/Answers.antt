@@ -1,0 +1,49 @@
+-- What the assembling of a text may answer (this project's own).
+use Rattle.std.specs.Prelude.{◌≡◌, ◌⊎◌, ℕ, List, Result, Ok, Err}
+use Rattle.cell_world.specs.declared.ant.Colour.{Colour}
+use Rattle.cell_world.specs.declared.kind.Kind.{Kind}
+use Rattle.cell_world.specs.Grid.{world_of}
+use Rattle.cell_world.specs.Opening.{opening}
+use Rattle.cell_world.specs.Valid.{Valid}
+use Rattle.brain_read.specs.declared.instr.Instr.{Instr}
+use Rattle.ant_turn.specs.Minds.{AreSound, Minds}
+use Rattle.ant_turn.specs.Renumber.{with_mind}
+use Rattle.ant_turn.specs.Rounds.{after_rounds, start_of}
+use Rattle.ant_asm.specs.declared.assembly.Assembled as code
+use Rattle.ant_asm.specs.declared.fault.AsmFault.{AsmFault}
+use Rattle.ant_asm.specs.declared.fault.AsmFault.TheVariants.{OutOfMemory}
+use Rattle.ant_asm.specs.Program.{Items}
+use Rattle.ant_asm.specs.Places.{Address}
+use Rattle.ant_asm.specs.Assembled.{IsAssembled}
+use Rattle.ant_asm.specs.Match.{label_game, numbered_moment}
+use Rattle.ant_asm.specs.Text.{IsAsmFault, IsAsmText}
+
+-- a text is a program that is assembled to this brain with these places
+pub record IsAssembledText (text : List ℕ) (brain : List Instr) (places : List Address) : Type 0 where
+  pub main : Items
+  pub is : IsAsmText text main
+  pub assembled : IsAssembled main brain places
+
+-- a fault that is answered is the text's; want of memory says nothing of the text
+abbrev pub IsFaultOf : List ℕ → AsmFault → Type 0
+IsFaultOf text OutOfMemory = Unit {0}
+IsFaultOf text fault = IsAsmFault text fault
+
+-- the answer is the program assembled, or want of memory
+abbrev pub AnswersProgram : Result code.Assembled AsmFault → Items → Type 0
+AnswersProgram (Ok made) main = IsAssembled main made.brain made.places
+AnswersProgram (Err fault) main = fault ≡ OutOfMemory
+
+-- the answer is this fault, or want of memory
+abbrev pub AnswersFault : Result code.Assembled AsmFault → AsmFault → Type 0
+AnswersFault (Ok made) fault = ⊥
+AnswersFault (Err answered) fault = (answered ≡ fault) ⊎ (answered ≡ OutOfMemory)
+
+-- whatever the opening world, the other brain, the numbers of the rules, the seed, the side and the number of rounds: the game with the brain that
+-- is answered on that side is the labelled game of the text's program with each address replaced by its number, at an equal place of the stream
+abbrev pub PlaysText : List ℕ → Result code.Assembled AsmFault → Type 0
+PlaysText text (Ok made) = (main : Items) → IsAsmText text main → (side : Colour) (minds : Minds) (seed width height : ℕ) (kinds : List Kind) (r : ℕ) →
+    AreSound (with_mind minds side made.brain) → Valid (world_of (opening width height kinds)) →
+    after_rounds (with_mind minds side made.brain) seed (start_of (world_of (opening width height kinds))) r
+    ≡ numbered_moment made.places side (label_game main side minds seed width height kinds r)
+PlaysText text (Err fault) = Unit {0}

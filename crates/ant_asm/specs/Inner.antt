@@ -1,0 +1,8 @@
+pub mod Emitting
+pub mod Flat
+pub mod Scopes
+pub mod Reading
+pub mod ReadLine
+pub mod Ranged
+pub mod View
+pub mod ProgramView

@@ -1,0 +1,12 @@
+pub mod Program
+pub mod Places
+pub mod LabelGame
+pub mod Assembled
+pub mod Match
+pub mod Inner
+pub mod Answers
+pub mod Names
+pub mod Lines
+pub mod LineFaults
+pub mod Standing
+pub mod Text

@@ -1,0 +1,79 @@
+// A text assembled: its brain, and where the brain's instructions stand.
+ghost use Rattle.std.specs.Prelude.{◌≡◌, ◌≤◌, ℕ, List, length, IfOk, IfErr, OnOk, map, [], ◌<◌};
+ghost use Rattle.brain_read.specs.Soundness.{IsBrain};
+ghost use Rattle.ant_base.specs.Shelf.{longest};
+ghost use Rattle.ant_asm.specs.declared.body.Body.{Body};
+ghost use Rattle.ant_asm.specs.declared.fault.AsmFault.{AsmFault};
+ghost use Rattle.ant_asm.specs.Program.{Items};
+ghost use Rattle.ant_asm.specs.Text.{IsAsmFault, IsAsmText};
+ghost use Rattle.ant_asm.specs.Answers.{AnswersFault, AnswersProgram, IsAssembledText, IsFaultOf, PlaysText};
+ghost use Rattle.ant_asm.specs.Places.{places};
+ghost use Rattle.ant_asm.specs.Inner.Emitting.{emitted, main_numbers};
+ghost use Rattle.ant_asm.specs.Inner.Flat.{tree_at};
+ghost use Rattle.ant_asm.specs.Inner.ProgramView.{AreBodiesOf, last_of};
+
+use crate::body::Body;
+use crate::expand::{Expansion, Frame, expand};
+use crate::fault::AsmFault;
+use crate::places::Places;
+use crate::program::read_bodies;
+use brain_read::Brain;
+use hex_geometry::OutOfMemory;
+use std::alloc::Global;
+
+/// A labelled program's brain, and its places: the address of each of the brain's instructions, by state.
+#[derive(Drop)]
+pub struct Assembled {
+    pub brain: Brain,
+    pub places: Places,
+}
+
+/// The brain of a labelled program of at most 4,194,304 bytes, with the address of each of its instructions, or the text's fault.
+/// `OutOfMemory` may be answered at any text; every other answer follows from the text alone, since every text has one program or one
+/// fault. The places are the addresses of all instructions of main's expansion, in order, and the brain's instruction `i` is the one at
+/// place `i`, with the number of its target's place for each label.
+pub fn assemble(alloc: Global, text: &[u8]) -> Result<Assembled, AsmFault>
+    requires { length text.now ≤ longest }
+    ensures program { IfOk result (λ made. IsAssembledText text.now made.brain made.places) }
+    ensures fault { IfErr result (λ fault. IsFaultOf text.now fault) }
+    ensures every_program { (main : Items) → IsAsmText text.now main → AnswersProgram result main }
+    ensures every_fault { (fault : AsmFault) → IsAsmFault text.now fault → AnswersFault result fault }
+    ensures plays { PlaysText text.now result }
+{
+    let bodies = read_bodies(alloc, text)?;
+    let made = expanded(alloc, &bodies)?;
+    Ok(with_brain(made))
+}
+
+// The instructions of main, which is the last body, and their addresses.
+fn expanded(alloc: Global, bodies: &[Body]) -> Result<Expansion, OutOfMemory>
+    requires { (text : List ℕ) × AreBodiesOf text bodies.now }
+    ensures list { IfOk result (λ made. made.list.items ≡ emitted (tree_at bodies.now (last_of bodies.now)) (tree_at bodies.now (last_of bodies.now)) main_numbers 0) }
+    ensures places { IfOk result (λ made. made.places.items ≡ places (tree_at bodies.now (last_of bodies.now))) }
+{
+    let mut out = Expansion {
+        list: Vec::new(alloc),
+        places: Vec::new(alloc),
+        path: Vec::new(alloc),
+    };
+    let given: [u16; 0] = [];
+    let frame = Frame {
+        base: 0,
+        after: 0,
+        given: &given,
+    };
+    expand(alloc, bodies, bodies.len() - 1, frame, &mut out)?;
+    Ok(out)
+}
+
+// The brain of what was expanded.
+fn with_brain(made: Expansion) -> Assembled
+    requires { IsBrain made.list.items }
+    ensures brain { result.brain ≡ made.list.items }
+    ensures places { result.places ≡ made.places.items }
+{
+    Assembled {
+        brain: Brain::from_list(made.list),
+        places: Places::of(made.places),
+    }
+}

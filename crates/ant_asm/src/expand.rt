@@ -1,0 +1,237 @@
+// A program expanded.
+ghost use Rattle.std.specs.Prelude.{◌≡◌, ℕ, List, ◌+◌, ◌<◌, ◌≤◌, ◌++◌, length, OnOk, IfOk, map, [], ◌∷◌, slice_index_or, slice_get, Some};
+ghost use Rattle.ant_asm.specs.Program.{size_of};
+ghost use Rattle.ant_asm.specs.Places.{places_of};
+ghost use Rattle.ant_asm.specs.LabelGame.{instruction_by};
+ghost use Rattle.ant_asm.specs.Inner.Emitting.{emitted, number_first, number_target};
+ghost use Rattle.ant_asm.specs.Inner.Flat.{AreGood, AreLabelsOf, HasGiven, IsActionOf, IsLabelOf, IsPlace, IsPlaceOfItem, numbers_of, tree_at, most};
+
+use crate::action::{Action, Label};
+use crate::body::{Body, Item};
+use crate::places::Address;
+use brain_read::Instr;
+use hex_geometry::OutOfMemory;
+use std::alloc::Global;
+
+/// What was expanded so far: the instructions, their addresses, and the path of the body that is put in place.
+#[derive(Drop)]
+pub struct Expansion {
+    pub list: Vec<Instr>,
+    pub places: Vec<Address>,
+    pub path: Vec<u32>,
+}
+
+/// Where a body is put in place: the number of its first instruction, of what follows it, and of what is handed for its parameters.
+#[derive(Clone, Copy)]
+pub struct Frame<'f> {
+    pub base: u16,
+    pub after: u16,
+    pub given: &'f [u16],
+}
+
+// The number of the first instruction from a place on.
+fn number_first(bodies: &[Body], number: usize, frame: Frame, place: usize) -> u16
+    requires good { AreGood bodies.now }
+    requires known { number < length bodies.now }
+    requires inside { IsPlace bodies.now number place }
+    requires fits { frame.base + size_of (tree_at bodies.now number) ≤ most }
+    ensures { result ≡ number_first (tree_at bodies.now number) (numbers_of frame.entry) place }
+{
+    let body = &bodies[number];
+    let start = body.starts[place];
+    if start == body.starts[body.items.as_slice().len()] {
+        return frame.after;
+    }
+    frame.base + start
+}
+
+// The number to which a label of an item leads.
+fn number_target(bodies: &[Body], number: usize, frame: Frame, place: usize, label: Label) -> u16
+    requires good { AreGood bodies.now }
+    requires known { number < length bodies.now }
+    requires inside { IsPlaceOfItem bodies.now number place }
+    requires small { place < most }
+    requires label { IsLabelOf bodies.now number label }
+    requires given { HasGiven bodies.now number frame }
+    requires fits { frame.base + size_of (tree_at bodies.now number) ≤ most }
+    ensures { result ≡ number_target (tree_at bodies.now number) (numbers_of frame.entry) place label }
+{
+    match label {
+        Label::Next => number_first(bodies, number, frame, place + 1),
+        Label::Place(at) => number_first(bodies, number, frame, at as usize),
+        Label::Parameter(i) => frame.given[i as usize],
+    }
+}
+
+// The numbers to which the labels lead that an item hands to a block.
+fn handed_numbers(
+    alloc: Global,
+    bodies: &[Body],
+    number: usize,
+    frame: Frame,
+    place: usize,
+    handed: &[Label],
+) -> Result<Vec<u16>, OutOfMemory>
+    requires good { AreGood bodies.now }
+    requires known { number < length bodies.now }
+    requires inside { IsPlaceOfItem bodies.now number place }
+    requires small { place < most }
+    requires labels { AreLabelsOf bodies.now number handed.now }
+    requires given { HasGiven bodies.now number frame }
+    requires fits { frame.base + size_of (tree_at bodies.now number) ≤ most }
+    ensures { IfOk result (λ numbers. numbers.items ≡ map (number_target (tree_at bodies.now number) (numbers_of frame.entry) place) handed.now) }
+{
+    let mut numbers = Vec::with_capacity(alloc, handed.len())?;
+    for label in handed {
+        numbers.push(number_target(bodies, number, frame, place, *label))?;
+    }
+    Ok(numbers)
+}
+
+// A path and one place more.
+fn with_place(alloc: Global, path: &[u32], place: usize) -> Result<Address, OutOfMemory>
+    requires small { place < most }
+    ensures { IfOk result (λ address. address ≡ path.now ++ place ∷ []) }
+{
+    let mut steps = Vec::with_capacity(alloc, path.len() + 1)?;
+    steps.extend_from_slice(path)?;
+    steps.push(place as u32)?;
+    Ok(Address::of(steps))
+}
+
+// The last place of a path is left.
+fn leave(path: &mut Vec<u32>)
+    ensures { (front : List ℕ) (place : ℕ) → path.old.items ≡ front ++ place ∷ [] → path.new.items ≡ front }
+{
+    path.pop();
+}
+
+// The instructions of the body of this number, put in place in this frame, and their addresses.
+pub(crate) fn expand(
+    alloc: Global,
+    bodies: &[Body],
+    number: usize,
+    frame: Frame,
+    out: &mut Expansion,
+) -> Result<(), OutOfMemory>
+    requires good { AreGood bodies.now }
+    requires known { number < length bodies.now }
+    requires given { HasGiven bodies.now number frame }
+    requires fits { frame.base + size_of (tree_at bodies.now number) ≤ most }
+    ensures list { OnOk result (out.new.list.items ≡ out.old.list.items
+        ++ emitted (tree_at bodies.now number) (tree_at bodies.now number) (numbers_of frame.entry) 0) }
+    ensures places { OnOk result (out.new.places.items ≡ out.old.places.items
+        ++ places_of (tree_at bodies.now number) out.old.path.items 0) }
+    ensures path { OnOk result (out.new.path.items ≡ out.old.path.items) }
+{
+    let body = &bodies[number];
+    let items = body.items.as_slice();
+    for place in 0..items.len() {
+        match &items[place] {
+            Item::Do(action) => {
+                emit(alloc, bodies, number, frame, place, *action, out)?;
+            }
+            Item::Use { block, handed } => {
+                let given = handed_numbers(alloc, bodies, number, frame, place, handed.as_slice())?;
+                let inner = Frame {
+                    base: frame.base + body.starts[place],
+                    after: number_first(bodies, number, frame, place + 1),
+                    given: given.as_slice(),
+                };
+                out.path.push(place as u32)?;
+                expand(alloc, bodies, *block, inner, out)?;
+                leave(&mut out.path);
+            }
+        }
+    }
+    Ok(())
+}
+
+// One instruction of a body.
+fn emit(
+    alloc: Global,
+    bodies: &[Body],
+    number: usize,
+    frame: Frame,
+    place: usize,
+    action: Action<Label>,
+    out: &mut Expansion,
+) -> Result<(), OutOfMemory>
+    requires good { AreGood bodies.now }
+    requires known { number < length bodies.now }
+    requires inside { IsPlaceOfItem bodies.now number place }
+    requires small { place < most }
+    requires action { IsActionOf bodies.now number action }
+    requires given { HasGiven bodies.now number frame }
+    requires fits { frame.base + size_of (tree_at bodies.now number) ≤ most }
+    ensures list { OnOk result (out.new.list.items ≡ out.old.list.items
+        ++ instruction_by (number_target (tree_at bodies.now number) (numbers_of frame.entry) place) action ∷ []) }
+    ensures places { OnOk result (out.new.places.items ≡ out.old.places.items ++ (out.old.path.items ++ place ∷ []) ∷ []) }
+    ensures path { OnOk result (out.new.path.items ≡ out.old.path.items) }
+{
+    let address = with_place(alloc, out.path.as_slice(), place)?;
+    let instruction = numbered_at(bodies, number, frame, place, action);
+    out.list.push(instruction)?;
+    out.places.push(address)?;
+    Ok(())
+}
+
+// The instruction with numbers for labels.
+fn numbered_at(
+    bodies: &[Body],
+    number: usize,
+    frame: Frame,
+    place: usize,
+    action: Action<Label>,
+) -> Instr
+    requires good { AreGood bodies.now }
+    requires known { number < length bodies.now }
+    requires inside { IsPlaceOfItem bodies.now number place }
+    requires small { place < most }
+    requires action { IsActionOf bodies.now number action }
+    requires given { HasGiven bodies.now number frame }
+    requires fits { frame.base + size_of (tree_at bodies.now number) ≤ most }
+    ensures { result ≡ instruction_by (number_target (tree_at bodies.now number) (numbers_of frame.entry) place) action }
+{
+    match action {
+        Action::Sense {
+            sight,
+            met,
+            unmet,
+            cond,
+        } => Instr::Sense {
+            sight,
+            yes: number_target(bodies, number, frame, place, met),
+            no: number_target(bodies, number, frame, place, unmet),
+            cond,
+        },
+        Action::Mark { mark, on } => Instr::Mark {
+            mark,
+            next: number_target(bodies, number, frame, place, on),
+        },
+        Action::Unmark { mark, on } => Instr::Unmark {
+            mark,
+            next: number_target(bodies, number, frame, place, on),
+        },
+        Action::PickUp { met, unmet } => Instr::PickUp {
+            yes: number_target(bodies, number, frame, place, met),
+            no: number_target(bodies, number, frame, place, unmet),
+        },
+        Action::Drop { on } => Instr::Drop {
+            next: number_target(bodies, number, frame, place, on),
+        },
+        Action::Turn { side, on } => Instr::Turn {
+            side,
+            next: number_target(bodies, number, frame, place, on),
+        },
+        Action::Move { met, unmet } => Instr::Move {
+            yes: number_target(bodies, number, frame, place, met),
+            no: number_target(bodies, number, frame, place, unmet),
+        },
+        Action::Flip { bound, met, unmet } => Instr::Flip {
+            bound,
+            yes: number_target(bodies, number, frame, place, met),
+            no: number_target(bodies, number, frame, place, unmet),
+        },
+    }
+}

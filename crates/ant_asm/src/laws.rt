@@ -1,0 +1,20 @@
+// Laws of assembled programs.
+ghost use Rattle.ant_asm.specs.Match.{PlaysLabelled, ScoresLabelled};
+ghost use Rattle.ant_asm.specs.Text.{OneProgramOrOneFault};
+
+/// A law: a text has one program or one fault, and never both.
+pub fn one_program_or_one_fault()
+    ensures { OneProgramOrOneFault }
+{}
+
+/// A law: by any opening world, other brain, numbers of the rules, seed, side and number of rounds, the game with an assembled brain is the
+/// labelled game of its program, with the number of its place for each address, and it stands at an equal place of the stream (the task's
+/// kinetics and number generation).
+pub fn plays_labelled()
+    ensures { PlaysLabelled }
+{}
+
+/// A law: so the scores of the two games are equal after each round (the task's game play).
+pub fn scores_labelled()
+    ensures { ScoresLabelled }
+{}

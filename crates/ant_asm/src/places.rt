@@ -1,0 +1,81 @@
+// Where the instructions of a program stand.
+ghost use Rattle.std.specs.Prelude.{◌≡◌, ◌<◌, length, slice_get, Some};
+
+use std::marker::Model;
+
+/// Where an instruction stands in a program: a place in main, then a place in the block that is put in place there, and so on; all counted
+/// from 0. Contracts see the list of these numbers.
+#[derive(Drop)]
+pub struct Address {
+    steps: Vec<u32>,
+}
+
+impl Model for Address {
+    ghost use Rattle.std.specs.Prelude.{List, ℕ};
+
+    ghost Value = { List ℕ };
+
+    ghost view = { λ address. address.steps.items };
+}
+
+impl Address {
+    // The address of these numbers.
+    pub(crate) fn of(steps: Vec<u32>) -> Address
+        ensures { result ≡ steps.items }
+    {
+        Address { steps }
+    }
+
+    /// How many numbers it has. It takes no memory.
+    pub fn len(&self) -> usize
+        ensures { result ≡ length self.now }
+    {
+        self.steps.len()
+    }
+
+    /// Its number at `i`, which is from 0 and below the length. It takes no memory.
+    pub fn item(&self, i: usize) -> u32
+        requires { i < length self.now }
+        ensures { slice_get self.now i ≡ Some result }
+    {
+        self.steps[i]
+    }
+}
+
+/// Where the instructions of an assembled brain stand in its program: an address for each state. Contracts see the list of the addresses.
+#[derive(Drop)]
+pub struct Places {
+    list: Vec<Address>,
+}
+
+impl Model for Places {
+    ghost use Rattle.std.specs.Prelude.{List, ℕ};
+
+    ghost Value = { List (List ℕ) };
+
+    ghost view = { λ places. places.list.items };
+}
+
+impl Places {
+    // These addresses.
+    pub(crate) fn of(list: Vec<Address>) -> Places
+        ensures { result ≡ list.items }
+    {
+        Places { list }
+    }
+
+    /// How many there are: as many as the brain has states. It takes no memory.
+    pub fn len(&self) -> usize
+        ensures { result ≡ length self.now }
+    {
+        self.list.len()
+    }
+
+    /// The address of state `i`, which is from 0 and below the length. It takes no memory.
+    pub fn item(&self, i: usize) -> &Address
+        requires { i < length self.now }
+        ensures { slice_get self.now i ≡ Some result.now }
+    {
+        &self.list[i]
+    }
+}

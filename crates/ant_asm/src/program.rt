@@ -1,0 +1,335 @@
+// A program that is being read, line by line.
+ghost use Rattle.std.specs.Prelude.{◌≡◌, ◌⊎◌, ◌+◌, ◌∷◌, ◌++◌, [], ◌<◌, ◌≤◌, ℕ, List, length, map, OnOk, IfOk, IfErr, None, Ok, bytes_eq};
+ghost use Rattle.ant_base.specs.Shelf.{longest};
+ghost use Rattle.line_tokens.specs.TokenLines.{lines_with_tokens};
+ghost use Rattle.brain_read.specs.Forms.{IsInRange};
+ghost use Rattle.ant_asm.specs.LabelGame.{instruction_by};
+ghost use Rattle.ant_asm.specs.Program.{size_of};
+ghost use Rattle.ant_asm.specs.Lines.{IsLineInRange};
+ghost use Rattle.ant_asm.specs.Lines.Line.{Begins, Ends, Instructs, Marks, Uses};
+ghost use Rattle.ant_asm.specs.Text.{last_fault};
+ghost use Rattle.ant_asm.specs.Standing.{earlier, has_twice, is_one_of, mapped, nothing_yet, place_fault};
+ghost use Rattle.ant_asm.specs.Inner.Flat.{most, tree_at};
+ghost use Rattle.ant_asm.specs.Inner.Reading.{seen};
+ghost use Rattle.ant_asm.specs.Inner.ReadLine.{labels_seen, line_seen, names_seen};
+ghost use Rattle.ant_asm.specs.Inner.Scopes.{known_as};
+ghost use Rattle.ant_asm.specs.Inner.ProgramView.{AreBodiesOf, FailsAs, FailsText, IsGoodProgram, IsReadInto, program_seen, reading, reading_from};
+ghost use Rattle.ant_asm.specs.Inner.View.{FailsWith, IsClosedAs, IsNew};
+
+use crate::action::Action;
+use crate::body::Body;
+use crate::fault::AsmFault;
+use crate::line::{Line, read_line};
+use crate::open::{OpenBody, OpenKind, closed, first_unknown};
+use crate::scope::parameter_names;
+use crate::spelling::Source;
+use ant_base::Lines;
+use hex_geometry::OutOfMemory;
+use indexmap::IndexMap;
+use line_tokens::Tokens;
+use std::alloc::Global;
+use std::mem;
+
+/// The largest number of blocks.
+const MOST_BLOCKS: usize = 256;
+
+/// What stands round a block that has begun and not ended: main as far as it goes, the block's name, and the line that began it.
+#[derive(Drop)]
+pub struct Outer<'t> {
+    pub main: OpenBody<'t>,
+    pub name: &'t [u8],
+    pub line: u32,
+}
+
+/// What was read so far: the body to which lines add, what stands round it where it is a block, the blocks that have ended, which of them
+/// each name is that of, and the first line of an ended block that names a label which its body doesn't have.
+#[derive(Drop)]
+pub struct Program<'t> {
+    pub current: OpenBody<'t>,
+    pub outer: Option<Outer<'t>>,
+    pub bodies: Vec<Body>,
+    pub blocks: IndexMap<&'t [u8], usize>,
+    pub unknown: Option<u32>,
+}
+
+impl<'t> Program<'t> {
+    // Nothing.
+    pub(crate) fn new(alloc: Global) -> Self
+        ensures is { program_seen result ≡ nothing_yet }
+        ensures good { IsGoodProgram result }
+    {
+        let current = OpenBody {
+            parameters: 0,
+            names: IndexMap::new(alloc),
+            items: Vec::new(alloc),
+            size: 0,
+        };
+        Program {
+            current,
+            outer: None,
+            bodies: Vec::new(alloc),
+            blocks: IndexMap::new(alloc),
+            unknown: None,
+        }
+    }
+
+    // A line more, of this number.
+    pub(crate) fn read(
+        &mut self,
+        alloc: Global,
+        line: &'t [u8],
+        number: u32,
+    ) -> Result<(), AsmFault>
+        requires good { IsGoodProgram self.old }
+        ensures good { OnOk result (IsGoodProgram self.new) }
+        ensures on { (lines : List (List ℕ)) → OnOk result (reading_from (program_seen self.new) (number + 1) lines ≡ reading_from (program_seen self.old) number (line.now ∷ lines)) }
+        ensures fault { (lines : List (List ℕ)) → IfErr result (λ fault. FailsAs fault (reading_from (program_seen self.old) number (line.now ∷ lines))) }
+    {
+        let mut tokens = Tokens::new(line);
+        if !tokens.has_next() {
+            return Ok(());
+        }
+        match read_line(alloc, &mut tokens) {
+            Ok(said) => self.add(alloc, said, number),
+            Err(fault) => Err(fault.at(number)),
+        }
+    }
+
+    // What a line says more.
+    fn add(&mut self, alloc: Global, line: Line<'t>, number: u32) -> Result<(), AsmFault>
+        requires good { IsGoodProgram self.old }
+        requires few { IsLineInRange (line_seen line) }
+        ensures good { OnOk result (IsGoodProgram self.new) }
+        ensures into { OnOk result (IsReadInto (program_seen self.old) number (line_seen line.entry) (program_seen self.new)) }
+        ensures fault { IfErr result (λ fault. FailsWith fault (place_fault (program_seen self.old) number (line_seen line.entry))) }
+    {
+        match line {
+            Line::Mark(name) => self.mark(name, number),
+            Line::Begin { name, parameters } => self.begin(
+                alloc,
+                name,
+                parameters.as_slice(),
+                number,
+            ),
+            Line::End => self.end(alloc, number),
+            Line::Use { name, handed } => self.put(name, handed, number),
+            Line::Instruct(action) => self.instruct(action, number),
+        }
+    }
+
+    // The item that follows is named so.
+    fn mark(&mut self, name: &'t [u8], number: u32) -> Result<(), AsmFault>
+        requires good { IsGoodProgram self.old }
+        ensures good { OnOk result (IsGoodProgram self.new) }
+        ensures into { OnOk result (IsReadInto (program_seen self.old) number (Marks name.now) (program_seen self.new)) }
+        ensures fault { IfErr result (λ fault. FailsWith fault (place_fault (program_seen self.old) number (Marks name.now))) }
+    {
+        self.current.mark(name, number)
+    }
+
+    // An instruction more.
+    fn instruct(&mut self, action: Action<Source<'t>>, number: u32) -> Result<(), AsmFault>
+        requires good { IsGoodProgram self.old }
+        requires range { IsInRange (instruction_by (λ label. 0) (mapped seen action)) }
+        ensures good { OnOk result (IsGoodProgram self.new) }
+        ensures into { OnOk result (IsReadInto (program_seen self.old) number (Instructs (mapped seen action.entry)) (program_seen self.new)) }
+        ensures fault { IfErr result (λ fault. FailsWith fault (place_fault (program_seen self.old) number (Instructs (mapped seen action.entry)))) }
+    {
+        self.current.add(OpenKind::Do(action), 1, number)
+    }
+
+    // A block put in place.
+    fn put(&mut self, name: &'t [u8], handed: Vec<Source<'t>>, number: u32) -> Result<(), AsmFault>
+        requires good { IsGoodProgram self.old }
+        ensures good { OnOk result (IsGoodProgram self.new) }
+        ensures into { OnOk result (IsReadInto (program_seen self.old) number (Uses name.now (labels_seen handed.entry.items)) (program_seen self.new)) }
+        ensures fault { IfErr result (λ fault. FailsWith fault (place_fault (program_seen self.old) number (Uses name.now (labels_seen handed.entry.items)))) }
+    {
+        let Some(block) = self.block_number(name) else {
+            return Err(AsmFault::NoBlock { line: number });
+        };
+        if handed.len() != self.bodies[block].parameters {
+            return Err(AsmFault::WrongCount { line: number });
+        }
+        let size = self.size_of(block);
+        self.current
+            .add(OpenKind::Use { block, handed }, size, number)
+    }
+
+    // A block begins.
+    fn begin(
+        &mut self,
+        alloc: Global,
+        name: &'t [u8],
+        parameters: &[&'t [u8]],
+        number: u32,
+    ) -> Result<(), AsmFault>
+        requires good { IsGoodProgram self.old }
+        requires few { length parameters.now ≤ 8 }
+        ensures good { OnOk result (IsGoodProgram self.new) }
+        ensures into { OnOk result (IsReadInto (program_seen self.old) number (Begins name.now (names_seen parameters.now)) (program_seen self.new)) }
+        ensures fault { IfErr result (λ fault. FailsWith fault (place_fault (program_seen self.old) number (Begins name.now (names_seen parameters.now)))) }
+    {
+        if self.outer.is_some() {
+            return Err(AsmFault::Misplaced { line: number });
+        }
+        if has_twice(parameters) {
+            return Err(AsmFault::Twice { line: number });
+        }
+        if self.block_number(name).is_some() {
+            return Err(AsmFault::Twice { line: number });
+        }
+        if self.bodies.len() >= MOST_BLOCKS {
+            return Err(AsmFault::TooMany { line: number });
+        }
+        let block = new_body(alloc, parameters)?;
+        let main = mem::replace(&mut self.current, block);
+        self.outer = Some(Outer {
+            main,
+            name,
+            line: number,
+        });
+        Ok(())
+    }
+
+    // A block ends.
+    fn end(&mut self, alloc: Global, number: u32) -> Result<(), AsmFault>
+        requires good { IsGoodProgram self.old }
+        ensures good { OnOk result (IsGoodProgram self.new) }
+        ensures into { OnOk result (IsReadInto (program_seen self.old) number Ends (program_seen self.new)) }
+        ensures fault { IfErr result (λ fault. FailsWith fault (place_fault (program_seen self.old) number Ends)) }
+    {
+        let Some(outer) = self.outer.take() else {
+            return Err(AsmFault::Misplaced { line: number });
+        };
+        if self.current.items.is_empty() {
+            return Err(AsmFault::EmptyBlock { line: number });
+        }
+        let unknown = first_unknown(&self.current);
+        let body = closed(alloc, &self.current)?;
+        let block = self.bodies.len();
+        self.blocks.insert(outer.name, block)?;
+        self.bodies.push(body)?;
+        self.current = outer.main;
+        self.unknown = earlier(self.unknown, unknown);
+        Ok(())
+    }
+
+    // The number of the block of this name that has ended.
+    fn block_number(&self, name: &[u8]) -> Option<usize>
+        ensures { result ≡ known_as self.now.blocks.entries name.now }
+    {
+        self.blocks.get(name).copied()
+    }
+
+    // How many instructions a block expands to.
+    fn size_of(&self, block: usize) -> usize
+        requires good { IsGoodProgram self.now }
+        requires known { block < length self.now.bodies.items }
+        ensures size { result ≡ size_of (tree_at self.now.bodies.items block) }
+        ensures few { result ≤ most }
+    {
+        let body = &self.bodies[block];
+        body.starts[body.items.as_slice().len()] as usize
+    }
+}
+
+// A body with these parameters and nothing else.
+fn new_body<'t>(alloc: Global, parameters: &[&'t [u8]]) -> Result<OpenBody<'t>, OutOfMemory>
+    requires few { length parameters.now ≤ 8 }
+    ensures { IfOk result (IsNew (names_seen parameters.now)) }
+{
+    let names = parameter_names(alloc, parameters)?;
+    Ok(OpenBody {
+        parameters: parameters.len(),
+        names,
+        items: Vec::new(alloc),
+        size: 0,
+    })
+}
+
+// Whether a name is there twice.
+fn has_twice(names: &[&[u8]]) -> bool
+    ensures { result ≡ has_twice (names_seen names.now) }
+{
+    match names {
+        [] => false,
+        [name, others @ ..] => is_one_of(others, name) || has_twice(others),
+    }
+}
+
+// Whether a name is one of some.
+fn is_one_of(names: &[&[u8]], name: &[u8]) -> bool
+    ensures { result ≡ is_one_of (names_seen names.now) name.now }
+{
+    match names {
+        [] => false,
+        [other, others @ ..] => is_same(other, name) || is_one_of(others, name),
+    }
+}
+
+fn is_same(name: &[u8], other: &[u8]) -> bool
+    ensures { result ≡ bytes_eq name.now other.now }
+{
+    name == other
+}
+
+// The earlier of two lines that there may be.
+fn earlier(line: Option<u32>, other: Option<u32>) -> Option<u32>
+    ensures { result ≡ earlier line other }
+{
+    match (line, other) {
+        (None, other) => other,
+        (Some(line), None) => Some(line),
+        (Some(line), Some(other)) => Some(line.min(other)),
+    }
+}
+
+// What is read of a text.
+fn read_program<'t>(alloc: Global, text: &'t [u8]) -> Result<Program<'t>, AsmFault>
+    requires { length text.now ≤ longest }
+    ensures good { IfOk result IsGoodProgram }
+    ensures read { IfOk result (λ program. reading nothing_yet (lines_with_tokens text.now) ≡ Ok (program_seen program)) }
+    ensures fault { IfErr result (λ fault. FailsAs fault (reading nothing_yet (lines_with_tokens text.now))) }
+{
+    let mut program = Program::new(alloc);
+    let mut number = 1;
+    for line in Lines::new(text) {
+        program.read(alloc, line, number)?;
+        number += 1;
+    }
+    Ok(program)
+}
+
+// The bodies of a text: its blocks, and main last.
+pub(crate) fn read_bodies(alloc: Global, text: &[u8]) -> Result<Vec<Body>, AsmFault>
+    requires { length text.now ≤ longest }
+    ensures bodies { IfOk result (λ bodies. AreBodiesOf text.now bodies.items) }
+    ensures fault { IfErr result (FailsText text.now) }
+{
+    let mut program = read_program(alloc, text)?;
+    let main = main_of(alloc, &program)?;
+    program.bodies.push(main)?;
+    Ok(program.bodies)
+}
+
+// Main, where no line is at fault and the text as a whole isn't.
+fn main_of(alloc: Global, program: &Program) -> Result<Body, AsmFault>
+    requires good { IsGoodProgram program.now }
+    ensures free { OnOk result (last_fault (program_seen program.now).begun (program_seen program.now) ≡ None) }
+    ensures main { IfOk result (λ main. IsClosedAs program.now.current main) }
+    ensures fault { IfErr result (λ fault. FailsWith fault (last_fault (program_seen program.now).begun (program_seen program.now))) }
+{
+    if let Some(outer) = &program.outer {
+        return Err(AsmFault::Misplaced { line: outer.line });
+    }
+    if program.current.items.is_empty() {
+        return Err(AsmFault::Empty);
+    }
+    let unknown = first_unknown(&program.current);
+    if let Some(line) = earlier(program.unknown, unknown) {
+        return Err(AsmFault::NoLabel { line });
+    }
+    let main = closed(alloc, &program.current)?;
+    Ok(main)
+}

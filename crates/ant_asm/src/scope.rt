@@ -1,0 +1,112 @@
+// What the names of a body stand for.
+ghost use Rattle.std.specs.Prelude.{◌≡◌, ◌≤◌, length, is_none, OnOk, IfOk};
+ghost use Rattle.ant_asm.specs.Inner.Reading.{seen};
+ghost use Rattle.ant_asm.specs.Inner.ReadLine.{names_seen};
+ghost use Rattle.ant_asm.specs.Inner.Scopes.{known_as};
+ghost use Rattle.ant_asm.specs.Standing.{mapped, parameter_names, way_of, way_or_next, with_name};
+
+use crate::action::{Action, Label};
+use crate::spelling::Source;
+use hex_geometry::OutOfMemory;
+use indexmap::IndexMap;
+use std::alloc::Global;
+
+/// What each name of a body stands for.
+pub type Names<'t> = IndexMap<&'t [u8], Label>;
+
+// What a name stands for, if the body has it.
+pub fn meaning(names: &Names, name: &[u8]) -> Option<Label>
+    ensures { result ≡ known_as names.now.entries name.now }
+{
+    names.get(name).copied()
+}
+
+// One name more.
+pub fn add_name<'t>(names: &mut Names<'t>, name: &'t [u8], label: Label) -> Result<(), OutOfMemory>
+    ensures { OnOk result (known_as names.new.entries ≡ with_name name.now label (known_as names.old.entries)) }
+{
+    names.insert(name, label)?;
+    Ok(())
+}
+
+// Whether a label stands for nothing.
+pub(crate) fn is_unknown(names: &Names, label: Source) -> bool
+    ensures { result ≡ is_none (way_of (known_as names.now.entries) (seen label.entry)) }
+{
+    match label {
+        Source::Next => false,
+        Source::Named(name) => meaning(names, name).is_none(),
+    }
+}
+
+// What a label stands for; the item after, where the body doesn't have it.
+pub(crate) fn way_or_next(names: &Names, label: Source) -> Label
+    ensures { result ≡ way_or_next (known_as names.now.entries) (seen label.entry) }
+{
+    match label {
+        Source::Next => Label::Next,
+        Source::Named(name) => meaning(names, name).unwrap_or(Label::Next),
+    }
+}
+
+// An instruction with what its labels stand for.
+pub(crate) fn resolved(names: &Names, action: Action<Source>) -> Action<Label>
+    ensures { result ≡ mapped (λ label. way_or_next (known_as names.now.entries) (seen label)) action.entry }
+{
+    match action {
+        Action::Sense {
+            sight,
+            met,
+            unmet,
+            cond,
+        } => Action::Sense {
+            sight,
+            met: way_or_next(names, met),
+            unmet: way_or_next(names, unmet),
+            cond,
+        },
+        Action::Mark { mark, on } => Action::Mark {
+            mark,
+            on: way_or_next(names, on),
+        },
+        Action::Unmark { mark, on } => Action::Unmark {
+            mark,
+            on: way_or_next(names, on),
+        },
+        Action::PickUp { met, unmet } => Action::PickUp {
+            met: way_or_next(names, met),
+            unmet: way_or_next(names, unmet),
+        },
+        Action::Drop { on } => Action::Drop {
+            on: way_or_next(names, on),
+        },
+        Action::Turn { side, on } => Action::Turn {
+            side,
+            on: way_or_next(names, on),
+        },
+        Action::Move { met, unmet } => Action::Move {
+            met: way_or_next(names, met),
+            unmet: way_or_next(names, unmet),
+        },
+        Action::Flip { bound, met, unmet } => Action::Flip {
+            bound,
+            met: way_or_next(names, met),
+            unmet: way_or_next(names, unmet),
+        },
+    }
+}
+
+// What the parameters of a body stand for.
+pub(crate) fn parameter_names<'t>(
+    alloc: Global,
+    parameters: &[&'t [u8]],
+) -> Result<Names<'t>, OutOfMemory>
+    requires few { length parameters.now ≤ 8 }
+    ensures { IfOk result (λ names. known_as names.entries ≡ parameter_names 0 (names_seen parameters.now)) }
+{
+    let mut names = IndexMap::new(alloc);
+    for i in (0..parameters.len()).rev() {
+        add_name(&mut names, parameters[i], Label::Parameter(i as u32))?;
+    }
+    Ok(names)
+}
