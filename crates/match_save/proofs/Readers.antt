@@ -1,0 +1,4 @@
+-- What holds of readers, whatever they read.
+pub mod Composed
+pub mod Elements
+pub mod Good

@@ -1,0 +1,125 @@
+-- Saves as games that go on.
+use Rattle.std.proofs.Common.{◌≡◌, ◌⊎◌, ℕ, ◌+◌, ◌*◌, ◌<◌, ◌≤◌, Bool, true, false, cond, ltb, List, [], ◌∷◌, length, get_or, Some, None, refl, sym, ◌∙◌, ap, subst, inl, inr, arith}
+use Rattle.std.specs.List.{AllByRecursion}
+use Rattle.hex_geometry.specs.declared.position.Pos.{Pos}
+use Rattle.hex_geometry.specs.RowOrder.{index_of}
+use Rattle.cell_world.specs.declared.ant.Ant.{Ant}
+use Rattle.cell_world.specs.declared.ant.PlacedAnt.{PlacedAnt}
+use Rattle.cell_world.specs.declared.ant.Colour.{Colour}
+use Rattle.cell_world.specs.declared.ant.Colour.TheVariants.{Red, Black}
+use Rattle.cell_world.specs.Cell.{rock}
+use Rattle.cell_world.specs.Grid.{Grid, cell_in, world_of}
+use Rattle.ant_base.specs.Layout.{◌+++◌}
+use Rattle.ant_turn.specs.Minds.{Fits, Minds, mind_of}
+use Rattle.ant_turn.specs.Rounds.{Moment, start_of}
+use Rattle.dump_print.specs.Texts.{seed_text}
+use Rattle.dump_print.specs.declared.totals.Totals.{Totals}
+use Rattle.match_run.proofs.RestLaws.{runs_go_on}
+use Rattle.match_run.specs.Counts.{totals_of}
+use Rattle.match_run.specs.Game.{CanGoOn, GameValue, game_at_round, now_of}
+use Rattle.match_run.specs.Rest.{rest_text}
+use Rattle.match_run.specs.Run.{dumps_text}
+use Rattle.round_book.specs.Book.{FieldValue}
+use Rattle.match_save.specs.Draft.{Draft, IsInForm}
+use Rattle.match_save.specs.Resumed.{SavesGoOn, field_of, moment_of, rest_of}
+use Rattle.match_save.specs.Saved.{IsSaved, SavedValue, draft_of}
+use Rattle.match_save.specs.State.{IsState, grid_of_draft, hill_count, program_of, turns_of}
+use Rattle.match_save.specs.Inner.Floor.{floor_of}
+use Rattle.match_save.proofs.Floors.{on}
+use Rattle.match_save.proofs.RoundTrip.{In, Stands, back, bare-none}
+
+-- each ant of a state's world fits its brain
+pub fits-of : (d : Draft) (ok : IsInForm d) → IsState d → (p : Pos) (ant : Ant) → (cell_in (grid_of_draft d) p).ant ≡ Some ant → ant.state < length (program_of d ant.colour)
+unfolding grid_of_draft cell_in rock
+fits-of d ok state p ant is = go (ltb p.x d.head.width) is where
+  fit : (ants : List PlacedAnt) → AllByRecursion (λ (it : PlacedAnt). it.ant.state < length (program_of d it.ant.colour)) ants → (it : PlacedAnt) → In it ants → it.ant.state < length (program_of d it.ant.colour)
+  fit [] all it is_in = absurd is_in
+  fit (first ∷ ants) all it (inl same) = subst (λ (v : PlacedAnt). v.ant.state < length (program_of d v.ant.colour)) same all.0
+  fit (first ∷ ants) all it (inr is_in) = fit ants all.1 it is_in
+
+  found : ((get_or (floor_of d).cells (index_of d.head.width p) rock).ant ≡ Some ant) ⊎ Stands d.head.width d.ants (index_of d.head.width p) ant → ant.state < length (program_of d ant.colour)
+  found (inl e) =
+      let wrong : None ≡ Some ant = sym (bare-none d.soils d.red_marks d.black_marks d.foods (index_of d.head.width p)) ∙ e in
+      absurd (cc)
+  found (inr one) = subst (λ (a : Ant). a.state < length (program_of d a.colour)) one.is_ant (fit d.ants state.fits one.it one.is_in)
+
+  go : (b : Bool) → (cond b (get_or (grid_of_draft d).cells (index_of d.head.width p) rock) rock).ant ≡ Some ant → ant.state < length (program_of d ant.colour)
+  go true told = found (back d.head.width d.ants (floor_of d).cells (length (floor_of d).cells) (index_of d.head.width p) ant refl (on d ok) told)
+  go false told = absurd (cc)
+
+-- a run that was saved and gone on with is the run that wasn't
+pub saves_go_on : SavesGoOn
+unfolding rest_of
+saves_go_on s w rounds chosen stats is left =
+    runs_go_on s.minds s.seed s.window w s.round rounds chosen stats left
+    ∙ ap (λ (m : Moment). seed_text s.seed +++ dumps_text s.minds s.seed chosen w (s.round + 1) +++ rest_text s.minds s.seed s.window m s.round (totals_of s.minds s.seed s.window (start_of w) s.round) rounds chosen stats) (sym is.moment)
+    ∙ ap (λ (t : Totals). seed_text s.seed +++ dumps_text s.minds s.seed chosen w (s.round + 1) +++ rest_text s.minds s.seed s.window (moment_of s) s.round t rounds chosen stats) (sym is.totals)
+
+-- the ants of a save fit its brains
+pub Fits-saved : (s : SavedValue) → IsSaved s → Fits (world_of s.world) s.minds
+unfolding draft_of
+Fits-saved s is = record { below = below } where
+  same : (colour : Colour) → length (program_of (draft_of s) colour) ≡ length (mind_of s.minds colour)
+  same Red = refl
+  same Black = refl
+
+  below : (p : Pos) (ant : Ant) → (cell_in s.world p).ant ≡ Some ant → ant.state < length (mind_of s.minds ant.colour)
+  below p ant there =
+      let fit = fits-of (draft_of s) is.in_form is.state p ant (ap (λ (g : Grid). (cell_in g p).ant) is.same ∙ there) in
+      let long = same ant.colour in
+      omega (arith, fit, long)
+
+-- and it can go on
+pub CanGoOn-saved : (s : SavedValue) → IsSaved s → CanGoOn (field_of s) s.window s.round s.totals
+unfolding draft_of grid_of_draft
+CanGoOn-saved s is =
+    let ids : hill_count (draft_of s).soils ≡ s.world.ids = ap (λ (g : Grid). g.ids) is.same in
+    let turns : turns_of (draft_of s) ≡ s.world.ids * s.round = ap (λ n. n * s.round) ids in
+    record {
+      whole = refl;
+      sized = is.in_form.head.some;
+      few = is.in_form.head.round;
+      turns = is.turns;
+      add_up = is.state.turns ∙ turns ∙ sym is.turns;
+      place = (let p = is.state.place in let t = is.turns in omega (arith, p, turns, t));
+    }
+
+pub early-saved : (s : SavedValue) → IsSaved s → s.place ≤ 99999999999
+unfolding draft_of
+early-saved s is = is.in_form.head.place
+
+-- the field and the game that are made of a save's parts are its own
+pub field-is : (s : SavedValue) (world : Grid) (minds : Minds) (seed place : ℕ) → world ≡ s.world → minds ≡ s.minds → seed ≡ s.seed → place ≡ s.place
+    → ◌≡◌ {A = FieldValue} (record { world = world; minds = minds; seed = seed; place = place; whole = true; lent = None }) (field_of s)
+field-is s world minds seed place a b c e =
+    ap (λ (w : Grid). record { world = w; minds = minds; seed = seed; place = place; whole = true; lent = None }) a
+    ∙ ap (λ (m : Minds). record { world = s.world; minds = m; seed = seed; place = place; whole = true; lent = None }) b
+    ∙ ap (λ (n : ℕ). record { world = s.world; minds = s.minds; seed = n; place = place; whole = true; lent = None }) c
+    ∙ ap (λ (n : ℕ). record { world = s.world; minds = s.minds; seed = s.seed; place = n; whole = true; lent = None }) e
+
+-- parts of a game that are a save's
+pub record AreParts (s : SavedValue) (field : FieldValue) (window round : ℕ) (totals : Totals) : Type 0 where
+  pub field_is : field ≡ field_of s
+  pub window_is : window ≡ s.window
+  pub round_is : round ≡ s.round
+  pub totals_are : totals ≡ s.totals
+
+pub can-go : (s : SavedValue) (field : FieldValue) (window round : ℕ) (totals : Totals) → AreParts s field window round totals → IsSaved s → CanGoOn field window round totals
+can-go s field window round totals are is =
+    subst (λ (f : FieldValue). CanGoOn f window round totals) (sym are.field_is)
+    (subst (λ (n : ℕ). CanGoOn (field_of s) n round totals) (sym are.window_is)
+    (subst (λ (n : ℕ). CanGoOn (field_of s) s.window n totals) (sym are.round_is)
+    (subst (λ (t : Totals). CanGoOn (field_of s) s.window s.round t) (sym are.totals_are) (CanGoOn-saved s is))))
+
+pub game-is : (s : SavedValue) (field : FieldValue) (window round : ℕ) (totals : Totals) → AreParts s field window round totals → game_at_round field window round totals ≡ game_at_round (field_of s) s.window s.round s.totals
+game-is s field window round totals are =
+    ap (λ (f : FieldValue). game_at_round f window round totals) are.field_is
+    ∙ ap (λ (n : ℕ). game_at_round (field_of s) n round totals) are.window_is
+    ∙ ap (λ (n : ℕ). game_at_round (field_of s) s.window n totals) are.round_is
+    ∙ ap (λ (t : Totals). game_at_round (field_of s) s.window s.round t) are.totals_are
+
+-- what was pushed of a save's game is its rest
+pub rest-is : (s : SavedValue) (game : GameValue) (rounds : ℕ) (chosen : ℕ → Bool) (stats : Bool) → game ≡ game_at_round (field_of s) s.window s.round s.totals
+    → rest_text game.field.minds game.field.seed game.window (now_of game) game.done game.totals rounds chosen stats ≡ rest_of s rounds chosen stats
+unfolding rest_of
+rest-is s game rounds chosen stats e = ap (λ (g : GameValue). rest_text g.field.minds g.field.seed g.window (now_of g) g.done g.totals rounds chosen stats) e

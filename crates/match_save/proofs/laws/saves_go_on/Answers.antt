@@ -1,0 +1,5 @@
+use Rattle.match_save.proofs.Resuming as lemmas
+use Rattle.match_save.proofs.laws.saves_go_on.Goals as goal
+
+pub returns : goal.returns
+returns c = lemmas.saves_go_on

@@ -1,0 +1,14 @@
+pub mod Answered
+pub mod Few
+pub mod Fit
+pub mod Floor
+pub mod Judged
+pub mod Made
+pub mod Pushing
+pub mod Puts
+pub mod Readers
+pub mod Reading
+pub mod Said
+pub mod Standing
+pub mod State
+pub mod Written

@@ -1,0 +1,37 @@
+-- What the cells of a world keep before any ant stands on them.
+use Rattle.std.specs.Prelude.{ℕ, ◌+◌, Bool, true, not, ◌&&◌, ◌==◌, List, [], ◌∷◌, if◌then◌else◌}
+use Rattle.hex_geometry.specs.Position.{is_on_rim}
+use Rattle.std.specs.Int.{bit_at}
+use Rattle.cell_world.specs.declared.cell.Cell.{Cell}
+use Rattle.cell_world.specs.declared.marks.Marks.{Marks}
+use Rattle.cell_world.specs.Marks.{with_mark}
+use Rattle.cell_world.specs.Grid.{Grid}
+use Rattle.hex_geometry.specs.RowOrder.{pos_at}
+use Rattle.match_save.specs.Draft.{Draft}
+use Rattle.match_save.specs.State.{ground_cells, hill_count}
+
+-- a set of markers, and this one where its power of two is in a number
+abbrev pub with_marker : Marks → ℕ → ℕ → Marks
+with_marker marks set i = if bit_at set i == 1 then with_mark marks i else marks
+
+-- nothing lies on a cell
+abbrev pub is_empty_cell : Cell → Bool
+is_empty_cell cell = (cell.food == 0) && (cell.red.set == 0) && (cell.black.set == 0)
+
+-- nothing lies on rock, and the cell of this number in row order is rock where it is on the rim
+abbrev pub is_sound_cell : ℕ → ℕ → ℕ → Cell → Bool
+is_sound_cell width height i cell = if cell.rocky then is_empty_cell cell else not (is_on_rim width height (pos_at width i))
+
+-- the same of all cells, of which the first has this number
+abbrev pub are_sound_cells : ℕ → ℕ → ℕ → List Cell → Bool
+are_sound_cells width height i [] = true
+are_sound_cells width height i (cell ∷ cells) = is_sound_cell width height i cell && are_sound_cells width height (i + 1) cells
+
+-- the world of a save before any ant stands in it
+abbrev pub floor_of : Draft → Grid
+floor_of d = record {
+  width = d.head.width;
+  height = d.head.height;
+  ids = hill_count d.soils;
+  cells = ground_cells d.soils d.red_marks d.black_marks d.foods;
+}

@@ -1,0 +1,10 @@
+pub mod Answers
+pub mod Draft
+pub mod Faulty
+pub mod Inner
+pub mod Laws
+pub mod Resumed
+pub mod Saved
+pub mod State
+pub mod Text
+pub mod Verdict

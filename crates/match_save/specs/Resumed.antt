@@ -1,0 +1,40 @@
+-- A saved game that goes on (this project's own).
+use Rattle.std.specs.Prelude.{◌≡◌, ℕ, ◌+◌, ◌≤◌, Bool, true, List, None}
+use Rattle.ant_base.specs.Layout.{◌+++◌}
+use Rattle.ant_turn.specs.Rounds.{Moment, after_rounds, start_of}
+use Rattle.cell_world.specs.Grid.{world_of}
+use Rattle.cell_world.specs.World.{World}
+use Rattle.dump_print.specs.Texts.{seed_text}
+use Rattle.match_run.specs.Counts.{totals_of, whole_text}
+use Rattle.match_run.specs.Rest.{rest_text}
+use Rattle.match_run.specs.Run.{dumps_text}
+use Rattle.round_book.specs.Book.{FieldValue}
+use Rattle.match_save.specs.Saved.{SavedValue}
+
+-- where a saved game stands
+abbrev pub moment_of : SavedValue → Moment
+moment_of s = record { world = world_of s.world; place = s.place }
+
+-- the world after so many more rounds of it
+abbrev pub later_world : SavedValue → ℕ → World
+later_world s rounds = (after_rounds s.minds s.seed (moment_of s) rounds).world
+
+-- the text of its rest up to so many rounds in all: the dumps of the later rounds that are chosen, the score of the end, and the counts of all
+-- rounds where they are asked for
+unfoldable pub rest_of : SavedValue → ℕ → (ℕ → Bool) → Bool → List ℕ
+rest_of s rounds chosen stats = rest_text s.minds s.seed s.window (moment_of s) s.round s.totals rounds chosen stats
+
+-- a save stands where so many rounds of a game that starts in w led, and counts their turns
+pub record IsOfGame (s : SavedValue) (w : World) : Type 0 where
+  pub moment : moment_of s ≡ after_rounds s.minds s.seed (start_of w) s.round
+  pub totals : s.totals ≡ totals_of s.minds s.seed s.window (start_of w) s.round
+
+-- the text of a run that is never broken off is the line of the seed, the chosen dumps up to the saved round, and the rest of the save's
+abbrev pub SavesGoOn : Type 0
+SavesGoOn = (s : SavedValue) (w : World) (rounds : ℕ) (chosen : ℕ → Bool) (stats : Bool) → IsOfGame s w → s.round ≤ rounds →
+    whole_text s.minds s.seed rounds chosen s.window stats w
+    ≡ seed_text s.seed +++ dumps_text s.minds s.seed chosen w (s.round + 1) +++ rest_of s rounds chosen stats
+
+-- a saved game as a field
+abbrev pub field_of : SavedValue → FieldValue
+field_of s = record { world = s.world; minds = s.minds; seed = s.seed; place = s.place; whole = true; lent = None }

@@ -1,0 +1,15 @@
+// Laws on the definitions of saves.
+ghost use Rattle.match_save.specs.Resumed.{SavesGoOn};
+ghost use Rattle.match_save.specs.Laws.{EveryTextHasOneVerdict};
+
+/// A law: every text is that of exactly one save or has exactly one fault, and never both (this project's own). The call does nothing: its
+/// clause is the law.
+pub fn every_text_has_one_verdict()
+    ensures { EveryTextHasOneVerdict }
+{}
+
+/// A law: where a save stands where a game led, the text of the run that is never broken off is the line of the seed, the dumps up to the saved
+/// round that are chosen, and the rest of the save (this project's own). The call does nothing: its clause is the law.
+pub fn saves_go_on()
+    ensures { SavesGoOn }
+{}

@@ -1,0 +1,32 @@
+//! Checkpoints of games: the text of a save is read, judged and written, and the game goes on.
+#![tactic(auto)]
+
+mod ants;
+mod draft;
+mod fault;
+mod fields;
+mod floor;
+mod foods;
+mod head;
+mod judge;
+mod laws;
+mod number;
+mod programs;
+mod read;
+mod rest;
+mod row_cell;
+mod rows;
+mod save_lines;
+mod saved;
+mod soil;
+mod standing;
+#[cfg(test)]
+mod tests;
+mod write;
+
+pub use fault::SaveFault;
+pub use laws::{every_text_has_one_verdict, saves_go_on};
+pub use read::read_saved;
+pub use rest::resume;
+pub use saved::Saved;
+pub use write::write_saved;
