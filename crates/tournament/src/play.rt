@@ -13,8 +13,8 @@ use std::alloc::Global;
 use std::thread::Threads;
 
 /// Plays all games of a cup of 2 to 16 players on 1 to 16 worlds with 1 to 16 workers, and gives the standing of the referee's scores, the
-/// same for every number of workers. A worker that has no game starts no thread. It is refused for want of memory alone, its own or the
-/// referee's.
+/// same for every number of workers. The referee knows each of these games: any two different players, as red and as black, on each world.
+/// A worker that has no game starts no thread. It is refused only when out of memory, its own or the referee's.
 pub fn play_all<R: Threads + Sync, F: Referee>(
     rt: &R,
     alloc: Global,
