@@ -11,6 +11,7 @@ use ant_turn::{Brains, take_turn};
 use cell_world::World;
 
 // Plays one round: a turn of each id in rising order.
+#[inline(always)]
 pub(crate) fn play_round(world: &mut World, brains: Brains<'_>, stream: &mut Stream)
     requires fit { Fits (world_of world.old) (minds_of brains) }
     requires place { LastsARound stream.old }
