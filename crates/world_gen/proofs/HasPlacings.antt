@@ -11,6 +11,7 @@ use Rattle.hex_geometry.specs.RowOrder.{IsBefore}
 use Rattle.hex_geometry.specs.declared.direction.Dir.{Dir}
 use Rattle.hex_geometry.specs.declared.direction.Side.TheVariants.{Right}
 use Rattle.hex_geometry.specs.declared.position.Pos.{Pos}
+use Rattle.list_lemmas.proofs.Elements.{Contains-cases}
 use Rattle.std.proofs.Common.{◌≡◌, ◌⊎◌, inl, inr, ℕ, zero, suc, ◌+◌, ◌*◌, ◌<◌, ◌≤◌, List, [], ◌∷◌, ◌++◌, length, refl, sym, ap, subst, arith}
 use Rattle.std.proofs.lemmas.Bool.{cases_lt}
 use Rattle.std.proofs.lemmas.List.Elements.{All-cons, All-contains, All-contains_itself, All-head, All-nil, All-tail, All-weaker, Contains-append_cases, Contains-append_right}
@@ -241,9 +242,6 @@ module _ (width height : ℕ) (narrow : width ≤ 512) (low : height ≤ 512) wh
         | inr never ↦ absurd (never (inner_placed spot off))
       ]
 
-  first_only : (x p : Pos) → Contains (x ∷ []) p → x ≡ p
-  first_only x p among = All-contains (λ (q : Pos). x ≡ q) (x ∷ []) p (All-cons (λ (q : Pos). x ≡ q) x [] refl (All-nil (λ (q : Pos). x ≡ q))) among
-
   told_among : (xs : List Pos) (p : Pos) → Told (Contains xs p)
   told_among [] p = inr (λ among. (let within = among.1 in omega arith))
   told_among (x ∷ xs) p =
@@ -251,7 +249,7 @@ module _ (width height : ℕ) (narrow : width ≤ 512) (low : height ≤ 512) wh
         | inl same ↦ inl (0, omega arith, same)
         | inr apart ↦ elim (told_among xs p) [
           | inl later ↦ inl (Contains-append_right (x ∷ []) xs p later)
-          | inr never ↦ inr (λ among. elim (Contains-append_cases (x ∷ []) xs p among) [ inl here ↦ apart (first_only x p here) | inr later ↦ never later ])
+          | inr never ↦ inr (λ among. elim (Contains-cases x p xs among) [ inl here ↦ apart here | inr later ↦ never later ])
         ]
       ]
 
