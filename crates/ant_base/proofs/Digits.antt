@@ -1,5 +1,5 @@
 -- Decimal digits and their value.
-use Rattle.std.proofs.Common.{◌≡◌, ℕ, ◌+◌, ◌*◌, ◌-◌, ◌<◌, ◌≤◌, Bool, true, false, Some, None, ◌&&◌, List, length, take, drop, get_or, refl, ◌∙◌, ap, arith}
+use Rattle.std.proofs.Common.{◌≡◌, ℕ, ◌+◌, ◌*◌, ◌-◌, ◌<◌, ◌≤◌, true, false, Some, None, ◌&&◌, List, length, take, drop, get_or, refl, ◌∙◌, ap, arith}
 use Rattle.std.proofs.Math.Bool.{and-false}
 use Rattle.std.proofs.lemmas.List.{drop_more, length-take}
 use Rattle.std.proofs.lemmas.Str.{digit_value_digit}

@@ -1,5 +1,5 @@
 -- Pushes one after another.
-use Rattle.std.proofs.Common.{◌≡◌, ℕ, suc, ◌+◌, ◌-◌, ◌≤◌, Bool, true, ◌&&◌, nat_lt, ◌==◌, List, [], ◌∷◌, ◌++◌, length, slice_index, take, drop, Some, None, Ok, Err, Option, Result, refl, sym, ◌∙◌, ap, append_assoc, append-nil, take-append-drop, arith}
+use Rattle.std.proofs.Common.{◌≡◌, ℕ, ◌+◌, ◌-◌, ◌≤◌, Bool, true, ◌&&◌, nat_lt, ◌==◌, List, [], ◌∷◌, ◌++◌, length, slice_index, take, drop, Some, None, Ok, Err, Option, Result, refl, sym, ◌∙◌, ap, append_assoc, append-nil, take-append-drop, arith}
 use Rattle.std.proofs.lemmas.Bool.{false≢true, lt-ltb}
 use Rattle.std.proofs.lemmas.List.{get_or-append-add, length-append}
 use Rattle.list_lemmas.proofs.Elements.{append-empty}

@@ -1,5 +1,5 @@
 -- What turns and rounds keep, one after another.
-use Rattle.std.proofs.Common.{◌≡◌, ℕ, zero, suc, ◌+◌, ◌*◌, ◌≤◌, Bool, true, false, refl, sym, ◌∙◌, ap, ap₂, subst, arith, add-zero, add-one}
+use Rattle.std.proofs.Common.{◌≡◌, ℕ, zero, suc, ◌+◌, ◌*◌, ◌≤◌, refl, sym, ◌∙◌, ap, ap₂, subst, arith, add-zero, add-one}
 use Rattle.cell_world.specs.Cell.{one_if}
 use Rattle.cell_world.specs.Valid.{Valid}
 use Rattle.cell_world.proofs.GridSums.{one_if-le_one}

@@ -1,18 +1,17 @@
 -- Each brain has a minimised one: its states are explored, parted into classes, numbered and merged, step by step.
 use Rattle.std.proofs.Common.{◌≡◌, ◌⊎◌, inl, inr, ℕ, zero, suc, ◌+◌, ◌*◌, ◌<◌, ◌≤◌, Bool, true, false, List, [], ◌∷◌, ◌++◌, length, replicate, slice_index, slice_index_or, slice_set, Option, Some, None, unwrap_or, refl, sym, ◌∙◌, ap, subst, arith}
-use Rattle.std.specs.List.{AllByRecursion, IsDistinct}
+use Rattle.std.specs.List.{IsDistinct}
 use Rattle.std.specs.Prelude.{nat_eq}
-use Rattle.std.proofs.lemmas.Bool.{cases_Bool, cases_eq, cases_lt, false≢true, ne_eqb}
+use Rattle.std.proofs.lemmas.Bool.{cases_Bool, cases_eq, false≢true, ne_eqb}
 use Rattle.std.proofs.lemmas.List.{get_or_push, length-replicate, length_push}
-use Rattle.std.proofs.lemmas.Option.{none-some, same_Some}
+use Rattle.std.proofs.lemmas.Option.{none-some}
 use Rattle.list_lemmas.proofs.AllElements.{AllByRecursion-push}
 use Rattle.ant_turn.specs.Renumber.{redirected}
 use Rattle.ant_turn.specs.Turn.{instruction_at}
-use Rattle.brain_read.specs.Soundness.{IsBrain, IsSound}
+use Rattle.brain_read.specs.Soundness.{IsBrain}
 use Rattle.brain_read.specs.declared.instr.Instr.{Instr}
-use Rattle.brain_read.specs.declared.instr.Instr.TheVariants.{Sense, Mark, Unmark, PickUp, Drop, Turn, Move, Flip}
 use Rattle.brain_minimise.specs.Existence.{HasMinimised}
-use Rattle.brain_minimise.specs.Inner.Classes.{AreClasses, AreStable, DoAlike, slack}
+use Rattle.brain_minimise.specs.Inner.Classes.{AreClasses, AreStable, slack}
 use Rattle.brain_minimise.specs.Inner.Exploring.{AreSeen, is_seen, with_waiting}
 use Rattle.brain_minimise.specs.Inner.Kept.{AreKept}
 use Rattle.brain_minimise.specs.Inner.Numbering.{AreNumbers, IsRising, IsTable}

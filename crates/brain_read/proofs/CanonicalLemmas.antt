@@ -20,7 +20,7 @@ use Rattle.line_tokens.specs.Fields.{field_text}
 use Rattle.brain_read.specs.Forms.{word_of_sight, word_of_side, fields_of_condition, fields_of, IsInRange, HasBound, InstrLine}
 use Rattle.line_tokens.specs.Fields.LineField.{Word, Number}
 use Rattle.line_tokens.specs.TokenLines.{TokenLine, with_line, token_lines}
-use Rattle.brain_read.specs.Grammar.{AreLines, states_of, StatesBelow, IsBrainText}
+use Rattle.brain_read.specs.Grammar.{AreLines, StatesBelow, IsBrainText}
 use Rattle.brain_read.specs.Canonical.{instruction_text, brain_text}
 use Rattle.brain_read.proofs.SoundnessLemmas.{states_of-below}
 

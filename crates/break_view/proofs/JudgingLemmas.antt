@@ -1,5 +1,5 @@
 -- The reading of a line stops at the first position at fault.
-use Rattle.std.proofs.Common.{◌≡◌, ℕ, List, [], ◌∷◌, ◌++◌, Option, Some, None, Ok, option_map, refl, sym, ap, ◌∙◌}
+use Rattle.std.proofs.Common.{◌≡◌, ℕ, List, [], ◌∷◌, ◌++◌, Option, Some, None, Ok, option_map, refl, ap, ◌∙◌}
 use Rattle.ant_base.specs.Number.{number_within}
 use Rattle.cell_world.specs.declared.ant.Colour.{Colour}
 use Rattle.word_table.specs.Words.{word_place}

@@ -1,6 +1,6 @@
 -- Tests that the elements of a list pass, and what is found in it.
-use Rattle.std.proofs.Common.{◌≡◌, ℕ, ◌<◌, zero, suc, Bool, true, false, ◌⊎◌, inl, inr, List, [], ◌∷◌, ◌++◌, length, refl, sym, subst, arith, ap, ◌∙◌, cond, Some, find}
-use Rattle.std.specs.List.{Contains, AllByRecursion, list_all, slice_index_or}
+use Rattle.std.proofs.Common.{◌≡◌, Bool, true, false, inl, inr, List, [], ◌∷◌, refl, sym, subst, arith, ap, ◌∙◌, cond, Some, find}
+use Rattle.std.specs.List.{Contains, list_all}
 use Rattle.std.proofs.lemmas.Bool.{and_parts, and_from}
 use Rattle.list_lemmas.proofs.Elements.{Contains-none, Contains-first, Contains-later, Contains-cases}
 

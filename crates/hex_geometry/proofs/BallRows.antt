@@ -1,6 +1,6 @@
 -- The rows of a ball list it.
 use Rattle.hex_geometry.proofs.Metric.{distance_some}
-use Rattle.hex_geometry.proofs.Places.{pos_same}
+use Rattle.hex_geometry.proofs.Places.{at, pos_same}
 use Rattle.hex_geometry.proofs.Walks.{Within, distance_tight, distance_within, half}
 use Rattle.hex_geometry.specs.Distance.{HasBall, IsInBall, ListsBall}
 use Rattle.hex_geometry.specs.RowOrder.{IsBefore}
@@ -15,9 +15,6 @@ use Rattle.std.proofs.lemmas.List.{append-nil}
 use Rattle.std.proofs.lemmas.List.Elements.{Contains-append_cases, Contains-append_left, Contains-append_right, Contains-get_or, Contains-push}
 use Rattle.std.proofs.lemmas.List.Quantifiers.{all_pairs_push}
 use Rattle.std.specs.Prelude.{ℤ, pos, negsuc, AllPairs, Contains}
-
-abbrev at : ℕ → ℕ → Pos
-at x y = record { x = x; y = y }
 
 -- the positions of a line
 pub record IsOnLine (x y n : ℕ) (p : Pos) : Type 0 where

@@ -16,7 +16,7 @@ use Rattle.std.proofs.lemmas.List.{get_or_push, length_push}
 use Rattle.std.proofs.Math.ListN.{get_or-append}
 use Rattle.std.proofs.lemmas.List.Elements.{All-push}
 use Rattle.std.specs.List.{All}
-use Rattle.std.specs.Prelude.{Bool, Contains, not}
+use Rattle.std.specs.Prelude.{Bool, not}
 use Rattle.world_gen.specs.Inner.Open.{is_unblocked}
 use Rattle.world_gen.specs.Inner.Yards.{IsYard, bare_blocked, bare_kind, bare_kinds}
 

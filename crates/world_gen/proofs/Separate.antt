@@ -4,7 +4,6 @@ use Rattle.std.proofs.Common.{ℕ, List, [], ◌∷◌, ◌++◌, length, get_or
 use Rattle.std.proofs.lemmas.List.{append-nil}
 use Rattle.std.proofs.lemmas.List.Elements.{Contains-get_or, Contains-push_cases}
 use Rattle.std.proofs.lemmas.List.Quantifiers.{all_pairs_push}
-use Rattle.std.specs.Prelude.{Contains}
 use Rattle.world_gen.proofs.Follows.{goes_fits}
 use Rattle.world_gen.specs.Elements.{IsCell, element_of}
 use Rattle.world_gen.specs.Fitting.{IsFreeSpot}

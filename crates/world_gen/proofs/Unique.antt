@@ -9,7 +9,7 @@ use Rattle.hex_geometry.proofs.Places.{pos_same}
 use Rattle.hex_geometry.specs.RowOrder.{IsBefore, pos_at}
 use Rattle.hex_geometry.specs.Position.{IsInner, IsInside, is_on_rim, point_of}
 use Rattle.hex_geometry.specs.declared.position.Pos.{Pos}
-use Rattle.std.proofs.Common.{◌≡◌, ◌≢◌, ℕ, zero, suc, ◌+◌, ◌*◌, ◌<◌, List, [], ◌∷◌, ◌++◌, length, get_or, refl, sym, ◌∙◌, ap, arith, subst, inl, inr, append_assoc}
+use Rattle.std.proofs.Common.{◌≡◌, ◌≢◌, ℕ, ◌+◌, ◌*◌, ◌<◌, List, [], ◌∷◌, ◌++◌, length, get_or, refl, sym, ◌∙◌, ap, arith, subst, inl, inr, append_assoc}
 use Rattle.std.proofs.lemmas.Bool.{cases_Bool, cases_lt, eqb-false, eqb-true, false≢true}
 use Rattle.std.proofs.lemmas.List.{append-nil, get_or_default, same_lists}
 use Rattle.std.specs.Prelude.{Contains, ◌⊎◌, ◌==◌}
