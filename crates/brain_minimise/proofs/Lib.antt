@@ -1,3 +1,4 @@
+pub mod CasesInstruction
 pub mod Equivalences
 pub mod Exploring
 pub mod HasMinimised

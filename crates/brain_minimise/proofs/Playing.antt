@@ -3,6 +3,7 @@ use Rattle.std.proofs.Common.{◌≡◌, ◌≢◌, ℕ, Bool, true, false, cond
 use Rattle.std.specs.Prelude.{option_map, unwrap_or}
 use Rattle.std.proofs.Math.Path.{fun_ext}
 use Rattle.std.proofs.lemmas.Option.{get_or_from_slice_get, slice_get_within}
+use Rattle.list_lemmas.proofs.AllElements.{AllByRecursion-weaker}
 use Rattle.hex_geometry.specs.declared.position.Pos.{Pos}
 use Rattle.cell_world.specs.declared.ant.Ant.{Ant}
 use Rattle.cell_world.specs.declared.ant.Colour.{Colour}
@@ -18,18 +19,18 @@ use Rattle.cell_world.proofs.OpeningLaws.{opening-new}
 use Rattle.brain_read.specs.declared.instr.Instr.{Instr}
 use Rattle.brain_read.specs.declared.instr.Instr.TheVariants.{Drop}
 use Rattle.brain_read.specs.Grammar.{states_of}
+use Rattle.ant_turn.specs.HillLaws.{game_after}
 use Rattle.ant_turn.specs.Minds.{Minds, mind_of}
 use Rattle.ant_turn.specs.Renumber.{AreNumbered, Carries, Numbers, state_number, redirected, renumbered, renumbered_ant, renumbered_moment, side_states, with_mind}
 use Rattle.ant_turn.specs.Rounds.{Moment, after_rounds, start_of}
 use Rattle.ant_turn.specs.Turn.{instruction_at}
 use Rattle.ant_turn.proofs.RenumberedTurns.{after_rounds-renumbered}
-use Rattle.brain_minimise.specs.Match.{DiffersInStates, IsMatchingAnt, game}
+use Rattle.brain_minimise.specs.Match.{DiffersInStates, IsMatchingAnt}
 use Rattle.brain_minimise.specs.Minimised.{IsMinimised, new_number}
 use Rattle.brain_minimise.specs.Reach.IsReachable.{Start}
 use Rattle.brain_minimise.proofs.Merging.{successors-reached}
 use Rattle.brain_minimise.proofs.Numbers.{number-inside}
 use Rattle.brain_minimise.proofs.Ranks.{zero-number}
-use Rattle.brain_minimise.proofs.Redirecting.{All-then}
 
 -- the map carries the brain over to its minimised one
 pub Carries-minimised : (old new : List Instr) (numbers : List (Option ℕ)) → IsMinimised old new numbers → Carries (new_number numbers) old new
@@ -38,7 +39,7 @@ Carries-minimised old new numbers minimised = record {
       let each = minimised.each in
       (omega (arith, number-inside numbers state number has), slice_get_within new number (redirected (state_number (new_number numbers)) (instruction_at old state)) (minimised.acts state number has));
   acts = λ state number has. get_or_from_slice_get new number (redirected (state_number (new_number numbers)) (instruction_at old state)) (Drop 0) (minimised.acts state number has);
-  onward = λ state number has. All-then (states_of (instruction_at old state)) (successors-reached old state (minimised.dropped state number has)) minimised.kept;
+  onward = λ state number has. AllByRecursion-weaker _ _ (states_of (instruction_at old state)) (successors-reached old state (minimised.dropped state number has)) minimised.kept;
 }
 
 -- a choice of which both sides are one
@@ -81,7 +82,7 @@ module _ (minds : Minds) (side : Colour) (brain : List Instr) (numbers : List (O
   }
 
   -- the games are alike
-  pub game-minimised : game (with_mind minds side brain) seed width height kinds r ≡ renumbered_moment (new_number numbers) side (game minds seed width height kinds r)
+  pub game-minimised : game_after (with_mind minds side brain) seed width height kinds r ≡ renumbered_moment (new_number numbers) side (game_after minds seed width height kinds r)
   game-minimised =
       ap (λ (m : Moment). after_rounds (with_mind minds side brain) seed m r) (sym start-renumbered)
       ∙ after_rounds-renumbered (new_number numbers) side minds brain seed (start_of start) r (Carries-minimised (mind_of minds side) brain numbers minimised) start-numbered
@@ -93,10 +94,10 @@ score_of-renumbered numbers side w = refl
 
 -- the scores are equal
 pub score-minimised : (minds : Minds) (side : Colour) (brain : List Instr) (numbers : List (Option ℕ)) (seed width height : ℕ) (kinds : List Kind) (r : ℕ) → IsMinimised (mind_of minds side) brain numbers →
-    score_of (game (with_mind minds side brain) seed width height kinds r).world ≡ score_of (game minds seed width height kinds r).world
+    score_of (game_after (with_mind minds side brain) seed width height kinds r).world ≡ score_of (game_after minds seed width height kinds r).world
 score-minimised minds side brain numbers seed width height kinds r minimised =
     ap (λ (m : Moment). score_of m.world) (game-minimised minds side brain numbers seed width height kinds r minimised)
-    ∙ score_of-renumbered (new_number numbers) side (game minds seed width height kinds r).world
+    ∙ score_of-renumbered (new_number numbers) side (game_after minds seed width height kinds r).world
 
 -- the other side's states stay
 others-stay : (numbers : Numbers) (side own : Colour) (state : ℕ) → own ≢ side → side_states numbers side own state ≡ state
@@ -122,7 +123,7 @@ DiffersInStates-renumbered numbers side w = record {
 
 -- so what a dump shows differs in them alone
 pub dump-minimised : (minds : Minds) (side : Colour) (brain : List Instr) (numbers : List (Option ℕ)) (seed width height : ℕ) (kinds : List Kind) (r : ℕ) → IsMinimised (mind_of minds side) brain numbers →
-    DiffersInStates side (game minds seed width height kinds r).world (game (with_mind minds side brain) seed width height kinds r).world
+    DiffersInStates side (game_after minds seed width height kinds r).world (game_after (with_mind minds side brain) seed width height kinds r).world
 dump-minimised minds side brain numbers seed width height kinds r minimised =
-    subst (λ (m : Moment). DiffersInStates side (game minds seed width height kinds r).world m.world) (sym (game-minimised minds side brain numbers seed width height kinds r minimised))
-    (DiffersInStates-renumbered (new_number numbers) side (game minds seed width height kinds r).world)
+    subst (λ (m : Moment). DiffersInStates side (game_after minds seed width height kinds r).world m.world) (sym (game-minimised minds side brain numbers seed width height kinds r minimised))
+    (DiffersInStates-renumbered (new_number numbers) side (game_after minds seed width height kinds r).world)

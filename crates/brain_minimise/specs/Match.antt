@@ -4,32 +4,26 @@ use Rattle.hex_geometry.specs.declared.position.Pos.{Pos}
 use Rattle.cell_world.specs.declared.ant.Ant.{Ant}
 use Rattle.cell_world.specs.declared.ant.Colour.{Colour}
 use Rattle.cell_world.specs.declared.kind.Kind.{Kind}
-use Rattle.cell_world.specs.Grid.{world_of}
-use Rattle.cell_world.specs.Opening.{opening}
 use Rattle.cell_world.specs.Score.{score_of}
 use Rattle.cell_world.specs.World.{World}
 use Rattle.brain_read.specs.declared.instr.Instr.{Instr}
+use Rattle.ant_turn.specs.HillLaws.{game_after}
 use Rattle.ant_turn.specs.Minds.{Minds, mind_of}
 use Rattle.ant_turn.specs.Renumber.{renumbered_moment, with_mind}
-use Rattle.ant_turn.specs.Rounds.{Moment, after_rounds, start_of}
 use Rattle.brain_minimise.specs.Minimised.{IsMinimised, new_number}
-
--- the moment after r rounds of the game of these minds that starts in the opening world of these kinds
-abbrev pub game : Minds → ℕ → ℕ → ℕ → List Kind → ℕ → Moment
-game minds seed width height kinds r = after_rounds minds seed (start_of (world_of (opening width height kinds))) r
 
 -- whatever the opening world, the other brain, the numbers of the rules, the seed, the side and the number of rounds: the game with
 -- the minimised brain on that side is the game with the brain, but for the numbers of that side's states, at an equal place of the stream
 abbrev pub PlaysAlike : Type 0
 PlaysAlike = (minds : Minds) (side : Colour) (brain : List Instr) (numbers : List (Option ℕ)) (seed width height : ℕ) (kinds : List Kind) (r : ℕ)
     → IsMinimised (mind_of minds side) brain numbers →
-    game (with_mind minds side brain) seed width height kinds r ≡ renumbered_moment (new_number numbers) side (game minds seed width height kinds r)
+    game_after (with_mind minds side brain) seed width height kinds r ≡ renumbered_moment (new_number numbers) side (game_after minds seed width height kinds r)
 
 -- so the scores are equal
 abbrev pub ScoresAlike : Type 0
 ScoresAlike = (minds : Minds) (side : Colour) (brain : List Instr) (numbers : List (Option ℕ)) (seed width height : ℕ) (kinds : List Kind) (r : ℕ)
     → IsMinimised (mind_of minds side) brain numbers →
-    score_of (game (with_mind minds side brain) seed width height kinds r).world ≡ score_of (game minds seed width height kinds r).world
+    score_of (game_after (with_mind minds side brain) seed width height kinds r).world ≡ score_of (game_after minds seed width height kinds r).world
 
 -- one ant as the other, but for its state where it is of this side
 abbrev pub IsMatchingAnt : Colour → Option Ant → Option Ant → Type 0
@@ -51,4 +45,4 @@ pub record DiffersInStates (side : Colour) (old new : World) : Type 0 where
 abbrev pub DumpsAlike : Type 0
 DumpsAlike = (minds : Minds) (side : Colour) (brain : List Instr) (numbers : List (Option ℕ)) (seed width height : ℕ) (kinds : List Kind) (r : ℕ)
     → IsMinimised (mind_of minds side) brain numbers →
-    DiffersInStates side (game minds seed width height kinds r).world (game (with_mind minds side brain) seed width height kinds r).world
+    DiffersInStates side (game_after minds seed width height kinds r).world (game_after (with_mind minds side brain) seed width height kinds r).world

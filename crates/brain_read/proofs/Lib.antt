@@ -1,6 +1,6 @@
 pub mod CanonicalLemmas
 pub mod FaultyLemmas
-mod FirstFaults
+pub mod FirstFaults
 pub mod FormsLemmas
 pub mod InstructionLemmas
 pub mod JudgingLemmas

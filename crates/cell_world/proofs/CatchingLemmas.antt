@@ -3,7 +3,7 @@ use Rattle.std.proofs.Common.{◌≡◌, ◌≢◌, ◌⊎◌, inl, inr, ⊎_eli
 use Rattle.std.specs.List.{Contains}
 use Rattle.std.proofs.lemmas.Bool.{cases_eq, cond-false, cond-true, eqb-true, eq-eqb}
 use Rattle.std.proofs.lemmas.List.{at_drop_all, drop_more, ext_get_or, get_or_default, get_or-map, get_or-set_other, get_or-set_same, length-map, length-set}
-use Rattle.std.proofs.lemmas.List.Elements.{Contains-append_cases, Contains-push_cases}
+use Rattle.list_lemmas.proofs.Elements.{Contains-cases}
 use Rattle.hex_geometry.specs.declared.direction.Dir.{Dir}
 use Rattle.hex_geometry.specs.declared.position.Pos.{Pos}
 use Rattle.hex_geometry.specs.Position.{IsInside}
@@ -102,14 +102,9 @@ module _ (width : ℕ) (was tiles others : List Tile) (old bodies middle new oth
         (λ apart. caught_stays i (catching.done i within (λ q held. ⊎_elim
         (λ first_is. λ e. apart (sym e ∙ ap (index_of width) (sym first_is)))
         (λ later. none q later)
-        (Contains-head p rest q held))))
+        (Contains-cases p rest q held))))
         (cases_eq i (index_of width p));
-  } where
-    Contains-head : (y : Pos) (xs : List Pos) (x : Pos) → Contains (y ∷ xs) x → (y ≡ x) ⊎ Contains xs x
-    Contains-head y xs x held = ⊎_elim
-        (λ one. ⊎_elim (λ nowhere. absurd (let l : nowhere.0 < 0 = nowhere.1 in omega arith)) inl (Contains-push_cases [] y x one))
-        inr
-        (Contains-append_cases (y ∷ []) xs x held)
+  }
 
 -- two occupants of one id are one
 occupant-same : (a b : Occupant) → occupant_id a ≡ occupant_id b → a ≡ b

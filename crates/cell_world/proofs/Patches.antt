@@ -1,5 +1,6 @@
 -- Cells and their parts, and patches.
 use Rattle.std.proofs.Common.{◌≡◌, inl, inr, ℕ, Bool, true, false, ◌||◌, Option, Some, None, option_map, refl, sym, ◌∙◌, ap}
+use Rattle.std.proofs.Math.Bool.{or-true}
 use Rattle.std.proofs.lemmas.Bool.{both_ways, cases_Bool, cond-true, cond-false, false≢true}
 use Rattle.cell_world.specs.declared.ant.Ant.{Ant}
 use Rattle.cell_world.specs.declared.ant.Colour.{Colour}
@@ -94,12 +95,8 @@ module _ (cell source : Cell) (parts : Parts) where
     mind_alone : parts.who ≡ false → parts.mind ≡ true → IsSameAnt cell.ant source.ant
     mind_alone other named = can.same_ant other (ap (λ b. b || parts.load) named)
 
-    or_true : (b : Bool) → (b || true) ≡ true
-    or_true true = refl
-    or_true false = refl
-
     load_alone : parts.who ≡ false → parts.load ≡ true → IsSameAnt cell.ant source.ant
-    load_alone other named = can.same_ant other (ap (λ b. parts.mind || b) named ∙ or_true parts.mind)
+    load_alone other named = can.same_ant other (ap (λ b. parts.mind || b) named ∙ or-true parts.mind)
 
     -- each named part is the source's
     pub patched-named : (k : Part) → has_part parts k ≡ true → Alike k (patched cell source parts) source

@@ -30,7 +30,8 @@ use Rattle.command_words.specs.Command.{number_needed, number_or, dumps_or_none,
 use Rattle.command_words.specs.Command.PlainCommand.{ShowCommand, BrainCommand, MinimiseCommand, RunCommand, GenCommand, CupCommand, ViewCommand, WorkloadCommand, HelpCommand, VersionCommand}
 use Rattle.command_words.specs.Inner.Walk.{is_among, has_needed, rest_after, word_after, names_front, names_of, show_with, setup_with}
 use Rattle.command_words.specs.Inner.Walk.{setup_in, run_with, shape_with, shape_in, gen_with, cup_with, view_with, workload_with, command_in}
-use Rattle.command_words.proofs.ListLemmas.{Contains-none, Contains-cases, list_all-at, list_all-each}
+use Rattle.list_lemmas.proofs.Elements.{Contains-none, Contains-cases}
+use Rattle.command_words.proofs.ListLemmas.{list_all-at, list_all-each}
 use Rattle.command_words.proofs.TableLemmas.{option-not_first, same_option, bytes_eq-same, keyword-no_name}
 use Rattle.command_words.proofs.WalkLooking.{is_among-append, is_among-none, is_among-one, is_among-cons, rest_after-none, rest_after-cons, rest_after-first}
 use Rattle.command_words.proofs.WalkLooking.{rest_after-next, rest_after-unlike, names_front-run}

@@ -17,7 +17,8 @@ use Rattle.command_words.specs.declared.table.Choice.TheVariants.{Seed, Rounds, 
 use Rattle.command_words.specs.Slots.{fits, is_file_name, is_dumps, dumps_of}
 use Rattle.command_words.specs.Table.{kinds, word_of, choices_of, option_of, keyword_of}
 use Rattle.command_words.specs.Inner.Walk.{command_kind_of, choice_of}
-use Rattle.command_words.proofs.ListLemmas.{Contains-none, Contains-cases, list_all-at, find-passes, find-Contains}
+use Rattle.list_lemmas.proofs.Elements.{Contains-none, Contains-cases}
+use Rattle.command_words.proofs.ListLemmas.{list_all-at, find-passes, find-Contains}
 
 pub bytes_eq-same : (word : List ℕ) → bytes_eq word word ≡ true
 bytes_eq-same word = (bytes_eq-Decides word word).1 refl

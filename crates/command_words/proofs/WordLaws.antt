@@ -23,7 +23,7 @@ use Rattle.command_words.specs.Command.PlainCommand.{ShowCommand, BrainCommand, 
 use Rattle.command_words.specs.Inner.Walk.{read_of}
 use Rattle.command_words.specs.Laws.{OneCommand, OneRefusedWord, NeverBoth, OneOfBoth, FrontBegins, AnyOrder, IsWithin, AreWithin, SetupWithin, ShapeWithin}
 use Rattle.command_words.specs.Laws.{CommandWithin, WithinLimits}
-use Rattle.command_words.proofs.ListLemmas.{Contains-none, Contains-first, Contains-later, Contains-cases}
+use Rattle.list_lemmas.proofs.Elements.{Contains-none, Contains-first, Contains-later, Contains-cases}
 use Rattle.command_words.proofs.TableLemmas.{same_option, same_option-differs, bytes_eq-same}
 use Rattle.command_words.proofs.ReadLemmas.{read-command, read-accepts, read-refuses, IsBeginning-front, IsBeginning-take}
 

@@ -1,3 +1,4 @@
+pub mod JudgingLemmas
 pub mod LineFaults
 pub mod LineLemmas
 pub mod PlacesLemmas

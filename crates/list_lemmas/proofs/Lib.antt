@@ -1,0 +1,2 @@
+pub mod AllElements
+pub mod Elements
