@@ -12,8 +12,7 @@ ghost use Rattle.round_workers.specs.BoardWorker.{HasServed, IsSameButTook, IsWo
 
 use crate::board::looking::reach;
 use crate::board::room::Room;
-use crate::board::seat::{Board, Seat};
-use crate::board::view::{BoardSlot, View};
+use crate::board::seat::{Board, Hand, Seat};
 use ant_base::Gate;
 use ant_random::Stream;
 use round_book::{Book, Field};
@@ -109,7 +108,7 @@ impl Room<Book> {
     pub(crate) fn settle(
         &mut self,
         board: &Board,
-        hand: &mut atomic_table::Seat<BoardSlot, View>,
+        hand: &mut Hand,
         field: &Field<'_>,
     )
         requires table { hand.old.table_id ≡ board.now.table.shared.table_id }
@@ -134,7 +133,7 @@ impl Room<Book> {
 fn settle_in(
     content: &mut Option<Book>,
     board: &Board,
-    hand: &mut atomic_table::Seat<BoardSlot, View>,
+    hand: &mut Hand,
     field: &Field<'_>,
 )
     requires table { hand.old.table_id ≡ board.now.table.shared.table_id }
@@ -160,7 +159,7 @@ fn settle_in(
 #[inline]
 fn settle_looks(
     board: &Board,
-    hand: &mut atomic_table::Seat<BoardSlot, View>,
+    hand: &mut Hand,
     field: &Field<'_>,
     book: &mut Book,
 )
