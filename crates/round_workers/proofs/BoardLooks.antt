@@ -90,10 +90,13 @@ module _ (key : Basis) (slots id : ℕ) (v : View) (about : v.about ≡ Some key
               record { holds = refl; opens = sym (ap phase_opening rests); opened = refl }
               (λ i ne. record { put = refl; took = refl; puts = sym (ap (putting i) rests); takes = other-none j i (λ e. ne (sym e)) ∙ sym (ap (taking i) rests) })
               record { sum = (omega arith); once = (omega arith); back = (omega arith); bare = (λ e d. absurd (omega arith)); full = (λ e d. absurd (omega arith)) },
-          ((refl, refl), λ i e. (let same : j ≡ i = omega arith in record {
-            full = λ _. ap₂ (λ (m : ℕ) (z : Option Basis). (takes_now v m, (m + 1, OneLook (Some (look_for (window_about z) ((window_about z).from + m)))) ∷ c)) same (sym about);
-            other = λ ne. absurd (ne hit);
-          })),
+          (
+            (refl, refl),
+            λ i e. (let same : j ≡ i = omega arith in record {
+              full = λ _. ap₂ (λ (m : ℕ) (z : Option Basis). (takes_now v m, (m + 1, OneLook (Some (look_for (window_about z) ((window_about z).from + m)))) ∷ c)) same (sym about);
+              other = λ ne. absurd (ne hit);
+            }),
+          ),
         ))
         (λ miss. let w : View = after_try v (OfLook j word) in (
           w,

@@ -101,12 +101,7 @@ impl Board {
 
     // Gives the room back, with the look of the ticket.
     #[inline]
-    fn end_put(
-        &self,
-        hand: &mut Hand,
-        ticket: usize,
-        room: Room<Look>,
-    )
+    fn end_put(&self, hand: &mut Hand, ticket: usize, room: Room<Look>)
         requires table { hand.old.table_id ≡ self.now.table.shared.table_id }
         requires knows { hand.old.me.0.about ≡ Some (basis_of self.now) }
         requires ticket { ticket < turns_of (basis_of self.now) }
@@ -156,12 +151,7 @@ impl Board {
 
     // Tries to settle the book's next turn by its look, once, without waiting. The look lies where it was put meanwhile.
     #[inline]
-    pub(crate) fn settle_look(
-        &self,
-        hand: &mut Hand,
-        field: &Field<'_>,
-        book: &mut Book,
-    ) -> bool
+    pub(crate) fn settle_look(&self, hand: &mut Hand, field: &Field<'_>, book: &mut Book) -> bool
         requires table { hand.old.table_id ≡ self.now.table.shared.table_id }
         requires knows { hand.old.me.0.about ≡ Some (basis_of self.now) }
         requires rests { hand.old.me.0.phase ≡ Resting }
@@ -187,11 +177,7 @@ impl Board {
 
     // Tries to get the room of the look of a ticket, with the look.
     #[inline]
-    fn begin_take(
-        &self,
-        hand: &mut Hand,
-        ticket: usize,
-    ) -> Option<Room<Look>>
+    fn begin_take(&self, hand: &mut Hand, ticket: usize) -> Option<Room<Look>>
         requires table { hand.old.table_id ≡ self.now.table.shared.table_id }
         requires knows { hand.old.me.0.about ≡ Some (basis_of self.now) }
         requires ticket { ticket < turns_of (basis_of self.now) }
@@ -211,12 +197,7 @@ impl Board {
 
     // Gives the room back, in which no look waits any more.
     #[inline]
-    fn end_take(
-        &self,
-        hand: &mut Hand,
-        ticket: usize,
-        room: Room<Look>,
-    )
+    fn end_take(&self, hand: &mut Hand, ticket: usize, room: Room<Look>)
         requires table { hand.old.table_id ≡ self.now.table.shared.table_id }
         requires knows { hand.old.me.0.about ≡ Some (basis_of self.now) }
         requires ticket { ticket < turns_of (basis_of self.now) }

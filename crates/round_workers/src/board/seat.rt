@@ -233,7 +233,9 @@ impl Board {
         ensures table { hand.new.table_id ≡ hand.old.table_id }
         ensures opens { hand.new.me ≡ (opens_now hand.old.me.0, (0, TheBook None) ∷ hand.old.me.1) }
     {
-        self.table.shared.compare_exchange::<Opens>(hand, BOOK, HOME, OUT);
+        self.table
+            .shared
+            .compare_exchange::<Opens>(hand, BOOK, HOME, OUT);
     }
 
     // Ends the opening of the book: its slot goes back, with the book.
@@ -259,7 +261,9 @@ impl Board {
         ensures table { hand.new.table_id ≡ hand.old.table_id }
         ensures tells { TellsTake hand.old.me result hand.new.me }
     {
-        self.table.shared.compare_exchange::<TakesBook>(hand, BOOK, HOME, OUT)
+        self.table
+            .shared
+            .compare_exchange::<TakesBook>(hand, BOOK, HOME, OUT)
     }
 
     // Gives the book back, with its slot.
@@ -287,7 +291,9 @@ impl Board {
         ensures table { hand.new.table_id ≡ hand.old.table_id }
         ensures puts { (old : Option LookValue) × (hand.new.me ≡ (puts_now hand.old.me.0 ticket, (ticket + 1, Spare old) ∷ hand.old.me.1)) }
     {
-        self.table.shared.compare_exchange::<Puts>(hand, ticket + FIRST_LOOK, EMPTY, IN_HAND);
+        self.table
+            .shared
+            .compare_exchange::<Puts>(hand, ticket + FIRST_LOOK, EMPTY, IN_HAND);
     }
 
     // Ends the put of a look: its slot goes back, with the look.
@@ -301,7 +307,9 @@ impl Board {
         ensures table { hand.new.table_id ≡ hand.old.table_id }
         ensures has_put { hand.new.me ≡ (has_put hand.old.me.0 ticket, rest hand.old.me.1) }
     {
-        self.table.shared.swap::<HasPut>(hand, ticket + FIRST_LOOK, FULL);
+        self.table
+            .shared
+            .swap::<HasPut>(hand, ticket + FIRST_LOOK, FULL);
     }
 
     // Tries for the look of a ticket, once; what the try found.
@@ -314,7 +322,9 @@ impl Board {
         ensures table { hand.new.table_id ≡ hand.old.table_id }
         ensures tells { TellsTakeLook ticket hand.old.me result hand.new.me }
     {
-        self.table.shared.compare_exchange::<TakesLook>(hand, ticket + FIRST_LOOK, FULL, IN_HAND)
+        self.table
+            .shared
+            .compare_exchange::<TakesLook>(hand, ticket + FIRST_LOOK, FULL, IN_HAND)
     }
 
     // Ends the taking of a look: its slot goes back, with no look waiting in it.
@@ -328,7 +338,9 @@ impl Board {
         ensures table { hand.new.table_id ≡ hand.old.table_id }
         ensures has_taken { hand.new.me ≡ (has_taken hand.old.me.0 ticket, rest hand.old.me.1) }
     {
-        self.table.shared.swap::<HasTaken>(hand, ticket + FIRST_LOOK, EMPTIED);
+        self.table
+            .shared
+            .swap::<HasTaken>(hand, ticket + FIRST_LOOK, EMPTIED);
     }
 
     // Lays something into the slot that the seat got last, and gives what lay there. No word is stepped on.

@@ -10,8 +10,7 @@ use Rattle.round_workers.proofs.board.seat.Board.opened_step.Goals as goal
 
 pub swap-requires : goal.swap-requires
 swap-requires c =
-    let wide = c.args.self.now.words in let me = c.args.hand.now.me in let key = basis_of c.args.self.now in let slots = c.args.self.now.table.shared.table_id.slots in
-    (
+    let wide = c.args.self.now.words in let me = c.args.hand.now.me in let key = basis_of c.args.self.now in let slots = c.args.self.now.table.shared.table_id.slots in (
       c.requires.table,
       omega arith,
       subst (λ (out : List (ℕ × BoardSlot)). Allows (IsKept key) slots _ (me.0, out) 1 (λ _. 0) (tells_opened (step slots 1 0 0 maybe.none) (me.0, out))) (sym c.requires.book.1)
