@@ -1,6 +1,6 @@
 // A crew that is a function.
-ghost use Rattle.std.specs.Prelude.{◌≡◌, ◌×◌, ◌+◌, ◌-◌, ◌^◌, min, IfOk, OnOk, OnErr};
-ghost use Rattle.round_book.specs.Book.{IsPlayed, window_of};
+ghost use Rattle.std.specs.Prelude.{◌≡◌, ◌+◌, ◌-◌, ◌^◌, min, IfOk, OnOk, OnErr};
+ghost use Rattle.round_book.specs.Book.{CanBegin, IsPlayed, window_of};
 ghost use Rattle.round_book.specs.Counts.{counts_of};
 ghost use Rattle.round_book.specs.Led.{CanPlay, Played, PlaysWindows};
 
@@ -53,6 +53,8 @@ impl<F: FnMut(&mut Field<'_>, u32, u32) -> Result<Counts, OutOfMemory> + Drop> C
         from: u32,
         to: u32,
     ) -> Result<Counts, OutOfMemory>
+        requires ready { CanPlay F.FnMut × PlaysWindows F.FnMut }
+        requires window { CanBegin field.old from to }
         ensures ready { CanPlay F.FnMut × PlaysWindows F.FnMut }
         ensures played { OnOk result (IsPlayed field.old from to field.new) }
         ensures counts { IfOk result (λ counts. counts ≡ counts_of (window_of field.old from to)) }

@@ -2,7 +2,7 @@
 //
 // This module alone sees the table of a board: it lays it, it takes it apart, and a step on it is one of the functions below, each of them one
 // call of `atomic_table` on one word, with these numbers. What is called elsewhere knows of the table what these functions tell.
-ghost use Rattle.std.specs.Prelude.{◌≡◌, ◌≢◌, [], ◌∷◌, ◌×◌, ◌+◌, ◌-◌, ◌<◌, ◌≤◌, ◌^◌, ℕ, true, false, length, slice_index_or, Some, None, Option, IfOk, OnOk, IsSomeAnd};
+ghost use Rattle.std.specs.Prelude.{◌≡◌, ◌≢◌, [], ◌∷◌, ◌+◌, ◌-◌, ◌<◌, ◌≤◌, ◌^◌, ℕ, true, false, length, slice_index_or, Some, None, Option, IfOk, OnOk, IsSomeAnd};
 ghost use Rattle.std.specs.List.{AllByRecursion};
 ghost use Rattle.std.specs.Vec.{vec_capacity, vec_len};
 ghost use Rattle.atomic_table.specs.Table.{rest};

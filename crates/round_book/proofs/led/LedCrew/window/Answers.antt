@@ -13,6 +13,3 @@ returns-clause-played g c = (IsWindow-called g.F.FnMut c.requires.ready.1 _ _ _ 
 
 pub returns-clause-counts : goal.returns-clause-counts
 returns-clause-counts g c = (IsWindow-called g.F.FnMut c.requires.ready.1 _ _ _ _ c.args.from c.args.to _ c.requires.window c.in_ok-counts.ensures).counts
-
-pub returns-clause-called : goal.returns-clause-called
-returns-clause-called g c = record { shown = _; shows = refl; left = _; called = c.in_ok-counts.ensures; leaves = refl }
