@@ -14,8 +14,8 @@ swap-requires c =
     let a = c.args.self.now.first in let b = c.args.self.now.last in let inside = c.requires.ticket in let j : ℕ = c.args.ticket in (
       c.requires.table,
       omega arith,
-      subst (λ (out : List (ℕ × BoardSlot)). Allows (IsKept key) slots _ (me.0, out) (j + 2) (λ _. 2) (tells_has_put (step slots (j + 2) 2 0 maybe.none) (me.0, out))) (sym c.requires.look)
-          (has-put key slots _ me.0 c.requires.knows j inside (rest me.1) _ refl c.requires.putting),
+      subst (λ (out : List (ℕ × BoardSlot)). Allows (IsKept key) slots c.args.hand.now.id (me.0, out) (j + 2) (λ _. 2) (tells_has_put (step slots (j + 2) 2 0 maybe.none) (me.0, out))) (sym c.requires.look)
+          (has-put key slots c.args.hand.now.id me.0 c.requires.knows j inside (rest me.1) _ refl c.requires.putting),
     )
 
 pub returns-clause-has_put : goal.returns-clause-has_put
