@@ -1,7 +1,7 @@
 use Rattle.std.proofs.Common.{◌≡◌, ◌+◌, ◌≤◌}
 use Rattle.std.specs.Vec.{vec_capacity, vec_len}
 use Rattle.round_workers.specs.Inner.BoardPlaces.{AreBare}
-use Rattle.round_workers.proofs.board.bare.Given as goal
+use Rattle.round_workers.proofs.board.seat.steps.bare.Given as goal
 
 abbrev pub invariant-loop : goal.invariant-loop
 invariant-loop l = record {
