@@ -78,7 +78,7 @@ pub placed_inside : (g : Grid) (t : ℕ) (p : Pos) → place_in (world_of g) t �
 placed_inside g t p found = place_in-inside (world_of g) t p found
 
 -- and its cell has an ant
-pub placed_ant : (g : Grid) (t : ℕ) (p : Pos) {A : Type 0} → place_in (world_of g) t ≡ Some p → ((world_of g).cells p).ant ≡ None → A
+pub placed_ant : (g : Grid) (t : ℕ) (p : Pos) → place_in (world_of g) t ≡ Some p → ((world_of g).cells p).ant ≡ None → ⊥
 placed_ant g t p found none =
     let holder : Holder t ((world_of g).cells p).ant = place_in-ant (world_of g) t p found in
     let e : None ≡ Some holder.ant = sym none ∙ holder.is in absurd (cc)
@@ -110,9 +110,20 @@ module _ (field : FieldValue) (found : FoundValue) (t : ℕ) (p : Pos) (ant : An
   pub living_dead : place_in (world_of field.world) t ≡ None → (false ≡ true) ↔ IsSameAnt field found t
   living_dead here = (λ never. absurd (false≢true never), λ same. let e : None ≡ Some p = sym (same.dead.1 here) ∙ there in absurd (cc))
 
--- a first test that fails, and one that is met
-pub unmet : {A B : Type 0} (first : Bool) → first ≡ false → (first ≡ true) ↔ A → (B → A) → (false ≡ true) ↔ B
-unmet {A} {B} first failed is within = (λ never. absurd (false≢true never), λ all. absurd (false≢true (sym failed ∙ is.1 (within all))))
+-- what a test of the numbers says
+pub game_test : (field : FieldValue) (found : FoundValue) (test : Bool) →
+    (test ≡ true) ↔ ((field.seed ≡ found.seed) × (field.minds.sheet ≡ found.minds.sheet) × ((field.world.width ≡ found.base.width) × (field.world.height ≡ found.base.height) × (field.world.ids ≡ found.base.ids)))
+    → (test ≡ true) ↔ IsSameGame field found
+game_test field found test is = (
+  λ now. let all = is.0 now in record { seed = all.0; sheet = all.1.0; width = all.1.1.0; height = all.1.1.1.0; ids = all.1.1.1.1 },
+  λ game. is.1 (game.seed, (game.sheet, (game.width, (game.height, game.ids)))),
+)
 
-pub met : {A B C : Type 0} (first second : Bool) → first ≡ true → (first ≡ true) ↔ A → (second ≡ true) ↔ B → (A → B → C) → (C → B) → (second ≡ true) ↔ C
-met {A} {B} {C} first second held one two make part = (λ now. make (one.0 held) (two.0 now), λ all. two.1 (part all))
+-- and a test of all
+pub agrees_test : (field : FieldValue) (found : FoundValue) (look : LookValue) (guess : ℕ) (test : Bool) →
+    (test ≡ true) ↔ (IsSameGame field found × (look.guess ≡ guess) × (AllByRecursion (λ (read : Sighting). (world_of found.base).cells read.0 ≡ (world_of field.world).cells read.0) look.reads × IsSameAnt field found look.turn))
+    → (test ≡ true) ↔ AgreesWith field found look guess
+agrees_test field found look guess test is = (
+  λ now. let all = is.0 now in record { game = all.0; guessed = all.1.0; cells = all.1.1.0; same_ant = all.1.1.1 },
+  λ agrees. is.1 (agrees.game, (agrees.guessed, (agrees.cells, agrees.same_ant))),
+)

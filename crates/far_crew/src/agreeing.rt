@@ -57,10 +57,20 @@ fn is_known(field: &Field<'_>, found: &Found, look: &Look, guess: u64) -> bool
 }
 
 // Whether a look of an answer agrees.
-#[tactic(auto, using(crate::proofs::AgreeingLemmas::agrees_all, crate::proofs::AgreeingLemmas::agreed_game, crate::proofs::AgreeingLemmas::agreed_guess))]
+#[tactic(auto, using(crate::proofs::AgreeingLemmas::agrees_test))]
 fn is_agreeing(field: &Field<'_>, found: &Found, look: &Look, guess: u64) -> bool
     requires { IsLookOf found.now.minds found.now.seed found.now.base look.now }
     ensures { (result ≡ true) ↔ AgreesWith field.now found.now look.now guess }
+{
+    is_same_in_all(field, found, look, guess)
+}
+
+// Whether all is the same that a look which agrees has the same.
+fn is_same_in_all(field: &Field<'_>, found: &Found, look: &Look, guess: u64) -> bool
+    requires { IsLookOf found.now.minds found.now.seed found.now.base look.now }
+    ensures { (result ≡ true) ↔ (IsSameGame field.now found.now × (look.now.guess ≡ guess)
+        × (AllByRecursion (λ read. (world_of found.now.base).cells read.0 ≡ (world_of field.now.world).cells read.0) look.now.reads
+        × IsSameAnt field.now found.now look.now.turn)) }
 {
     is_same_game(field, found) && look.guess() == guess && is_same_there(field, found, look)
 }
@@ -88,6 +98,13 @@ fn are_reads_same(field: &Field<'_>, found: &Found, look: &Look) -> bool
 fn is_same_game(field: &Field<'_>, found: &Found) -> bool
     ensures { (result ≡ true) ↔ IsSameGame field.now found.now }
 {
+    are_numbers_same(field, found)
+}
+
+fn are_numbers_same(field: &Field<'_>, found: &Found) -> bool
+    ensures { (result ≡ true) ↔ ((field.now.seed ≡ found.now.seed) × (field.now.minds.sheet ≡ found.now.minds.sheet)
+        × ((field.now.world.width ≡ found.now.base.width) × (field.now.world.height ≡ found.now.base.height) × (field.now.world.ids ≡ found.now.base.ids))) }
+{
     field.seed() == found.seed()
         && are_sheets_same(field.brains().sheet, found.brains().sheet)
         && are_sizes_same(field.world(), found.base())
@@ -114,16 +131,28 @@ fn is_same_ant(field: &Field<'_>, found: &Found, id: u32) -> bool
 }
 
 // The same of an ant that lives in the answer's world.
-#[tactic(auto, using(crate::proofs::AgreeingLemmas::placed_inside, crate::proofs::AgreeingLemmas::living_test))]
+#[tactic(auto, using(crate::proofs::AgreeingLemmas::living_dead, crate::proofs::AgreeingLemmas::living_test))]
 fn is_living_same(field: &Field<'_>, found: &Found, id: u32, p: Pos) -> bool
     requires { place_in (world_of found.now.base) id ≡ Some p }
     ensures { (result ≡ true) ↔ IsSameAnt field.now found.now id }
 {
-    let Some(ant) = found.base().cell(p).ant else {
+    let ant = ant_at(found.base(), id, p);
+    let Some(_there) = field.world().ant_place(id) else {
         return false;
     };
-    field.world().ant_place(id).is_some()
-        && is_same_instruction(field.brains(), found.brains(), &ant)
+    is_same_instruction(field.brains(), found.brains(), &ant)
+}
+
+// The ant of an id at its place.
+#[tactic(auto, using(crate::proofs::AgreeingLemmas::placed_inside, crate::proofs::AgreeingLemmas::placed_ant))]
+fn ant_at(base: &World, id: u32, p: Pos) -> Ant
+    requires { place_in (world_of base.now) id ≡ Some p }
+    ensures { ((world_of base.now).cells p).ant ≡ Some result }
+{
+    let Some(ant) = base.cell(p).ant else {
+        unreachable!()
+    };
+    ant
 }
 
 // Whether an ant is at the same instruction in two pairs of brains.

@@ -1,5 +1,5 @@
 // The crew of workers that stand by.
-ghost use Rattle.std.specs.Prelude.{◌≡◌, ◌+◌, ◌-◌, ◌<◌, ◌^◌, IfOk, IfSome, OnOk, OnErr};
+ghost use Rattle.std.specs.Prelude.{◌≡◌, ◌+◌, ◌-◌, ◌<◌, ◌≤◌, ◌^◌, IfOk, IfSome, OnOk, OnErr};
 ghost use Rattle.cell_world.specs.Grid.{world_of};
 ghost use Rattle.round_book.specs.Book.{CanBegin, FieldValue, IsPlayed, IsSameWindow, StandsOn, window_of};
 ghost use Rattle.round_book.specs.Counts.{counts_of};

@@ -88,10 +88,12 @@ fn job_of(
     to: u32,
     room: Vec<Look>,
 ) -> Result<Job, OutOfMemory>
-    requires window { CanBegin field.now from to }
     requires minds { arc_value minds.now ≡ field.now.minds }
     requires base { arc_value base.now ≡ field.now.world }
-    requires guesses { guesses.now ≡ guesses_for (window_of field.now from to) }
+    requires forwards { from ≤ to }
+    requires ids { to ≤ field.now.world.ids }
+    requires count { length guesses.now ≡ to - from }
+    requires small { AllByRecursion (λ guess. guess + 1 < 2 ^ 63) guesses.now }
     requires few { workers ≤ 16 }
     requires worker { worker < workers }
 {

@@ -1,5 +1,5 @@
 // Brains that a job owns.
-ghost use Rattle.std.specs.Prelude.{◌≡◌, true, IfOk};
+ghost use Rattle.std.specs.Prelude.{◌≡◌, ◌↔◌, true, IfOk};
 ghost use Rattle.ant_turn.specs.Minds.{minds_of};
 ghost use Rattle.ant_turn.specs.Sheet.{sheet_of};
 

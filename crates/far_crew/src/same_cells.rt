@@ -24,16 +24,17 @@ pub(crate) fn are_cells_same(world: &World, reads: &[(Pos, Parts, Cell)]) -> boo
 
 // The cell at a position: outside there is rock.
 #[inline]
-#[tactic(auto, using(crate::proofs::CellLemmas::cell_outside))]
+#[tactic(auto, using(crate::proofs::CellLemmas::cell_right, crate::proofs::CellLemmas::cell_below))]
 fn cell_at(world: &World, p: Pos) -> Cell
     ensures { result ≡ (world_of world.now).cells p }
 {
-    let width = world.width();
-    let height = world.height();
-    if p.x < width && p.y < height {
-        return world.cell(p);
+    if p.x >= world.width() {
+        return rock();
     }
-    rock()
+    if p.y >= world.height() {
+        return rock();
+    }
+    world.cell(p)
 }
 
 #[tactic(auto, unfolding(cell_world::specs::Cell::rock))]
@@ -51,11 +52,14 @@ fn rock() -> Cell
 }
 
 // Whether two cells are equal.
-#[tactic(auto, using(crate::proofs::CellLemmas::same_cell, crate::proofs::CellLemmas::other_cell))]
+#[tactic(auto, using(crate::proofs::CellLemmas::ground_differs, crate::proofs::CellLemmas::difference_test))]
 fn is_same_cell(one: &Cell, other: &Cell) -> bool
     ensures { (result ≡ true) ↔ (one.now ≡ other.now) }
 {
-    is_same_ground(one, other) && one.difference(other, all_parts()).is_none()
+    if !is_same_ground(one, other) {
+        return false;
+    }
+    one.difference(other, all_parts()).is_none()
 }
 
 // Whether two cells are of one ground and hill, which are no parts.
