@@ -54,8 +54,8 @@ module _ (minds : Minds) (seed : ℕ) (base : Grid) (w : Cells) (look : LookValu
       stored-SameAt (world_of base).cells w (reads minds (world_of base) look.turn) (subst (AllByRecursion (λ (read : Sighting). (world_of base).cells read.0 ≡ w read.0)) reads-is all)
 
   -- a test of what was stored is a test of both worlds
-  pub reads_test : (test : Bool) → (test ≡ true) ↔ AllByRecursion (λ (read : Sighting). w read.0 ≡ read.2) look.reads → (test ≡ true) ↔ AllByRecursion (λ (read : Sighting). (world_of base).cells read.0 ≡ w read.0) look.reads
-  reads_test test is_test = (λ now. reads_same (is_test.0 now), λ all. is_test.1 (reads_stored all))
+  pub reads-test : (test : Bool) → (test ≡ true) ↔ AllByRecursion (λ (read : Sighting). w read.0 ≡ read.2) look.reads → (test ≡ true) ↔ AllByRecursion (λ (read : Sighting). (world_of base).cells read.0 ≡ w read.0) look.reads
+  reads-test test is_test = (λ now. reads_same (is_test.0 now), λ all. is_test.1 (reads_stored all))
 
 -- the law on looks, for a look that agrees
 pub look_known : (field : FieldValue) (found : FoundValue) (look : LookValue) (guess : ℕ) → IsWorld field.world → IsLookOf found.minds found.seed found.base look → AgreesWith field found look guess →
@@ -115,8 +115,8 @@ pub game_test : (field : FieldValue) (found : FoundValue) (test : Bool) →
     (test ≡ true) ↔ ((field.seed ≡ found.seed) × (field.minds.sheet ≡ found.minds.sheet) × ((field.world.width ≡ found.base.width) × (field.world.height ≡ found.base.height) × (field.world.ids ≡ found.base.ids)))
     → (test ≡ true) ↔ IsSameGame field found
 game_test field found test is = (
-  λ now. let all = is.0 now in record { seed = all.0; sheet = all.1.0; width = all.1.1.0; height = all.1.1.1.0; ids = all.1.1.1.1 },
-  λ game. is.1 (game.seed, (game.sheet, (game.width, (game.height, game.ids)))),
+  λ now. let all = is.0 now in record { seed = all.0; sheet = all.1; width = all.2.0; height = all.2.1; ids = all.2.2 },
+  λ game. is.1 (game.seed, game.sheet, (game.width, game.height, game.ids)),
 )
 
 -- and a test of all
@@ -124,6 +124,6 @@ pub agrees_test : (field : FieldValue) (found : FoundValue) (look : LookValue) (
     (test ≡ true) ↔ (IsSameGame field found × (look.guess ≡ guess) × (AllByRecursion (λ (read : Sighting). (world_of found.base).cells read.0 ≡ (world_of field.world).cells read.0) look.reads × IsSameAnt field found look.turn))
     → (test ≡ true) ↔ AgreesWith field found look guess
 agrees_test field found look guess test is = (
-  λ now. let all = is.0 now in record { game = all.0; guessed = all.1.0; cells = all.1.1.0; same_ant = all.1.1.1 },
-  λ agrees. is.1 (agrees.game, (agrees.guessed, (agrees.cells, agrees.same_ant))),
+  λ now. let all = is.0 now in record { game = all.0; guessed = all.1; cells = all.2.0; same_ant = all.2.1 },
+  λ agrees. is.1 (agrees.game, agrees.guessed, (agrees.cells, agrees.same_ant)),
 )

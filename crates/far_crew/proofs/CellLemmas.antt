@@ -1,5 +1,5 @@
 -- Cells that are equal, whole.
-use Rattle.std.proofs.Common.{◌≡◌, ◌<◌, ◌≤◌, ◌*◌, Bool, true, false, length, get_or, Option, Some, None, refl, sym, ap, ◌∙◌, arith}
+use Rattle.std.proofs.Common.{◌≡◌, ◌<◌, ◌≤◌, ◌*◌, Bool, true, false, length, get_or, Option, Some, None, refl, sym, ap, ◌∙◌, subst, arith}
 use Rattle.std.specs.Prelude.{◌↔◌, not}
 use Rattle.std.specs.Option.{is_some}
 use Rattle.std.proofs.lemmas.Bool.{both_ways, false≢true, not-false, not-true}
@@ -11,6 +11,7 @@ use Rattle.hex_geometry.specs.RowOrder.{index_of}
 use Rattle.cell_world.specs.declared.cell.Cell.{Cell}
 use Rattle.cell_world.specs.declared.part.Part.{Part}
 use Rattle.cell_world.specs.declared.part.Part.TheVariants.{Who, Mind, Load, Food, RedMarks, BlackMarks}
+use Rattle.cell_world.specs.declared.part.Parts.{Parts}
 use Rattle.cell_world.specs.Cell.{rock}
 use Rattle.cell_world.specs.Grid.{Grid, IsWorld, world_of}
 use Rattle.cell_world.specs.Parts.{Agree, IsDifference, has_part, part}
@@ -49,9 +50,9 @@ ground_differs c d first failed is = (
 )
 
 -- and whether they are is whether there is a part in which they differ
-pub difference_test : (c d : Cell) (o : Option Part) (first test : Bool) → first ≡ true → (first ≡ true) ↔ ((c.rocky ≡ d.rocky) × (c.hill ≡ d.hill)) → IsDifference all_parts c d o → is_some o ≡ not test → (test ≡ true) ↔ (c ≡ d)
-difference_test c d None first test held is differ tested =
+pub difference_test : (c d : Cell) (o : Option Part) (parts : Parts) (first test : Bool) → parts ≡ all_parts → first ≡ true → (first ≡ true) ↔ ((c.rocky ≡ d.rocky) × (c.hill ≡ d.hill)) → IsDifference parts c d o → is_some o ≡ not test → (test ≡ true) ↔ (c ≡ d)
+difference_test c d None parts first test every held is differ tested =
     let both = is.0 held in
-    (λ _. same_cell c d both.0 both.1 differ, λ _. not-false test (sym tested))
-difference_test c d (Some k) first test held is differ tested =
+    (λ _. same_cell c d both.0 both.1 (subst (λ p. Agree p c d) every differ), λ _. not-false test (sym tested))
+difference_test c d (Some k) parts first test every held is differ tested =
     (λ now. absurd (both_ways test (not-true test (sym tested)) now), λ same. absurd (differ.1 (ap (part k) same)))

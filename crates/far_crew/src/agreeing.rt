@@ -85,7 +85,6 @@ fn is_same_there(field: &Field<'_>, found: &Found, look: &Look) -> bool
 }
 
 // Whether the field's world holds at each position that was read what the answer's world holds there, which is what the look stored.
-#[tactic(auto, using(crate::proofs::AgreeingLemmas::reads_test))]
 fn are_reads_same(field: &Field<'_>, found: &Found, look: &Look) -> bool
     requires { IsLookOf found.now.minds found.now.seed found.now.base look.now }
     ensures { (result ≡ true) ↔ AllByRecursion (λ read. (world_of found.now.base).cells read.0 ≡ (world_of field.now.world).cells read.0) look.now.reads }
