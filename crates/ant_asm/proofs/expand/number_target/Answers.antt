@@ -4,8 +4,8 @@ use Rattle.ant_asm.specs.Inner.Flat.{IsLabelOf, numbers_of, tree_at}
 use Rattle.ant_asm.proofs.FlatLemmas.{get_or-any, parameter_given}
 use Rattle.ant_asm.proofs.expand.number_target.Goals as goal
 
-pub bounds-frame-i : goal.bounds-frame-i
-bounds-frame-i c = parameter_given c.args.spot.bodies.now c.args.spot.number c.args.spot.frame c.in-Parameter.i c.requires.known
+pub bounds-spot-i : goal.bounds-spot-i
+bounds-spot-i c = parameter_given c.args.spot.bodies.now c.args.spot.number c.args.spot.frame c.in-Parameter.i c.requires.known
     (subst (IsLabelOf c.args.spot.bodies.now c.args.spot.number) c.in-Parameter.is c.requires.label) c.requires.given
 
 pub returns-in-Parameter : goal.returns-in-Parameter
