@@ -136,7 +136,7 @@ def with_bad_state(r, save):
     kind = r.randrange(12)
     if kind == 0:
         x, y = r.choice([(x, 0), (x, save.height - 1), (0, y), (save.width - 1, y)])
-        save.rows[y][x] = r.choice('.+-')
+        save.rows[y][x] = r.choice('...+-')
     elif kind == 1:
         x, y = r.choice(rocks)
         save.food[y][x] = r.choice([1, 62, 63])
@@ -213,15 +213,20 @@ def faulty_save(r):
     if kind < .85:
         text = save.text()
         return text[:r.choice([r.randint(0, len(text)), len(text) - 1])]
-    if kind < .9:
+    if kind < .88:
         return save.text() + r.choice([b'\n', b' ', b'end\n', b'x', b'\r\n', b'\0'])
-    if kind < .95:
+    if kind < .92:
         return with_other_bytes(r, save.text(), LINE_BYTES)
     if kind < .98:
         lines = save.lines()
         ants = [place for place, line in enumerate(lines) if line.startswith('ant ')]
-        if len(ants) > 1:
+        if len(ants) > 1 and chance(r, .5):
             one, other = r.sample(ants, 2)
             lines[one], lines[other] = lines[other], lines[one]
+        elif len(ants) > 1:
+            place = r.choice(ants[1:])
+            tokens = lines[place].split(' ')
+            tokens[1] = lines[place - 1].split(' ')[1]  # the id of the ant above
+            lines[place] = ' '.join(tokens)
         return ''.join(line + '\n' for line in lines).encode()
     return r.choice([b'', b'\n', b'ants save 1', b'ants save 1\n', b'ants save 2\n', b'end\n', b'\x80'])
