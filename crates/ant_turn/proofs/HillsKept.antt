@@ -9,7 +9,6 @@ use Rattle.cell_world.specs.declared.kind.Kind.TheVariants.{Rock, Clear, RedHill
 use Rattle.cell_world.specs.Cell.{one_if, rock}
 use Rattle.cell_world.specs.Grid.{Grid, world_of}
 use Rattle.cell_world.specs.Opening.{IsPlan, floor, hill_count, is_hill, opening, opening_cell, opening_cells}
-use Rattle.cell_world.specs.Valid.{Valid}
 use Rattle.cell_world.specs.World.{World, area, sum_over}
 use Rattle.hex_geometry.specs.RowOrder.{pos_at}
 use Rattle.cell_world.proofs.GridSums.{total-list}

@@ -74,7 +74,7 @@ instruction_as Form.Turn ns = Turn (side_at (slice_index ns 1)) (slice_index ns 
 instruction_as Form.Move ns = Move (slice_index ns 1) (slice_index ns 2)
 instruction_as Form.Flip ns = Flip (slice_index ns 1) (slice_index ns 2) (slice_index ns 3)
 
-instruction_of : List ℕ → Instr
+abbrev instruction_of : List ℕ → Instr
 instruction_of ns = instruction_as (form_at (slice_index ns 0)) ns
 
 instruction_of-numbers : (x : Instr) → instruction_of (numbers_of x) ≡ x

@@ -19,13 +19,12 @@ use Rattle.cell_world.proofs.OpeningLaws.{opening-new}
 use Rattle.brain_read.specs.declared.instr.Instr.{Instr}
 use Rattle.brain_read.specs.declared.instr.Instr.TheVariants.{Drop}
 use Rattle.brain_read.specs.Grammar.{states_of}
-use Rattle.ant_turn.specs.HillLaws.{game_after}
 use Rattle.ant_turn.specs.Minds.{Minds, mind_of}
 use Rattle.ant_turn.specs.Renumber.{AreNumbered, Carries, Numbers, state_number, redirected, renumbered, renumbered_ant, renumbered_moment, side_states, with_mind}
 use Rattle.ant_turn.specs.Rounds.{Moment, after_rounds, start_of}
 use Rattle.ant_turn.specs.Turn.{instruction_at}
 use Rattle.ant_turn.proofs.RenumberedTurns.{after_rounds-renumbered}
-use Rattle.brain_minimise.specs.Match.{DiffersInStates, IsMatchingAnt}
+use Rattle.brain_minimise.specs.Match.{DiffersInStates, IsMatchingAnt, game}
 use Rattle.brain_minimise.specs.Minimised.{IsMinimised, new_number}
 use Rattle.brain_minimise.specs.Reach.IsReachable.{Start}
 use Rattle.brain_minimise.proofs.Merging.{successors-reached}
@@ -82,7 +81,7 @@ module _ (minds : Minds) (side : Colour) (brain : List Instr) (numbers : List (O
   }
 
   -- the games are alike
-  pub game-minimised : game_after (with_mind minds side brain) seed width height kinds r ≡ renumbered_moment (new_number numbers) side (game_after minds seed width height kinds r)
+  pub game-minimised : game (with_mind minds side brain) seed width height kinds r ≡ renumbered_moment (new_number numbers) side (game minds seed width height kinds r)
   game-minimised =
       ap (λ (m : Moment). after_rounds (with_mind minds side brain) seed m r) (sym start-renumbered)
       ∙ after_rounds-renumbered (new_number numbers) side minds brain seed (start_of start) r (Carries-minimised (mind_of minds side) brain numbers minimised) start-numbered
@@ -94,10 +93,10 @@ score_of-renumbered numbers side w = refl
 
 -- the scores are equal
 pub score-minimised : (minds : Minds) (side : Colour) (brain : List Instr) (numbers : List (Option ℕ)) (seed width height : ℕ) (kinds : List Kind) (r : ℕ) → IsMinimised (mind_of minds side) brain numbers →
-    score_of (game_after (with_mind minds side brain) seed width height kinds r).world ≡ score_of (game_after minds seed width height kinds r).world
+    score_of (game (with_mind minds side brain) seed width height kinds r).world ≡ score_of (game minds seed width height kinds r).world
 score-minimised minds side brain numbers seed width height kinds r minimised =
     ap (λ (m : Moment). score_of m.world) (game-minimised minds side brain numbers seed width height kinds r minimised)
-    ∙ score_of-renumbered (new_number numbers) side (game_after minds seed width height kinds r).world
+    ∙ score_of-renumbered (new_number numbers) side (game minds seed width height kinds r).world
 
 -- the other side's states stay
 others-stay : (numbers : Numbers) (side own : Colour) (state : ℕ) → own ≢ side → side_states numbers side own state ≡ state
@@ -123,7 +122,7 @@ DiffersInStates-renumbered numbers side w = record {
 
 -- so what a dump shows differs in them alone
 pub dump-minimised : (minds : Minds) (side : Colour) (brain : List Instr) (numbers : List (Option ℕ)) (seed width height : ℕ) (kinds : List Kind) (r : ℕ) → IsMinimised (mind_of minds side) brain numbers →
-    DiffersInStates side (game_after minds seed width height kinds r).world (game_after (with_mind minds side brain) seed width height kinds r).world
+    DiffersInStates side (game minds seed width height kinds r).world (game (with_mind minds side brain) seed width height kinds r).world
 dump-minimised minds side brain numbers seed width height kinds r minimised =
-    subst (λ (m : Moment). DiffersInStates side (game_after minds seed width height kinds r).world m.world) (sym (game-minimised minds side brain numbers seed width height kinds r minimised))
-    (DiffersInStates-renumbered (new_number numbers) side (game_after minds seed width height kinds r).world)
+    subst (λ (m : Moment). DiffersInStates side (game minds seed width height kinds r).world m.world) (sym (game-minimised minds side brain numbers seed width height kinds r minimised))
+    (DiffersInStates-renumbered (new_number numbers) side (game minds seed width height kinds r).world)

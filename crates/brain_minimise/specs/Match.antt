@@ -1,4 +1,5 @@
 -- Games with a brain and with its minimised one (the task's game play).
+pub use Rattle.ant_turn.specs.HillLaws.{game_after as game}
 use Rattle.std.specs.Prelude.{◌≡◌, ◌≢◌, ℕ, List, Option, Some, None}
 use Rattle.hex_geometry.specs.declared.position.Pos.{Pos}
 use Rattle.cell_world.specs.declared.ant.Ant.{Ant}
@@ -7,7 +8,6 @@ use Rattle.cell_world.specs.declared.kind.Kind.{Kind}
 use Rattle.cell_world.specs.Score.{score_of}
 use Rattle.cell_world.specs.World.{World}
 use Rattle.brain_read.specs.declared.instr.Instr.{Instr}
-use Rattle.ant_turn.specs.HillLaws.{game_after}
 use Rattle.ant_turn.specs.Minds.{Minds, mind_of}
 use Rattle.ant_turn.specs.Renumber.{renumbered_moment, with_mind}
 use Rattle.brain_minimise.specs.Minimised.{IsMinimised, new_number}
@@ -17,13 +17,13 @@ use Rattle.brain_minimise.specs.Minimised.{IsMinimised, new_number}
 abbrev pub PlaysAlike : Type 0
 PlaysAlike = (minds : Minds) (side : Colour) (brain : List Instr) (numbers : List (Option ℕ)) (seed width height : ℕ) (kinds : List Kind) (r : ℕ)
     → IsMinimised (mind_of minds side) brain numbers →
-    game_after (with_mind minds side brain) seed width height kinds r ≡ renumbered_moment (new_number numbers) side (game_after minds seed width height kinds r)
+    game (with_mind minds side brain) seed width height kinds r ≡ renumbered_moment (new_number numbers) side (game minds seed width height kinds r)
 
 -- so the scores are equal
 abbrev pub ScoresAlike : Type 0
 ScoresAlike = (minds : Minds) (side : Colour) (brain : List Instr) (numbers : List (Option ℕ)) (seed width height : ℕ) (kinds : List Kind) (r : ℕ)
     → IsMinimised (mind_of minds side) brain numbers →
-    score_of (game_after (with_mind minds side brain) seed width height kinds r).world ≡ score_of (game_after minds seed width height kinds r).world
+    score_of (game (with_mind minds side brain) seed width height kinds r).world ≡ score_of (game minds seed width height kinds r).world
 
 -- one ant as the other, but for its state where it is of this side
 abbrev pub IsMatchingAnt : Colour → Option Ant → Option Ant → Type 0
@@ -45,4 +45,4 @@ pub record DiffersInStates (side : Colour) (old new : World) : Type 0 where
 abbrev pub DumpsAlike : Type 0
 DumpsAlike = (minds : Minds) (side : Colour) (brain : List Instr) (numbers : List (Option ℕ)) (seed width height : ℕ) (kinds : List Kind) (r : ℕ)
     → IsMinimised (mind_of minds side) brain numbers →
-    DiffersInStates side (game_after minds seed width height kinds r).world (game_after (with_mind minds side brain) seed width height kinds r).world
+    DiffersInStates side (game minds seed width height kinds r).world (game (with_mind minds side brain) seed width height kinds r).world

@@ -27,7 +27,7 @@ fault_in line read = fault_of_read refusal_at line read
 
 -- a step judges its position
 abbrev Judges : {A : Type 0} → Position → (List (List ℕ) → Step A) → (A → List Position) → Type 0
-Judges {A} position take brings = judging.Judges {A} {Break} first_fault refusal_at position take brings
+Judges position take brings = judging.Judges Break first_fault refusal_at position take brings
 
 -- one token at its position
 judge_token : (line : ℕ) (token : List ℕ) (rest : List (List ℕ)) (positions : List Position) (o : Option ℕ) (brings : ℕ → List Position) (fault : LineFault) (f : ℕ × List (List ℕ) → Read Break)

@@ -102,7 +102,7 @@ module _ (width : ℕ) (was tiles others : List Tile) (old bodies middle new oth
         (λ apart. caught_stays i (catching.done i within (λ q held. ⊎_elim
         (λ first_is. λ e. apart (sym e ∙ ap (index_of width) (sym first_is)))
         (λ later. none q later)
-        (Contains-cases p rest q held))))
+        (Contains-cases p q rest held))))
         (cases_eq i (index_of width p));
   }
 

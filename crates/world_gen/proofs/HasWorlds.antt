@@ -1,7 +1,7 @@
 -- Each seed and shape has a world, or an element without room: the elements are placed one after another, and their cells painted.
 use Rattle.cell_world.specs.Cell.{one_if}
 use Rattle.cell_world.specs.Grid.{Grid}
-use Rattle.cell_world.specs.Opening.{IsFed, hill_count, is_hill, is_rock, kind_at, opening}
+use Rattle.cell_world.specs.Opening.{is_hill, is_rock, opening}
 use Rattle.cell_world.specs.declared.ant.Colour.{Colour}
 use Rattle.cell_world.specs.declared.ant.Colour.TheVariants.{Red, Black}
 use Rattle.cell_world.specs.declared.kind.Kind.{Kind}
@@ -12,12 +12,12 @@ use Rattle.hex_geometry.proofs.Places.{inner_inside}
 use Rattle.hex_geometry.specs.Direction.{dir_of}
 use Rattle.hex_geometry.specs.Inner.BallRows.{rows}
 use Rattle.hex_geometry.specs.Neighbourhood.{adjacent_pos}
-use Rattle.hex_geometry.specs.Position.{IsInner, IsInside, Point, point_of}
+use Rattle.hex_geometry.specs.Position.{IsInner, point_of}
 use Rattle.hex_geometry.specs.RowOrder.{index_of}
 use Rattle.hex_geometry.specs.declared.position.Pos.{Pos}
 use Rattle.std.proofs.Common.{◌≡◌, ◌⊎◌, inl, inr, ℕ, zero, suc, ◌+◌, ◌*◌, ◌<◌, ◌≤◌, Bool, true, false, List, [], ◌∷◌, ◌++◌, length, set, refl, sym, ◌∙◌, ap, subst, append_assoc, append-nil, arith}
 use Rattle.std.proofs.lemmas.Bool.{false≢true}
-use Rattle.std.proofs.lemmas.List.Elements.{All-contains, All-contains_itself, All-head, All-tail, All-weaker}
+use Rattle.std.proofs.lemmas.List.Elements.{All-contains_itself, All-head, All-tail, All-weaker}
 use Rattle.std.specs.Prelude.{All, Contains}
 use Rattle.world_gen.proofs.Balls.{ball_has}
 use Rattle.world_gen.proofs.Bares.{bare_blocked_length}
@@ -27,16 +27,15 @@ use Rattle.world_gen.proofs.Lines.{lines_each, lines_every}
 use Rattle.world_gen.proofs.Makings.{begun_more, begun_none, begun_whole}
 use Rattle.world_gen.proofs.Stamps.{round_all, round_first, round_more, stamped_more, stamped_none}
 use Rattle.world_gen.proofs.Steps.{fits_open, open_fits, point_one}
-use Rattle.world_gen.specs.Elements.{IsCell, count_of, element_of}
+use Rattle.world_gen.specs.Elements.{count_of, element_of}
 use Rattle.world_gen.specs.Existence.{HasOutcome}
-use Rattle.world_gen.specs.Fitting.{IsFreeSpot, IsOffRim}
+use Rattle.world_gen.specs.Fitting.{IsFreeSpot}
 use Rattle.world_gen.specs.Inner.Answers.{IsElementPut, IsGeneratedGrid}
 use Rattle.world_gen.specs.Inner.Open.{AllOpen, ListsCells, lines_from}
-use Rattle.world_gen.specs.Inner.Sets.{IsRound, IsRoundBelow, SetsWhere}
+use Rattle.world_gen.specs.Inner.Sets.{IsRoundBelow, SetsWhere}
 use Rattle.world_gen.specs.Inner.Yards.{IsBegun, IsStamped, bare_blocked, bare_kinds}
 use Rattle.world_gen.specs.Painting.{IsGenerated, IsShape, hill_kind, paint_of}
 use Rattle.world_gen.specs.Placing.{Goes, HasNoRoom, after_begun, figure_begun}
-use Rattle.world_gen.specs.declared.element.Element.{Element}
 use Rattle.world_gen.specs.declared.shape.Shape.{Shape}
 use Rattle.world_gen.specs.declared.spot.Figure.{Figure}
 use Rattle.world_gen.specs.declared.spot.Figure.TheVariants.{Hill, Rock, Blob}
