@@ -1,10 +1,11 @@
 -- The guesses and looks of a window's turns.
-use Rattle.std.proofs.Common.{◌≡◌, ℕ, ◌+◌, ◌-◌, ◌<◌, ◌≤◌, ◌^◌, length, slice_index_or, ap, ◌∙◌, List, arith}
+use Rattle.std.proofs.Common.{◌≡◌, ℕ, ◌+◌, ◌-◌, ◌<◌, ◌≤◌, ◌^◌, length, slice_index_or, ap, sym, subst, ◌∙◌, List, arith}
 use Rattle.cell_world.specs.Grid.{Grid, world_of}
 use Rattle.ant_turn.specs.Minds.{Minds}
-use Rattle.round_book.specs.Book.{FieldValue, window_of}
+use Rattle.std.specs.List.{AllByRecursion}
+use Rattle.round_book.specs.Book.{CanBegin, FieldValue, window_of}
 use Rattle.round_book.specs.Window.{guess_for, guesses_for, look_for}
-use Rattle.round_book.proofs.GuessLemmas.{guesses_for-at, guesses_for-length}
+use Rattle.round_book.proofs.GuessLemmas.{guesses_for-at, guesses_for-length, guesses_for-small}
 use Rattle.spec_record.specs.Look.{LookValue, look_of}
 
 -- the look at a turn's guess is the turn's
@@ -25,6 +26,13 @@ look_made field from to t minds seed world guess look own_minds own_seed own_wor
 -- there is a guess for each turn
 pub guesses-length : (field : FieldValue) (from to : ℕ) (guesses : List ℕ) → guesses ≡ guesses_for (window_of field from to) → length guesses ≡ to - from
 guesses-length field from to guesses is = ap length is ∙ guesses_for-length (window_of field from to)
+
+pub guesses_count : (field : FieldValue) (from to : ℕ) (guesses : List ℕ) → guesses ≡ guesses_for (window_of field from to) → length guesses ≡ to - from
+guesses_count field from to guesses is = guesses-length field from to guesses is
+
+-- at which a number can be drawn
+pub guesses_small : (field : FieldValue) (from to : ℕ) (guesses : List ℕ) → CanBegin field from to → guesses ≡ guesses_for (window_of field from to) → AllByRecursion (λ g. g + 1 < 2 ^ 63) guesses
+guesses_small field from to guesses begin is = subst (AllByRecursion (λ g. g + 1 < 2 ^ 63)) (sym is) (guesses_for-small (window_of field from to) begin.forwards begin.lasting)
 
 -- which is the turn's
 pub guesses-at : (field : FieldValue) (from to t : ℕ) (guesses : List ℕ) → guesses ≡ guesses_for (window_of field from to) → from ≤ t → t < to → slice_index_or guesses (t - from) 0 ≡ guess_for (window_of field from to) t

@@ -127,7 +127,7 @@ fn sift_answer(
 // Picks a look, if it agrees and its turn has no pick yet.
 fn sift_look(
     field: &Field<'_>,
-    _lines: &[Line],
+    lines: &[Line],
     line: usize,
     found: &Found,
     at: usize,
@@ -137,13 +137,13 @@ fn sift_look(
     to: u32,
 )
     requires window { CanBegin field.now from to }
-    requires found { looks_in _lines.now line ≡ found.now.looks }
+    requires found { looks_in lines.now line ≡ found.now.looks }
     requires at { at < length found.now.looks }
     requires guesses { guesses.now ≡ guesses_for (window_of field.now from to) }
     requires count { length picks.old ≡ to - from }
-    requires picked { ArePicked _lines.now [] picks.old (window_of field.now from to) }
+    requires picked { ArePicked lines.now [] picks.old (window_of field.now from to) }
     ensures count { length picks.new ≡ to - from }
-    ensures picked { ArePicked _lines.now [] picks.new (window_of field.now from to) }
+    ensures picked { ArePicked lines.now [] picks.new (window_of field.now from to) }
 {
     let look = found.look(at);
     let id = look.turn();

@@ -4,6 +4,8 @@ ghost use Rattle.std.specs.Prelude.{◌≡◌, ◌≤◌, true, IfOk, length};
 ghost use Rattle.ant_base.specs.Shelf.{longest};
 
 use crate::crew::FarCrew;
+use crate::dealing::job_between;
+use crate::guessing::guesses_in;
 use crate::line::Line;
 use crate::{Errand, Found, Job, OwnBrains, agrees, with_far};
 use ant_base::NoGate;
@@ -28,9 +30,6 @@ const FLIPS: &str = "Flip 2 0 0";
 const MOVES: &str = "Move 0 0";
 
 const SEED: u32 = 12345;
-
-// The guesses of the turns of that round.
-const GUESSES: [u64; 7] = [0, 0, 0, 1, 1, 2, 2];
 
 // The most bytes of a file.
 const MOST_BYTES: usize = 4_194_304;
@@ -122,20 +121,39 @@ fn field_of<'b, R: Abort>(
     Ok(Field::new(alloc, world, brains, seed, 0)?)
 }
 
-// The looks at these turns of a field.
-fn found_on<R: Abort>(
+// The looks at all turns of a field's first window.
+#[tactic(auto, using(crate::proofs::WindowLemmas::guesses_count, crate::proofs::WindowLemmas::guesses_small))]
+fn found_on<R: Abort>(rt: &R, alloc: Global, field: &Field<'_>) -> Result<Found, Fail>
+    requires { field.now.whole ≡ true }
+{
+    let ids = field.world().ant_count();
+    assert!(rt; field.place() < 1000);
+    let guesses = guesses_in(alloc, field, 0, ids)?;
+    let minds = Arc::new(alloc, OwnBrains::of(alloc, field.brains())?)?;
+    let base = Arc::new(alloc, field.world().copy(alloc)?)?;
+    let job = Job::of(alloc, field, minds, base, 0, ids, &guesses)?;
+    Ok(job.work(&NoGate, 0))
+}
+
+// The looks at these turns of it.
+#[tactic(auto, using(crate::proofs::WindowLemmas::guesses_count, crate::proofs::WindowLemmas::guesses_small))]
+fn piece_of<R: Abort>(
     rt: &R,
     alloc: Global,
     field: &Field<'_>,
-    from: u32,
-    to: u32,
-) -> Result<Found, Fail> {
-    assert!(rt; field.world().ant_count() == 7);
-    assert!(rt; from <= to && to <= 7);
+    first: usize,
+    last: usize,
+) -> Result<Found, Fail>
+    requires { field.now.whole ≡ true }
+{
+    let ids = field.world().ant_count();
+    assert!(rt; field.place() < 1000);
+    let guesses = guesses_in(alloc, field, 0, ids)?;
+    assert!(rt; first <= last && last <= guesses.len());
     let minds = Arc::new(alloc, OwnBrains::of(alloc, field.brains())?)?;
     let base = Arc::new(alloc, field.world().copy(alloc)?)?;
-    let guesses = &GUESSES[from as usize..to as usize];
-    let job = Job::of(alloc, field, minds, base, from, to, guesses)?;
+    let room = Vec::new(alloc);
+    let job = job_between(alloc, field, minds, base, &guesses, 0, first, last, room)?;
     Ok(job.work(&NoGate, 0))
 }
 
@@ -158,7 +176,7 @@ fn check_field<R: Abort>(
 ) -> Result<(), Fail> {
     let own = make_players(rt, alloc, MOVES)?;
     let field = field_of(rt, alloc, &own, Sheet::contest(), SEED)?;
-    let found = found_on(rt, alloc, &field, 0, 7)?;
+    let found = found_on(rt, alloc, &field)?;
     let others = make_players(rt, alloc, black)?;
     let other = field_of(rt, alloc, &others, sheet, seed)?;
     check_rows(rt, &other, &found, rows);
@@ -181,7 +199,7 @@ fn looks_of_another_game_dont_agree(rt: HostRuntime) -> Result<(), Fail> {
 fn looks_agree_with_a_later_field_where_it_is_the_same(rt: HostRuntime) -> Result<(), Fail> {
     let players = make_players(&rt, rt.alloc(), MOVES)?;
     let mut field = field_of(&rt, rt.alloc(), &players, Sheet::contest(), SEED)?;
-    let found = found_on(&rt, rt.alloc(), &field, 0, 7)?;
+    let found = found_on(&rt, rt.alloc(), &field)?;
     let ids = field.world().ant_count();
     play_window(&NoGate, rt.alloc(), &mut field, 0, ids)?;
     check_rows(&rt, &field, &found, &LATER);
@@ -193,8 +211,8 @@ fn looks_agree_with_a_later_field_where_it_is_the_same(rt: HostRuntime) -> Resul
 #[derive(Clone, Copy, Debug)]
 enum Sent {
     Nothing,
-    Looks { from: u32, to: u32 },
-    Later { from: u32, to: u32 },
+    Looks { from: usize, to: usize },
+    Later { from: usize, to: usize },
 }
 
 // The field after the round.
@@ -202,7 +220,9 @@ fn later_field<'b, R: Abort>(
     rt: &R,
     alloc: Global,
     players: &'b Players,
-) -> Result<Field<'b>, Fail> {
+) -> Result<Field<'b>, Fail>
+    ensures { IfOk result (λ field. field.whole ≡ true) }
+{
     let mut field = field_of(rt, alloc, players, Sheet::contest(), SEED)?;
     let ids = field.world().ant_count();
     play_window(&NoGate, alloc, &mut field, 0, ids)?;
@@ -220,11 +240,11 @@ fn answer<R: Abort>(
         Sent::Nothing => Ok(None),
         Sent::Looks { from, to } => {
             let field = field_of(rt, alloc, players, Sheet::contest(), SEED)?;
-            Ok(Some(found_on(rt, alloc, &field, from, to)?))
+            Ok(Some(piece_of(rt, alloc, &field, from, to)?))
         }
         Sent::Later { from, to } => {
             let field = later_field(rt, alloc, players)?;
-            Ok(Some(found_on(rt, alloc, &field, from, to)?))
+            Ok(Some(piece_of(rt, alloc, &field, from, to)?))
         }
     }
 }
@@ -252,7 +272,7 @@ fn check_answers<R: Wait + Abort>(
     let mut lines = Vec::with_capacity(alloc, 2)?;
     lines.push(Line::of(to_first, of_first))?;
     lines.push(Line::of(to_second, of_second))?;
-    let mut crew = FarCrew::of(rt, &NoGate, 2, lines);
+    let mut crew = FarCrew::of(rt, alloc, &NoGate, 2, lines);
     let mut field = field_of(rt, alloc, &players, Sheet::contest(), SEED)?;
     let ids = field.world().ant_count();
     let counts = crew.window(alloc, &mut field, 0, ids)?;
