@@ -52,7 +52,7 @@ pub ArePicked-own : (lines : List Line) (own new : List LookValue) (look : LookV
     ArePicked lines own picks window → ArePicked lines new (set picks turn (Some (Own at))) window
 ArePicked-own lines own new look picks window turn t at within last here is grown picked =
     let named : slice_get new at ≡ Some (look_for window (window.from + turn)) =
-        ap (λ (l : List LookValue). slice_get l at) grown ∙ ap (λ i. slice_get (own ++ look ∷ []) i) last ∙ slice_get-last own look ∙ ap Some is ∙ ap (λ k. Some (look_for window k)) here in
+    ap (λ (l : List LookValue). slice_get l at) grown ∙ ap (λ i. slice_get (own ++ look ∷ []) i) last ∙ slice_get-last own look ∙ ap Some is ∙ ap (λ k. Some (look_for window k)) here in
     ArePicked-set lines new window picks turn (Own at) within (subst (λ l. ArePicked lines l picks window) (sym grown) (ArePicked-grown lines own look picks window picked)) named
 
 pub AreFilled-more : (picks : List (Option Pick)) (n k : ℕ) → k ≡ n + 1 → AreFilled picks n → is_some (get_or picks n None) ≡ true → AreFilled picks k

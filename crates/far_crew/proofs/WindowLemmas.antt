@@ -24,11 +24,8 @@ look_made field from to t minds seed world guess look own_minds own_seed own_wor
     ∙ look_for_is field from to t guess guessed
 
 -- there is a guess for each turn
-pub guesses-length : (field : FieldValue) (from to : ℕ) (guesses : List ℕ) → guesses ≡ guesses_for (window_of field from to) → length guesses ≡ to - from
-guesses-length field from to guesses is = ap length is ∙ guesses_for-length (window_of field from to)
-
 pub guesses_count : (field : FieldValue) (from to : ℕ) (guesses : List ℕ) → guesses ≡ guesses_for (window_of field from to) → length guesses ≡ to - from
-guesses_count field from to guesses is = guesses-length field from to guesses is
+guesses_count field from to guesses is = ap length is ∙ guesses_for-length (window_of field from to)
 
 -- at which a number can be drawn
 pub guesses_small : (field : FieldValue) (from to : ℕ) (guesses : List ℕ) → CanBegin field from to → guesses ≡ guesses_for (window_of field from to) → AllByRecursion (λ g. g + 1 < 2 ^ 63) guesses

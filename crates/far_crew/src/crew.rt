@@ -91,7 +91,15 @@ impl<'c, R: Wait, G: Gate> FarCrew<'c, R, G> {
             to,
         );
         let mut book = field.begin(alloc, from, to)?;
-        settle(&mut book, field, &self.lines, &self.own, &self.picks, from, to);
+        settle(
+            &mut book,
+            field,
+            &self.lines,
+            &self.own,
+            &self.picks,
+            from,
+            to,
+        );
         Ok(field.finish(book))
     }
 

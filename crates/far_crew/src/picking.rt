@@ -217,13 +217,7 @@ fn fill_turn<G: Gate>(
     let guess = guess_of(field, guesses, from, to, id);
     gate.before_look(worker, id);
     let at = own.len();
-    own.push_reserved(look(
-        field.world(),
-        field.brains(),
-        field.seed(),
-        guess,
-        id,
-    ));
+    own.push_reserved(look(field.world(), field.brains(), field.seed(), guess, id));
     picks[turn] = Some(Pick::Own { at });
 }
 

@@ -216,11 +216,7 @@ enum Sent {
 }
 
 // The field after the round.
-fn later_field<'b, R: Abort>(
-    rt: &R,
-    alloc: Global,
-    players: &'b Players,
-) -> Result<Field<'b>, Fail>
+fn later_field<'b, R: Abort>(rt: &R, alloc: Global, players: &'b Players) -> Result<Field<'b>, Fail>
     ensures { IfOk result (λ field. field.whole ≡ true) }
 {
     let mut field = field_of(rt, alloc, players, Sheet::contest(), SEED)?;

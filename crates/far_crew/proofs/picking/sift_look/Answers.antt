@@ -13,6 +13,6 @@ returns-then-is_look_for-clause-picked c =
     let count = c.requires.count in let below = c.if-id-from.false in let above = c.if-id-to.false in
     let turn : c.turn-id.result ≡ c.args.from + (c.turn-id.result - c.args.from) = omega arith in
     let look : c.look-look.result.now ≡ look_for window (c.args.from + (c.turn-id.result - c.args.from)) =
-        c.is_look_for.ensures c.if-is_look_for.true ∙ look_for_is c.args.field.now c.args.from c.args.to c.turn-id.result c.guess_of-guess.result c.guess_of-guess.ensures.guess ∙ ap (look_for window) turn in
+    c.is_look_for.ensures c.if-is_look_for.true ∙ look_for_is c.args.field.now c.args.from c.args.to c.turn-id.result c.guess_of-guess.result c.guess_of-guess.ensures.guess ∙ ap (look_for window) turn in
     ArePicked-set c.args.lines.now [] window c.args.picks.now (c.turn-id.result - c.args.from) (Theirs c.args.line c.args.at) (omega arith) c.requires.picked
     (ap (λ (l : List LookValue). slice_get l c.args.at) c.requires.found ∙ c.look-look.ensures.item ∙ ap Some look)

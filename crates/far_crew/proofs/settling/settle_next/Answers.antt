@@ -8,7 +8,7 @@ use Rattle.far_crew.proofs.settling.settle_next.Goals as goal
 pub unreachable-requires-in_default-look_named : goal.unreachable-requires-in_default-look_named
 unreachable-requires-in_default-look_named c =
     let never : None ≡ Some (look_for (window_of c.args.field.now c.args.from c.args.book.now.to) (c.args.from + (c.args.id - c.args.from))) =
-        ap option_copied (sym c.in_default-look_named.is) ∙ c.look_named.ensures ∙ c.requires.picked (c.args.id - c.args.from) c.in-Some.pick c.in-Some.is in
+    ap option_copied (sym c.in_default-look_named.is) ∙ c.look_named.ensures ∙ c.requires.picked (c.args.id - c.args.from) c.in-Some.pick c.in-Some.is in
     absurd (cc)
 
 pub advance-requires-clause-look : goal.advance-requires-clause-look
