@@ -11,7 +11,7 @@ use crate::{Errand, Found, Job, OwnBrains, agrees, with_far};
 use ant_base::NoGate;
 use ant_turn::{Brains, Sheet};
 use brain_read::{Brain, read_brain};
-use crossbeam_channel::bounded;
+use crossbeam_channel::{Receiver, Sender, bounded};
 use hex_geometry::Pos;
 use round_book::{Crew, Field, play_window};
 use std::alloc::Global;
@@ -98,6 +98,22 @@ fn make_players<R: Abort>(rt: &R, alloc: Global, black: &str) -> Result<Players,
     Ok(Players { red, black })
 }
 
+// A whole field with the world of a text, at the start of a seed's random numbers.
+fn field_on<'b>(
+    alloc: Global,
+    text: &[u8],
+    brains: Brains<'b>,
+    seed: u32,
+) -> Result<Field<'b>, Fail>
+    requires { length text.now ≤ longest }
+    ensures { IfOk result (λ field. (field.whole ≡ true) × (field.place ≡ 0)) }
+{
+    let world = read_world(alloc, text)?;
+    let _red_states = brains.red.len();
+    let _black_states = brains.black.len();
+    Ok(Field::new(alloc, world, brains, seed, 0)?)
+}
+
 // A whole field at the start of the game.
 fn field_of<'b, R: Abort>(
     rt: &R,
@@ -110,15 +126,12 @@ fn field_of<'b, R: Abort>(
 {
     let bytes = WORLD.as_bytes();
     assert!(rt; bytes.len() <= MOST_BYTES);
-    let world = read_world(alloc, bytes)?;
-    let _red_states = players.red.len();
-    let _black_states = players.black.len();
     let brains = Brains {
         red: &players.red,
         black: &players.black,
         sheet,
     };
-    Ok(Field::new(alloc, world, brains, seed, 0)?)
+    field_on(alloc, bytes, brains, seed)
 }
 
 // The looks at all turns of a field's first window.
@@ -215,6 +228,17 @@ enum Sent {
     Later { from: usize, to: usize },
 }
 
+// The answers of two workers: right ones, none, one answer twice, each in place of the other, of another window, and of all turns at once.
+const ANSWERS: [(Sent, Sent); 7] = [
+    (Sent::Looks { from: 0, to: 3 }, Sent::Looks { from: 3, to: 7 }),
+    (Sent::Nothing, Sent::Looks { from: 3, to: 7 }),
+    (Sent::Nothing, Sent::Nothing),
+    (Sent::Looks { from: 0, to: 3 }, Sent::Looks { from: 0, to: 3 }),
+    (Sent::Looks { from: 3, to: 7 }, Sent::Looks { from: 0, to: 3 }),
+    (Sent::Later { from: 0, to: 3 }, Sent::Later { from: 3, to: 7 }),
+    (Sent::Looks { from: 0, to: 7 }, Sent::Later { from: 0, to: 0 }),
+];
+
 // The field after the round.
 fn later_field<'b, R: Abort>(rt: &R, alloc: Global, players: &'b Players) -> Result<Field<'b>, Fail>
     ensures { IfOk result (λ field. field.whole ≡ true) }
@@ -245,31 +269,34 @@ fn answer<R: Abort>(
     }
 }
 
-// Asserts what comes of the round with a crew of two workers of which these answers come.
-fn check_answers<R: Wait + Abort>(
+// Sends an answer, if there is one, and closes the channel.
+fn send<R: Wait + Abort>(rt: &R, answers: Sender<Found>, found: Option<Found>) {
+    if let Some(found) = found {
+        assert!(rt; answers.send(rt, found).is_ok());
+    }
+}
+
+// The line of a worker of which this answer comes, and the end at which its jobs come.
+fn line_of<R: Wait + Abort>(
     rt: &R,
     alloc: Global,
-    first: Sent,
-    second: Sent,
+    found: Option<Found>,
+) -> Result<(Line, Receiver<Job>), Fail> {
+    let (jobs, sent) = bounded(alloc, 1)?;
+    let (answers, taken) = bounded(alloc, 1)?;
+    send(rt, answers, found);
+    Ok((Line::of(jobs, taken), sent))
+}
+
+// Asserts what comes of the round with a crew of these two lines.
+fn check_round<R: Wait + Abort>(
+    rt: &R,
+    alloc: Global,
+    players: &Players,
+    lines: Vec<Line>,
 ) -> Result<(), Fail> {
-    let players = make_players(rt, alloc, MOVES)?;
-    let (to_first, _first_jobs) = bounded(alloc, 1)?;
-    let (to_second, _second_jobs) = bounded(alloc, 1)?;
-    let (first_answers, of_first) = bounded(alloc, 1)?;
-    let (second_answers, of_second) = bounded(alloc, 1)?;
-    if let Some(found) = answer(rt, alloc, &players, first)? {
-        assert!(rt; first_answers.send(rt, found).is_ok());
-    }
-    if let Some(found) = answer(rt, alloc, &players, second)? {
-        assert!(rt; second_answers.send(rt, found).is_ok());
-    }
-    drop(first_answers);
-    drop(second_answers);
-    let mut lines = Vec::with_capacity(alloc, 2)?;
-    lines.push(Line::of(to_first, of_first))?;
-    lines.push(Line::of(to_second, of_second))?;
     let mut crew = FarCrew::of(rt, alloc, &NoGate, 2, lines);
-    let mut field = field_of(rt, alloc, &players, Sheet::contest(), SEED)?;
+    let mut field = field_of(rt, alloc, players, Sheet::contest(), SEED)?;
     let ids = field.world().ant_count();
     let counts = crew.window(alloc, &mut field, 0, ids)?;
     assert_eq!(rt; (counts.taken(), counts.redone(), field.place()), (5, 2, 1));
@@ -278,39 +305,40 @@ fn check_answers<R: Wait + Abort>(
     Ok(())
 }
 
-#[test]
-fn no_answer_spoils_a_window(rt: HostRuntime) -> Result<(), Fail> {
-    let rows = [
-        (
-            Sent::Looks { from: 0, to: 3 },
-            Sent::Looks { from: 3, to: 7 },
-        ),
-        (Sent::Nothing, Sent::Looks { from: 3, to: 7 }),
-        (Sent::Nothing, Sent::Nothing),
-        (
-            Sent::Looks { from: 0, to: 3 },
-            Sent::Looks { from: 0, to: 3 },
-        ),
-        (
-            Sent::Looks { from: 3, to: 7 },
-            Sent::Looks { from: 0, to: 3 },
-        ),
-        (
-            Sent::Later { from: 0, to: 3 },
-            Sent::Later { from: 3, to: 7 },
-        ),
-        (
-            Sent::Looks { from: 0, to: 7 },
-            Sent::Later { from: 0, to: 0 },
-        ),
-    ];
-    for (first, second) in &rows {
-        check_answers(&rt, rt.alloc(), *first, *second)?;
+// Asserts what comes of it with two workers of which these answers come.
+fn check_answers<R: Wait + Abort>(
+    rt: &R,
+    alloc: Global,
+    first: Sent,
+    second: Sent,
+) -> Result<(), Fail> {
+    let players = make_players(rt, alloc, MOVES)?;
+    let one = answer(rt, alloc, &players, first)?;
+    let two = answer(rt, alloc, &players, second)?;
+    let (one, _jobs_of_one) = line_of(rt, alloc, one)?;
+    let (two, _jobs_of_two) = line_of(rt, alloc, two)?;
+    let lines = vec![in alloc; one, two]?;
+    check_round(rt, alloc, &players, lines)
+}
+
+// Asserts the same of the answers of each row.
+fn check_all<R: Wait + Abort>(
+    rt: &R,
+    alloc: Global,
+    rows: &[(Sent, Sent)],
+) -> Result<(), Fail> {
+    for (first, second) in rows {
+        check_answers(rt, alloc, *first, *second)?;
     }
     Ok(())
 }
 
-// Errands: one that ends at once, and one that plays a window.
+#[test]
+fn no_answer_spoils_a_window(rt: HostRuntime) -> Result<(), Fail> {
+    check_all(&rt, rt.alloc(), &ANSWERS)
+}
+
+// An errand that ends at once.
 #[derive(Drop)]
 struct Early {
     number: u32,

@@ -1,6 +1,5 @@
-use Rattle.std.proofs.Common.{◌∙◌, ◌+◌, ◌-◌, ◌≡◌, slice_index_or, arith}
+use Rattle.std.proofs.Common.{arith}
 use Rattle.round_book.specs.Book.{window_of}
-use Rattle.round_book.specs.Window.{guess_for}
 use Rattle.round_book.proofs.SoloLemmas.{guess_for-le}
 use Rattle.far_crew.proofs.WindowLemmas.{guesses-at, guesses_count}
 use Rattle.far_crew.proofs.guessing.guess_of.Goals as goal
