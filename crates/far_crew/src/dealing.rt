@@ -20,6 +20,7 @@ use work_share::border;
 const MOST_WORKERS: usize = 16;
 
 // Has a job ready for each line that is open: the turns are shared out in contiguous pieces.
+#[tactic(auto, using(crate::proofs::WindowLemmas::guesses_count, crate::proofs::WindowLemmas::guesses_small))]
 pub fn prepare_all(
     alloc: Global,
     lines: &mut [Line],
