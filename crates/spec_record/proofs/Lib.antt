@@ -8,6 +8,7 @@ pub mod Flips
 pub mod HoldsWorked
 pub mod Laying
 pub mod Looking
+pub mod Near
 pub mod LooksWorked
 pub mod Noting
 pub mod OwnSteps
@@ -22,6 +23,7 @@ pub mod Settling
 pub mod SettlingTurns
 pub mod Sighting
 pub mod Sizes
+pub mod Stepping
 pub mod Steps
 pub mod TurnSteps
 pub mod Unguessed
