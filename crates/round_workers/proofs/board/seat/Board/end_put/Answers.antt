@@ -1,4 +1,4 @@
-use Rattle.std.proofs.Common.{◌+◌, ◌∷◌, ap, ◌∙◌, Some}
+use Rattle.std.proofs.Common.{◌+◌, ◌∷◌, ap, ◌∙◌}
 use Rattle.atomic_table.specs.Table.{rest}
 use Rattle.round_workers.specs.declared.board.view.BoardSlot.TheVariants.{Nothing, OneLook}
 use Rattle.round_workers.specs.BoardPlays.{has_put}

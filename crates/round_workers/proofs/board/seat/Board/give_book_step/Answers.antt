@@ -1,4 +1,4 @@
-use Rattle.std.proofs.Common.{ℕ, List, ◌+◌, arith, sym, subst}
+use Rattle.std.proofs.Common.{ℕ, List, arith, sym, subst}
 use mathlib.Core.Option as maybe
 use Rattle.atomic_table.specs.Table.{Allows, rest, step}
 use Rattle.round_workers.specs.declared.board.view.BoardSlot.{BoardSlot}

@@ -1,4 +1,4 @@
-use Rattle.std.proofs.Common.{◌≡◌, ◌∷◌, None, Some, sym, refl, ap, ◌∙◌}
+use Rattle.std.proofs.Common.{◌∷◌, None, Some, sym, ap, ◌∙◌}
 use Rattle.round_workers.specs.declared.board.view.BoardSlot.TheVariants.{Nothing, TheBook}
 use Rattle.round_workers.specs.Inner.BoardPlaces.{book_room}
 use Rattle.round_workers.specs.BoardPlays.{opens_now}
