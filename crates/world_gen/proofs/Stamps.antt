@@ -12,6 +12,7 @@ use Rattle.hex_geometry.specs.declared.position.Pos.{Pos}
 use Rattle.list_lemmas.proofs.Elements.{Contains-none}
 use Rattle.std.proofs.Common.{◌≡◌, ℕ, zero, suc, ◌+◌, ◌*◌, ◌<◌, ◌≤◌, List, [], ◌∷◌, ◌++◌, length, take, get_or, true, refl, sym, ◌∙◌, ap, arith, subst, inl, inr}
 use Rattle.std.proofs.Math.ListN.{length-set, set}
+use Rattle.std.proofs.Math.Seq.{take-append_seam}
 use Rattle.std.proofs.lemmas.Bool.{cases_lt}
 use Rattle.std.proofs.lemmas.List.{length_push, take_more}
 use Rattle.std.proofs.lemmas.List.Elements.{All-set, Contains-append_left, Contains-push, Contains-push_cases}
@@ -104,12 +105,8 @@ stamped_more width height done cell kind blocked mid now kinds paint before roun
 }
 
 -- a list that is written back whole
-take_front : {X : Type 0} (xs ys : List X) → take (length xs) (xs ++ ys) ≡ xs
-take_front [] ys = refl
-take_front (x ∷ xs) ys = ap (λ l. x ∷ l) (take_front xs ys)
-
 pub written_back : {X : Type 0} (xs ys : List X) (n : ℕ) → n ≡ length xs → take n (xs ++ ys) ≡ xs
-written_back xs ys n is = ap (λ k. take k (xs ++ ys)) is ∙ take_front xs ys
+written_back xs ys n is = ap (λ k. take k (xs ++ ys)) is ∙ take-append_seam xs ys
 
 -- the next cell of a list is stamped, where the lists were lent and are written back
 pub stamped_on : (width height : ℕ) (cells : List Pos) (i : ℕ) (kind : Kind) (blocked mid lent now rest : List Bool) (n : ℕ) (kinds paint lent_kinds kinds_now rest_kinds : List Kind) (m : ℕ)
