@@ -11,6 +11,9 @@ NAMES = [
 NO_NAMES = [
     'next', 'NEXT', 'n' * 33, '_a', '1a', '1', 'a-b', 'a:', ':', 'a.b', 'a,', '\xe9', 'a\x01', '', 'a\x7f', 'Next:',
 ]
+BROKEN_PROGRAMS = [
+    b'', b'\n', b';', b'a:', b'block a', b'end', b'block a\nend', b'\x80', b'use a', b'block a\nuse a',
+]
 MOST_PARAMETERS = 8
 MOST_BLOCKS = 256
 MOST_INSTRUCTIONS = 10000
@@ -131,12 +134,11 @@ def without_a_line(r, lines, word):
 
 def with_a_line(r, lines):
     """The lines with one more somewhere."""
+    many = ' '.join(signed('p%d' % it) for it in range(r.choice([9, 10, 11])))
     more = r.choice([
-        'end', 'block ' + signed('new'), 'block %s %s %s' % (signed('p'), signed('q'), signed('q')), 'use ' + signed('a'),
-        'use ' + signed('nowhere'), 'use ' + signed('b') + ' next', signed(r.choice(NAMES)) + ':', 'Drop ' + signed('lost'),
-        'Move next 1', 'use next', 'end x', 'block', 'use', 'next:', signed('a') + ' :', signed('a') + ': ' + signed('b'),
-        'block ' + signed(r.choice(NAMES)), 'block ' + ' '.join(signed('p%d' % it) for it in range(r.choice([9, 10, 11]))),
-        'use ' + ' '.join(signed('a') for _ in range(r.choice([9, 10, 11]))),
+        'end', 'end x', 'block', 'use', 'use next', 'next:', 'Move next 1', 'block @new', 'block @p @q @q', 'use @a',
+        'use @nowhere', 'use @b next', 'Drop @lost', '@a :', '@a: @b', 'block ' + many, 'use @a ' + many,
+        signed(r.choice(NAMES)) + ':', 'block ' + signed(r.choice(NAMES)),
     ])
     lines.insert(r.randint(0, len(lines)), more)
     return lines
@@ -188,13 +190,45 @@ def with_empty_block(r, lines):
     return lines
 
 
+def with_lost_labels(r, lines):
+    """The lines with two or three more that name labels which no body has."""
+    for _ in range(r.choice([2, 3])):
+        lines.insert(r.randint(0, len(lines)), 'Drop ' + signed('lost'))
+    return lines
+
+
+def with_block_inside(r, lines):
+    """The lines with a block's first line a second time, inside it or below."""
+    places = [place for place, line in enumerate(lines) if line.startswith('block ')]
+    if places:
+        place = r.choice(places)
+        lines.insert(r.choice([place + 1, r.randint(place + 1, len(lines))]), lines[place])
+    return lines
+
+
+def with_long_name(r, lines):
+    """The lines with one name spelled with as many bytes as a name may have, or one more."""
+    names = sorted({token.rstrip(':') for line in lines for token in line.split(' ') if token.startswith(SIGN)})
+    if not names:
+        return lines
+    old, new = r.choice(names), signed('l' * r.choice([32, 33, 33]))
+    changed = []
+    for line in lines:
+        tokens = [new + it[len(old):] if it.rstrip(':') == old else it for it in line.split(' ')]
+        changed.append(' '.join(tokens))
+    return changed
+
+
+WHOLE_FAULTS = [with_wrong_use, with_name_taken, with_empty_block, with_lost_labels, with_block_inside, with_long_name]
+
+
 def faulty_program(r):
     """A text that most often is no program."""
     kind = r.random()
     lines = program_lines(r)
-    if kind < .2:
-        return anyhow(r, r.choice([with_wrong_use, with_name_taken, with_empty_block])(r, lines))
-    if kind < .35:
+    if kind < .3:
+        return anyhow(r, r.choice(WHOLE_FAULTS)(r, lines))
+    if kind < .38:
         return anyhow(r, faulty_lines(r, lines, WRONG_WORDS + ['end', 'block', 'use', 'a:', 'next']))
     if kind < .45:
         return anyhow(r, with_other_name(r, lines))
@@ -208,7 +242,7 @@ def faulty_program(r):
         return with_other_bytes(r, text_of(r, lines), LINE_BYTES + [ord(':'), ord('_')])
     if kind < .97:
         return any_brain(r)
-    return r.choice([b'', b'\n', b';', b'a:', b'block a', b'end', b'block a\nend', b'\x80', b'use a', b'block a\nuse a'])
+    return r.choice(BROKEN_PROGRAMS)
 
 
 def doubling(r):
@@ -238,10 +272,14 @@ def many_blocks(r):
         lines.append(' '.join(['block', signed('b%d' % number)] + parameters))
         handed = list(parameters)
         r.shuffle(handed)
-        lines.append(' '.join(['use', signed('b%d' % (number - 1))] + handed) if number else instruction(r, lambda: r.choice(parameters + ['next'])))
+        if number:
+            lines.append(' '.join(['use', signed('b%d' % (number - 1))] + handed))
+        else:
+            lines.append(instruction(r, lambda: r.choice(parameters + ['next'])))
         lines.append('end')
     lines.append(signed('go') + ':')
-    lines.append(' '.join(['use', signed('b%d' % (count - 1))] + [r.choice([signed('go'), 'next']) for _ in parameters]))
+    handed = [r.choice([signed('go'), 'next']) for _ in parameters]
+    lines.append(' '.join(['use', signed('b%d' % (count - 1))] + handed))
     lines.append('Drop next')
     return text_of(r, lines, .05)
 

@@ -149,7 +149,7 @@ def with_bad_state(r, save):
         one, other = r.sample(save.ants, 2)
         one.place = other.place
     elif kind == 5 and save.ants:
-        save.ants[-1].number = r.choice([save.hill_cells(), save.hill_cells() + 1, 16383])
+        save.ants[-1].number = r.choice([save.hill_cells(), save.hill_cells(), save.hill_cells() + 1, 16383])
     elif kind == 6 and save.ants:
         ant = r.choice(save.ants)
         ant.state = r.choice([len(save.brains[ant.colour]), len(save.brains[ant.colour]) - 1, 9999])
@@ -202,9 +202,9 @@ def faulty_save(r):
     """A text that most often is no save."""
     save = any_save(r)
     kind = r.random()
-    if kind < .3:
+    if kind < .4:
         return with_bad_state(r, save).text()
-    if kind < .45:
+    if kind < .5:
         return with_other_byte(r, save.text())
     if kind < .65:
         return ''.join(line + '\n' for line in with_other_token(r, save.lines())).encode('utf8')
