@@ -1,4 +1,6 @@
+pub mod AfterRounds
 pub mod AntReads
+pub mod BrainForms
 pub mod Bytes
 pub mod Cuts
 pub mod DraftReads
@@ -6,6 +8,7 @@ pub mod Drafted
 pub mod Filling
 pub mod Floors
 pub mod FoodReads
+pub mod GameSaves
 pub mod HeadReads
 pub mod Judging
 pub mod MarkSets
@@ -13,6 +16,7 @@ pub mod PlainLines
 pub mod ProgramReads
 pub mod Putting
 pub mod Readers
+pub mod Resting
 pub mod Resuming
 pub mod RoundTrip
 pub mod RowBytes

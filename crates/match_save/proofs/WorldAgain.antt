@@ -27,7 +27,7 @@ use Rattle.match_save.specs.Saved.{living, living_at, placed_at, soil_of_cell, s
 use Rattle.match_save.proofs.RoundTrip.{In, IsOn, Others, alone, keeps}
 
 -- a cell without its ant, as its line says it
-abbrev bare : Cell → Cell
+abbrev pub bare : Cell → Cell
 bare cell = record {
   rocky = is_rocky (soil_of_cell cell);
   hill = hill_of (soil_of_cell cell);
@@ -37,14 +37,14 @@ bare cell = record {
   ant = None;
 }
 
-abbrev floors : List Cell → List Cell
+abbrev pub floors : List Cell → List Cell
 floors cells = ground_cells (map soil_of_cell cells) (map (λ (cell : Cell). cell.red.set) cells) (map (λ (cell : Cell). cell.black.set) cells) (map (λ (cell : Cell). cell.food) cells)
 
 floors-bare : (cells : List Cell) → floors cells ≡ map bare cells
 floors-bare [] = refl
 floors-bare (cell ∷ cells) = ap (λ l. bare cell ∷ l) (floors-bare cells)
 
-floors-at : (cells : List Cell) (i : ℕ) → get_or (floors cells) i rock ≡ bare (get_or cells i rock)
+pub floors-at : (cells : List Cell) (i : ℕ) → get_or (floors cells) i rock ≡ bare (get_or cells i rock)
 unfolding rock
 floors-at [] zero = refl
 floors-at [] (suc i) = refl
@@ -55,10 +55,10 @@ length-floors : (cells : List Cell) → length (floors cells) ≡ length cells
 length-floors cells = ap length (floors-bare cells) ∙ length-map cells bare
 
 -- a rocky cell is of no hill
-IsPlain : Cell → Type 0
+abbrev pub IsPlain : Cell → Type 0
 IsPlain cell = cell.rocky ≡ true → cell ≡ rock
 
-clear_rocky : (hill : Option Colour) → is_rocky (soil_of_clear hill) ≡ false
+pub clear_rocky : (hill : Option Colour) → is_rocky (soil_of_clear hill) ≡ false
 clear_rocky None = refl
 clear_rocky (Some Red) = refl
 clear_rocky (Some Black) = refl
@@ -70,7 +70,7 @@ clear_hill (Some Black) = refl
 
 -- with its ant again it is the cell
 bare-again : (cell : Cell) → IsPlain cell → record (bare cell) { ant = cell.ant } ≡ cell
-unfolding IsPlain rock
+unfolding rock
 bare-again cell plain = go cell.rocky refl where
   clear : (c : Cell) → c.rocky ≡ false → record (bare c) { ant = c.ant } ≡ c
   clear c is =
@@ -107,10 +107,10 @@ in_either (x ∷ a) b it (inr is) = elim (in_either a b it is) [ inl front ↦ i
 
 module _ (g : Grid) (world : IsWorld g) where
   -- an ant that lives: it has an id below n, and stands at its place
-  record Lives (n : ℕ) (it : PlacedAnt) : Type 0 where
-    id : it.ant.id < n
-    place : place_in (world_of g) it.ant.id ≡ Some it.place
-    stands : (cell_in g it.place).ant ≡ Some it.ant
+  pub record Lives (n : ℕ) (it : PlacedAnt) : Type 0 where
+    pub id : it.ant.id < n
+    pub place : place_in (world_of g) it.ant.id ≡ Some it.place
+    pub stands : (cell_in g it.place).ant ≡ Some it.ant
 
   lives_at : (t n : ℕ) (it : PlacedAnt) → t < n → (o : Option Pos) → place_in (world_of g) t ≡ o → In it (living_at g o) → Lives n it
   lives_at t n it low None is is_in = absurd is_in
@@ -123,7 +123,7 @@ module _ (g : Grid) (world : IsWorld g) where
         let id : ant.id ≡ t = eqb-true ant.id t (ap (is_ant t) (sym told) ∙ held) in
         subst (Lives n) same (record { id = omega (arith, id, low); place = ap (place_in (world_of g)) id ∙ is; stands = told })
 
-  lives : (n m : ℕ) (it : PlacedAnt) → n ≤ m → In it (living g n) → Lives m it
+  pub lives : (n m : ℕ) (it : PlacedAnt) → n ≤ m → In it (living g n) → Lives m it
   lives zero m it low is_in = absurd is_in
   lives (suc n) m it low is_in = elim (in_either (living g n) (living_at g (place_in (world_of g) n)) it is_in) [
     | inl front ↦ lives n m it (omega (arith, low)) front
@@ -172,7 +172,7 @@ module _ (g : Grid) (world : IsWorld g) where
     go None = tt
     go (Some ant) = (tt, tt)
 
-  living-apart : (n : ℕ) → StandApart (living g n)
+  pub living-apart : (n : ℕ) → StandApart (living g n)
   living-apart zero = tt
   living-apart (suc n) = apart-more (living g n) (living_at g (place_in (world_of g) n)) (living-apart n) (apart_at (place_in (world_of g) n)) (λ it other is_it is_other same.
       let a = lives n n it (omega arith) is_it in
@@ -222,14 +222,13 @@ module _ (g : Grid) (world : IsWorld g) where
       record { column = inside.column; cell = (let l = index_of-early g.cells g.width g.height it.place world.full inside in let m = length-floors g.cells in omega (arith, l, m)) })
 
   -- the cell of a number, read by its position
-  read_at : (i : ℕ) → cell_in g (pos_at g.width i) ≡ get_or g.cells i rock
+  pub read_at : (i : ℕ) → cell_in g (pos_at g.width i) ≡ get_or g.cells i rock
   unfolding cell_in
   read_at i =
       ap (λ b. cond b (get_or g.cells (index_of g.width (pos_at g.width i)) rock) rock) (lt-ltb (i % g.width) g.width (mod_below i g.width wide))
       ∙ ap (λ (k : ℕ). get_or g.cells k rock) (index_of-pos_at g.width i)
 
-  plain_at : (i : ℕ) → IsPlain (get_or g.cells i rock)
-  unfolding IsPlain
+  pub plain_at : (i : ℕ) → IsPlain (get_or g.cells i rock)
   plain_at i = λ rocky. sym (read_at i) ∙ world.valid.bare (pos_at g.width i) (ap (λ (c : Cell). c.rocky) (read_at i) ∙ rocky)
 
   same_at : (i : ℕ) → get_or (with_ants g.width (living g g.ids) (floors g.cells)) i rock ≡ get_or g.cells i rock

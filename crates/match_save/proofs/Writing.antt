@@ -1,15 +1,15 @@
 -- What is pushed, part after part, is the text of the save.
-use Rattle.std.proofs.Common.{◌≡◌, ℕ, zero, suc, ◌+◌, ◌*◌, ◌%◌, ◌/◌, ◌<◌, ◌≤◌, Bool, true, false, List, [], ◌∷◌, ◌++◌, length, map, take, drop, get_or, refl, sym, ◌∙◌, ap, ap₂, cond, Option, Some, None, append_assoc, append-nil, length-append, arith, codes, decimal, nat_le}
+use Rattle.std.proofs.Common.{◌≡◌, ℕ, zero, suc, ◌+◌, ◌*◌, ◌%◌, ◌<◌, ◌≤◌, Bool, true, false, List, [], ◌∷◌, ◌++◌, length, map, take, drop, get_or, refl, sym, ◌∙◌, ap, ap₂, cond, Option, Some, None, append_assoc, append-nil, arith, codes, decimal, nat_le}
 use Rattle.std.proofs.lemmas.Grind.{flat_map-append}
 use Rattle.std.proofs.lemmas.List.{drop-drop, get_or-drop, get_or-take, length-drop, length-map, length-take-le}
 use Rattle.std.specs.List.{flat_map}
-use Rattle.ant_base.specs.Layout.{numbered, ◌+++◌}
+use Rattle.ant_base.specs.Layout.{numbered}
 use Rattle.ant_base.proofs.Numbered.{numbered-list, numbered-none, numbered-same}
 use Rattle.std.proofs.lemmas.Bool.{lt-ltb}
 use Rattle.std.proofs.lemmas.Nat.{mod_below}
 use Rattle.brain_read.specs.Canonical.{brain_text}
 use Rattle.brain_read.specs.declared.instr.Instr.{Instr}
-use Rattle.hex_geometry.specs.RowOrder.{index_of, pos_at}
+use Rattle.hex_geometry.specs.RowOrder.{pos_at}
 use Rattle.hex_geometry.specs.declared.position.Pos.{Pos}
 use Rattle.hex_geometry.proofs.RowLemmas.{index_of-pos_at}
 use Rattle.cell_world.specs.Cell.{rock}

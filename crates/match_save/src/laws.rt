@@ -1,5 +1,6 @@
 // Laws on the definitions of saves.
 ghost use Rattle.match_save.specs.Resumed.{SavesGoOn};
+ghost use Rattle.match_save.specs.Saving.{GamesAreSaved};
 ghost use Rattle.match_save.specs.Laws.{EveryTextHasOneVerdict};
 
 /// A law: every text is that of exactly one save or has exactly one fault, and never both (this project's own). The call does nothing: its
@@ -12,4 +13,11 @@ pub fn every_text_has_one_verdict()
 /// round that are chosen, and the rest of the save (this project's own). The call does nothing: its clause is the law.
 pub fn saves_go_on()
     ensures { SavesGoOn }
+{}
+
+/// A law: the save of a game by the rules, after so many rounds from a world with which a game begins, is a save, and of this game: no rest grows
+/// above 255 turns, no place beyond the turns, and the hill cells stay as many as the ids (this project's own). The call does nothing: its
+/// clause is the law.
+pub fn games_are_saved()
+    ensures { GamesAreSaved }
 {}

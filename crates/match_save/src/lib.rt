@@ -18,6 +18,7 @@ mod row_cell;
 mod rows;
 mod save_lines;
 mod saved;
+mod saving;
 mod soil;
 mod standing;
 #[cfg(test)]
@@ -25,8 +26,9 @@ mod tests;
 mod write;
 
 pub use fault::SaveFault;
-pub use laws::{every_text_has_one_verdict, saves_go_on};
+pub use laws::{every_text_has_one_verdict, games_are_saved, saves_go_on};
 pub use read::read_saved;
 pub use rest::resume;
 pub use saved::Saved;
+pub use saving::save_of;
 pub use write::write_saved;

@@ -1,12 +1,11 @@
 -- The text of a save, as it is pushed: part after part.
-use Rattle.std.specs.Prelude.{ℕ, ◌*◌, ◌^◌, bit_or, Bool, true, false, List, [], ◌∷◌, codes, decimal, length, nat_le, Option, Some, None, if◌then◌else◌}
-use Rattle.ant_base.specs.Layout.{numbered, text_of_option, ◌+++◌}
+use Rattle.std.specs.Prelude.{ℕ, ◌*◌, ◌^◌, bit_or, List, [], ◌∷◌, codes, decimal, length, nat_le, Option, Some, None, if◌then◌else◌}
+use Rattle.ant_base.specs.Layout.{numbered, ◌+++◌}
 use Rattle.brain_read.specs.Canonical.{brain_text}
 use Rattle.brain_read.specs.declared.instr.Instr.{Instr}
 use Rattle.hex_geometry.specs.RowOrder.{pos_at}
 use Rattle.hex_geometry.specs.declared.position.Pos.{Pos}
 use Rattle.cell_world.specs.declared.ant.Ant.{Ant}
-use Rattle.cell_world.specs.declared.ant.PlacedAnt.{PlacedAnt}
 use Rattle.cell_world.specs.declared.cell.Cell.{Cell}
 use Rattle.cell_world.specs.Marks.{has_mark}
 use Rattle.cell_world.specs.declared.marks.Marks.{Marks}

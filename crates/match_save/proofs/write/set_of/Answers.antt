@@ -1,5 +1,5 @@
 use Rattle.std.proofs.Common.{◌+◌, ℕ, sym, subst, arith}
-use Rattle.match_save.proofs.MarkSets.{IsFilled, IsFilled-all, IsFilled-power}
+use Rattle.match_save.proofs.MarkSets.{IsFilled, IsFilled-power}
 use Rattle.match_save.proofs.write.set_of.Goals as goal
 
 pub loop-i-preserved : goal.loop-i-preserved

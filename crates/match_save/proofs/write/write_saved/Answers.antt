@@ -1,4 +1,4 @@
-use Rattle.std.proofs.Common.{List, ℕ, subst}
+use Rattle.std.proofs.Common.{subst}
 use Rattle.ant_base.specs.Sink.{Pushed}
 use Rattle.cell_world.specs.Grid.{IsWorld}
 use Rattle.match_save.proofs.Writing.{saved-written}
