@@ -1,9 +1,9 @@
 -- Of some ids the turns of those whose ants rest may be taken first: a law of chunks of a round.
-use Rattle.std.proofs.Common.{◌≡◌, ◌≢◌, ◌⊎◌, inl, inr, ℕ, zero, suc, ◌+◌, ◌-◌, ◌<◌, ◌≤◌, Bool, true, false, cond, List, [], ◌∷◌, length, Option, Some, None, refl, sym, ap, ap₂, ◌∙◌, subst, arith, add-zero}
+use Rattle.std.proofs.Common.{◌≡◌, ◌≢◌, inl, inr, ℕ, zero, suc, ◌+◌, ◌-◌, ◌<◌, ◌≤◌, Bool, true, false, List, [], ◌∷◌, length, Option, Some, None, refl, sym, ap, ◌∙◌, subst, arith, add-zero}
 use Rattle.std.specs.Prelude.{nat_eq, option_map}
 use Rattle.std.specs.List.{AllByRecursion}
 use Rattle.std.proofs.Math.Path.{fun_ext}
-use Rattle.std.proofs.lemmas.Bool.{both_ways, cases_eq, eqb-true, eq-eqb, ne_eqb, cond_both}
+use Rattle.std.proofs.lemmas.Bool.{both_ways, cases_eq, eqb-true, cond_both}
 use Rattle.std.proofs.lemmas.Option.{same_Some}
 use Rattle.hex_geometry.specs.declared.position.Pos.{Pos}
 use Rattle.hex_geometry.specs.Neighbourhood.{adjacent_pos}
@@ -13,22 +13,22 @@ use Rattle.cell_world.specs.Cell.{holds_id}
 use Rattle.cell_world.specs.Resting.{ActsListed, ids_where, one_less, rested, with_rest, with_rest_in, with_rests}
 use Rattle.cell_world.specs.Valid.{Valid}
 use Rattle.cell_world.specs.World.{Cells, World, place_in, put, put_cell, with_cells}
-use Rattle.cell_world.proofs.Places.{Holder, holds_id-own, place_in-ant, place_in-holds, place_in-none}
+use Rattle.cell_world.proofs.Places.{Holder, holds_id-own, place_in-ant, place_in-none}
 use Rattle.cell_world.proofs.Puts.{cases_pos, put_cell-other, put_cell-same}
-use Rattle.cell_world.proofs.RestingLemmas.{below_or_not, nothing_among, one_less-among, one_less-before, one_less-fewer, one_less-none}
+use Rattle.cell_world.proofs.RestingLemmas.{nothing_among, one_less-among, one_less-before, one_less-fewer, one_less-none}
 use Rattle.brain_read.specs.declared.instr.Instr.{Instr}
 use Rattle.ant_turn.specs.Keeps.{Keeps}
 use Rattle.ant_turn.specs.Kills.{places_around}
-use Rattle.ant_turn.specs.Listed.{AreUp, IsUp, after_listed}
+use Rattle.ant_turn.specs.Listed.{AreUp, after_listed}
 use Rattle.ant_turn.specs.Minds.{AreSound, Fits, Minds, mind_of}
 use Rattle.ant_turn.specs.Rounds.{Moment, after_turn, after_turns}
 use Rattle.ant_turn.specs.Sheet.{Sheet}
-use Rattle.ant_turn.specs.Turn.{Outcome, arrived, idle, left_by_ant, stepped, turn, with_ant}
+use Rattle.ant_turn.specs.Turn.{Outcome, arrived, left_by_ant, stepped, turn, with_ant}
 use Rattle.ant_turn.proofs.KeptByChecks.{check_all-ant}
 use Rattle.ant_turn.proofs.KeptByRounds.{Keeps-after_turn, after_turns-then}
 use Rattle.ant_turn.proofs.QuietLemmas.{after_turn-dead, after_turn-rests}
 use Rattle.ant_turn.proofs.RestingTurns.{after_turn-with_rests}
-use Rattle.ant_turn.proofs.TurnParts.{Acted, Does, turn_parts}
+use Rattle.ant_turn.proofs.TurnParts.{Does, turn_parts}
 
 -- the ant that a step moved is the one on the cell ahead, and its own cell is empty
 stepped-ant : (sheet : Sheet) (cells : Cells) (p : Pos) (ant : Ant) (ahead : Pos) (next : ℕ) (q : Pos) (other : Ant) → (stepped sheet cells p ant ahead next q).ant ≡ Some other → other.id ≢ ant.id → (cells q).ant ≡ Some other

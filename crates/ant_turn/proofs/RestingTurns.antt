@@ -1,5 +1,5 @@
 -- What a turn does where other ants rest for longer or shorter: nothing in it asks how long another ant rests.
-use Rattle.std.proofs.Common.{◌≡◌, ℕ, zero, suc, ◌+◌, ◌-◌, Bool, true, false, cond, if◌then◌else◌, nat_le, List, [], ◌∷◌, ◌++◌, length, filter, Option, Some, None, refl, sym, ap, ap₂, ◌∙◌, ◌&&◌, ◌||◌, subst}
+use Rattle.std.proofs.Common.{◌≡◌, ℕ, zero, suc, ◌+◌, ◌-◌, Bool, true, false, cond, if◌then◌else◌, nat_le, List, [], ◌∷◌, ◌++◌, length, filter, Option, Some, None, refl, sym, ap, ap₂, ◌∙◌, ◌&&◌, ◌||◌}
 use Rattle.std.specs.Prelude.{option_map, ◌==◌}
 use Rattle.std.proofs.Math.Path.{fun_ext}
 use Rattle.std.proofs.lemmas.Bool.{cond_both}
@@ -27,7 +27,7 @@ use Rattle.ant_turn.specs.Kills.{after_kill, ants_among, check_all, check_at, co
 use Rattle.ant_turn.specs.Minds.{Minds, mind_of}
 use Rattle.ant_turn.specs.Rounds.{Moment, after_turn, moment_after}
 use Rattle.ant_turn.specs.Sheet.{Sheet}
-use Rattle.ant_turn.specs.Turn.{Outcome, acts, ant_becomes, arrived, cell_becomes, checked, execute, has_ant, idle, in_state, instruction_at, is_blocked, left_by_ant, marked, stepped, turn, turn_at, turn_from, unmarked, with_ant}
+use Rattle.ant_turn.specs.Turn.{Outcome, acts, ant_becomes, arrived, cell_becomes, checked, execute, has_ant, in_state, instruction_at, is_blocked, left_by_ant, marked, stepped, turn, turn_at, turn_from, unmarked, with_ant}
 use Rattle.ant_turn.proofs.RenumberLemmas.{cond-map}
 
 -- no test on an ant asks for how long it rests

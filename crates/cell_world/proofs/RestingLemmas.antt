@@ -3,7 +3,7 @@ use Rattle.std.proofs.Common.{◌≡◌, ◌≢◌, ◌⊎◌, inl, inr, ℕ, ze
 use Rattle.std.specs.Prelude.{option_map, nat_eq, nat_lt}
 use Rattle.std.proofs.Math.Path.{fun_ext}
 use Rattle.std.proofs.Math.ListN as by_number
-use Rattle.std.proofs.lemmas.Bool.{cases_Bool, cases_eq, ltb-true, ltb-false, cond-true, cond-false, le-ltb, lt-ltb, eq-eqb}
+use Rattle.std.proofs.lemmas.Bool.{cases_Bool, cases_eq, ltb-true, ltb-false, cond-true, cond-false, le-ltb, lt-ltb}
 use Rattle.std.proofs.lemmas.List.{append-nil, get_or-map, get_or-set_other, get_or-set_same, length-map, length-set, take-set, take_more_set}
 use Rattle.std.proofs.lemmas.Simd.{map-map}
 use Rattle.std.proofs.lemmas.Option.{same_Some}
@@ -13,16 +13,14 @@ use Rattle.cell_world.specs.declared.ant.Ant.{Ant}
 use Rattle.cell_world.specs.declared.body.Body.{Body}
 use Rattle.cell_world.specs.declared.cell.Cell.{Cell}
 use Rattle.cell_world.specs.declared.tile.Tile.{Tile}
-use Rattle.cell_world.specs.declared.world.World.TheInside.{Inside}
-use Rattle.cell_world.specs.Cell.{HasMarksOfSix, ant_weight, one_if, cell_weight, holds_id, is_ant, rock}
-use Rattle.cell_world.specs.Grid.{Grid, IsWorld, cell_in, world_of}
+use Rattle.cell_world.specs.Cell.{ant_weight, one_if, cell_weight, holds_id, is_ant, rock}
+use Rattle.cell_world.specs.Grid.{IsWorld, cell_in, world_of}
 use Rattle.cell_world.specs.Limits.{most_weight}
-use Rattle.cell_world.specs.Resting.{ActsListed, ids_where, one_less, rested, rests_in, with_rest, with_rest_in, with_rests}
+use Rattle.cell_world.specs.Resting.{ActsListed, ids_where, one_less, with_rest, with_rest_in, with_rests}
 use Rattle.cell_world.specs.Valid.{Valid}
 use Rattle.cell_world.specs.World.{Cells, World, area, place_in, sum_over, weight}
 use Rattle.cell_world.specs.Inner.Catching.{body_of}
 use Rattle.cell_world.specs.Inner.Index.{IsIndex}
-use Rattle.cell_world.specs.Inner.Inside.{IsWellStored, grid_of}
 use Rattle.cell_world.specs.Inner.Stored.{ant_from, ant_named, cell_from, grid_from, no_body, occupant_id, stored_places, tile_of}
 use Rattle.cell_world.specs.Inner.TellingApart.{ToldApart, acts_by, with_resting}
 use Rattle.cell_world.proofs.Places.{first_of-same, holds_id-own}
@@ -56,11 +54,11 @@ one_less-none from to t = ap (cond (nat_lt t from) 0) (either_same (nat_lt t to)
 
 -- a number is below another or not
 pub below_or_not : (t n : ℕ) → (t < n) ⊎ (n ≤ t)
-below_or_not t n = elim (cases_Bool (nat_lt t n)) [ | inl early ↦ inl (ltb-true t n early) | inr late ↦ inr (ltb-false t n late) ]
+below_or_not t n = elim (cases_Bool (nat_lt t n)) [ inl early ↦ inl (ltb-true t n early) | inr late ↦ inr (ltb-false t n late) ]
 
 -- and where it is another, beyond
 other_than : (t n : ℕ) → t ≢ n → n ≤ t → n + 1 ≤ t
-other_than t n apart late = elim (below_or_not n t) [ | inl below ↦ omega arith | inr same ↦ absurd (apart (omega arith)) ]
+other_than t n apart late = elim (below_or_not n t) [ inl below ↦ omega arith | inr same ↦ absurd (apart (omega arith)) ]
 
 -- a number less itself
 minus_self : (n : ℕ) → n - n ≡ 0
@@ -68,7 +66,7 @@ minus_self n = omega arith
 
 -- among no ids nothing is another
 pub nothing_among : (from t rest : ℕ) → one_less from from t rest ≡ rest
-nothing_among from t rest = elim (below_or_not t from) [ | inl early ↦ one_less-before from from t rest early | inr late ↦ one_less-after from from t rest late ]
+nothing_among from t rest = elim (below_or_not t from) [ inl early ↦ one_less-before from from t rest early | inr late ↦ one_less-after from from t rest late ]
 
 -- an item in front, where there is one, of two lists
 put_in_front : (b : Bool) (x : ℕ) (xs ys : List ℕ) → cond b (x ∷ xs ++ ys) (xs ++ ys) ≡ cond b (x ∷ xs) xs ++ ys

@@ -1,5 +1,5 @@
 -- the turn of a dead ant, and of one that executes its instruction
-use Rattle.std.proofs.Common.{◌≡◌, ◌+◌, Option, Some, slice_get, refl, sym, ◌∙◌, ap, subst, arith, add-zero}
+use Rattle.std.proofs.Common.{◌≡◌, ◌+◌, Option, Some, slice_get, sym, ◌∙◌, ap, subst, arith, add-zero}
 use Rattle.std.specs.Prelude.{IfSome, option_map}
 use Rattle.hex_geometry.specs.declared.position.Pos.{Pos}
 use Rattle.std.proofs.lemmas.Option.{same_Some}

@@ -1,8 +1,7 @@
 -- the bodies that were told apart are those of a world
-use Rattle.std.proofs.Common.{◌≡◌, ◌-◌, ◌∙◌, ap, arith, length, subst, sym, take}
+use Rattle.std.proofs.Common.{◌-◌, ◌∙◌, ap, arith, subst, take}
 use Rattle.cell_world.specs.Grid.{Grid, IsWorld, world_of}
 use Rattle.cell_world.specs.Inner.Index.{IsIndex}
-use Rattle.cell_world.specs.Inner.Inside.{grid_of}
 use Rattle.cell_world.specs.Inner.Stored.{grid_from, stored_places}
 use Rattle.cell_world.specs.Resting.{ActsListed, one_less, rested}
 use Rattle.cell_world.proofs.RestingLemmas.{stored-with_rests, told-listed, told-read, world_of-with_rests}

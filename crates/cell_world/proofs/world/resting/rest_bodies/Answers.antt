@@ -1,5 +1,5 @@
 -- the bodies are told apart one after another
-use Rattle.std.proofs.Common.{◌≡◌, ◌+◌, ◌≤◌, ◌<◌, ◌-◌, ℕ, Bool, true, false, ◌∙◌, ap, arith, length, refl, set, subst, sym, take}
+use Rattle.std.proofs.Common.{◌≡◌, ◌+◌, ◌≤◌, ◌<◌, ◌-◌, Bool, true, false, ◌∙◌, ap, arith, length, refl, set, subst, sym, take}
 use mir.Val.{bool_byte}
 use Rattle.std.specs.Prelude.{nat_eq}
 use Rattle.std.proofs.lemmas.List.{get_or_default, length-set}
@@ -33,8 +33,9 @@ loop-id-preserved c =
     let counted : c.from-count.result ≡ one_if c.rest_one-acts.result = c.from-count.ensures ∙ one_if-byte c.rest_one-acts.result in
     let small = one_if-small c.rest_one-acts.result in
     let more = ToldApart-more c.args.bodies.now.items c.loop-id.bodies.items c.args.from c.loop-id.id c.loop-id.acting c.loop-id.count c.rest_one-acts.new.body told late made room
-        (c.rest_one-acts.ensures.body ∙ ap (λ (b : Body). with_resting b (b.resting - 1)) read)
-        c.rest_one-acts.result (c.rest_one-acts.ensures.acts ∙ ap (λ (b : Body). nat_eq b.resting 0) read) in
-    (subst (λ n. ToldApart c.args.bodies.now.items (set c.loop-id.bodies.items c.loop-id.id c.rest_one-acts.new.body) c.args.from (c.loop-id.id + 1) (take (c.loop-id.count + n) (set c.loop-id.acting c.loop-id.count c.loop-id.id))) (sym counted) more,
-    omega (arith, c.loop-id.invariant.1, counted, small, late),
-    length-set c.loop-id.acting c.loop-id.count c.loop-id.id ∙ c.loop-id.invariant.2)
+    (c.rest_one-acts.ensures.body ∙ ap (λ (b : Body). with_resting b (b.resting - 1)) read)
+    c.rest_one-acts.result (c.rest_one-acts.ensures.acts ∙ ap (λ (b : Body). nat_eq b.resting 0) read) in (
+      subst (λ n. ToldApart c.args.bodies.now.items (set c.loop-id.bodies.items c.loop-id.id c.rest_one-acts.new.body) c.args.from (c.loop-id.id + 1) (take (c.loop-id.count + n) (set c.loop-id.acting c.loop-id.count c.loop-id.id))) (sym counted) more,
+      omega (arith, c.loop-id.invariant.1, counted, small, late),
+      length-set c.loop-id.acting c.loop-id.count c.loop-id.id ∙ c.loop-id.invariant.2,
+    )
