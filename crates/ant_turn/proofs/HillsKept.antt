@@ -1,5 +1,5 @@
 -- The hills that turns and rounds keep, and how many cells they have.
-use Rattle.std.proofs.Common.{◌≡◌, ℕ, ◌+◌, ◌*◌, List, [], ◌∷◌, length, sum_by, refl, sym, ◌∙◌, ap, ap₂, arith}
+use Rattle.std.proofs.Common.{◌≡◌, ℕ, ◌+◌, ◌*◌, List, [], ◌∷◌, length, sum_by, refl, sym, ◌∙◌, ap, ap₂}
 use Rattle.std.specs.Option.{is_some}
 use Rattle.std.proofs.lemmas.List.Sums.{sum_by-cons}
 use Rattle.hex_geometry.specs.declared.position.Pos.{Pos}

@@ -19,6 +19,8 @@ pub mod QuietLemmas
 pub mod RenumberLemmas
 pub mod RenumberWorked
 pub mod RenumberedTurns
+pub mod RestingChunks
+pub mod RestingTurns
 pub mod RulesWorked
 pub mod SheetWorked
 pub mod StandsLemmas

@@ -6,6 +6,7 @@ pub mod Inner
 pub mod Keeps
 pub mod KillLaws
 pub mod Kills
+pub mod Listed
 pub mod Minds
 pub mod QuietLaws
 pub mod Renumber

@@ -5,6 +5,7 @@ ghost use Rattle.cell_world.specs.Valid.{Valid, CanThink};
 ghost use Rattle.cell_world.specs.Inner.Replaces.{Replaces};
 ghost use Rattle.cell_world.specs.World.{put, with_cells};
 ghost use Rattle.brain_read.specs.Soundness.{IsSound};
+ghost use Rattle.ant_turn.specs.Listed.{IsUp};
 ghost use Rattle.ant_turn.specs.Minds.{Fits, minds_of};
 ghost use Rattle.ant_turn.specs.Sheet.{sheet_of};
 ghost use Rattle.ant_turn.specs.Inner.Stands.{StandsAt};
@@ -226,6 +227,39 @@ pub fn take_turn<G: Ground>(
     if ant.resting > 0 {
         return think(ground, p, rested(ant));
     }
+    let instruction = brains.of(ant.colour).at(ant.state);
+    execute(ground, brains.sheet, stream, p, ant, instruction)
+}
+
+/// Takes the turn of the ant of this id, which doesn't rest, if it is alive: what `take_turn` does, without asking whether it rests (the
+/// task's kinetics).
+#[inline(always)]
+pub fn take_acting_turn<G: Ground>(
+    ground: &mut G,
+    brains: Brains<'_>,
+    stream: &mut Stream,
+    id: u32,
+) -> Deed
+    requires fit { Fits (G.world ground.old) (minds_of brains) }
+    requires id { id < (G.world ground.old).ids }
+    requires up { IsUp (G.world ground.old) id }
+    requires place { stream.old.place + 1 < 2 ^ 63 }
+    requires room { 9 ≤ G.room ground.old }
+    ensures world { G.world ground.new ≡ with_cells (G.world ground.old)
+        (turn.turn (minds_of brains.entry) stream.old.seed (G.world ground.old) stream.old.place id).cells }
+    ensures stream { stream.new ≡ record stream.old {
+      place = stream.old.place + one_if (turn.turn (minds_of brains.entry) stream.old.seed (G.world ground.old) stream.old.place id).drew;
+    } }
+    ensures drew { result.drew ≡ (turn.turn (minds_of brains.entry) stream.old.seed (G.world ground.old) stream.old.place id).drew }
+    ensures killed { result.killed.items ≡ (turn.turn (minds_of brains.entry) stream.old.seed (G.world ground.old) stream.old.place id).killed }
+    ensures room { G.room ground.old ≤ G.room ground.new + 9 }
+    ensures valid { Valid (G.world ground.new) }
+    ensures fit { Fits (G.world ground.new) (minds_of brains.entry) }
+{
+    let Some(standing) = ground.ant_of(id) else {
+        return idle();
+    };
+    let (p, ant) = (standing.place, standing.ant);
     let instruction = brains.of(ant.colour).at(ant.state);
     execute(ground, brains.sheet, stream, p, ant, instruction)
 }

@@ -20,6 +20,7 @@ pub mod Patches
 pub mod Places
 pub mod Plans
 pub mod Puts
+pub mod RestingLemmas
 pub mod ScoreWorked
 pub mod Sets
 pub mod StoredLemmas

@@ -11,6 +11,7 @@ pub mod Opening
 pub mod OpeningLaws
 pub mod PartLaws
 pub mod Parts
+pub mod Resting
 pub mod Score
 pub mod Valid
 pub mod World

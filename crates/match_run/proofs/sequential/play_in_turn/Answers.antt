@@ -1,7 +1,7 @@
 use Rattle.std.proofs.Common.{◌≡◌, arith}
 use Rattle.ant_turn.specs.Minds.{minds_of}
 use Rattle.match_run.proofs.SequentialLemmas.{IsTaken-none, IsTaken-place, IsTaken-ids, IsTaken-more, IsTaken-all}
-use Rattle.match_run.proofs.sequential.play_round.Goals as goal
+use Rattle.match_run.proofs.sequential.play_in_turn.Goals as goal
 
 pub loop-id-init : goal.loop-id-init
 loop-id-init c = IsTaken-none (minds_of c.args.brains) c.args.world.now c.args.stream.now c.requires.fit
