@@ -1,4 +1,4 @@
-use Rattle.std.proofs.Common.{◌≡◌, ◌≤◌, arith}
+use Rattle.std.proofs.Common.{◌≡◌, arith}
 use Rattle.ant_turn.specs.Minds.{minds_of}
 use Rattle.match_run.proofs.SequentialLemmas.{IsTaken-none, IsTaken-place, IsTaken-ids, IsTaken-chunk, IsTaken-all}
 use Rattle.match_run.proofs.sequential.play_in_chunks.Goals as goal

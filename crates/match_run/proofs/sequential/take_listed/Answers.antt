@@ -1,4 +1,4 @@
-use Rattle.std.proofs.Common.{◌≡◌, ◌+◌, ◌∷◌, ◌∙◌, List, ℕ, ap, arith, drop, subst, sym}
+use Rattle.std.proofs.Common.{◌≡◌, ◌+◌, ◌∷◌, ◌∙◌, List, ℕ, ap, drop, subst, sym}
 use Rattle.std.proofs.lemmas.List.{drop_more}
 use Rattle.ant_turn.specs.Minds.{minds_of}
 use Rattle.match_run.proofs.SequentialLemmas.{IsListed, IsListed-more, IsListed-none}
