@@ -1,5 +1,5 @@
 // Looks that agree with a field.
-ghost use Rattle.std.specs.Prelude.{◌≡◌, ◌↔◌, ◌<◌, true, length, slice_get, Some, None};
+ghost use Rattle.std.specs.Prelude.{◌≡◌, ◌↔◌, ◌<◌, true, length, slice_get, Some};
 ghost use Rattle.std.specs.List.{AllByRecursion};
 ghost use Rattle.ant_turn.specs.Minds.{minds_of, mind_of};
 ghost use Rattle.ant_turn.specs.Turn.{instruction_at};

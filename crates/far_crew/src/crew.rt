@@ -1,6 +1,6 @@
 // The crew of workers that stand by.
-ghost use Rattle.std.specs.Prelude.{◌≡◌, ◌-◌, ◌≤◌, [], IfOk, OnOk, OnErr};
-ghost use Rattle.round_book.specs.Book.{CanBegin, FieldValue, IsPlayed, window_of};
+ghost use Rattle.std.specs.Prelude.{◌≡◌, ◌-◌, IfOk, OnOk, OnErr};
+ghost use Rattle.round_book.specs.Book.{CanBegin, IsPlayed, window_of};
 ghost use Rattle.round_book.specs.Counts.{counts_of};
 ghost use Rattle.round_book.specs.Window.{guesses_for};
 

@@ -135,6 +135,7 @@ pub fn with_far<R: Threads + Wait + Sync, G: Gate, E: Errand>(
                     .spawn(move || serve(rt, gate, number, jobs, answers))
                     .is_ok()
                 {
+                    // room for it was taken with the posts
                     let _ = lines.push(line);
                 }
             }

@@ -1,6 +1,6 @@
 // The guesses of a window's turns.
 ghost use Rattle.std.specs.Prelude.{◌≡◌, ◌+◌, ◌-◌, ◌<◌, ◌≤◌, ◌^◌, IfOk};
-ghost use Rattle.round_book.specs.Book.{CanBegin, FieldValue, window_of};
+ghost use Rattle.round_book.specs.Book.{CanBegin, window_of};
 ghost use Rattle.round_book.specs.Window.{guess_for, guesses_for};
 
 use hex_geometry::OutOfMemory;

@@ -2,7 +2,7 @@
 ghost use Rattle.std.specs.Prelude.{◌≡◌, ◌↔◌, true};
 ghost use Rattle.std.specs.List.{AllByRecursion};
 ghost use Rattle.cell_world.specs.Cell.{rock};
-ghost use Rattle.cell_world.specs.Grid.{IsWorld, world_of};
+ghost use Rattle.cell_world.specs.Grid.{world_of};
 ghost use Rattle.far_crew.specs.Inner.Cells.{all_parts};
 
 use cell_world::{Cell, Colour, Marks, Part, Parts, World};

@@ -1,6 +1,6 @@
 // Settles the turns of a window by the looks that are picked.
 ghost use Rattle.std.specs.Prelude.{◌≡◌, ◌+◌, ◌-◌, ◌<◌, ◌≤◌, length};
-ghost use Rattle.round_book.specs.Book.{FieldValue, IsSameWindow, StandsOn, window_of};
+ghost use Rattle.round_book.specs.Book.{IsSameWindow, StandsOn, window_of};
 ghost use Rattle.far_crew.specs.Inner.Picks.{AreFilled, ArePicked};
 
 use crate::line::Line;
