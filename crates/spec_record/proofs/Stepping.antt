@@ -1,5 +1,5 @@
 -- A Move that goes where no foe is near: nobody is killed.
-use Rattle.std.proofs.Common.{◌≡◌, ◌≢◌, inl, inr, ℕ, ◌≤◌, ◌<◌, Bool, true, false, if◌then◌else◌, nat_le, List, [], ◌∷◌, ◌++◌, map, Option, Some, None, refl, sym, ◌∙◌, ap, ap₂, subst, arith}
+use Rattle.std.proofs.Common.{◌≡◌, ◌≢◌, inl, inr, ℕ, ◌≤◌, true, false, nat_le, List, [], ◌∷◌, ◌++◌, Option, Some, None, refl, sym, ◌∙◌, ap, subst, arith}
 use Rattle.std.specs.List.{AllByRecursion, flat_map}
 use Rattle.std.proofs.lemmas.Bool.{cases_Bool, cond-true, cond-false, lt-leb}
 use Rattle.hex_geometry.specs.declared.position.Pos.{Pos}
@@ -15,7 +15,7 @@ use Rattle.cell_world.specs.Cell.{is_ant_of, one_if}
 use Rattle.cell_world.specs.Colour.{foe_of, same_colour}
 use Rattle.cell_world.specs.World.{Cells, put_cell}
 use Rattle.cell_world.proofs.Puts.{put_cell-same, put_cell-other}
-use Rattle.ant_turn.specs.Kills.{ants_among, check_all, check_at, has_foes, is_surrounded, killed_all, killed_at, places_around}
+use Rattle.ant_turn.specs.Kills.{ants_among, check_all, check_at, has_foes, is_surrounded, killed_all, places_around}
 use Rattle.ant_turn.specs.Sheet.{Sheet}
 use Rattle.ant_turn.specs.Turn.{arrived, has_ant, left_by_ant, stepped, with_ant}
 use Rattle.ant_turn.proofs.Checks.{check_at-spared, killed_at-spared}

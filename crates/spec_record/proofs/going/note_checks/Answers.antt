@@ -8,7 +8,7 @@ use Rattle.cell_world.specs.Parts.{only}
 use Rattle.ant_turn.proofs.Foes.{neighbours_of-inside}
 use Rattle.spec_record.specs.Reads.{whole_ant}
 use Rattle.spec_record.specs.Inner.Going.{beyond}
-use Rattle.spec_record.specs.Inner.Near.{AreSeen, number_near}
+use Rattle.spec_record.specs.Inner.Near.{AreSeen}
 use Rattle.spec_record.proofs.Near.{AreSeen-first, within-at, within-self, within-two}
 use Rattle.spec_record.proofs.Noting.{seen_from-beside_room, seen_from-own_room, seen_from-parts}
 use Rattle.spec_record.proofs.Sighting.{sightings_of-flat_next, sightings_of-flat_room}

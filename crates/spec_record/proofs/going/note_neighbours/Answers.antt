@@ -1,5 +1,5 @@
 -- one neighbour more
-use Rattle.std.proofs.Common.{◌<◌, subst, sym, ◌∙◌}
+use Rattle.std.proofs.Common.{◌<◌, subst, sym}
 use Rattle.hex_geometry.specs.Neighbourhood.{neighbours_of}
 use Rattle.hex_geometry.proofs.Beside.{neighbours_of_length}
 use Rattle.cell_world.specs.declared.part.Part.TheVariants as part
@@ -7,7 +7,7 @@ use Rattle.cell_world.specs.Grid.{world_of}
 use Rattle.cell_world.specs.Parts.{only}
 use Rattle.ant_turn.proofs.Foes.{neighbours_of-inside}
 use Rattle.spec_record.proofs.Near.{within-at_two}
-use Rattle.spec_record.proofs.Sighting.{sightings_of-next, sightings_of-step_room}
+use Rattle.spec_record.proofs.Sighting.{sightings_of-step_room}
 use Rattle.spec_record.proofs.going.note_neighbours.Goals as goal
 
 pub note_who-requires-clause-near : goal.note_who-requires-clause-near

@@ -1,11 +1,10 @@
 -- a position that was noted, and one that wasn't
-use Rattle.std.proofs.Common.{◌≡◌, ◌<◌, true, false, [], ◌∷◌, ◌++◌, length, length-append, slice_index_or, slice_set, refl, sym, ◌∙◌, ap, subst, arith}
+use Rattle.std.proofs.Common.{◌≡◌, ◌<◌, true, false, [], ◌∷◌, length, length-append, slice_index_or, slice_set, sym, ◌∙◌, ap, subst, arith}
 use Rattle.cell_world.specs.Grid.{world_of}
 use Rattle.cell_world.specs.declared.part.Part.TheVariants as part
 use Rattle.cell_world.specs.Parts.{only}
 use Rattle.spec_record.specs.Claims.{Sighting}
 use Rattle.spec_record.specs.Inner.Near.{AreSeen, is_seen, number_near}
-use Rattle.spec_record.specs.Inner.Sightings.{sighted}
 use Rattle.spec_record.proofs.Near.{AreSeen-noted, sighted-seen, sighted-unseen}
 use Rattle.spec_record.proofs.going.note_who.Goals as goal
 use Rattle.spec_record.proofs.going.note_who.Goals.{After-number_near-number}

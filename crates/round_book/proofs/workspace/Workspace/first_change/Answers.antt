@@ -1,4 +1,3 @@
-use Rattle.std.proofs.Common.{sym, ◌∙◌}
 use Rattle.cell_world.specs.Grid.{world_of}
 use Rattle.round_book.proofs.MarkLemmas.{unwritten-agree}
 use Rattle.round_book.proofs.workspace.Workspace.first_change.Goals as goal

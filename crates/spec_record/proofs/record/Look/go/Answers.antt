@@ -8,7 +8,7 @@ use Rattle.cell_world.specs.declared.part.Part.TheVariants as part
 use Rattle.cell_world.specs.Grid.{world_of}
 use Rattle.cell_world.specs.Parts.{only}
 use Rattle.cell_world.proofs.Patches.{some_one}
-use Rattle.cell_world.specs.World.{Cells, World}
+use Rattle.cell_world.specs.World.{Cells}
 use Rattle.ant_turn.specs.Minds.{minds_of, mind_of}
 use Rattle.ant_turn.specs.Turn.{Outcome, instruction_at, turn}
 use Rattle.spec_record.specs.Claims.{EachOnce, Sighting, seen_positions}
@@ -18,7 +18,7 @@ use Rattle.spec_record.specs.Inner.Going.{calm_reads, calm_writes, seen_from, st
 use Rattle.spec_record.specs.Inner.Near.{AreNoneOf}
 use Rattle.spec_record.specs.Inner.Sightings.{all_sighted, sightings_of}
 use Rattle.spec_record.specs.Inner.Standing.{blank_look}
-use Rattle.spec_record.proofs.Looking.{Acting, acting-inner, calm-once, calm-room, calm-writes_once, inner-there, look-calm, near-there, within-there}
+use Rattle.spec_record.proofs.Looking.{Acting, acting-inner, calm-once, calm-room, calm-writes_once, look-calm, within-there}
 use Rattle.spec_record.proofs.record.Look.go.Goals as goal
 use Rattle.spec_record.proofs.record.Look.go.Goals.{After-note_checks, After-push, After-push-3, Start}
 
