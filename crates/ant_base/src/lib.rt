@@ -33,7 +33,7 @@ pub use file_shelf::FileShelf;
 pub use files::Files;
 pub use gate::{Gate, NoGate};
 pub use layout::Layout;
-pub use lines::{Lines, after_separators, cut_line, is_blank, is_separator, trimmed};
+pub use lines::{Lines, after_separators, cut_line, is_blank, is_separator, trim_line};
 pub use mem_shelf::MemShelf;
 pub use mem_sink::MemSink;
 pub use memory::OutOfMemory;

@@ -99,7 +99,7 @@ pub fn after_separators(text: &[u8]) -> &[u8]
 }
 
 /// A line without the separators at its front and at its end; those between other bytes stay (the contest's files).
-pub fn trimmed(line: &[u8]) -> &[u8]
+pub fn trim_line(line: &[u8]) -> &[u8]
     ensures { result.now ≡ trimmed line.now }
 {
     let line = after_separators(line);

@@ -15,8 +15,8 @@ use crate::brains::Brains;
 use crate::conditions::meets;
 use crate::kills::check_around;
 use crate::own_cell::{
-    arrived, branched, dropped, faced, in_state, is_blocked, left_by_ant, marked, picked_up,
-    rested, unmarked,
+    ant_after_branch, ant_after_rest, ant_after_turn, cell_after_arrival, cell_after_drop,
+    cell_after_mark, cell_after_pick_up, cell_after_unmark, cell_without_ant, in_state, is_blocked,
 };
 use crate::sheet::Sheet;
 use ant_random::Stream;
@@ -102,8 +102,8 @@ fn step<G: Ground>(
     ensures valid { Valid (G.world ground.new) }
 {
     let cell = ground.cell_at(p);
-    ground.set(p, left_by_ant(&cell));
-    ground.set(q, arrived(sheet, there, ant, next));
+    ground.set(p, cell_without_ant(&cell));
+    ground.set(q, cell_after_arrival(sheet, there, ant, next));
     Deed {
         drew: false,
         killed: check_around(ground, sheet, q),
@@ -163,31 +163,31 @@ fn execute<G: Ground>(
         } => {
             let sensed_cell = ground.cell_at(sensed(p, ant.facing, sight));
             let saw = meets(&sensed_cell, cond, ant.colour);
-            think(ground, p, branched(ant, saw, yes, no))
+            think(ground, p, ant_after_branch(ant, saw, yes, no))
         }
         Instr::Mark { mark, next } => {
             let cell = ground.cell_at(p);
-            stay(ground, p, marked(&cell, ant, mark, next))
+            stay(ground, p, cell_after_mark(&cell, ant, mark, next))
         }
         Instr::Unmark { mark, next } => {
             let cell = ground.cell_at(p);
-            stay(ground, p, unmarked(&cell, ant, mark, next))
+            stay(ground, p, cell_after_unmark(&cell, ant, mark, next))
         }
         Instr::PickUp { yes, no } => {
             let cell = ground.cell_at(p);
-            stay(ground, p, picked_up(&cell, ant, yes, no))
+            stay(ground, p, cell_after_pick_up(&cell, ant, yes, no))
         }
         Instr::Drop { next } => {
             let cell = ground.cell_at(p);
-            stay(ground, p, dropped(&cell, ant, next))
+            stay(ground, p, cell_after_drop(&cell, ant, next))
         }
-        Instr::Turn { side, next } => think(ground, p, faced(ant, side, next)),
+        Instr::Turn { side, next } => think(ground, p, ant_after_turn(ant, side, next)),
         Instr::Move { yes, no } => go(ground, sheet, p, ant, yes, no),
         Instr::Flip { bound, yes, no } => {
             let number = stream.draw(bound);
             Deed {
                 drew: true,
-                ..think(ground, p, branched(ant, number == 0, yes, no))
+                ..think(ground, p, ant_after_branch(ant, number == 0, yes, no))
             }
         }
     }
@@ -225,7 +225,7 @@ pub fn take_turn<G: Ground>(
     };
     let (p, ant) = (standing.place, standing.ant);
     if ant.resting > 0 {
-        return think(ground, p, rested(ant));
+        return think(ground, p, ant_after_rest(ant));
     }
     let instruction = brains.of(ant.colour).at(ant.state);
     execute(ground, brains.sheet, stream, p, ant, instruction)

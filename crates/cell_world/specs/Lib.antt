@@ -15,3 +15,5 @@ pub mod Resting
 pub mod Score
 pub mod Valid
 pub mod World
+pub use Rattle.hex_geometry.specs.Position
+pub use Rattle.hex_geometry.specs.RowOrder

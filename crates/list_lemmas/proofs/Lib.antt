@@ -1,2 +1,3 @@
-pub mod AllElements
+-- Elements of lists, and what holds of all of them.
 pub mod Elements
+pub mod AllElements

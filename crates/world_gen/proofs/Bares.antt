@@ -1,4 +1,4 @@
--- A yard without elements.
+-- A draft without elements.
 use Rattle.cell_world.specs.Cell.{one_if}
 use Rattle.cell_world.specs.Limits.{most_size}
 use Rattle.hex_geometry.proofs.Rim.{inner-off_rim, off_rim-inner}
@@ -18,7 +18,7 @@ use Rattle.std.proofs.lemmas.List.Elements.{All-push}
 use Rattle.std.specs.List.{All}
 use Rattle.std.specs.Prelude.{Bool, not}
 use Rattle.world_gen.specs.Inner.Open.{is_unblocked}
-use Rattle.world_gen.specs.Inner.Yards.{IsYard, bare_blocked, bare_kind, bare_kinds}
+use Rattle.world_gen.specs.Inner.Drafts.{IsDraft, bare_blocked, bare_kind, bare_kinds}
 
 pub bare_blocked_length : (width height n : ℕ) → length (bare_blocked width height n) ≡ n
 unfolding bare_blocked
@@ -104,9 +104,9 @@ bare_kind_is width height p inside =
 inner_inside : (width height : ℕ) (p : Pos) → IsInner width height p → IsInside width height p
 inner_inside width height p inner = record { column = (let h = inner.to_right in omega arith); row = (let h = inner.to_bottom in omega arith) }
 
--- the yard without elements keeps what a yard keeps
-pub bare_yard : (width height : ℕ) → width ≤ most_size → height ≤ most_size → IsYard width height [] (bare_blocked width height (width * height)) (bare_kinds width height (width * height))
-bare_yard width height narrow low = record {
+-- the draft without elements keeps what a draft keeps
+pub bare_draft : (width height : ℕ) → width ≤ most_size → height ≤ most_size → IsDraft width height [] (bare_blocked width height (width * height)) (bare_kinds width height (width * height))
+bare_draft width height narrow low = record {
   fenced = record {
     full = bare_blocked_length width height (width * height);
     narrow = narrow;

@@ -19,7 +19,7 @@ use Rattle.std.proofs.lemmas.List.Elements.{All-set, Contains-append_left, Conta
 use Rattle.std.specs.Prelude.{Bool, Contains, ◌⊎◌}
 use Rattle.world_gen.proofs.SetLists.{sets_as, sets_both, sets_none, sets_one}
 use Rattle.world_gen.specs.Inner.Sets.{IsRound, IsRoundAny, IsRoundBelow, SetsWhere}
-use Rattle.world_gen.specs.Inner.Yards.{IsStamped}
+use Rattle.world_gen.specs.Inner.Drafts.{IsStamped}
 
 -- the cell alone is blocked
 pub round_first : (width height : ℕ) (p : Pos) (xs : List Bool) → length xs ≡ width * height → IsInside width height p → SetsWhere width height true (IsRoundBelow p 0) xs (set xs (index_of width p) true)

@@ -3,11 +3,11 @@ ghost use Rattle.hex_geometry.specs.Position.{point_of};
 ghost use Rattle.std.specs.Prelude.{◌+◌, ◌*◌, ◌≤◌, ◌↔◌, IsTrue};
 ghost use Rattle.world_gen.specs.Inner.Open.{AllOpen, BallIsOpen, BlobIsOpen, IsFenced, IsShut, IsBallWithin, LineIsOpen, RowIsOpen};
 
+use crate::draft::Draft;
 use crate::spot::{Figure, HILL_RADIUS, Spot};
-use crate::yard::Yard;
 use hex_geometry::{Dir, Pos, Side, adjacent, distance, turned};
 
-impl Yard {
+impl Draft {
     // Whether each cell of the spot is open.
     pub fn fits(&self, spot: Spot) -> bool
         requires { IsFenced self.now.width self.now.height self.now.blocked.items }
