@@ -230,13 +230,28 @@ enum Sent {
 
 // The answers of two workers: right ones, none, one answer twice, each in place of the other, of another window, and of all turns at once.
 const ANSWERS: [(Sent, Sent); 7] = [
-    (Sent::Looks { from: 0, to: 3 }, Sent::Looks { from: 3, to: 7 }),
+    (
+        Sent::Looks { from: 0, to: 3 },
+        Sent::Looks { from: 3, to: 7 },
+    ),
     (Sent::Nothing, Sent::Looks { from: 3, to: 7 }),
     (Sent::Nothing, Sent::Nothing),
-    (Sent::Looks { from: 0, to: 3 }, Sent::Looks { from: 0, to: 3 }),
-    (Sent::Looks { from: 3, to: 7 }, Sent::Looks { from: 0, to: 3 }),
-    (Sent::Later { from: 0, to: 3 }, Sent::Later { from: 3, to: 7 }),
-    (Sent::Looks { from: 0, to: 7 }, Sent::Later { from: 0, to: 0 }),
+    (
+        Sent::Looks { from: 0, to: 3 },
+        Sent::Looks { from: 0, to: 3 },
+    ),
+    (
+        Sent::Looks { from: 3, to: 7 },
+        Sent::Looks { from: 0, to: 3 },
+    ),
+    (
+        Sent::Later { from: 0, to: 3 },
+        Sent::Later { from: 3, to: 7 },
+    ),
+    (
+        Sent::Looks { from: 0, to: 7 },
+        Sent::Later { from: 0, to: 0 },
+    ),
 ];
 
 // The field after the round.
@@ -322,11 +337,7 @@ fn check_answers<R: Wait + Abort>(
 }
 
 // Asserts the same of the answers of each row.
-fn check_all<R: Wait + Abort>(
-    rt: &R,
-    alloc: Global,
-    rows: &[(Sent, Sent)],
-) -> Result<(), Fail> {
+fn check_all<R: Wait + Abort>(rt: &R, alloc: Global, rows: &[(Sent, Sent)]) -> Result<(), Fail> {
     for (first, second) in rows {
         check_answers(rt, alloc, *first, *second)?;
     }
