@@ -308,10 +308,10 @@ def case_of_resume(r):
     """`resume` of a save that was made up, often of a faulty one."""
     case = Case()
     save = any_save(r)
-    text = save.text() if chance(r, .45) else faulty_save(r)
+    rounds = min(1000000, max(0, save.round + r.choice([0, 1, 1, 2, 5, r.randint(0, 30), -1])))
+    text = save.text() if chance(r, .45) else faulty_save(r, save)
     name = put(case, r, 's', text, .01)
-    more = r.choice([0, 1, 1, 2, 5, r.randint(0, 30), -1])
-    case.words = ['resume', name] + resume_options(r, min(1000000, max(0, save.round + more)))
+    case.words = ['resume', name] + resume_options(r, rounds)
     if 'all' in case.words and len(save.rows) * save.width > 200:
         case.words[case.words.index('all')] = case.words[case.words.index('--rounds') + 1]
     return case

@@ -198,9 +198,8 @@ def with_other_byte(r, text):
     return text[:place] + bytes([r.choice(pool)]) + text[place + 1:]
 
 
-def faulty_save(r):
-    """A text that most often is no save."""
-    save = any_save(r)
+def faulty_save(r, save):
+    """A text that comes of a save, and most often is none."""
     kind = r.random()
     if kind < .4:
         return with_bad_state(r, save).text()
