@@ -380,3 +380,24 @@ module _ (fields others : Inside) (pair : Pair fields others) where
 -- the last step is behind
 pub Catching-end : (width : ℕ) (was tiles others : List Tile) (old bodies other_bodies : List Body) (places : List Pos) (i : ℕ) → length places ≤ i → Catching width was tiles others old bodies other_bodies (drop i places) → Catching width was tiles others old bodies other_bodies []
 Catching-end width was tiles others old bodies other_bodies places i late catching = subst (Catching width was tiles others old bodies other_bodies) (at_drop_all (λ (ps : List Pos). ps) places i late) catching
+
+-- all bodies at once
+pub Catching-bodies : (width : ℕ) (was tiles others : List Tile) (old bodies other_bodies : List Body) (left : List Pos) → length other_bodies ≡ length old → Catching width was tiles others old bodies other_bodies left →
+    Catching width was tiles others old other_bodies other_bodies left
+Catching-bodies width was tiles others old bodies other_bodies left same catching = record {
+  all_tiles = catching.all_tiles;
+  all_ids = same;
+  either = λ t made. inr refl;
+  each = λ i within. ⊎_elim inl (λ caught. inr (record { tile = caught.tile; before = λ t made names. refl; after = λ t made names. refl })) (catching.each i within);
+  done = λ i within none. record { tile = (catching.done i within none).tile; before = λ t made names. refl; after = λ t made names. refl };
+}
+
+-- one step of the loop over tiles
+pub Catching-tile : (width : ℕ) (was tiles others : List Tile) (old bodies : List Body) (places : List Pos) (i k : ℕ) (d : Pos) (tile : Tile) →
+    i < length places → index_of width (get_or places i d) < length was → length others ≡ length was → Catching width was tiles others old bodies bodies (drop i places) →
+    k ≡ index_of width (get_or places i d) → tile ≡ get_or others k tile → Catching width was (set tiles k tile) others old bodies bodies (drop (i + 1) places)
+Catching-tile width was tiles others old bodies places i k d tile below early long catching at is_tile =
+    let here : Tile = get_or tiles k tile in
+    let in_tiles : k < length tiles = subst (λ n. k < n) (sym catching.all_tiles) (subst (λ n. n < length was) (sym at) early) in
+    let still : (id : Option ℕ) → Followed bodies bodies bodies id = λ id. record { all_ids = refl; either = λ t made. inl refl; own = λ t made is. refl } in
+    Catching-go width was tiles others old bodies bodies bodies bodies places i k d tile (occupant_id here.ant) here below early long catching at is_tile (get_or_default tiles k tile here in_tiles) refl (still (occupant_id here.ant)) (still (occupant_id tile.ant))
