@@ -8,6 +8,7 @@ use round_workers::{BoardCrew, PieceCrew};
 use std::alloc::Global;
 use std::hint::spin_loop;
 use std::process::Abort;
+use std::sync::Wait;
 use std::sync::atomic::{AtomicBool, AtomicU32, Ordering};
 use std::test::Fail;
 use std::thread::Threads;
@@ -91,7 +92,7 @@ fn meets(own: &AtomicBool, other: &AtomicBool) -> bool {
 }
 
 // Words of the round in which a surrounded ant dies, and its counts.
-const COUNTED: [(&str, &str); 5] = [
+const COUNTED: [(&str, &str); 9] = [
     (
         "run w r b --seed 12345 --rounds 1 --dump 1 --stats --workers 1",
         "turns 7 taken 5 redone 2\n",
@@ -112,10 +113,26 @@ const COUNTED: [(&str, &str); 5] = [
         "run w r b --workers 2 --window 1 --seed 12345 --rounds 1 --dump 1 --stats",
         "turns 7 taken 7 redone 0\n",
     ),
+    (
+        "run w r b --seed 12345 --rounds 1 --dump 1 --stats --far",
+        "turns 7 taken 5 redone 2\n",
+    ),
+    (
+        "run w r b --seed 12345 --rounds 1 --dump 1 --stats --workers 3 --far",
+        "turns 7 taken 5 redone 2\n",
+    ),
+    (
+        "run w r b --far --seed 12345 --rounds 1 --dump 1 --stats --workers 16 --window 1",
+        "turns 7 taken 7 redone 0\n",
+    ),
+    (
+        "run w r b --seed 12345 --rounds 1 --dump 1 --far --workers 2",
+        "",
+    ),
 ];
 
 // Asserts what is written of that round with these words, by workers that call this gate.
-fn check_killing<R: Threads + Sync + Abort, G: Gate>(
+fn check_killing<R: Threads + Wait + Sync + Abort, G: Gate>(
     rt: &R,
     alloc: Global,
     line: &str,
@@ -129,7 +146,7 @@ fn check_killing<R: Threads + Sync + Abort, G: Gate>(
 }
 
 // Asserts what is written of that round with the words of each row.
-fn check_workers<R: Threads + Sync + Abort>(
+fn check_workers<R: Threads + Wait + Sync + Abort>(
     rt: &R,
     alloc: Global,
     rows: &[(&str, &str)],
@@ -178,7 +195,7 @@ fn a_crew_of_two_with_a_board_looks_at_the_same_time(rt: HostRuntime) -> Result<
 }
 
 // Asserts what is written of the same round by `run` with these words, and that its workers met.
-fn check_run<R: Threads + Sync + Abort>(
+fn check_run<R: Threads + Wait + Sync + Abort>(
     rt: &R,
     alloc: Global,
     line: &str,
@@ -199,4 +216,10 @@ fn a_run_by_two_workers_looks_at_the_same_time(rt: HostRuntime) -> Result<(), Fa
 fn a_run_by_one_worker_announces_each_turn_once(rt: HostRuntime) -> Result<(), Fail> {
     let line = "run w r b --seed 12345 --rounds 1 --dump 1 --stats --workers 1";
     check_run(&rt, rt.alloc(), line, &Meeting::of_one())
+}
+
+#[test]
+fn a_far_run_by_two_workers_looks_at_the_same_time(rt: HostRuntime) -> Result<(), Fail> {
+    let line = "run w r b --seed 12345 --rounds 1 --dump 1 --stats --workers 2 --far";
+    check_run(&rt, rt.alloc(), line, &Meeting::new())
 }

@@ -3,6 +3,7 @@ use crate::status::Status;
 use crate::tests::{Given, Job, NO_JOB, Told, check_rows, check_text};
 use std::alloc::Global;
 use std::process::Abort;
+use std::sync::Wait;
 use std::test::Fail;
 use std::thread::Threads;
 
@@ -50,7 +51,7 @@ const THOUSAND: Told<'static> = Told {
 };
 
 // Asserts of each command how its text is told.
-fn check_told<R: Threads + Sync + Abort>(
+fn check_told<R: Threads + Wait + Sync + Abort>(
     rt: &R,
     alloc: Global,
     lines: &[&str],
