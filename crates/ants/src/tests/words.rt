@@ -11,7 +11,7 @@ use std::test::Fail;
 use std::thread::Threads;
 
 // Words, and the line that names the first one with which no command begins.
-const REFUSED: [(&str, &str); 76] = [
+const REFUSED: [(&str, &str); 78] = [
     ("", "ants: word 1 refused\n"),
     ("jump", "ants: word 1 refused\n"),
     ("-h", "ants: word 1 refused\n"),
@@ -77,6 +77,8 @@ const REFUSED: [(&str, &str); 76] = [
     ("gen", "ants: word 2 refused\n"),
     ("minimise", "ants: word 2 refused\n"),
     ("minimise b b", "ants: word 3 refused\n"),
+    ("asm", "ants: word 2 refused\n"),
+    ("asm r r", "ants: word 3 refused\n"),
     ("cup", "ants: word 2 refused\n"),
     ("cup w --brains r b", "ants: word 2 refused\n"),
     ("cup --brains r b --worlds w", "ants: word 2 refused\n"),
