@@ -1,5 +1,5 @@
 -- The words of a run to a reader that doesn't know `--far`: none of a command's is empty.
-use Rattle.std.proofs.Common.{◌≡◌, ℕ, zero, suc, ◌+◌, ◌<◌, ◌≤◌, Bool, true, false, cond, ◌&&◌, List, [], ◌∷◌, ◌++◌, length, map, take, drop, Ok, Err, refl, sym, ap, ◌∙◌, subst, arith, String, string_bytes, get_or, inl, inr, leb, leb-true, leb-false}
+use Rattle.std.proofs.Common.{◌≡◌, ℕ, zero, suc, ◌+◌, ◌<◌, ◌≤◌, Bool, true, false, cond, ◌&&◌, ◌||◌, List, [], ◌∷◌, ◌++◌, length, map, take, drop, Ok, Err, refl, sym, ap, ◌∙◌, subst, arith, String, string_bytes, get_or, inl, inr, leb, leb-true, leb-false}
 use Rattle.std.specs.Prelude.{min}
 use Rattle.std.specs.declared.alloc.Global.{Global}
 use Rattle.std.specs.List.{flat_map, list_any, take-map, AllByRecursion}
@@ -126,7 +126,7 @@ cut-far (word ∷ words) among = elim (cases_Bool (bytes_eq word (option_of Far)
     ap (λ (b : Bool). cond b [] word ∷ map word_without_far words) here ∙ ap (λ (b : Bool). cond b [] (word ∷ words_before (option_of Far) words) ++ [] ∷ map word_without_far words) (sym here),
   )
   | inr other ↦
-      let rest = cut-far words (sym (ap (λ (b : Bool). cond b true (list_any (λ other. bytes_eq other (option_of Far)) words)) other) ∙ among) in
+      let rest = cut-far words (sym (ap (λ (b : Bool). b || list_any (λ other. bytes_eq other (option_of Far)) words) other) ∙ among) in
       (
         rest.0,
         ap (λ (b : Bool). cond b [] word ∷ map word_without_far words) other
@@ -156,7 +156,7 @@ refuses_far = record {
   others = λ words other. cond-false (is_far_run words) (map word_without_far words) words other;
 }
 
-take_next : (front back : List (List ℕ)) (word : List ℕ) → take (length front + 1) (front ++ word ∷ back) ≡ front ++ word ∷ []
+take_next : (front back : List (List ℕ)) (word : List ℕ) → take (suc (length front)) (front ++ word ∷ back) ≡ front ++ word ∷ []
 take_next [] back word = refl
 take_next (first ∷ front) back word = ap (λ (ws : List (List ℕ)). first ∷ ws) (take_next front back word)
 
@@ -180,7 +180,8 @@ refused-there front back begins =
       counted = omega arith;
       no_further = omega (arith, long);
       before = λ count less. let few : count ≤ length front = omega (arith, less) in subst IsBeginning (sym (take-append-le count front ([] ∷ back) few)) (begins count few);
-      refused = λ inside. subst (λ (ws : List (List ℕ)). ¬ IsBeginning ws) (sym (take_next front back [])) (not_begun front);
+      refused = λ inside. subst (λ (n : ℕ). ¬ IsBeginning (take n (front ++ [] ∷ back))) (let next : suc (length front) ≡ length front + 1 = omega arith in next)
+      (subst (λ (ws : List (List ℕ)). ¬ IsBeginning ws) (sym (take_next front back [])) (not_begun front));
       unfinished = λ last. absurd (omega (arith, long, last));
     }
 
