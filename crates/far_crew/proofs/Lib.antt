@@ -1,0 +1,5 @@
+pub mod AgreeingLemmas
+pub mod BrainLemmas
+pub mod CellLemmas
+pub mod JobLemmas
+pub mod WindowLemmas

@@ -1,0 +1,3 @@
+pub mod Agreeing
+pub mod Inner
+pub mod Jobs
