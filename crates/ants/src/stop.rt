@@ -198,15 +198,23 @@ impl Layout for LabelledWords {
     fn push_to<K: Sink>(&self, sink: &mut K) -> Result<(), Failed> {
         match self.0 {
             AsmFault::BadByte { line } => layout!("line ", line, ": bad byte").push_to(sink),
-            AsmFault::UnknownWord { line } => layout!("line ", line, ": unknown word").push_to(sink),
-            AsmFault::MissingToken { line } => layout!("line ", line, ": missing token").push_to(sink),
+            AsmFault::UnknownWord { line } => layout!("line ", line, ": unknown word").push_to(
+                sink,
+            ),
+            AsmFault::MissingToken { line } => layout!("line ", line, ": missing token").push_to(
+                sink,
+            ),
             AsmFault::BadNumber { line } => layout!("line ", line, ": bad number").push_to(sink),
             AsmFault::ExtraToken { line } => layout!("line ", line, ": extra token").push_to(sink),
             AsmFault::BadName { line } => layout!("line ", line, ": bad name").push_to(sink),
             AsmFault::Misplaced { line } => layout!("line ", line, ": misplaced").push_to(sink),
             AsmFault::Twice { line } => layout!("line ", line, ": name taken").push_to(sink),
             AsmFault::NoBlock { line } => layout!("line ", line, ": no such block").push_to(sink),
-            AsmFault::WrongCount { line } => layout!("line ", line, ": wrong number of labels").push_to(sink),
+            AsmFault::WrongCount { line } => layout!(
+                "line ",
+                line,
+                ": wrong number of labels"
+            ).push_to(sink),
             AsmFault::TooMany { line } => layout!("line ", line, ": too many").push_to(sink),
             AsmFault::EmptyBlock { line } => layout!("line ", line, ": empty block").push_to(sink),
             AsmFault::Empty => "no instruction".push_to(sink),
