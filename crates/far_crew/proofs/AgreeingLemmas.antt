@@ -1,5 +1,5 @@
 -- A look that agrees is the field's own.
-use Rattle.std.proofs.Common.{◌≡◌, ℕ, Bool, true, false, Option, Some, None, List, [], ◌∷◌, refl, sym, subst, ap, ◌∙◌}
+use Rattle.std.proofs.Common.{◌≡◌, ℕ, Bool, true, false, Some, None, List, [], ◌∷◌, sym, subst, ap, ◌∙◌}
 use Rattle.std.specs.Prelude.{◌↔◌}
 use Rattle.std.proofs.lemmas.Bool.{false≢true}
 use Rattle.std.specs.List.{AllByRecursion}
@@ -7,7 +7,7 @@ use Rattle.hex_geometry.specs.Position.{IsInside}
 use Rattle.hex_geometry.specs.declared.position.Pos.{Pos}
 use Rattle.cell_world.specs.declared.ant.Ant.{Ant}
 use Rattle.cell_world.specs.Grid.{Grid, IsWorld, world_of}
-use Rattle.cell_world.specs.World.{Cells, World, place_in}
+use Rattle.cell_world.specs.World.{Cells, place_in}
 use Rattle.cell_world.proofs.Patches.{some_one}
 use Rattle.cell_world.proofs.Places.{Holder, place_in-ant, place_in-inside}
 use Rattle.ant_turn.specs.Minds.{Minds, mind_of}

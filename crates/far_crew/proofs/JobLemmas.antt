@@ -1,5 +1,5 @@
 -- The looks of a job.
-use Rattle.std.proofs.Common.{◌≡◌, ℕ, zero, suc, ◌+◌, ◌-◌, ◌<◌, ◌≤◌, ◌^◌, List, [], ◌∷◌, ◌++◌, length, slice_index_or, take, drop, refl, sym, subst, ap, ◌∙◌, arith}
+use Rattle.std.proofs.Common.{◌≡◌, ℕ, zero, suc, ◌+◌, ◌-◌, ◌<◌, ◌≤◌, List, [], ◌∷◌, ◌++◌, length, slice_index_or, take, drop, refl, sym, subst, ap, ◌∙◌, arith}
 use Rattle.std.specs.List.{AllByRecursion}
 use Rattle.cell_world.specs.Grid.{Grid, world_of}
 use Rattle.ant_turn.specs.Minds.{Minds}
@@ -28,12 +28,6 @@ looks_of-each job (suc n) within =
 
 pub looked-each : (job : JobValue) (looks : List LookValue) → job.from ≤ job.to → job.to ≤ job.base.ids → looks ≡ looks_of job (job.to - job.from) → AllByRecursion (IsLookOf job.minds job.seed job.base) looks
 looked-each job looks forwards ids looked = subst (AllByRecursion (IsLookOf job.minds job.seed job.base)) (sym looked) (looks_of-each job (job.to - job.from) (omega arith))
-
--- no look is made yet
-pub looked-none : (job : JobValue) (t : ℕ) (looks : List LookValue) → take (t - t) looks ≡ looks_of job (t - t)
-looked-none job t looks =
-    let none : t - t ≡ 0 = omega arith in
-    subst (λ n. take n looks ≡ looks_of job n) (sym none) refl
 
 -- one look more
 pub looked-more : (job : JobValue) (n k t : ℕ) (looks new : List LookValue) (seed place : ℕ) → take n looks ≡ looks_of job n → k ≡ suc n → t ≡ job.from + n → seed ≡ job.seed → place ≡ slice_index_or job.guesses n 0 →

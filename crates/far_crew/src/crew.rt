@@ -1,22 +1,21 @@
 // The crew of workers that stand by.
-ghost use Rattle.std.specs.Prelude.{◌≡◌, ◌+◌, ◌-◌, ◌<◌, ◌≤◌, ◌^◌, IfOk, IfSome, OnOk, OnErr};
-ghost use Rattle.cell_world.specs.Grid.{world_of};
-ghost use Rattle.round_book.specs.Book.{CanBegin, FieldValue, IsPlayed, IsSameWindow, StandsOn, window_of};
+ghost use Rattle.std.specs.Prelude.{◌≡◌, ◌-◌, ◌≤◌, [], IfOk, OnOk, OnErr};
+ghost use Rattle.round_book.specs.Book.{CanBegin, FieldValue, IsPlayed, window_of};
 ghost use Rattle.round_book.specs.Counts.{counts_of};
-ghost use Rattle.round_book.specs.Window.{guess_for, guesses_for};
-ghost use Rattle.spec_record.specs.Look.{look_of};
+ghost use Rattle.round_book.specs.Window.{guesses_for};
 
-use crate::agreeing::is_look_for;
-use crate::dealing::{guesses_in, prepare_all};
-use crate::found::Found;
+use crate::dealing::prepare_all;
+use crate::guessing::guesses_in;
 use crate::kept::{brains_in, world_in};
 use crate::line::Line;
 use crate::own_brains::OwnBrains;
+use crate::picking::{Pick, choose, take_room};
+use crate::settling::settle;
 use ant_base::Gate;
 use cell_world::World;
 use hex_geometry::OutOfMemory;
-use round_book::{Book, Counts, Field, advance};
-use spec_record::{Look, look};
+use round_book::{Counts, Field};
+use spec_record::Look;
 use std::alloc::Global;
 use std::sync::{Arc, Wait};
 
@@ -31,11 +30,19 @@ pub struct FarCrew<'c, R: Wait, G: Gate> {
     lines: Vec<Line>,
     base: Option<Arc<World>>,
     minds: Option<Arc<OwnBrains>>,
+    picks: Vec<Option<Pick>>,
+    own: Vec<Look>,
 }
 
 impl<'c, R: Wait, G: Gate> FarCrew<'c, R, G> {
     // A crew of the workers of these lines, of so many that were asked for.
-    pub(crate) fn of(rt: &'c R, gate: &'c G, workers: u32, lines: Vec<Line>) -> FarCrew<'c, R, G> {
+    pub(crate) fn of(
+        rt: &'c R,
+        alloc: Global,
+        gate: &'c G,
+        workers: u32,
+        lines: Vec<Line>,
+    ) -> FarCrew<'c, R, G> {
         FarCrew {
             rt,
             gate,
@@ -43,6 +50,8 @@ impl<'c, R: Wait, G: Gate> FarCrew<'c, R, G> {
             lines,
             base: None,
             minds: None,
+            picks: Vec::new(alloc),
+            own: Vec::new(alloc),
         }
     }
 
@@ -67,15 +76,27 @@ impl<'c, R: Wait, G: Gate> FarCrew<'c, R, G> {
     {
         let guesses = guesses_in(alloc, field, from, to)?;
         self.prepare(alloc, field, &guesses, from, to)?;
-        self.look_ahead();
-        let mut book = field.begin(alloc, from, to)?;
-        settle(
+        take_room(&mut self.picks, &mut self.own, (to - from) as usize)?;
+        ask_all(self.rt, &mut self.lines);
+        take_in_all(self.rt, &mut self.lines);
+        choose(
             self.gate,
-            &mut book,
+            self.workers,
             field,
             &self.lines,
             &guesses,
-            self.workers,
+            &mut self.picks,
+            &mut self.own,
+            from,
+            to,
+        );
+        let mut book = field.begin(alloc, from, to)?;
+        settle(
+            &mut book,
+            field,
+            &self.lines,
+            &self.own,
+            &self.picks,
             from,
             to,
         );
@@ -111,12 +132,6 @@ impl<'c, R: Wait, G: Gate> FarCrew<'c, R, G> {
         self.minds = Some(minds);
         prepared
     }
-
-    // Sends all jobs, and takes all answers in.
-    fn look_ahead(&mut self) {
-        ask_all(self.rt, &mut self.lines);
-        take_in_all(self.rt, &mut self.lines);
-    }
 }
 
 // Gives back what the last window shared with each line.
@@ -137,132 +152,5 @@ fn ask_all<R: Wait>(rt: &R, lines: &mut [Line]) {
 fn take_in_all<R: Wait>(rt: &R, lines: &mut [Line]) {
     for line in lines {
         line.take_in(rt);
-    }
-}
-
-// Settles the turns of a window.
-fn settle<G: Gate>(
-    gate: &G,
-    book: &mut Book,
-    field: &Field<'_>,
-    lines: &[Line],
-    guesses: &[u64],
-    workers: u32,
-    from: u32,
-    to: u32,
-)
-    requires stands { StandsOn field.now book.old }
-    requires from { book.old.from ≡ from }
-    requires next { book.old.next ≡ from }
-    requires to { book.old.to ≡ to }
-    requires guesses { guesses.now ≡ guesses_for (window_of field.now from to) }
-    ensures stands { StandsOn field.now book.new }
-    ensures next { book.new.next ≡ to }
-    ensures same { IsSameWindow book.old book.new }
-{
-    for id in from..to {
-        let guess = guess_of(field, guesses, from, to, id);
-        settle_next(gate, book, field, lines, guess, workers, id);
-    }
-}
-
-// The guess of a turn.
-#[inline]
-fn guess_of(field: &Field<'_>, guesses: &[u64], from: u32, to: u32, id: u32) -> u64
-    requires guesses { guesses.now ≡ guesses_for (window_of field.now from to) }
-    requires first { from ≤ id }
-    requires last { id < to }
-    requires lasting { field.now.place + (to - from) < 2 ^ 63 }
-    ensures guess { result ≡ guess_for (window_of field.now from to) id }
-    ensures small { result + 1 < 2 ^ 63 }
-{
-    guesses[(id - from) as usize]
-}
-
-// Settles the next turn.
-fn settle_next<G: Gate>(
-    gate: &G,
-    book: &mut Book,
-    field: &Field<'_>,
-    lines: &[Line],
-    guess: u64,
-    workers: u32,
-    id: u32,
-)
-    requires stands { StandsOn field.now book.old }
-    requires next { book.old.next ≡ id }
-    requires left { book.old.next < book.old.to }
-    requires guess { guess ≡ guess_for (window_of field.now book.old.from book.old.to) id }
-    requires small { guess + 1 < 2 ^ 63 }
-    ensures stands { StandsOn field.now book.new }
-    ensures next { book.new.next ≡ id + 1 }
-    ensures same { IsSameWindow book.old book.new }
-{
-    match look_in(field, lines, guess, id) {
-        Some(look) => advance_by(book, field, look, guess, id),
-        None => {
-            gate.before_look(workers, id);
-            advance_by(
-                book,
-                field,
-                &look(field.world(), field.brains(), field.seed(), guess, id),
-                guess,
-                id,
-            );
-        }
-    }
-}
-
-// Settles the next turn by the look at it.
-#[inline]
-#[tactic(auto, using(crate::proofs::WindowLemmas::look_for_is))]
-fn advance_by(book: &mut Book, field: &Field<'_>, look: &Look, guess: u64, id: u32)
-    requires stands { StandsOn field.now book.old }
-    requires next { book.old.next ≡ id }
-    requires left { book.old.next < book.old.to }
-    requires guess { guess ≡ guess_for (window_of field.now book.old.from book.old.to) id }
-    requires look { look.now ≡ look_of field.now.minds field.now.seed (world_of field.now.world) guess id }
-    ensures stands { StandsOn field.now book.new }
-    ensures next { book.new.next ≡ id + 1 }
-    ensures same { IsSameWindow book.old book.new }
-{
-    advance(book, field, look);
-}
-
-// The first look of a turn at a guess that agrees, if there is one.
-fn look_in<'a>(field: &Field<'_>, lines: &'a [Line], guess: u64, id: u32) -> Option<&'a Look>
-    ensures { IfSome result (λ look. look.now ≡ look_of field.now.minds field.now.seed (world_of field.now.world) guess id) }
-{
-    for line in lines {
-        if let Some(found) = &line.found {
-            if let Some(look) = look_that_agrees(found, field, guess, id) {
-                return Some(look);
-            }
-        }
-    }
-    None
-}
-
-// The look of a turn on a field at a guess, if it is in this answer.
-fn look_that_agrees<'a>(
-    found: &'a Found,
-    field: &Field<'_>,
-    guess: u64,
-    id: u32,
-) -> Option<&'a Look>
-    ensures { IfSome result (λ look. look.now ≡ look_of field.now.minds field.now.seed (world_of field.now.world) guess id) }
-{
-    if found.len() == 0 {
-        return None;
-    }
-    let first = found.look(0).turn();
-    if id < first || (id - first) as usize >= found.len() {
-        return None;
-    }
-    let look = found.look((id - first) as usize);
-    if is_look_for(field, found, look, guess, id) {
-        Some(look)
-    } else {
-        None
     }
 }

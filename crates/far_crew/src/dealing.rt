@@ -1,5 +1,5 @@
 // Jobs for the workers of a window.
-ghost use Rattle.std.specs.Prelude.{◌≡◌, ◌+◌, ◌-◌, ◌<◌, ◌≤◌, ◌^◌, length, IfOk};
+ghost use Rattle.std.specs.Prelude.{◌≡◌, ◌+◌, ◌-◌, ◌<◌, ◌≤◌, ◌^◌, length};
 ghost use Rattle.std.specs.Arc.{arc_value};
 ghost use Rattle.std.specs.List.{AllByRecursion};
 ghost use Rattle.round_book.specs.Book.{CanBegin, FieldValue, window_of};
@@ -11,7 +11,7 @@ use crate::own_brains::OwnBrains;
 use cell_world::World;
 use hex_geometry::OutOfMemory;
 use round_book::Field;
-use spec_record::{Look, guesses};
+use spec_record::Look;
 use std::alloc::Global;
 use std::sync::Arc;
 use work_share::border;
@@ -19,27 +19,8 @@ use work_share::border;
 // The most workers that a window is shared out to.
 const MOST_WORKERS: usize = 16;
 
-// The guess of each turn of a window.
-pub fn guesses_in(
-    alloc: Global,
-    field: &Field<'_>,
-    from: u32,
-    to: u32,
-) -> Result<Vec<u64>, OutOfMemory>
-    requires { CanBegin field.now from to }
-    ensures { IfOk result (λ all. all.items ≡ guesses_for (window_of field.now from to)) }
-{
-    guesses(
-        alloc,
-        field.world(),
-        field.brains(),
-        field.place(),
-        from,
-        to,
-    )
-}
-
 // Has a job ready for each line that is open: the turns are shared out in contiguous pieces.
+#[tactic(auto, using(crate::proofs::WindowLemmas::guesses_count, crate::proofs::WindowLemmas::guesses_small))]
 pub fn prepare_all(
     alloc: Global,
     lines: &mut [Line],
@@ -108,7 +89,7 @@ fn job_of(
 
 // The job of the turns between two borders.
 #[tactic(auto, using(crate::proofs::JobLemmas::all_between))]
-fn job_between(
+pub fn job_between(
     alloc: Global,
     field: &Field<'_>,
     minds: Arc<OwnBrains>,

@@ -87,7 +87,7 @@ fn run_errand<R: Wait, G: Gate, E: Errand>(
 ) -> E
     ensures { E.finished errand result }
 {
-    let mut far = FarCrew::of(rt, gate, workers, lines);
+    let mut far = FarCrew::of(rt, alloc, gate, workers, lines);
     let mut crew = Led::by(
         |field: &mut Field<'_>, from: u32, to: u32| -> Result<Counts, OutOfMemory>
             requires { CanBegin field.now from to }

@@ -1,6 +1,7 @@
 // What workers find.
 ghost use Rattle.std.specs.Prelude.{◌≡◌, ◌<◌, length, slice_get, Some};
 ghost use Rattle.std.specs.Arc.{arc_value};
+ghost use Rattle.std.specs.Option.{option_copied};
 ghost use Rattle.ant_turn.specs.Minds.{Fits, minds_of};
 ghost use Rattle.cell_world.specs.Grid.{world_of};
 ghost use Rattle.far_crew.specs.Jobs.{IsFound, IsLookOf};
@@ -69,6 +70,13 @@ impl Found {
         ensures is { IsLookOf self.now.minds self.now.seed self.now.base result.now }
     {
         &self.looks[i]
+    }
+
+    // A look, if there is one of this number.
+    pub(crate) fn look_if(&self, i: usize) -> Option<&Look>
+        ensures { option_copied result ≡ slice_get self.now.looks i }
+    {
+        self.looks.get(i)
     }
 
     // The brains with which the looks were made.

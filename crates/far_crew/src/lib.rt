@@ -10,11 +10,14 @@ mod crew;
 mod dealing;
 mod far;
 mod found;
+mod guessing;
 mod job;
 mod kept;
 mod line;
 mod own_brains;
+mod picking;
 mod same_cells;
+mod settling;
 #[cfg(test)]
 mod tests;
 

@@ -4,12 +4,14 @@ ghost use Rattle.std.specs.Prelude.{◌≡◌, ◌≤◌, true, IfOk, length};
 ghost use Rattle.ant_base.specs.Shelf.{longest};
 
 use crate::crew::FarCrew;
+use crate::dealing::job_between;
+use crate::guessing::guesses_in;
 use crate::line::Line;
 use crate::{Errand, Found, Job, OwnBrains, agrees, with_far};
 use ant_base::NoGate;
 use ant_turn::{Brains, Sheet};
 use brain_read::{Brain, read_brain};
-use crossbeam_channel::bounded;
+use crossbeam_channel::{Receiver, Sender, bounded};
 use hex_geometry::Pos;
 use round_book::{Crew, Field, play_window};
 use std::alloc::Global;
@@ -28,9 +30,6 @@ const FLIPS: &str = "Flip 2 0 0";
 const MOVES: &str = "Move 0 0";
 
 const SEED: u32 = 12345;
-
-// The guesses of the turns of that round.
-const GUESSES: [u64; 7] = [0, 0, 0, 1, 1, 2, 2];
 
 // The most bytes of a file.
 const MOST_BYTES: usize = 4_194_304;
@@ -99,6 +98,22 @@ fn make_players<R: Abort>(rt: &R, alloc: Global, black: &str) -> Result<Players,
     Ok(Players { red, black })
 }
 
+// A whole field with the world of a text, at the start of a seed's random numbers.
+fn field_on<'b>(
+    alloc: Global,
+    text: &[u8],
+    brains: Brains<'b>,
+    seed: u32,
+) -> Result<Field<'b>, Fail>
+    requires { length text.now ≤ longest }
+    ensures { IfOk result (λ field. (field.whole ≡ true) × (field.place ≡ 0)) }
+{
+    let world = read_world(alloc, text)?;
+    let _red_states = brains.red.len();
+    let _black_states = brains.black.len();
+    Ok(Field::new(alloc, world, brains, seed, 0)?)
+}
+
 // A whole field at the start of the game.
 fn field_of<'b, R: Abort>(
     rt: &R,
@@ -111,31 +126,47 @@ fn field_of<'b, R: Abort>(
 {
     let bytes = WORLD.as_bytes();
     assert!(rt; bytes.len() <= MOST_BYTES);
-    let world = read_world(alloc, bytes)?;
-    let _red_states = players.red.len();
-    let _black_states = players.black.len();
     let brains = Brains {
         red: &players.red,
         black: &players.black,
         sheet,
     };
-    Ok(Field::new(alloc, world, brains, seed, 0)?)
+    field_on(alloc, bytes, brains, seed)
 }
 
-// The looks at these turns of a field.
-fn found_on<R: Abort>(
+// The looks at all turns of a field's first window.
+#[tactic(auto, using(crate::proofs::WindowLemmas::guesses_count, crate::proofs::WindowLemmas::guesses_small))]
+fn found_on<R: Abort>(rt: &R, alloc: Global, field: &Field<'_>) -> Result<Found, Fail>
+    requires { field.now.whole ≡ true }
+{
+    let ids = field.world().ant_count();
+    assert!(rt; field.place() < 1000);
+    let guesses = guesses_in(alloc, field, 0, ids)?;
+    let minds = Arc::new(alloc, OwnBrains::of(alloc, field.brains())?)?;
+    let base = Arc::new(alloc, field.world().copy(alloc)?)?;
+    let job = Job::of(alloc, field, minds, base, 0, ids, &guesses)?;
+    Ok(job.work(&NoGate, 0))
+}
+
+// The looks at these turns of it.
+#[tactic(auto, using(crate::proofs::WindowLemmas::guesses_count, crate::proofs::WindowLemmas::guesses_small))]
+fn piece_of<R: Abort>(
     rt: &R,
     alloc: Global,
     field: &Field<'_>,
-    from: u32,
-    to: u32,
-) -> Result<Found, Fail> {
-    assert!(rt; field.world().ant_count() == 7);
-    assert!(rt; from <= to && to <= 7);
+    first: usize,
+    last: usize,
+) -> Result<Found, Fail>
+    requires { field.now.whole ≡ true }
+{
+    let ids = field.world().ant_count();
+    assert!(rt; field.place() < 1000);
+    let guesses = guesses_in(alloc, field, 0, ids)?;
+    assert!(rt; first <= last && last <= guesses.len());
     let minds = Arc::new(alloc, OwnBrains::of(alloc, field.brains())?)?;
     let base = Arc::new(alloc, field.world().copy(alloc)?)?;
-    let guesses = &GUESSES[from as usize..to as usize];
-    let job = Job::of(alloc, field, minds, base, from, to, guesses)?;
+    let room = Vec::new(alloc);
+    let job = job_between(alloc, field, minds, base, &guesses, 0, first, last, room)?;
     Ok(job.work(&NoGate, 0))
 }
 
@@ -158,7 +189,7 @@ fn check_field<R: Abort>(
 ) -> Result<(), Fail> {
     let own = make_players(rt, alloc, MOVES)?;
     let field = field_of(rt, alloc, &own, Sheet::contest(), SEED)?;
-    let found = found_on(rt, alloc, &field, 0, 7)?;
+    let found = found_on(rt, alloc, &field)?;
     let others = make_players(rt, alloc, black)?;
     let other = field_of(rt, alloc, &others, sheet, seed)?;
     check_rows(rt, &other, &found, rows);
@@ -181,7 +212,7 @@ fn looks_of_another_game_dont_agree(rt: HostRuntime) -> Result<(), Fail> {
 fn looks_agree_with_a_later_field_where_it_is_the_same(rt: HostRuntime) -> Result<(), Fail> {
     let players = make_players(&rt, rt.alloc(), MOVES)?;
     let mut field = field_of(&rt, rt.alloc(), &players, Sheet::contest(), SEED)?;
-    let found = found_on(&rt, rt.alloc(), &field, 0, 7)?;
+    let found = found_on(&rt, rt.alloc(), &field)?;
     let ids = field.world().ant_count();
     play_window(&NoGate, rt.alloc(), &mut field, 0, ids)?;
     check_rows(&rt, &field, &found, &LATER);
@@ -193,16 +224,25 @@ fn looks_agree_with_a_later_field_where_it_is_the_same(rt: HostRuntime) -> Resul
 #[derive(Clone, Copy, Debug)]
 enum Sent {
     Nothing,
-    Looks { from: u32, to: u32 },
-    Later { from: u32, to: u32 },
+    Looks { from: usize, to: usize },
+    Later { from: usize, to: usize },
 }
 
+// The answers of two workers: right ones, none, one answer twice, each in place of the other, of another window, and of all turns at once.
+const ANSWERS: [(Sent, Sent); 7] = [
+    (Sent::Looks { from: 0, to: 3 }, Sent::Looks { from: 3, to: 7 }),
+    (Sent::Nothing, Sent::Looks { from: 3, to: 7 }),
+    (Sent::Nothing, Sent::Nothing),
+    (Sent::Looks { from: 0, to: 3 }, Sent::Looks { from: 0, to: 3 }),
+    (Sent::Looks { from: 3, to: 7 }, Sent::Looks { from: 0, to: 3 }),
+    (Sent::Later { from: 0, to: 3 }, Sent::Later { from: 3, to: 7 }),
+    (Sent::Looks { from: 0, to: 7 }, Sent::Later { from: 0, to: 0 }),
+];
+
 // The field after the round.
-fn later_field<'b, R: Abort>(
-    rt: &R,
-    alloc: Global,
-    players: &'b Players,
-) -> Result<Field<'b>, Fail> {
+fn later_field<'b, R: Abort>(rt: &R, alloc: Global, players: &'b Players) -> Result<Field<'b>, Fail>
+    ensures { IfOk result (λ field. field.whole ≡ true) }
+{
     let mut field = field_of(rt, alloc, players, Sheet::contest(), SEED)?;
     let ids = field.world().ant_count();
     play_window(&NoGate, alloc, &mut field, 0, ids)?;
@@ -220,40 +260,43 @@ fn answer<R: Abort>(
         Sent::Nothing => Ok(None),
         Sent::Looks { from, to } => {
             let field = field_of(rt, alloc, players, Sheet::contest(), SEED)?;
-            Ok(Some(found_on(rt, alloc, &field, from, to)?))
+            Ok(Some(piece_of(rt, alloc, &field, from, to)?))
         }
         Sent::Later { from, to } => {
             let field = later_field(rt, alloc, players)?;
-            Ok(Some(found_on(rt, alloc, &field, from, to)?))
+            Ok(Some(piece_of(rt, alloc, &field, from, to)?))
         }
     }
 }
 
-// Asserts what comes of the round with a crew of two workers of which these answers come.
-fn check_answers<R: Wait + Abort>(
+// Sends an answer, if there is one, and closes the channel.
+fn send<R: Wait + Abort>(rt: &R, answers: Sender<Found>, found: Option<Found>) {
+    if let Some(found) = found {
+        assert!(rt; answers.send(rt, found).is_ok());
+    }
+}
+
+// The line of a worker of which this answer comes, and the end at which its jobs come.
+fn line_of<R: Wait + Abort>(
     rt: &R,
     alloc: Global,
-    first: Sent,
-    second: Sent,
+    found: Option<Found>,
+) -> Result<(Line, Receiver<Job>), Fail> {
+    let (jobs, sent) = bounded(alloc, 1)?;
+    let (answers, taken) = bounded(alloc, 1)?;
+    send(rt, answers, found);
+    Ok((Line::of(jobs, taken), sent))
+}
+
+// Asserts what comes of the round with a crew of these two lines.
+fn check_round<R: Wait + Abort>(
+    rt: &R,
+    alloc: Global,
+    players: &Players,
+    lines: Vec<Line>,
 ) -> Result<(), Fail> {
-    let players = make_players(rt, alloc, MOVES)?;
-    let (to_first, _first_jobs) = bounded(alloc, 1)?;
-    let (to_second, _second_jobs) = bounded(alloc, 1)?;
-    let (first_answers, of_first) = bounded(alloc, 1)?;
-    let (second_answers, of_second) = bounded(alloc, 1)?;
-    if let Some(found) = answer(rt, alloc, &players, first)? {
-        assert!(rt; first_answers.send(rt, found).is_ok());
-    }
-    if let Some(found) = answer(rt, alloc, &players, second)? {
-        assert!(rt; second_answers.send(rt, found).is_ok());
-    }
-    drop(first_answers);
-    drop(second_answers);
-    let mut lines = Vec::with_capacity(alloc, 2)?;
-    lines.push(Line::of(to_first, of_first))?;
-    lines.push(Line::of(to_second, of_second))?;
-    let mut crew = FarCrew::of(rt, &NoGate, 2, lines);
-    let mut field = field_of(rt, alloc, &players, Sheet::contest(), SEED)?;
+    let mut crew = FarCrew::of(rt, alloc, &NoGate, 2, lines);
+    let mut field = field_of(rt, alloc, players, Sheet::contest(), SEED)?;
     let ids = field.world().ant_count();
     let counts = crew.window(alloc, &mut field, 0, ids)?;
     assert_eq!(rt; (counts.taken(), counts.redone(), field.place()), (5, 2, 1));
@@ -262,39 +305,40 @@ fn check_answers<R: Wait + Abort>(
     Ok(())
 }
 
-#[test]
-fn no_answer_spoils_a_window(rt: HostRuntime) -> Result<(), Fail> {
-    let rows = [
-        (
-            Sent::Looks { from: 0, to: 3 },
-            Sent::Looks { from: 3, to: 7 },
-        ),
-        (Sent::Nothing, Sent::Looks { from: 3, to: 7 }),
-        (Sent::Nothing, Sent::Nothing),
-        (
-            Sent::Looks { from: 0, to: 3 },
-            Sent::Looks { from: 0, to: 3 },
-        ),
-        (
-            Sent::Looks { from: 3, to: 7 },
-            Sent::Looks { from: 0, to: 3 },
-        ),
-        (
-            Sent::Later { from: 0, to: 3 },
-            Sent::Later { from: 3, to: 7 },
-        ),
-        (
-            Sent::Looks { from: 0, to: 7 },
-            Sent::Later { from: 0, to: 0 },
-        ),
-    ];
-    for (first, second) in &rows {
-        check_answers(&rt, rt.alloc(), *first, *second)?;
+// Asserts what comes of it with two workers of which these answers come.
+fn check_answers<R: Wait + Abort>(
+    rt: &R,
+    alloc: Global,
+    first: Sent,
+    second: Sent,
+) -> Result<(), Fail> {
+    let players = make_players(rt, alloc, MOVES)?;
+    let one = answer(rt, alloc, &players, first)?;
+    let two = answer(rt, alloc, &players, second)?;
+    let (one, _jobs_of_one) = line_of(rt, alloc, one)?;
+    let (two, _jobs_of_two) = line_of(rt, alloc, two)?;
+    let lines = vec![in alloc; one, two]?;
+    check_round(rt, alloc, &players, lines)
+}
+
+// Asserts the same of the answers of each row.
+fn check_all<R: Wait + Abort>(
+    rt: &R,
+    alloc: Global,
+    rows: &[(Sent, Sent)],
+) -> Result<(), Fail> {
+    for (first, second) in rows {
+        check_answers(rt, alloc, *first, *second)?;
     }
     Ok(())
 }
 
-// Errands: one that ends at once, and one that plays a window.
+#[test]
+fn no_answer_spoils_a_window(rt: HostRuntime) -> Result<(), Fail> {
+    check_all(&rt, rt.alloc(), &ANSWERS)
+}
+
+// An errand that ends at once.
 #[derive(Drop)]
 struct Early {
     number: u32,

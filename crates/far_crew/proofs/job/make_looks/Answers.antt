@@ -19,5 +19,5 @@ returns-clause-each g c =
     let job : JobValue = record { minds = minds_of c.args.brains; seed = c.args.seed; base = c.args.base.now; from = c.args.from; to = c.args.to; guesses = c.args.guesses.now } in
     let end : c.loop-id.id ≡ c.args.to = omega (arith, c.loop-id-test.false) in
     let looked : take (c.args.to - c.args.from) c.loop-id.looks.items ≡ looks_of job (c.args.to - c.args.from) =
-        subst (λ i. take (i - c.args.from) c.loop-id.looks.items ≡ looks_of job (i - c.args.from)) end c.loop-id.invariant.looked in
+    subst (λ i. take (i - c.args.from) c.loop-id.looks.items ≡ looks_of job (i - c.args.from)) end c.loop-id.invariant.looked in
     looked-each job (take (c.args.to - c.args.from) c.loop-id.looks.items) c.requires.forwards c.requires.ids looked

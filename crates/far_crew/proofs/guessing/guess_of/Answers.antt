@@ -1,13 +1,12 @@
-use Rattle.std.proofs.Common.{◌∙◌, ◌+◌, ◌-◌, ◌≡◌, slice_index_or, arith}
+use Rattle.std.proofs.Common.{arith}
 use Rattle.round_book.specs.Book.{window_of}
-use Rattle.round_book.specs.Window.{guess_for}
 use Rattle.round_book.proofs.SoloLemmas.{guess_for-le}
-use Rattle.far_crew.proofs.WindowLemmas.{guesses-at, guesses-length}
-use Rattle.far_crew.proofs.crew.guess_of.Goals as goal
+use Rattle.far_crew.proofs.WindowLemmas.{guesses-at, guesses_count}
+use Rattle.far_crew.proofs.guessing.guess_of.Goals as goal
 
 pub bounds-guesses-id : goal.bounds-guesses-id
 bounds-guesses-id c =
-    let long = guesses-length c.args.field.now c.args.from c.args.to c.args.guesses.now c.requires.guesses in
+    let long = guesses_count c.args.field.now c.args.from c.args.to c.args.guesses.now c.requires.guesses in
     let a = c.requires.first in let b = c.requires.last in omega arith
 
 pub returns-clause-guess : goal.returns-clause-guess
