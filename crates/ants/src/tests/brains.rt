@@ -135,7 +135,11 @@ fn a_brain_at_fault_is_named_with_its_first_fault(rt: HostRuntime) -> Result<(),
 }
 
 // Asserts that a brain of so many instructions is printed as it is.
-fn check_many<R: Threads + Wait + Sync + Abort>(rt: &R, alloc: Global, count: usize) -> Result<(), Fail> {
+fn check_many<R: Threads + Wait + Sync + Abort>(
+    rt: &R,
+    alloc: Global,
+    count: usize,
+) -> Result<(), Fail> {
     let brain = "Drop 9999\n".repeat(alloc, count)?;
     check(rt, alloc, &PRINT.with(Given::Black, &brain), done(&brain))
 }

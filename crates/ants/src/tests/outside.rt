@@ -276,7 +276,10 @@ fn check_written<R: Threads + Wait + Sync + Abort>(
 }
 
 // Asserts the same of the pushes of the game in which an ant dies, with its counts.
-fn check_killing_pushes<R: Threads + Wait + Sync + Abort>(rt: &R, alloc: Global) -> Result<(), Fail> {
+fn check_killing_pushes<R: Threads + Wait + Sync + Abort>(
+    rt: &R,
+    alloc: Global,
+) -> Result<(), Fail> {
     let line = "run w r b --seed 12345 --rounds 1 --dump 1 --stats";
     let text = format!(in alloc; "{KILLED}turns 7 taken 5 redone 2\n")?;
     check_pushes(rt, alloc, KILLING.with(Given::Line, line), &text)

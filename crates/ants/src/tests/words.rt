@@ -116,7 +116,10 @@ const REFUSED: [(&str, &str); 78] = [
     ("run w r b --far 1", "ants: word 6 refused\n"),
     ("run w r b --far --far", "ants: word 6 refused\n"),
     ("show w 1 --far", "ants: word 4 refused\n"),
-    ("cup --worlds w --brains r b --far", "ants: word 7 refused\n"),
+    (
+        "cup --worlds w --brains r b --far",
+        "ants: word 7 refused\n",
+    ),
 ];
 
 #[test]
