@@ -101,9 +101,11 @@ given-some kind (one ∷ more) options =
 -- no word of a command is empty
 command-some : (words : List (List ℕ)) (command : PlainCommand) → IsCommand words command → AllByRecursion IsSome words
 command-some words command is =
-    subst (AllByRecursion IsSome) (sym is.form.whole)
-    (first-some (kind_in command), AllByRecursion-append IsSome (joined is.front) (flat_map given_words is.given)
-    (joined-some (places_of (kind_in command)) is.front is.form.places) (given-some (kind_in command) is.given is.form.options))
+    subst (AllByRecursion IsSome) (sym is.form.whole) (
+      first-some (kind_in command),
+      AllByRecursion-append IsSome (joined is.front) (flat_map given_words is.given)
+          (joined-some (places_of (kind_in command)) is.front is.form.places) (given-some (kind_in command) is.given is.form.options),
+    )
 
 -- what holds of all holds of one between
 AllByRecursion-between : {X : Type 0} (P : X → Type 0) (xs : List X) (y : X) (ys : List X) → AllByRecursion P (xs ++ y ∷ ys) → P y
@@ -126,12 +128,11 @@ cut-far (word ∷ words) among = elim (cases_Bool (bytes_eq word (option_of Far)
     ap (λ (b : Bool). cond b [] word ∷ map word_without_far words) here ∙ ap (λ (b : Bool). cond b [] (word ∷ words_before (option_of Far) words) ++ [] ∷ map word_without_far words) (sym here),
   )
   | inr other ↦
-      let rest = cut-far words (sym (ap (λ (b : Bool). b || list_any (λ other. bytes_eq other (option_of Far)) words) other) ∙ among) in
-      (
+      let rest = cut-far words (sym (ap (λ (b : Bool). b || list_any (λ other. bytes_eq other (option_of Far)) words) other) ∙ among) in (
         rest.0,
         ap (λ (b : Bool). cond b [] word ∷ map word_without_far words) other
-        ∙ ap (λ (ws : List (List ℕ)). word ∷ ws) rest.1
-        ∙ ap (λ (b : Bool). cond b [] (word ∷ words_before (option_of Far) words) ++ [] ∷ rest.0) (sym other),
+            ∙ ap (λ (ws : List (List ℕ)). word ∷ ws) rest.1
+            ∙ ap (λ (b : Bool). cond b [] (word ∷ words_before (option_of Far) words) ++ [] ∷ rest.0) (sym other),
       )
 ]
 
@@ -151,8 +152,8 @@ cut words far =
 pub refuses_far : RefusesFar
 refuses_far = record {
   refused = λ words command far is.
-    let there = cut words far in
-    no_empty (words_before (option_of Far) words) there.0 command (subst (λ (ws : List (List ℕ)). IsCommand ws command) there.1 is);
+      let there = cut words far in
+      no_empty (words_before (option_of Far) words) there.0 command (subst (λ (ws : List (List ℕ)). IsCommand ws command) there.1 is);
   others = λ words other. cond-false (is_far_run words) (map word_without_far words) words other;
 }
 
@@ -181,7 +182,7 @@ refused-there front back begins =
       no_further = omega (arith, long);
       before = λ count less. let few : count ≤ length front = omega (arith, less) in subst IsBeginning (sym (take-append-le count front ([] ∷ back) few)) (begins count few);
       refused = λ inside. subst (λ (n : ℕ). ¬ IsBeginning (take n (front ++ [] ∷ back))) (let next : suc (length front) ≡ length front + 1 = omega arith in next)
-      (subst (λ (ws : List (List ℕ)). ¬ IsBeginning ws) (sym (take_next front back [])) (not_begun front));
+          (subst (λ (ws : List (List ℕ)). ¬ IsBeginning ws) (sym (take_next front back [])) (not_begun front));
       unfinished = λ last. absurd (omega (arith, long, last));
     }
 
