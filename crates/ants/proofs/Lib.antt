@@ -13,6 +13,7 @@ pub mod Readings
 pub mod SampleWorked
 pub mod TextEnds
 pub mod Texts
+pub mod Untouched
 pub mod Verdicts
 pub mod Viewed
 pub mod WorkedStops

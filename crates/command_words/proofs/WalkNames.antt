@@ -13,7 +13,7 @@ use Rattle.command_words.specs.declared.slot.Place.TheVariants.{Word, Names}
 use Rattle.command_words.specs.declared.table.CommandKind.{CommandKind}
 use Rattle.command_words.specs.declared.table.CommandKind.TheVariants.{Show, Brain, Minimise, Run, Gen, Cup, View, Workload, Help, Version, Asm}
 use Rattle.command_words.specs.declared.table.Choice.{Choice}
-use Rattle.command_words.specs.declared.table.Choice.TheVariants.{Seed, Rounds, Dump, Workers, Window, Surround, Corpse, Rest, Stats, Width, Height, Rocks, Blobs}
+use Rattle.command_words.specs.declared.table.Choice.TheVariants.{Seed, Rounds, Dump, Workers, Window, Surround, Corpse, Rest, Stats, Far, Width, Height, Rocks, Blobs}
 use Rattle.command_words.specs.Slots.{is_file_name, AllDiffer, AreNames, FitsPlace}
 use Rattle.command_words.specs.Table.{places_of, values_of, keyword_of, fewest_names, most_names, must_differ}
 use Rattle.command_words.specs.Command.{Given, given_words, joined, FitAll}
@@ -103,6 +103,7 @@ values-end Surround = tt
 values-end Corpse = tt
 values-end Rest = tt
 values-end Stats = tt
+values-end Far = tt
 values-end Width = tt
 values-end Height = tt
 values-end Rocks = tt

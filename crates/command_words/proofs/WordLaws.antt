@@ -10,7 +10,7 @@ use Rattle.command_words.specs.declared.limits.NumberKind.{NumberKind}
 use Rattle.command_words.specs.declared.limits.NumberKind.TheVariants.{SeedNumber, RoundCount, WorkerCount, WindowSize, FoeCount, CorpseFood, RestRounds, SideLength}
 use Rattle.command_words.specs.declared.limits.NumberKind.TheVariants.{ElementCount}
 use Rattle.command_words.specs.declared.table.Choice.{Choice}
-use Rattle.command_words.specs.declared.table.Choice.TheVariants.{Seed, Rounds, Dump, Workers, Window, Surround, Corpse, Rest, Stats, Width, Height, Rocks, Blobs}
+use Rattle.command_words.specs.declared.table.Choice.TheVariants.{Seed, Rounds, Dump, Workers, Window, Surround, Corpse, Rest, Stats, Far, Width, Height, Rocks, Blobs}
 use Rattle.command_words.specs.Limits.{least_of, most_of, number_in}
 use Rattle.command_words.specs.Table.{places_of, option_of}
 use Rattle.command_words.specs.Table.{default_workers, default_window, default_surround, default_corpse, default_rest, default_side, default_rocks, default_blobs}
@@ -167,6 +167,7 @@ same-setup setup given others same says = record {
   corpse = ap (number_or default_corpse CorpseFood) (same.value Corpse) ∙ says.corpse;
   rest = ap (number_or default_rest RestRounds) (same.value Rest) ∙ says.rest;
   stats = same.has Stats ∙ says.stats;
+  far = same.has Far ∙ says.far;
 }
 
 same-shape : (shape : GenShape) (given others : List Given) → SaySame given others → SaysShape shape given → SaysShape shape others

@@ -33,6 +33,7 @@ plain_setup options = record {
   corpse = options.corpse;
   rest = options.rest;
   stats = options.stats;
+  far = options.far;
 }
 
 -- the command that was read

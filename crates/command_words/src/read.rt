@@ -137,6 +137,7 @@ fn options_in<'w>(words: &'w [String]) -> Option<RunOptions<'w>>
     )?;
     let rest = small_or(DEFAULT_REST, NumberKind::RestRounds, Choice::Rest, words)?;
     let stats = is_among(Choice::Stats.word(), words);
+    let far = is_among(Choice::Far.word(), words);
     Some(RunOptions {
         seed,
         rounds,
@@ -147,6 +148,7 @@ fn options_in<'w>(words: &'w [String]) -> Option<RunOptions<'w>>
         corpse,
         rest,
         stats,
+        far,
     })
 }
 

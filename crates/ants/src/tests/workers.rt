@@ -9,6 +9,7 @@ use round_workers::{BoardCrew, PieceCrew};
 use std::alloc::Global;
 use std::hint::spin_loop;
 use std::process::Abort;
+use std::sync::Wait;
 use std::sync::atomic::{AtomicBool, AtomicU32, Ordering};
 use std::test::Fail;
 use std::thread::Threads;
@@ -104,7 +105,7 @@ fn begins(worker: &AtomicBool) -> bool {
 }
 
 // Words of the round in which a surrounded ant dies, and its counts.
-const COUNTED: [(&str, &str); 5] = [
+const COUNTED: [(&str, &str); 9] = [
     (
         "run w r b --seed 12345 --rounds 1 --dump 1 --stats --workers 1",
         "turns 7 taken 5 redone 2\n",
@@ -125,10 +126,26 @@ const COUNTED: [(&str, &str); 5] = [
         "run w r b --workers 2 --window 1 --seed 12345 --rounds 1 --dump 1 --stats",
         "turns 7 taken 7 redone 0\n",
     ),
+    (
+        "run w r b --seed 12345 --rounds 1 --dump 1 --stats --far",
+        "turns 7 taken 5 redone 2\n",
+    ),
+    (
+        "run w r b --seed 12345 --rounds 1 --dump 1 --stats --workers 3 --far",
+        "turns 7 taken 5 redone 2\n",
+    ),
+    (
+        "run w r b --far --seed 12345 --rounds 1 --dump 1 --stats --workers 16 --window 1",
+        "turns 7 taken 7 redone 0\n",
+    ),
+    (
+        "run w r b --seed 12345 --rounds 1 --dump 1 --far --workers 2",
+        "",
+    ),
 ];
 
 // Asserts what is written of that round with these words, by workers that call this gate.
-fn check_killing<R: Threads + Sync + Abort, G: Gate>(
+fn check_killing<R: Threads + Wait + Sync + Abort, G: Gate>(
     rt: &R,
     alloc: Global,
     line: &str,
@@ -142,7 +159,7 @@ fn check_killing<R: Threads + Sync + Abort, G: Gate>(
 }
 
 // Asserts what is written of that round with the words of each row.
-fn check_workers<R: Threads + Sync + Abort>(
+fn check_workers<R: Threads + Wait + Sync + Abort>(
     rt: &R,
     alloc: Global,
     rows: &[(&str, &str)],
@@ -213,7 +230,7 @@ fn a_crew_of_pieces_announces_the_turns_of_its_window(rt: HostRuntime) -> Result
 }
 
 // Asserts what is written of the same round by `run` with these words, of how many turns it took the looks, and that its workers met.
-fn check_run<R: Threads + Sync + Abort>(
+fn check_run<R: Threads + Wait + Sync + Abort>(
     rt: &R,
     alloc: Global,
     line: &str,
@@ -252,7 +269,7 @@ fn a_run_by_one_worker_announces_each_turn_once(rt: HostRuntime) -> Result<(), F
 }
 
 // Asserts that a command is done by workers who met, and who announced each turn of its one round once.
-fn check_meeting<R: Threads + Sync + Abort>(
+fn check_meeting<R: Threads + Wait + Sync + Abort>(
     rt: &R,
     alloc: Global,
     line: &str,
@@ -269,4 +286,17 @@ fn check_meeting<R: Threads + Sync + Abort>(
 fn sixteen_workers_of_a_workload_look_at_the_same_time(rt: HostRuntime) -> Result<(), Fail> {
     let meeting = Meeting::of(rt.alloc(), 16, 254)?;
     check_meeting(&rt, rt.alloc(), "workload 12345 1 16", &meeting)
+}
+
+#[test]
+fn a_far_run_by_two_workers_looks_at_the_same_time(rt: HostRuntime) -> Result<(), Fail> {
+    let line = "run w r b --seed 12345 --rounds 1 --dump 1 --stats --workers 2 --far";
+    let meeting = Meeting::of(rt.alloc(), 2, TURNS)?;
+    check_run(
+        &rt,
+        rt.alloc(),
+        line,
+        "turns 7 taken 5 redone 2\n",
+        &meeting,
+    )
 }
