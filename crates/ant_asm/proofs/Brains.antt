@@ -60,7 +60,7 @@ sound-below n state (Move met unmet) below range = (below met, below unmet)
 sound-below n state (Flip bound met unmet) below range = (range.0, below met, below unmet)
 
 -- there is an element at each place of a list
-element : {A : Type 0} (list : List A) (i : ℕ) → i < length list → (x : A) × (slice_get list i ≡ Some x)
+pub element : {A : Type 0} (list : List A) (i : ℕ) → i < length list → (x : A) × (slice_get list i ≡ Some x)
 element [] i inside = absurd (omega arith)
 element (x ∷ list) zero inside = (x, refl)
 element (x ∷ list) (suc i) inside = element list i (omega (arith, inside))

@@ -17,7 +17,7 @@ use Rattle.ant_turn.specs.Minds.{Minds, mind_of}
 use Rattle.ant_turn.specs.Renumber.{redirected, renumbered_ant, renumbered_cells, renumbered_world, with_mind}
 use Rattle.ant_turn.specs.Turn.{acts, execute, has_ant, instruction_at, is_blocked, turn, turn_at, turn_from, with_ant}
 use Rattle.ant_turn.proofs.RenumberLemmas.{after, becomes-renumbered, execute-renumbered, meets-renumbered, place_in-renumbered}
-use Rattle.ant_turn.proofs.RenumberedTurns.{redirected-self}
+use Rattle.ant_turn.proofs.RenumberedTurns.{redirected-self, turn-alike, with_mind-sheet}
 use Rattle.ant_asm.specs.declared.action.Action.{Action}
 use Rattle.ant_asm.specs.declared.action.Label.{Label}
 use Rattle.ant_asm.specs.declared.action.Action.TheVariants.{Sense, Mark, Unmark, PickUp, Drop, Turn, Move, Flip}
@@ -56,37 +56,6 @@ state_taken-by state seed cells place p ant (Drop on) = refl
 state_taken-by state seed cells place p ant (Turn side on) = refl
 state_taken-by state seed cells place p ant (Move met unmet) = state-choice state (is_blocked (cells (adjacent_pos p ant.facing))) unmet met
 state_taken-by state seed cells place p ant (Flip bound met unmet) = state-choice state (drawn seed place bound == 0) met unmet
-
--- a turn in which only the instruction of the ant that acts matters
-module _ (f : Colour → ℕ → ℕ) (minds : Minds) (red black : List Instr) where
-  abbrev others_minds : Minds
-  others_minds = record { red = red; black = black; sheet = minds.sheet }
-
-  -- the ant's instruction is the same but for its states
-  abbrev Agrees : Ant → Type 0
-  Agrees ant = instruction_at (mind_of others_minds ant.colour) (f ant.colour ant.state) ≡ redirected (f ant.colour) (instruction_at (mind_of minds ant.colour) ant.state)
-
-  acts-agree : (n seed : ℕ) (cells : Cells) (place : ℕ) (p : Pos) (ant : Ant) → Agrees ant → acts n others_minds seed (renumbered_cells f cells) place p (renumbered_ant f ant) ≡ after f (acts n minds seed cells place p ant)
-  acts-agree zero seed cells place p ant same =
-      ap (execute minds.sheet seed (renumbered_cells f cells) place p (renumbered_ant f ant)) same
-      ∙ execute-renumbered f minds.sheet seed cells place p ant (instruction_at (mind_of minds ant.colour) ant.state)
-  acts-agree (suc left) seed cells place p ant same = becomes-renumbered f false cells p (with_ant (cells p) (record ant { resting = left }))
-
-  turn_at-agree : (seed : ℕ) (cells : Cells) (place : ℕ) (p : Pos) (o : Option Ant) → ((ant : Ant) → o ≡ Some ant → Agrees ant) →
-      turn_at others_minds seed (renumbered_cells f cells) place p (option_map (renumbered_ant f) o) ≡ after f (turn_at minds seed cells place p o)
-  turn_at-agree seed cells place p None agree = refl
-  turn_at-agree seed cells place p (Some ant) agree = acts-agree ant.resting seed cells place p ant (agree ant refl)
-
-  turn_from-agree : (seed : ℕ) (cells : Cells) (place : ℕ) (o : Option Pos) → ((p : Pos) (ant : Ant) → o ≡ Some p → (cells p).ant ≡ Some ant → Agrees ant) →
-      turn_from others_minds seed (renumbered_cells f cells) place o ≡ after f (turn_from minds seed cells place o)
-  turn_from-agree seed cells place None agree = refl
-  turn_from-agree seed cells place (Some p) agree = turn_at-agree seed cells place p (cells p).ant (λ ant is. agree p ant refl is)
-
-  pub turn-agree : (seed : ℕ) (w : World) (place t : ℕ) → ((p : Pos) (ant : Ant) → place_in w t ≡ Some p → (w.cells p).ant ≡ Some ant → Agrees ant) →
-      turn others_minds seed (renumbered_world f w) place t ≡ after f (turn minds seed w place t)
-  unfolding turn
-  turn-agree seed w place t agree =
-      ap (turn_from others_minds seed (renumbered_cells f w.cells) place) (place_in-renumbered f w t) ∙ turn_from-agree seed w.cells place (place_in w t) agree
 
 -- the addresses with one of another id
 pub with_address-same : (addresses : ℕ → Address) (t : ℕ) (u : ℕ) → with_address addresses t (addresses t) u ≡ addresses u
@@ -168,8 +137,8 @@ pub turn-side : (minds : Minds) (brain other : List Instr) (side : Colour) (seed
     ((p : Pos) (ant : Ant) → place_in w t ≡ Some p → (w.cells p).ant ≡ Some ant →
     instruction_at (mind_of (with_mind minds side other) ant.colour) (wiped side ant.colour ant.state) ≡ redirected (wiped side ant.colour) (instruction_at (mind_of (with_mind minds side brain) ant.colour) ant.state)) →
     turn (with_mind minds side other) seed (renumbered_world (wiped side) w) place t ≡ after (wiped side) (turn (with_mind minds side brain) seed w place t)
-turn-side minds brain other Red seed w place t agree = turn-agree (wiped Red) (record minds { red = brain }) other minds.black seed w place t agree
-turn-side minds brain other Black seed w place t agree = turn-agree (wiped Black) (record minds { black = brain }) minds.red other seed w place t agree
+turn-side minds brain other side seed w place t agree =
+    turn-alike (wiped side) (with_mind minds side brain) (with_mind minds side other) (with_mind-sheet minds side other ∙ sym (with_mind-sheet minds side brain)) seed w place t agree
 
 -- the brain of the side
 pub mind_of-side : (minds : Minds) (brain : List Instr) (side own : Colour) → own ≡ side → mind_of (with_mind minds side brain) own ≡ brain

@@ -17,6 +17,7 @@ pub mod ReadingLemmas
 pub mod Brains
 pub mod Scores
 pub mod Assembling
+pub mod HasAssembled
 pub mod ProgramLemmas
 pub mod BlockLemmas
 pub mod OnAnswers

@@ -47,3 +47,8 @@ PlaysText text (Ok made) = (main : Items) → IsAsmText text main → (side : Co
     after_rounds (with_mind minds side made.brain) seed (start_of (world_of (opening width height kinds))) r
     ≡ numbered_moment made.places side (label_game main side minds seed width height kinds r)
 PlaysText text (Err fault) = Unit {0}
+
+-- the program of a text is assembled to one brain, with one list of places
+pub record OneBrain : Type 0 where
+  pub some : (text : List ℕ) (main : Items) → IsAsmText text main → (brain : List Instr) × (list : List Address) × IsAssembled main brain list
+  pub one : (main : Items) (a b : List Instr) (first second : List Address) → IsAssembled main a first → IsAssembled main b second → (a ≡ b) × (first ≡ second)

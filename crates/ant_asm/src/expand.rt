@@ -29,6 +29,15 @@ pub struct Frame<'f> {
     pub given: &'f [u16],
 }
 
+// An item of a body that is put in place: the body's number, its frame, and the item's place in it.
+#[derive(Clone, Copy)]
+struct Spot<'s> {
+    bodies: &'s [Body],
+    number: usize,
+    frame: Frame<'s>,
+    place: usize,
+}
+
 // The number of the first instruction from a place on.
 fn number_first(bodies: &[Body], number: usize, frame: Frame, place: usize) -> u16
     requires good { AreGood bodies.now }
@@ -46,44 +55,41 @@ fn number_first(bodies: &[Body], number: usize, frame: Frame, place: usize) -> u
 }
 
 // The number to which a label of an item leads.
-fn number_target(bodies: &[Body], number: usize, frame: Frame, place: usize, label: Label) -> u16
-    requires good { AreGood bodies.now }
-    requires known { number < length bodies.now }
-    requires inside { IsPlaceOfItem bodies.now number place }
-    requires small { place < most }
-    requires label { IsLabelOf bodies.now number label }
-    requires given { HasGiven bodies.now number frame }
-    requires fits { frame.base + size_of (tree_at bodies.now number) ≤ most }
-    ensures { result ≡ number_target (tree_at bodies.now number) (numbers_of frame.entry) place label }
+fn number_target(spot: Spot, label: Label) -> u16
+    requires good { AreGood spot.bodies.now }
+    requires known { spot.number < length spot.bodies.now }
+    requires inside { IsPlaceOfItem spot.bodies.now spot.number spot.place }
+    requires small { spot.place < most }
+    requires label { IsLabelOf spot.bodies.now spot.number label }
+    requires given { HasGiven spot.bodies.now spot.number spot.frame }
+    requires fits { spot.frame.base + size_of (tree_at spot.bodies.now spot.number) ≤ most }
+    ensures { result ≡ number_target (tree_at spot.entry.bodies.now spot.entry.number) (numbers_of spot.entry.frame) spot.entry.place label }
 {
     match label {
-        Label::Next => number_first(bodies, number, frame, place + 1),
-        Label::Place(at) => number_first(bodies, number, frame, at as usize),
-        Label::Parameter(i) => frame.given[i as usize],
+        Label::Next => number_first(spot.bodies, spot.number, spot.frame, spot.place + 1),
+        Label::Place(at) => number_first(spot.bodies, spot.number, spot.frame, at as usize),
+        Label::Parameter(i) => spot.frame.given[i as usize],
     }
 }
 
 // The numbers to which the labels lead that an item hands to a block.
 fn handed_numbers(
     alloc: Global,
-    bodies: &[Body],
-    number: usize,
-    frame: Frame,
-    place: usize,
+    spot: Spot,
     handed: &[Label],
 ) -> Result<Vec<u16>, OutOfMemory>
-    requires good { AreGood bodies.now }
-    requires known { number < length bodies.now }
-    requires inside { IsPlaceOfItem bodies.now number place }
-    requires small { place < most }
-    requires labels { AreLabelsOf bodies.now number handed.now }
-    requires given { HasGiven bodies.now number frame }
-    requires fits { frame.base + size_of (tree_at bodies.now number) ≤ most }
-    ensures { IfOk result (λ numbers. numbers.items ≡ map (number_target (tree_at bodies.now number) (numbers_of frame.entry) place) handed.now) }
+    requires good { AreGood spot.bodies.now }
+    requires known { spot.number < length spot.bodies.now }
+    requires inside { IsPlaceOfItem spot.bodies.now spot.number spot.place }
+    requires small { spot.place < most }
+    requires labels { AreLabelsOf spot.bodies.now spot.number handed.now }
+    requires given { HasGiven spot.bodies.now spot.number spot.frame }
+    requires fits { spot.frame.base + size_of (tree_at spot.bodies.now spot.number) ≤ most }
+    ensures { IfOk result (λ numbers. numbers.items ≡ map (number_target (tree_at spot.entry.bodies.now spot.entry.number) (numbers_of spot.entry.frame) spot.entry.place) handed.now) }
 {
     let mut numbers = Vec::with_capacity(alloc, handed.len())?;
     for label in handed {
-        numbers.push(number_target(bodies, number, frame, place, *label))?;
+        numbers.push(number_target(spot, *label))?;
     }
     Ok(numbers)
 }
@@ -127,12 +133,18 @@ pub(crate) fn expand(
     let body = &bodies[number];
     let items = body.items.as_slice();
     for place in 0..items.len() {
+        let spot = Spot {
+            bodies,
+            number,
+            frame,
+            place,
+        };
         match &items[place] {
             Item::Do(action) => {
-                emit(alloc, bodies, number, frame, place, *action, out)?;
+                emit(alloc, spot, *action, out)?;
             }
             Item::Use { block, handed } => {
-                let given = handed_numbers(alloc, bodies, number, frame, place, handed.as_slice())?;
+                let given = handed_numbers(alloc, spot, handed.as_slice())?;
                 let inner = Frame {
                     base: frame.base + body.starts[place],
                     after: number_first(bodies, number, frame, place + 1),
@@ -150,27 +162,24 @@ pub(crate) fn expand(
 // One instruction of a body.
 fn emit(
     alloc: Global,
-    bodies: &[Body],
-    number: usize,
-    frame: Frame,
-    place: usize,
+    spot: Spot,
     action: Action<Label>,
     out: &mut Expansion,
 ) -> Result<(), OutOfMemory>
-    requires good { AreGood bodies.now }
-    requires known { number < length bodies.now }
-    requires inside { IsPlaceOfItem bodies.now number place }
-    requires small { place < most }
-    requires action { IsActionOf bodies.now number action }
-    requires given { HasGiven bodies.now number frame }
-    requires fits { frame.base + size_of (tree_at bodies.now number) ≤ most }
+    requires good { AreGood spot.bodies.now }
+    requires known { spot.number < length spot.bodies.now }
+    requires inside { IsPlaceOfItem spot.bodies.now spot.number spot.place }
+    requires small { spot.place < most }
+    requires action { IsActionOf spot.bodies.now spot.number action }
+    requires given { HasGiven spot.bodies.now spot.number spot.frame }
+    requires fits { spot.frame.base + size_of (tree_at spot.bodies.now spot.number) ≤ most }
     ensures list { OnOk result (out.new.list.items ≡ out.old.list.items
-        ++ instruction_by (number_target (tree_at bodies.now number) (numbers_of frame.entry) place) action ∷ []) }
-    ensures places { OnOk result (out.new.places.items ≡ out.old.places.items ++ (out.old.path.items ++ place ∷ []) ∷ []) }
+        ++ instruction_by (number_target (tree_at spot.entry.bodies.now spot.entry.number) (numbers_of spot.entry.frame) spot.entry.place) action ∷ []) }
+    ensures places { OnOk result (out.new.places.items ≡ out.old.places.items ++ (out.old.path.items ++ spot.entry.place ∷ []) ∷ []) }
     ensures path { OnOk result (out.new.path.items ≡ out.old.path.items) }
 {
-    let address = with_place(alloc, out.path.as_slice(), place)?;
-    let instruction = numbered_at(bodies, number, frame, place, action);
+    let address = with_place(alloc, out.path.as_slice(), spot.place)?;
+    let instruction = numbered_at(spot, action);
     out.list.push(instruction)?;
     out.places.push(address)?;
     Ok(())
@@ -178,20 +187,17 @@ fn emit(
 
 // The instruction with numbers for labels.
 fn numbered_at(
-    bodies: &[Body],
-    number: usize,
-    frame: Frame,
-    place: usize,
+    spot: Spot,
     action: Action<Label>,
 ) -> Instr
-    requires good { AreGood bodies.now }
-    requires known { number < length bodies.now }
-    requires inside { IsPlaceOfItem bodies.now number place }
-    requires small { place < most }
-    requires action { IsActionOf bodies.now number action }
-    requires given { HasGiven bodies.now number frame }
-    requires fits { frame.base + size_of (tree_at bodies.now number) ≤ most }
-    ensures { result ≡ instruction_by (number_target (tree_at bodies.now number) (numbers_of frame.entry) place) action }
+    requires good { AreGood spot.bodies.now }
+    requires known { spot.number < length spot.bodies.now }
+    requires inside { IsPlaceOfItem spot.bodies.now spot.number spot.place }
+    requires small { spot.place < most }
+    requires action { IsActionOf spot.bodies.now spot.number action }
+    requires given { HasGiven spot.bodies.now spot.number spot.frame }
+    requires fits { spot.frame.base + size_of (tree_at spot.bodies.now spot.number) ≤ most }
+    ensures { result ≡ instruction_by (number_target (tree_at spot.entry.bodies.now spot.entry.number) (numbers_of spot.entry.frame) spot.entry.place) action }
 {
     match action {
         Action::Sense {
@@ -201,37 +207,37 @@ fn numbered_at(
             cond,
         } => Instr::Sense {
             sight,
-            yes: number_target(bodies, number, frame, place, met),
-            no: number_target(bodies, number, frame, place, unmet),
+            yes: number_target(spot, met),
+            no: number_target(spot, unmet),
             cond,
         },
         Action::Mark { mark, on } => Instr::Mark {
             mark,
-            next: number_target(bodies, number, frame, place, on),
+            next: number_target(spot, on),
         },
         Action::Unmark { mark, on } => Instr::Unmark {
             mark,
-            next: number_target(bodies, number, frame, place, on),
+            next: number_target(spot, on),
         },
         Action::PickUp { met, unmet } => Instr::PickUp {
-            yes: number_target(bodies, number, frame, place, met),
-            no: number_target(bodies, number, frame, place, unmet),
+            yes: number_target(spot, met),
+            no: number_target(spot, unmet),
         },
         Action::Drop { on } => Instr::Drop {
-            next: number_target(bodies, number, frame, place, on),
+            next: number_target(spot, on),
         },
         Action::Turn { side, on } => Instr::Turn {
             side,
-            next: number_target(bodies, number, frame, place, on),
+            next: number_target(spot, on),
         },
         Action::Move { met, unmet } => Instr::Move {
-            yes: number_target(bodies, number, frame, place, met),
-            no: number_target(bodies, number, frame, place, unmet),
+            yes: number_target(spot, met),
+            no: number_target(spot, unmet),
         },
         Action::Flip { bound, met, unmet } => Instr::Flip {
             bound,
-            yes: number_target(bodies, number, frame, place, met),
-            no: number_target(bodies, number, frame, place, unmet),
+            yes: number_target(spot, met),
+            no: number_target(spot, unmet),
         },
     }
 }

@@ -1,10 +1,16 @@
 // Laws of assembled programs.
+ghost use Rattle.ant_asm.specs.Answers.{OneBrain};
 ghost use Rattle.ant_asm.specs.Match.{PlaysLabelled, ScoresLabelled};
 ghost use Rattle.ant_asm.specs.Text.{OneProgramOrOneFault};
 
 /// A law: a text has one program or one fault, and never both.
 pub fn one_program_or_one_fault()
     ensures { OneProgramOrOneFault }
+{}
+
+/// A law: the program of a text is assembled to one brain, with one list of places.
+pub fn one_brain()
+    ensures { OneBrain }
 {}
 
 /// A law: by any opening world, other brain, numbers of the rules, seed, side and number of rounds, the game with an assembled brain is the

@@ -25,7 +25,7 @@ mod spelling;
 
 pub use assembly::{Assembled, assemble};
 pub use fault::AsmFault;
-pub use laws::{one_program_or_one_fault, plays_labelled, scores_labelled};
+pub use laws::{one_brain, one_program_or_one_fault, plays_labelled, scores_labelled};
 pub use places::{Address, Places};
 
 #[cfg(test)]

@@ -8,7 +8,7 @@ use Rattle.brain_read.proofs.SoundnessLemmas.{brain_of}
 use Rattle.brain_read.specs.declared.instr.Instr.{Instr}
 use Rattle.break_view.specs.Texts.{view_of}
 use Rattle.cell_world.specs.Grid.{Grid, world_of}
-use Rattle.command_words.specs.Command.PlainCommand.{ShowCommand, BrainCommand, MinimiseCommand, RunCommand, GenCommand, CupCommand, ViewCommand, WorkloadCommand, HelpCommand, VersionCommand}
+use Rattle.command_words.specs.Command.PlainCommand.{ShowCommand, BrainCommand, MinimiseCommand, RunCommand, GenCommand, CupCommand, ViewCommand, WorkloadCommand, HelpCommand, VersionCommand, AsmCommand}
 use Rattle.command_words.specs.Laws.{ShapeWithin}
 use Rattle.command_words.specs.declared.command.GenShape.{GenShape}
 use Rattle.tournament.proofs.Sorting.{has_standing}
@@ -20,9 +20,9 @@ use Rattle.world_gen.specs.declared.shape.Shape.{Shape}
 use Rattle.world_read.specs.Canonical.{canonical_text}
 use Rattle.world_read.specs.Opened.{kinds_of}
 use Rattle.ants.specs.Files.{AreAccepted, FileContent, IsAccepted}
-use Rattle.ants.specs.Files.FileContent.{BrainContent, BreakContent, WorldContent}
+use Rattle.ants.specs.Files.FileContent.{BrainContent, BreakContent, WorldContent, LabelledContent}
 use Rattle.ants.specs.Help.{help_text, version_text}
-use Rattle.ants.specs.Jobs.{IsCupOutput, IsViewOutput, brain_file, brain_output, break_file, contest_shape, cup_contents, cup_files, match_output, score_between, shape_named, show_output, summary_of, workload_text, world_file}
+use Rattle.ants.specs.Jobs.{IsCupOutput, IsViewOutput, asm_output, brain_file, brain_output, break_file, contest_shape, cup_contents, cup_files, match_output, score_between, shape_named, show_output, summary_of, workload_text, world_file}
 use Rattle.ants.specs.Laws.{HasOutput}
 use Rattle.ants.proofs.Viewed.{view_of-view}
 
@@ -41,6 +41,7 @@ players_read (name ∷ names) (fetch ∷ fetches) (BrainContent list ∷ content
     let rest = players_read names fetches contents are.1 in
     (list ∷ rest.0, ap (λ (more : List FileContent). BrainContent list ∷ more) rest.1)
 players_read (name ∷ names) (fetch ∷ fetches) (BreakContent items ∷ contents) are = absurd are.0.reads
+players_read (name ∷ names) (fetch ∷ fetches) (LabelledContent made places ∷ contents) are = absurd are.0.reads
 
 cup_read : (worlds names : List (List ℕ)) (fetches : List Fetched) (contents : List FileContent) → AreAccepted (cup_files worlds names) fetches contents → IsRead contents
 cup_read [] names fetches contents are =
@@ -53,6 +54,7 @@ cup_read (world ∷ worlds) names (fetch ∷ fetches) (WorldContent grid ∷ con
     record { worlds = grid ∷ rest.worlds; players = rest.players; is = ap (λ (more : List FileContent). WorldContent grid ∷ more) rest.is }
 cup_read (world ∷ worlds) names (fetch ∷ fetches) (BrainContent list ∷ contents) are = absurd are.0.reads
 cup_read (world ∷ worlds) names (fetch ∷ fetches) (BreakContent items ∷ contents) are = absurd are.0.reads
+cup_read (world ∷ worlds) names (fetch ∷ fetches) (LabelledContent made places ∷ contents) are = absurd are.0.reads
 
 cup_output : (names : List (List ℕ)) (seed rounds : ℕ) (contents : List FileContent) → IsRead contents → (text : List ℕ) × IsCupOutput names seed rounds contents text
 cup_output names seed rounds contents read =
@@ -64,13 +66,17 @@ view_output : (world red black breaks : List ℕ) (seed rounds : ℕ) (a b c d :
 view_output world red black breaks seed rounds a b c d (WorldContent grid) (BrainContent one) (BrainContent two) (BreakContent items) x y z u =
     (view_of (contest_minds one two) seed rounds (world_of grid) items, view_of-view (contest_minds one two) seed rounds (world_of grid) items)
 view_output world red black breaks seed rounds a b c d (WorldContent grid) (BrainContent one) (BrainContent two) (WorldContent fourth) x y z u = absurd u.reads
+view_output world red black breaks seed rounds a b c d (WorldContent grid) (BrainContent one) (BrainContent two) (LabelledContent made places) x y z u = absurd u.reads
 view_output world red black breaks seed rounds a b c d (WorldContent grid) (BrainContent one) (BrainContent two) (BrainContent fourth) x y z u = absurd u.reads
 view_output world red black breaks seed rounds a b c d (WorldContent grid) (BrainContent one) (WorldContent third) fourth x y z u = absurd z.reads
 view_output world red black breaks seed rounds a b c d (WorldContent grid) (BrainContent one) (BreakContent third) fourth x y z u = absurd z.reads
+view_output world red black breaks seed rounds a b c d (WorldContent grid) (BrainContent one) (LabelledContent made places) fourth x y z u = absurd z.reads
 view_output world red black breaks seed rounds a b c d (WorldContent grid) (WorldContent second) third fourth x y z u = absurd y.reads
 view_output world red black breaks seed rounds a b c d (WorldContent grid) (BreakContent second) third fourth x y z u = absurd y.reads
+view_output world red black breaks seed rounds a b c d (WorldContent grid) (LabelledContent made places) third fourth x y z u = absurd y.reads
 view_output world red black breaks seed rounds a b c d (BrainContent first) second third fourth x y z u = absurd x.reads
 view_output world red black breaks seed rounds a b c d (BreakContent first) second third fourth x y z u = absurd x.reads
+view_output world red black breaks seed rounds a b c d (LabelledContent made places) second third fourth x y z u = absurd x.reads
 
 -- a world whose elements have room
 has_world : (seed : ℕ) (shape : Shape) → IsShape shape → ((element : ℕ) → HasNoRoom seed shape element → ⊥) → (world : Grid) × IsGenerated seed shape world
@@ -98,6 +104,7 @@ has_output (MinimiseCommand file) (fetch ∷ fetches) (BrainContent list ∷ [])
     let minimised = has_minimised list (brain_of are.0.bytes list are.0.reads) in
     (minimised_text list minimised.0, record { new = minimised.0; numbers = minimised.1; minimised = minimised.2; told = refl })
 has_output (MinimiseCommand file) (fetch ∷ fetches) (BreakContent items ∷ []) within are room = absurd are.0.reads
+has_output (MinimiseCommand file) (fetch ∷ fetches) (LabelledContent made places ∷ []) within are room = absurd are.0.reads
 has_output (MinimiseCommand file) (fetch ∷ fetches) (content ∷ next ∷ more) within are room = (let never = are.1.1 in absurd (cc))
 has_output (RunCommand world red black setup) [] contents within are room = absurd are
 has_output (RunCommand world red black setup) (a ∷ fetches) [] within are room = absurd are
@@ -131,3 +138,7 @@ has_output HelpCommand fetches [] within are room = (help_text, refl)
 has_output HelpCommand fetches (content ∷ contents) within are room = (let never = are.1 in absurd (cc))
 has_output VersionCommand fetches [] within are room = (version_text, refl)
 has_output VersionCommand fetches (content ∷ contents) within are room = (let never = are.1 in absurd (cc))
+has_output (AsmCommand file) [] contents within are room = absurd are
+has_output (AsmCommand file) (fetch ∷ fetches) [] within are room = absurd are
+has_output (AsmCommand file) (fetch ∷ fetches) (content ∷ []) within are room = (asm_output content, refl)
+has_output (AsmCommand file) (fetch ∷ fetches) (content ∷ next ∷ more) within are room = (let never = are.1.1 in absurd (cc))

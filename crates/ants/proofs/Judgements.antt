@@ -7,7 +7,7 @@ use Rattle.ant_base.specs.Fetched.{Fetched}
 use Rattle.ant_base.specs.Shelf.{IsTold, longest}
 use Rattle.ant_base.specs.declared.shelf.FetchFault.TheVariants as answer
 use Rattle.ants.specs.declared.stop.FileFault.{FileFault}
-use Rattle.ants.specs.declared.stop.FileFault.TheVariants.{TooLong, World, Brain, Breaks}
+use Rattle.ants.specs.declared.stop.FileFault.TheVariants.{TooLong, World, Brain, Breaks, Labelled}
 use Rattle.ants.specs.Files.{AreAccepted, FileContent, File, IsAccepted, IsNoText, IsRefused, Refuses, StopsAt}
 use Rattle.ants.specs.Judged.{AreThere, IsJudged, IsRefusedAs, Judged, JudgesOnce, FilesVerdict}
 use Rattle.ants.specs.Judged.FilesVerdict.{AllAccepted, FirstRefused}
@@ -30,18 +30,27 @@ one_fault at file first second TooLong TooLong one two is also = refl
 one_fault at file first second TooLong (World b) one two is also = absurd (never_bytes at file.name also.bytes second first two one also.got is)
 one_fault at file first second TooLong (Brain b) one two is also = absurd (never_bytes at file.name also.bytes second first two one also.got is)
 one_fault at file first second TooLong (Breaks b) one two is also = absurd (never_bytes at file.name also.bytes second first two one also.got is)
+one_fault at file first second TooLong (Labelled b) one two is also = absurd (never_bytes at file.name also.bytes second first two one also.got is)
 one_fault at file first second (World a) TooLong one two is also = absurd (never_bytes at file.name is.bytes first second one two is.got also)
 one_fault at file first second (Brain a) TooLong one two is also = absurd (never_bytes at file.name is.bytes first second one two is.got also)
 one_fault at file first second (Breaks a) TooLong one two is also = absurd (never_bytes at file.name is.bytes first second one two is.got also)
+one_fault at file first second (Labelled a) TooLong one two is also = absurd (never_bytes at file.name is.bytes first second one two is.got also)
 one_fault at file first second (World a) (World b) one two is also = one_text_fault at file first second (World a) (World b) one two is also
 one_fault at file first second (World a) (Brain b) one two is also = one_text_fault at file first second (World a) (Brain b) one two is also
 one_fault at file first second (World a) (Breaks b) one two is also = one_text_fault at file first second (World a) (Breaks b) one two is also
+one_fault at file first second (World a) (Labelled b) one two is also = one_text_fault at file first second (World a) (Labelled b) one two is also
 one_fault at file first second (Brain a) (World b) one two is also = one_text_fault at file first second (Brain a) (World b) one two is also
 one_fault at file first second (Brain a) (Brain b) one two is also = one_text_fault at file first second (Brain a) (Brain b) one two is also
 one_fault at file first second (Brain a) (Breaks b) one two is also = one_text_fault at file first second (Brain a) (Breaks b) one two is also
+one_fault at file first second (Brain a) (Labelled b) one two is also = one_text_fault at file first second (Brain a) (Labelled b) one two is also
 one_fault at file first second (Breaks a) (World b) one two is also = one_text_fault at file first second (Breaks a) (World b) one two is also
 one_fault at file first second (Breaks a) (Brain b) one two is also = one_text_fault at file first second (Breaks a) (Brain b) one two is also
 one_fault at file first second (Breaks a) (Breaks b) one two is also = one_text_fault at file first second (Breaks a) (Breaks b) one two is also
+one_fault at file first second (Breaks a) (Labelled b) one two is also = one_text_fault at file first second (Breaks a) (Labelled b) one two is also
+one_fault at file first second (Labelled a) (World b) one two is also = one_text_fault at file first second (Labelled a) (World b) one two is also
+one_fault at file first second (Labelled a) (Brain b) one two is also = one_text_fault at file first second (Labelled a) (Brain b) one two is also
+one_fault at file first second (Labelled a) (Breaks b) one two is also = one_text_fault at file first second (Labelled a) (Breaks b) one two is also
+one_fault at file first second (Labelled a) (Labelled b) one two is also = one_text_fault at file first second (Labelled a) (Labelled b) one two is also
 
 -- files are accepted as the same contents
 same_contents : (at : At) (files : List File) (first second : List Fetched) (a b : List FileContent) → AllByRecursion (IsTold (Some at)) first → AllByRecursion (IsTold (Some at)) second → AreAccepted files first a → AreAccepted files second b → a ≡ b

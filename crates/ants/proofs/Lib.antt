@@ -5,6 +5,7 @@ pub mod HasOutputs
 pub mod Headlines
 pub mod HelpWorked
 pub mod Judgements
+pub mod LabelledGames
 pub mod Listed
 pub mod OneTexts
 pub mod Planned

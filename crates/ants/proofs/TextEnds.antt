@@ -5,6 +5,7 @@ use Rattle.std.proofs.lemmas.List.{length-map}
 use Rattle.std.proofs.lemmas.List.Sorted.{length_permutation}
 use Rattle.std.specs.List.{flat_map}
 use Rattle.std.specs.Prelude.{◌*◌, ◌%◌, ◌==◌, codes, decimal, slice_index_or}
+use Rattle.ant_asm.proofs.HasAssembled.{assembled-some}
 use Rattle.ant_base.proofs.Numbered.{numbered-list}
 use Rattle.ant_base.proofs.Pushing.{ends_in_lf-append}
 use Rattle.ant_base.specs.Fetched.{Fetched}
@@ -26,7 +27,7 @@ use Rattle.cell_world.specs.declared.kind.Kind.{Kind}
 use Rattle.cell_world.specs.declared.kind.Kind.TheVariants.{Rock}
 use Rattle.cell_world.specs.declared.score.Score.{Score}
 use Rattle.command_words.specs.Command.{PlainCommand, RunSetup}
-use Rattle.command_words.specs.Command.PlainCommand.{ShowCommand, BrainCommand, MinimiseCommand, RunCommand, GenCommand, CupCommand, ViewCommand, WorkloadCommand, HelpCommand, VersionCommand}
+use Rattle.command_words.specs.Command.PlainCommand.{ShowCommand, BrainCommand, MinimiseCommand, RunCommand, GenCommand, CupCommand, ViewCommand, WorkloadCommand, HelpCommand, VersionCommand, AsmCommand}
 use Rattle.command_words.specs.Laws.{CommandWithin, CupWithin}
 use Rattle.dump_print.specs.Content.{content_text}
 use Rattle.dump_print.specs.Texts.{cell_line, cells_text, dump_text, row_text, score_text, seed_text, stats_text}
@@ -46,8 +47,8 @@ use Rattle.world_read.specs.Opened.{kinds_of}
 use Rattle.ants.specs.declared.workload.Summary.{Summary}
 use Rattle.ants.specs.Files.{AreAccepted, FileContent, IsAccepted}
 use Rattle.ants.specs.Help.{file_lines, game_lines, game_option_lines, head_lines, help_text, status_lines, version_text, world_option_lines}
-use Rattle.ants.specs.Files.FileContent.{BrainContent, BreakContent, WorldContent}
-use Rattle.ants.specs.Jobs.{IsCupOutput, IsJobText, IsMinimisedOutput, IsViewOutput, brain_file, brain_output, chosen_rounds, cup_files, match_output, minds_named, score_between, show_output, summary_lines, summary_of, workload_text, world_file}
+use Rattle.ants.specs.Files.FileContent.{BrainContent, BreakContent, WorldContent, LabelledContent}
+use Rattle.ants.specs.Jobs.{IsCupOutput, IsJobText, IsMinimisedOutput, IsViewOutput, asm_output, brain_file, brain_output, chosen_rounds, cup_files, match_output, minds_named, labelled_file, score_between, show_output, summary_lines, summary_of, workload_text, world_file}
 use Rattle.ants.specs.Laws.{TextsEndInLf}
 use Rattle.ants.proofs.Cups.{players_counted}
 
@@ -272,38 +273,55 @@ show_ends : (name : List ℕ) (seed : ℕ) (fetch : Fetched) (content : FileCont
 show_ends name seed fetch (WorldContent grid) text got is = ends is (lf_show seed grid)
 show_ends name seed fetch (BrainContent list) text got is = absurd got.reads
 show_ends name seed fetch (BreakContent items) text got is = absurd got.reads
+show_ends name seed fetch (LabelledContent made places) text got is = absurd got.reads
 
 brain_ends : (name : List ℕ) (fetch : Fetched) (content : FileContent) (text : List ℕ) → IsAccepted (brain_file name) fetch content → text ≡ brain_output content → ends_in_lf text ≡ true
 unfolding brain_output
 brain_ends name fetch (WorldContent grid) text got is = absurd got.reads
 brain_ends name fetch (BrainContent list) text got is = ends is (lf_brain list (brain_of got.bytes list got.reads).some)
 brain_ends name fetch (BreakContent items) text got is = absurd got.reads
+brain_ends name fetch (LabelledContent made places) text got is = absurd got.reads
+
+asm_ends : (name : List ℕ) (fetch : Fetched) (content : FileContent) (text : List ℕ) → IsAccepted (labelled_file name) fetch content → text ≡ asm_output content → ends_in_lf text ≡ true
+unfolding asm_output
+asm_ends name fetch (WorldContent grid) text got is = absurd got.reads
+asm_ends name fetch (BrainContent list) text got is = absurd got.reads
+asm_ends name fetch (BreakContent items) text got is = absurd got.reads
+asm_ends name fetch (LabelledContent made places) text got is = ends is (lf_brain made (assembled-some got.bytes made places got.reads))
 
 minimised_ends : (content : FileContent) (text : List ℕ) → IsMinimisedOutput content text → ends_in_lf text ≡ true
 minimised_ends (WorldContent grid) text is = absurd is
 minimised_ends (BrainContent list) text is = ends is.told (lf_minimised list is.new)
 minimised_ends (BreakContent items) text is = absurd is
+minimised_ends (LabelledContent made places) text is = absurd is
 
 match_ends : (world red black : List ℕ) (setup : RunSetup) (a b c : Fetched) (first second third : FileContent) (text : List ℕ) → IsAccepted (world_file world) a first → IsAccepted (brain_file red) b second → IsAccepted (brain_file black) c third
     → text ≡ match_output setup first second third → ends_in_lf text ≡ true
 match_ends world red black setup a b c (WorldContent grid) (BrainContent one) (BrainContent two) text x y z is = ends is (lf_match setup grid one two)
 match_ends world red black setup a b c (WorldContent grid) (BrainContent one) (WorldContent third) text x y z is = absurd z.reads
 match_ends world red black setup a b c (WorldContent grid) (BrainContent one) (BreakContent third) text x y z is = absurd z.reads
+match_ends world red black setup a b c (WorldContent grid) (BrainContent one) (LabelledContent made places) text x y z is = absurd z.reads
 match_ends world red black setup a b c (WorldContent grid) (WorldContent second) third text x y z is = absurd y.reads
 match_ends world red black setup a b c (WorldContent grid) (BreakContent second) third text x y z is = absurd y.reads
+match_ends world red black setup a b c (WorldContent grid) (LabelledContent made places) third text x y z is = absurd y.reads
 match_ends world red black setup a b c (BrainContent first) second third text x y z is = absurd x.reads
 match_ends world red black setup a b c (BreakContent first) second third text x y z is = absurd x.reads
+match_ends world red black setup a b c (LabelledContent made places) second third text x y z is = absurd x.reads
 
 view_ends : (seed rounds : ℕ) (first second third fourth : FileContent) (text : List ℕ) → IsViewOutput seed rounds first second third fourth text → ends_in_lf text ≡ true
 view_ends seed rounds (WorldContent grid) (BrainContent red) (BrainContent black) (BreakContent items) text is = ends is.view (lf_view is.end seed rounds is.stop)
 view_ends seed rounds (WorldContent grid) (BrainContent red) (BrainContent black) (WorldContent fourth) text is = absurd is
+view_ends seed rounds (WorldContent grid) (BrainContent red) (BrainContent black) (LabelledContent made places) text is = absurd is
 view_ends seed rounds (WorldContent grid) (BrainContent red) (BrainContent black) (BrainContent fourth) text is = absurd is
 view_ends seed rounds (WorldContent grid) (BrainContent red) (WorldContent third) fourth text is = absurd is
 view_ends seed rounds (WorldContent grid) (BrainContent red) (BreakContent third) fourth text is = absurd is
+view_ends seed rounds (WorldContent grid) (BrainContent red) (LabelledContent made places) fourth text is = absurd is
 view_ends seed rounds (WorldContent grid) (WorldContent second) third fourth text is = absurd is
 view_ends seed rounds (WorldContent grid) (BreakContent second) third fourth text is = absurd is
+view_ends seed rounds (WorldContent grid) (LabelledContent made places) third fourth text is = absurd is
 view_ends seed rounds (BrainContent first) second third fourth text is = absurd is
 view_ends seed rounds (BreakContent first) second third fourth text is = absurd is
+view_ends seed rounds (LabelledContent made places) second third fourth text is = absurd is
 
 cup_ends : (worlds brains : List (List ℕ)) (seed rounds workers : ℕ) (fetches : List Fetched) (contents : List FileContent) (text : List ℕ) → CupWithin worlds brains seed rounds workers
     → AreAccepted (cup_files worlds brains) fetches contents → IsCupOutput brains seed rounds contents text → ends_in_lf text ≡ true
@@ -349,3 +367,7 @@ texts_end_in_lf HelpCommand fetches [] text within are is = ends is lf_help
 texts_end_in_lf HelpCommand fetches (content ∷ contents) text within are is = absurd is
 texts_end_in_lf VersionCommand fetches [] text within are is = ends is lf_version
 texts_end_in_lf VersionCommand fetches (content ∷ contents) text within are is = absurd is
+texts_end_in_lf (AsmCommand file) fetches [] text within are is = absurd is
+texts_end_in_lf (AsmCommand file) [] (content ∷ []) text within are is = absurd are
+texts_end_in_lf (AsmCommand file) (fetch ∷ fetches) (content ∷ []) text within are is = asm_ends file fetch content text are.0 is
+texts_end_in_lf (AsmCommand file) fetches (content ∷ next ∷ more) text within are is = absurd is

@@ -1,7 +1,16 @@
 -- The bytes of a file of each kind: they are read in one way or refused in one way, and never both.
 use Rattle.std.proofs.Common.{◌≡◌, ◌≢◌, ◌⊎◌, inl, inr, ℕ, List, Result, Ok, Err, refl, ap}
+use Rattle.ant_asm.proofs.HasAssembled.{one-reading, some-reading}
+use Rattle.ant_asm.proofs.Assembling.{no-fault}
+use Rattle.ant_asm.proofs.LineLemmas.{lines_decide}
+use Rattle.ant_asm.proofs.TextLemmas as program_text
+use Rattle.ant_asm.specs.Answers as labelled_answers
+use Rattle.ant_asm.specs.Places.{Address}
+use Rattle.ant_asm.specs.declared.fault.AsmFault.{AsmFault}
+use Rattle.ant_asm.specs.declared.fault.AsmFault.TheVariants as labelled
 use Rattle.brain_read.proofs.FaultyLemmas as whole
 use Rattle.brain_read.specs.Answers as brain_answers
+use Rattle.brain_read.specs.declared.instr.Instr.{Instr}
 use Rattle.brain_read.specs.declared.fault.BrainFault.{BrainFault}
 use Rattle.brain_read.specs.declared.fault.BrainFault.TheVariants as brain
 use Rattle.break_view.proofs.FaultyLemmas as break_whole
@@ -17,11 +26,11 @@ use Rattle.world_read.specs.Inner.Reading.{world_of_text}
 use Rattle.world_read.specs.declared.fault.WorldFault.{WorldFault}
 use Rattle.world_read.specs.declared.fault.WorldFault.TheVariants as world
 use Rattle.ants.specs.declared.stop.FileFault.{FileFault}
-use Rattle.ants.specs.declared.stop.FileFault.TheVariants.{TooLong, World, Brain, Breaks}
+use Rattle.ants.specs.declared.stop.FileFault.TheVariants.{TooLong, World, Brain, Breaks, Labelled}
 use Rattle.ants.specs.Files.{FileContent, FileKind, Reads, Refuses}
-use Rattle.ants.specs.Files.FileContent.{WorldContent, BrainContent, BreakContent}
-use Rattle.ants.specs.Files.FileKind.{WorldFile, BrainFile, BreakFile}
-use Rattle.ants.specs.Inner.Reading.{TextStops, brain_reason, break_reason, world_reason}
+use Rattle.ants.specs.Files.FileContent.{WorldContent, BrainContent, BreakContent, LabelledContent}
+use Rattle.ants.specs.Files.FileKind.{WorldFile, BrainFile, BreakFile, LabelledFile}
+use Rattle.ants.specs.Inner.Reading.{TextStops, brain_reason, break_reason, labelled_reason, world_reason}
 use Rattle.ants.specs.Stopping.Reason.{AtInput}
 
 -- bytes are never both a world's text and wrong
@@ -36,21 +45,35 @@ pub never_both : (kind : FileKind) (bytes : List ℕ) (content : FileContent) (f
 never_both WorldFile bytes content TooLong reads refuses = refuses
 never_both WorldFile bytes content (Brain fault) reads refuses = refuses
 never_both WorldFile bytes content (Breaks fault) reads refuses = refuses
+never_both WorldFile bytes content (Labelled fault) reads refuses = refuses
 never_both WorldFile bytes (WorldContent grid) (World fault) reads refuses = never_wrong bytes grid fault reads refuses
 never_both WorldFile bytes (BrainContent list) (World fault) reads refuses = reads
 never_both WorldFile bytes (BreakContent items) (World fault) reads refuses = reads
+never_both WorldFile bytes (LabelledContent made places) (World fault) reads refuses = reads
 never_both BrainFile bytes content TooLong reads refuses = refuses
 never_both BrainFile bytes content (World fault) reads refuses = refuses
 never_both BrainFile bytes content (Breaks fault) reads refuses = refuses
+never_both BrainFile bytes content (Labelled fault) reads refuses = refuses
 never_both BrainFile bytes (WorldContent grid) (Brain fault) reads refuses = reads
 never_both BrainFile bytes (BrainContent list) (Brain fault) reads refuses = whole.never_both bytes list fault reads refuses
 never_both BrainFile bytes (BreakContent items) (Brain fault) reads refuses = reads
+never_both BrainFile bytes (LabelledContent made places) (Brain fault) reads refuses = reads
 never_both BreakFile bytes content TooLong reads refuses = refuses
 never_both BreakFile bytes content (World fault) reads refuses = refuses
 never_both BreakFile bytes content (Brain fault) reads refuses = refuses
+never_both BreakFile bytes content (Labelled fault) reads refuses = refuses
 never_both BreakFile bytes (WorldContent grid) (Breaks fault) reads refuses = reads
 never_both BreakFile bytes (BrainContent list) (Breaks fault) reads refuses = reads
 never_both BreakFile bytes (BreakContent items) (Breaks fault) reads refuses = break_whole.never_both bytes items fault reads refuses
+never_both BreakFile bytes (LabelledContent made places) (Breaks fault) reads refuses = reads
+never_both LabelledFile bytes content TooLong reads refuses = refuses
+never_both LabelledFile bytes content (World fault) reads refuses = refuses
+never_both LabelledFile bytes content (Brain fault) reads refuses = refuses
+never_both LabelledFile bytes content (Breaks fault) reads refuses = refuses
+never_both LabelledFile bytes (WorldContent grid) (Labelled fault) reads refuses = reads
+never_both LabelledFile bytes (BrainContent list) (Labelled fault) reads refuses = reads
+never_both LabelledFile bytes (BreakContent items) (Labelled fault) reads refuses = reads
+never_both LabelledFile bytes (LabelledContent made places) (Labelled fault) reads refuses = no-fault bytes made places reads fault refuses
 
 one_world : (bytes : List ℕ) (a b : Grid) → OpensAs bytes a → OpensAs bytes b → a ≡ b
 one_world bytes a b first second =
@@ -64,23 +87,43 @@ one_world_fault bytes a b first second =
     let two = told.world_of_text-wrong bytes b second in
     cc
 
+one_labelled : (bytes : List ℕ) (a b : List Instr) (first second : List Address) → labelled_answers.IsAssembledText bytes a first → labelled_answers.IsAssembledText bytes b second → LabelledContent a first ≡ LabelledContent b second
+one_labelled bytes a b first second x y =
+    let same = one-reading bytes a b first second x y in
+    let brains : a ≡ b = same.0 in
+    let lists : first ≡ second = same.1 in
+    cc
+
 -- bytes are read in one way
 pub one_reading : (kind : FileKind) (bytes : List ℕ) (a b : FileContent) → Reads kind bytes a → Reads kind bytes b → a ≡ b
 one_reading WorldFile bytes (WorldContent a) (WorldContent b) first second = ap WorldContent (one_world bytes a b first second)
 one_reading WorldFile bytes (WorldContent a) (BrainContent b) first second = absurd second
 one_reading WorldFile bytes (WorldContent a) (BreakContent b) first second = absurd second
+one_reading WorldFile bytes (WorldContent a) (LabelledContent made places) first second = absurd second
 one_reading WorldFile bytes (BrainContent a) b first second = absurd first
 one_reading WorldFile bytes (BreakContent a) b first second = absurd first
+one_reading WorldFile bytes (LabelledContent made places) b first second = absurd first
 one_reading BrainFile bytes (BrainContent a) (BrainContent b) first second = ap BrainContent (whole.one_brain bytes a b first second)
 one_reading BrainFile bytes (BrainContent a) (WorldContent b) first second = absurd second
 one_reading BrainFile bytes (BrainContent a) (BreakContent b) first second = absurd second
+one_reading BrainFile bytes (BrainContent a) (LabelledContent made places) first second = absurd second
 one_reading BrainFile bytes (WorldContent a) b first second = absurd first
 one_reading BrainFile bytes (BreakContent a) b first second = absurd first
+one_reading BrainFile bytes (LabelledContent made places) b first second = absurd first
 one_reading BreakFile bytes (BreakContent a) (BreakContent b) first second = ap BreakContent (break_whole.one_list bytes a b first second)
 one_reading BreakFile bytes (BreakContent a) (WorldContent b) first second = absurd second
 one_reading BreakFile bytes (BreakContent a) (BrainContent b) first second = absurd second
+one_reading BreakFile bytes (BreakContent a) (LabelledContent made places) first second = absurd second
 one_reading BreakFile bytes (WorldContent a) b first second = absurd first
 one_reading BreakFile bytes (BrainContent a) b first second = absurd first
+one_reading BreakFile bytes (LabelledContent made places) b first second = absurd first
+one_reading LabelledFile bytes (LabelledContent made places) (LabelledContent other others) first second = one_labelled bytes made other places others first second
+one_reading LabelledFile bytes (LabelledContent made places) (WorldContent b) first second = absurd second
+one_reading LabelledFile bytes (LabelledContent made places) (BrainContent b) first second = absurd second
+one_reading LabelledFile bytes (LabelledContent made places) (BreakContent b) first second = absurd second
+one_reading LabelledFile bytes (WorldContent a) b first second = absurd first
+one_reading LabelledFile bytes (BrainContent a) b first second = absurd first
+one_reading LabelledFile bytes (BreakContent a) b first second = absurd first
 
 -- bytes are refused in one way
 pub one_refusal : (kind : FileKind) (bytes : List ℕ) (a b : FileFault) → Refuses kind bytes a → Refuses kind bytes b → a ≡ b
@@ -88,23 +131,38 @@ one_refusal WorldFile bytes (World a) (World b) first second = ap World (one_wor
 one_refusal WorldFile bytes (World a) TooLong first second = absurd second
 one_refusal WorldFile bytes (World a) (Brain b) first second = absurd second
 one_refusal WorldFile bytes (World a) (Breaks b) first second = absurd second
+one_refusal WorldFile bytes (World a) (Labelled b) first second = absurd second
 one_refusal WorldFile bytes TooLong b first second = absurd first
 one_refusal WorldFile bytes (Brain a) b first second = absurd first
 one_refusal WorldFile bytes (Breaks a) b first second = absurd first
+one_refusal WorldFile bytes (Labelled a) b first second = absurd first
 one_refusal BrainFile bytes (Brain a) (Brain b) first second = ap Brain (whole.one_fault bytes a b first second)
 one_refusal BrainFile bytes (Brain a) TooLong first second = absurd second
 one_refusal BrainFile bytes (Brain a) (World b) first second = absurd second
 one_refusal BrainFile bytes (Brain a) (Breaks b) first second = absurd second
+one_refusal BrainFile bytes (Brain a) (Labelled b) first second = absurd second
 one_refusal BrainFile bytes TooLong b first second = absurd first
 one_refusal BrainFile bytes (World a) b first second = absurd first
 one_refusal BrainFile bytes (Breaks a) b first second = absurd first
+one_refusal BrainFile bytes (Labelled a) b first second = absurd first
 one_refusal BreakFile bytes (Breaks a) (Breaks b) first second = ap Breaks (break_whole.one_fault bytes a b first second)
 one_refusal BreakFile bytes (Breaks a) TooLong first second = absurd second
 one_refusal BreakFile bytes (Breaks a) (World b) first second = absurd second
 one_refusal BreakFile bytes (Breaks a) (Brain b) first second = absurd second
+one_refusal BreakFile bytes (Breaks a) (Labelled b) first second = absurd second
 one_refusal BreakFile bytes TooLong b first second = absurd first
 one_refusal BreakFile bytes (World a) b first second = absurd first
 one_refusal BreakFile bytes (Brain a) b first second = absurd first
+one_refusal BreakFile bytes (Labelled a) b first second = absurd first
+one_refusal LabelledFile bytes (Labelled a) (Labelled b) first second = ap Labelled (program_text.one_fault lines_decide bytes a b first second)
+one_refusal LabelledFile bytes (Labelled a) TooLong first second = absurd second
+one_refusal LabelledFile bytes (Labelled a) (World b) first second = absurd second
+one_refusal LabelledFile bytes (Labelled a) (Brain b) first second = absurd second
+one_refusal LabelledFile bytes (Labelled a) (Breaks b) first second = absurd second
+one_refusal LabelledFile bytes TooLong b first second = absurd first
+one_refusal LabelledFile bytes (World a) b first second = absurd first
+one_refusal LabelledFile bytes (Brain a) b first second = absurd first
+one_refusal LabelledFile bytes (Breaks a) b first second = absurd first
 
 some_world : (bytes : List ℕ) → ((grid : Grid) × OpensAs bytes grid) ⊎ ((fault : WorldFault) × IsWorldFault bytes fault)
 some_world bytes = go (world_of_text bytes) refl
@@ -118,12 +176,14 @@ pub some_reading : (kind : FileKind) (bytes : List ℕ) → ((content : FileCont
 some_reading WorldFile bytes = elim (some_world bytes) [ inl opens ↦ inl (WorldContent opens.0, opens.1) | inr wrong ↦ inr (World wrong.0, wrong.1) ]
 some_reading BrainFile bytes = elim (whole.some_answer bytes) [ inl is ↦ inl (BrainContent is.0, is.1) | inr wrong ↦ inr (Brain wrong.0, wrong.1) ]
 some_reading BreakFile bytes = elim (break_whole.some_answer bytes) [ inl is ↦ inl (BreakContent is.0, is.1) | inr wrong ↦ inr (Breaks wrong.0, wrong.1) ]
+some_reading LabelledFile bytes = elim (some-reading bytes) [ inl is ↦ inl (LabelledContent is.0 is.1, is.2) | inr wrong ↦ inr (Labelled wrong.0, wrong.1) ]
 
 -- bytes are never refused as too long: such a file gives no bytes
 pub never_long : (kind : FileKind) (bytes : List ℕ) → Refuses kind bytes TooLong → ⊥
 never_long WorldFile bytes refuses = refuses
 never_long BrainFile bytes refuses = refuses
 never_long BreakFile bytes refuses = refuses
+never_long LabelledFile bytes refuses = refuses
 
 -- the fault of a world's text stops the reading of its file
 pub world_stops : (name bytes : List ℕ) (fault : WorldFault) → world_answers.IsFaultOf bytes fault → TextStops WorldFile bytes name (world_reason name fault)
@@ -159,6 +219,24 @@ break_stops name bytes (breaks.ExtraToken line) is = (refl, is)
 break_stops name bytes (breaks.TooMany line) is = (refl, is)
 break_stops name bytes breaks.OutOfMemory is = tt
 
+-- the fault of a labelled program's text stops the reading of its file
+pub labelled_stops : (name bytes : List ℕ) (fault : AsmFault) → labelled_answers.IsFaultOf bytes fault → TextStops LabelledFile bytes name (labelled_reason name fault)
+labelled_stops name bytes (labelled.BadByte line) is = (refl, is)
+labelled_stops name bytes (labelled.UnknownWord line) is = (refl, is)
+labelled_stops name bytes (labelled.MissingToken line) is = (refl, is)
+labelled_stops name bytes (labelled.BadNumber line) is = (refl, is)
+labelled_stops name bytes (labelled.ExtraToken line) is = (refl, is)
+labelled_stops name bytes (labelled.BadName line) is = (refl, is)
+labelled_stops name bytes (labelled.Misplaced line) is = (refl, is)
+labelled_stops name bytes (labelled.Twice line) is = (refl, is)
+labelled_stops name bytes (labelled.NoBlock line) is = (refl, is)
+labelled_stops name bytes (labelled.WrongCount line) is = (refl, is)
+labelled_stops name bytes (labelled.TooMany line) is = (refl, is)
+labelled_stops name bytes (labelled.EmptyBlock line) is = (refl, is)
+labelled_stops name bytes labelled.Empty is = (refl, is)
+labelled_stops name bytes (labelled.NoLabel line) is = (refl, is)
+labelled_stops name bytes labelled.OutOfMemory is = tt
+
 -- a fault of a world's text that isn't want of memory names its file
 pub world_reason_other : (name : List ℕ) (fault : WorldFault) → fault ≢ world.OutOfMemory → AtInput name (World fault) ≡ world_reason name fault
 world_reason_other name world.BadWidth other = refl
@@ -192,3 +270,21 @@ break_reason_other name (breaks.BadNumber line) other = refl
 break_reason_other name (breaks.ExtraToken line) other = refl
 break_reason_other name (breaks.TooMany line) other = refl
 break_reason_other name breaks.OutOfMemory other = absurd (other refl)
+
+-- and one of a labelled program's
+pub labelled_reason_other : (name : List ℕ) (fault : AsmFault) → fault ≢ labelled.OutOfMemory → AtInput name (Labelled fault) ≡ labelled_reason name fault
+labelled_reason_other name (labelled.BadByte line) other = refl
+labelled_reason_other name (labelled.UnknownWord line) other = refl
+labelled_reason_other name (labelled.MissingToken line) other = refl
+labelled_reason_other name (labelled.BadNumber line) other = refl
+labelled_reason_other name (labelled.ExtraToken line) other = refl
+labelled_reason_other name (labelled.BadName line) other = refl
+labelled_reason_other name (labelled.Misplaced line) other = refl
+labelled_reason_other name (labelled.Twice line) other = refl
+labelled_reason_other name (labelled.NoBlock line) other = refl
+labelled_reason_other name (labelled.WrongCount line) other = refl
+labelled_reason_other name (labelled.TooMany line) other = refl
+labelled_reason_other name (labelled.EmptyBlock line) other = refl
+labelled_reason_other name labelled.Empty other = refl
+labelled_reason_other name (labelled.NoLabel line) other = refl
+labelled_reason_other name labelled.OutOfMemory other = absurd (other refl)

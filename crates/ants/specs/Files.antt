@@ -1,5 +1,8 @@
 -- The files of a command, and what is accepted of them.
 use Rattle.std.specs.Prelude.{◌≡◌, ℕ, List, [], ◌∷◌, ◌++◌, map, Ok, Err, ◌⊎◌}
+use Rattle.ant_asm.specs.Answers.{IsAssembledText}
+use Rattle.ant_asm.specs.Places.{Address}
+use Rattle.ant_asm.specs.Text.{IsAsmFault}
 use Rattle.ant_base.specs.Fetched.{Fetched}
 use Rattle.ant_base.specs.declared.shelf.FetchFault.TheVariants as answer
 use Rattle.brain_read.specs.declared.instr.Instr.{Instr}
@@ -12,13 +15,14 @@ use Rattle.cell_world.specs.Grid.{Grid}
 use Rattle.world_read.specs.Faulty.{IsWorldFault}
 use Rattle.world_read.specs.Opened.{OpensAs}
 use Rattle.ants.specs.declared.stop.FileFault.{FileFault}
-use Rattle.ants.specs.declared.stop.FileFault.TheVariants.{TooLong, World, Brain, Breaks}
+use Rattle.ants.specs.declared.stop.FileFault.TheVariants.{TooLong, World, Brain, Breaks, Labelled}
 
 -- what a file is read as
 pub data FileKind : Type 0 where
   WorldFile : FileKind
   BrainFile : FileKind
   BreakFile : FileKind
+  LabelledFile : FileKind
 
 -- a file that a command names
 pub record File : Type 0 where
@@ -30,12 +34,15 @@ pub data FileContent : Type 0 where
   WorldContent : Grid → FileContent
   BrainContent : List Instr → FileContent
   BreakContent : List Break → FileContent
+  -- of a labelled program: its brain, and the address of each of the brain's instructions
+  LabelledContent : (brain : List Instr) → (places : List Address) → FileContent
 
 -- bytes are read as this content in a file of this kind
 abbrev pub Reads : FileKind → List ℕ → FileContent → Type 0
 Reads WorldFile bytes (WorldContent grid) = OpensAs bytes grid
 Reads BrainFile bytes (BrainContent list) = IsBrainText bytes list
 Reads BreakFile bytes (BreakContent items) = IsBreakText bytes items
+Reads LabelledFile bytes (LabelledContent brain places) = IsAssembledText bytes brain places
 Reads kind bytes content = ⊥
 
 -- bytes have this fault in a file of this kind
@@ -43,6 +50,7 @@ abbrev pub Refuses : FileKind → List ℕ → FileFault → Type 0
 Refuses WorldFile bytes (World fault) = IsWorldFault bytes fault
 Refuses BrainFile bytes (Brain fault) = IsBrainFault bytes fault
 Refuses BreakFile bytes (Breaks fault) = IsBreakFault bytes fault
+Refuses LabelledFile bytes (Labelled fault) = IsAsmFault bytes fault
 Refuses kind bytes fault = ⊥
 
 -- the file was fetched, and its bytes are read as this content
@@ -63,6 +71,7 @@ IsRefused file fetch TooLong = fetch ≡ record { name = file.name; answer = Err
 IsRefused file fetch (World fault) = IsNoText file fetch (World fault)
 IsRefused file fetch (Brain fault) = IsNoText file fetch (Brain fault)
 IsRefused file fetch (Breaks fault) = IsNoText file fetch (Breaks fault)
+IsRefused file fetch (Labelled fault) = IsNoText file fetch (Labelled fault)
 
 -- the files were fetched, each once and in order, and accepted as these contents
 abbrev pub AreAccepted : List File → List Fetched → List FileContent → Type 0

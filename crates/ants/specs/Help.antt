@@ -37,6 +37,8 @@ file_lines =
     +++ codes "      checks a brain, and prints it with one instruction a line\n"
     +++ codes "  minimise FILE\n"
     +++ codes "      prints the brain of fewest states that acts as this one\n"
+    +++ codes "  asm FILE\n"
+    +++ codes "      prints the brain of a program with labels and blocks\n"
     +++ codes "  --help\n"
     +++ codes "      prints this page\n"
     +++ codes "  --version\n"

@@ -23,7 +23,7 @@ use Rattle.match_run.specs.Dumps.{has_round}
 use Rattle.match_run.specs.Run.{world_after}
 use Rattle.dump_print.specs.Texts.{seed_text, dump_text, score_text, stats_text}
 use Rattle.command_words.specs.Command.{PlainCommand, RunSetup}
-use Rattle.command_words.specs.Command.PlainCommand.{ShowCommand, BrainCommand, MinimiseCommand, RunCommand, GenCommand, CupCommand, ViewCommand, WorkloadCommand, HelpCommand, VersionCommand}
+use Rattle.command_words.specs.Command.PlainCommand.{ShowCommand, BrainCommand, MinimiseCommand, RunCommand, GenCommand, CupCommand, ViewCommand, WorkloadCommand, HelpCommand, VersionCommand, AsmCommand}
 use Rattle.tournament.specs.Text.{IsCupText}
 use Rattle.world_gen.specs.declared.shape.Shape.{Shape}
 use Rattle.world_gen.specs.Food.{food_on}
@@ -33,8 +33,8 @@ use Rattle.world_read.specs.Canonical.{canonical_text}
 use Rattle.world_read.specs.Opened.{kinds_of}
 use Rattle.ants.specs.declared.workload.Summary.{Summary}
 use Rattle.ants.specs.Files.{File, FileContent}
-use Rattle.ants.specs.Files.FileKind.{WorldFile, BrainFile, BreakFile}
-use Rattle.ants.specs.Files.FileContent.{WorldContent, BrainContent, BreakContent}
+use Rattle.ants.specs.Files.FileKind.{WorldFile, BrainFile, BreakFile, LabelledFile}
+use Rattle.ants.specs.Files.FileContent.{WorldContent, BrainContent, BreakContent, LabelledContent}
 use Rattle.ants.specs.Help.{help_text, version_text}
 use Rattle.ants.specs.Sample.{sample_brain}
 
@@ -47,6 +47,10 @@ brain_file name = record { name = name; kind = BrainFile }
 
 abbrev pub break_file : List ℕ → File
 break_file name = record { name = name; kind = BreakFile }
+
+-- and one with a labelled program
+abbrev pub labelled_file : List ℕ → File
+labelled_file name = record { name = name; kind = LabelledFile }
 
 -- the files of a game
 abbrev pub game_files : List ℕ → List ℕ → List ℕ → List File
@@ -68,6 +72,7 @@ files_of (ViewCommand world red black breaks seed rounds) = game_files world red
 files_of (WorkloadCommand seed rounds workers) = []
 files_of HelpCommand = []
 files_of VersionCommand = []
+files_of (AsmCommand file) = labelled_file file ∷ []
 
 -- the output of `show`: the line of the seed, and the dump after round 0
 unfoldable pub show_output : ℕ → FileContent → List ℕ
@@ -80,6 +85,12 @@ unfoldable pub brain_output : FileContent → List ℕ
 brain_output (BrainContent list) = brain_text list
 -- never: its file is a brain
 brain_output content = []
+
+-- the output of `asm`: the canonical text of the brain of the labelled program
+unfoldable pub asm_output : FileContent → List ℕ
+asm_output (LabelledContent brain places) = brain_text brain
+-- never: its file is a labelled program
+asm_output content = []
 
 -- whether the words of a command choose a round: none, every one, or those of a list
 abbrev pub chosen_rounds : DumpChoice → ℕ → Bool
@@ -216,5 +227,6 @@ IsJobText (GenCommand seed shape) [] text = TellsGenerated seed (shape_named sha
 IsJobText (WorkloadCommand seed rounds workers) [] text = TellsWorkload seed rounds text
 IsJobText HelpCommand [] text = text ≡ help_text
 IsJobText VersionCommand [] text = text ≡ version_text
+IsJobText (AsmCommand file) (content ∷ []) text = text ≡ asm_output content
 -- never: a command's files are as many as its contents
 IsJobText command contents text = ⊥

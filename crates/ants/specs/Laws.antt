@@ -1,7 +1,22 @@
 -- Laws on the texts of the commands.
-use Rattle.std.specs.Prelude.{◌≡◌, ℕ, true, false, List}
+use Rattle.std.specs.Prelude.{◌≡◌, ℕ, true, false, List, Option}
+use Rattle.ant_asm.specs.Assembled.{IsAssembled}
+use Rattle.ant_asm.specs.Match.{label_game, numbered_moment}
+use Rattle.ant_asm.specs.Places.{Address}
+use Rattle.ant_asm.specs.Program.{Items}
 use Rattle.ant_base.specs.Fetched.{Fetched}
 use Rattle.ant_base.specs.Lines.{ends_in_lf}
+use Rattle.ant_turn.specs.Minds.{AreSound, Minds}
+use Rattle.ant_turn.specs.Renumber.{renumbered_moment, with_mind}
+use Rattle.brain_minimise.specs.Match.{game}
+use Rattle.brain_minimise.specs.Minimised.{IsMinimised, new_number}
+use Rattle.brain_read.specs.declared.instr.Instr.{Instr}
+use Rattle.cell_world.specs.Grid.{world_of}
+use Rattle.cell_world.specs.Opening.{opening}
+use Rattle.cell_world.specs.Score.{score_of}
+use Rattle.cell_world.specs.Valid.{Valid}
+use Rattle.cell_world.specs.declared.ant.Colour.{Colour}
+use Rattle.cell_world.specs.declared.kind.Kind.{Kind}
 use Rattle.command_words.specs.Command.{PlainCommand, RunSetup}
 use Rattle.command_words.specs.Command.PlainCommand.{RunCommand, CupCommand, WorkloadCommand}
 use Rattle.command_words.specs.Laws.{CommandWithin}
@@ -38,3 +53,19 @@ abbrev pub HasOutput : Type 0
 HasOutput =
     (command : PlainCommand) (fetches : List Fetched) (contents : List FileContent) → CommandWithin command → AreAccepted (files_of command) fetches contents → HasRoom command
     → (text : List ℕ) × IsJobText command contents text
+
+-- the brain of a labelled program, minimised, plays the labelled game, whatever the opening world, the other brain, the numbers of the rules,
+-- the seed, the side and the number of rounds
+pub record MinimisedPlaysLabelled (main : Items) (brain new : List Instr) (list : List Address) (numbers : List (Option ℕ)) : Type 0 where
+  -- with the number of its place for each address, and then that of the minimised brain's state, at an equal place of the stream
+  pub plays : (side : Colour) (minds : Minds) (seed width height : ℕ) (kinds : List Kind) (r : ℕ) → AreSound (with_mind minds side brain) → Valid (world_of (opening width height kinds)) →
+      game (with_mind minds side new) seed width height kinds r
+      ≡ renumbered_moment (new_number numbers) side (numbered_moment list side (label_game main side minds seed width height kinds r))
+  -- so with the same score
+  pub scores : (side : Colour) (minds : Minds) (seed width height : ℕ) (kinds : List Kind) (r : ℕ) → AreSound (with_mind minds side brain) → Valid (world_of (opening width height kinds)) →
+      score_of (game (with_mind minds side new) seed width height kinds r).world ≡ score_of (label_game main side minds seed width height kinds r).world
+
+abbrev pub AssembledAndMinimised : Type 0
+AssembledAndMinimised =
+    (main : Items) (brain new : List Instr) (list : List Address) (numbers : List (Option ℕ)) → IsAssembled main brain list → IsMinimised brain new numbers
+    → MinimisedPlaysLabelled main brain new list numbers

@@ -1,6 +1,8 @@
 -- How a run ends, why a command stops, and the line that says so.
 use Rattle.std.specs.Prelude.{ℕ, List, Option, Some, None, codes, decimal}
 use Rattle.ant_base.specs.Layout.{◌+++◌}
+use Rattle.ant_asm.specs.declared.fault.AsmFault.{AsmFault}
+use Rattle.ant_asm.specs.declared.fault.AsmFault.TheVariants as labelled
 use Rattle.brain_read.specs.declared.fault.BrainFault.{BrainFault}
 use Rattle.brain_read.specs.declared.fault.BrainFault.TheVariants as brain
 use Rattle.break_view.specs.declared.fault.BreakFault.{BreakFault}
@@ -10,7 +12,7 @@ use Rattle.world_read.specs.declared.fault.WorldFault.TheVariants as world
 use Rattle.ants.specs.declared.status.Status.{Status}
 use Rattle.ants.specs.declared.status.Status.TheVariants as status
 use Rattle.ants.specs.declared.stop.FileFault.{FileFault}
-use Rattle.ants.specs.declared.stop.FileFault.TheVariants.{TooLong, World, Brain, Breaks}
+use Rattle.ants.specs.declared.stop.FileFault.TheVariants.{TooLong, World, Brain, Breaks, Labelled}
 use Rattle.ants.specs.declared.stop.CommandStop.{CommandStop}
 use Rattle.ants.specs.declared.stop.CommandStop.TheVariants as stop
 use Rattle.ants.specs.declared.stop.Ended.{Ended}
@@ -98,12 +100,31 @@ break_fault_text (breaks.ExtraToken line) = codes "line " +++ decimal line +++ c
 break_fault_text (breaks.TooMany line) = codes "line " +++ decimal line +++ codes ": too many breaks"
 break_fault_text breaks.OutOfMemory = codes "out of memory"
 
+-- what the fault of a labelled program says
+abbrev pub labelled_fault_text : AsmFault → List ℕ
+labelled_fault_text (labelled.BadByte line) = codes "line " +++ decimal line +++ codes ": bad byte"
+labelled_fault_text (labelled.UnknownWord line) = codes "line " +++ decimal line +++ codes ": unknown word"
+labelled_fault_text (labelled.MissingToken line) = codes "line " +++ decimal line +++ codes ": missing token"
+labelled_fault_text (labelled.BadNumber line) = codes "line " +++ decimal line +++ codes ": bad number"
+labelled_fault_text (labelled.ExtraToken line) = codes "line " +++ decimal line +++ codes ": extra token"
+labelled_fault_text (labelled.BadName line) = codes "line " +++ decimal line +++ codes ": bad name"
+labelled_fault_text (labelled.Misplaced line) = codes "line " +++ decimal line +++ codes ": misplaced"
+labelled_fault_text (labelled.Twice line) = codes "line " +++ decimal line +++ codes ": name taken"
+labelled_fault_text (labelled.NoBlock line) = codes "line " +++ decimal line +++ codes ": no such block"
+labelled_fault_text (labelled.WrongCount line) = codes "line " +++ decimal line +++ codes ": wrong number of labels"
+labelled_fault_text (labelled.TooMany line) = codes "line " +++ decimal line +++ codes ": too many"
+labelled_fault_text (labelled.EmptyBlock line) = codes "line " +++ decimal line +++ codes ": empty block"
+labelled_fault_text labelled.Empty = codes "no instruction"
+labelled_fault_text (labelled.NoLabel line) = codes "line " +++ decimal line +++ codes ": no such label"
+labelled_fault_text labelled.OutOfMemory = codes "out of memory"
+
 -- what a file's fault says
 abbrev pub file_fault_text : FileFault → List ℕ
 file_fault_text TooLong = codes "too long"
 file_fault_text (World fault) = world_fault_text fault
 file_fault_text (Brain fault) = brain_fault_text fault
 file_fault_text (Breaks fault) = break_fault_text fault
+file_fault_text (Labelled fault) = labelled_fault_text fault
 
 -- what a reason says
 abbrev pub reason_text : Reason → List ℕ

@@ -4,10 +4,11 @@ ghost use Rattle.ant_base.specs.Shelf.{longest};
 ghost use Rattle.command_words.specs.Words.{texts};
 ghost use Rattle.ants.specs.Files.{FileContent, FileKind};
 ghost use Rattle.ants.specs.Inner.Cups.{files_named};
-ghost use Rattle.ants.specs.Inner.Reading.{FetchesFile, ReadsFiles, ReadsText, brain_reason, break_reason, fetch_reason, outcome_of, world_reason};
+ghost use Rattle.ants.specs.Inner.Reading.{FetchesFile, ReadsFiles, ReadsText, brain_reason, break_reason, fetch_reason, labelled_reason, outcome_of, world_reason};
 ghost use Rattle.ants.specs.Stopping.{reason_of};
 
 use crate::stop::{CommandStop, FileFault};
+use ant_asm::{AsmFault, Assembled, assemble};
 use ant_base::{FetchFault, Shelf};
 use brain_read::{Brain, BrainFault, read_brain};
 use break_view::{BreakFault, Breaks, read_breaks};
@@ -73,6 +74,22 @@ impl FileText for Breaks {
         match read_breaks(alloc, bytes) {
             Ok(breaks) => Ok(breaks),
             Err(fault) => Err(break_stop(name, fault)),
+        }
+    }
+}
+
+impl FileText for Assembled {
+    ghost use Rattle.ants.specs.Files.FileKind.{LabelledFile};
+    ghost use Rattle.ants.specs.Files.FileContent.{LabelledContent};
+
+    ghost kind = { LabelledFile };
+
+    ghost content = { λ made. LabelledContent made.brain made.places };
+
+    fn read<'w>(alloc: Global, name: &'w str, bytes: &[u8]) -> Result<Assembled, CommandStop<'w>> {
+        match assemble(alloc, bytes) {
+            Ok(made) => Ok(made),
+            Err(fault) => Err(labelled_stop(name, fault)),
         }
     }
 }
@@ -158,5 +175,15 @@ fn break_stop<'w>(name: &'w str, fault: BreakFault) -> CommandStop<'w>
     match fault {
         BreakFault::OutOfMemory => CommandStop::Memory,
         other => CommandStop::Input(name, FileFault::Breaks(other)),
+    }
+}
+
+// Why a command stops at the text of a labelled program.
+fn labelled_stop<'w>(name: &'w str, fault: AsmFault) -> CommandStop<'w>
+    ensures { reason_of result ≡ labelled_reason name.now fault }
+{
+    match fault {
+        AsmFault::OutOfMemory => CommandStop::Memory,
+        other => CommandStop::Input(name, FileFault::Labelled(other)),
     }
 }

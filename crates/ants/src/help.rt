@@ -70,6 +70,8 @@ impl Layout for FileLines {
             "      checks a brain, and prints it with one instruction a line\n",
             "  minimise FILE\n",
             "      prints the brain of fewest states that acts as this one\n",
+            "  asm FILE\n",
+            "      prints the brain of a program with labels and blocks\n",
             "  --help\n",
             "      prints this page\n",
             "  --version\n",

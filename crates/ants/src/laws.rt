@@ -1,7 +1,7 @@
 // Laws on the definitions of what a command does. Each is proved by a function that does nothing.
 ghost use Rattle.ants.specs.Headline.{Headline};
 ghost use Rattle.ants.specs.Judged.{JudgesOnce};
-ghost use Rattle.ants.specs.Laws.{HasOutput, OneText, TextsEndInLf, WindowsChangeCountsAlone, WorkersChangeNothing};
+ghost use Rattle.ants.specs.Laws.{AssembledAndMinimised, HasOutput, OneText, TextsEndInLf, WindowsChangeCountsAlone, WorkersChangeNothing};
 
 /// The promise on one page: each run of the program ends with the status 0, 2, 3, 4, 5 or 6, and each of them says what was fetched, accepted
 /// and written. It follows from the one clause of `run_to_exit`.
@@ -39,4 +39,9 @@ pub fn windows_change_counts_alone()
 /// A command within the limits whose files were accepted, and whose elements have room, has an output.
 pub fn has_output()
     ensures { HasOutput }
+{}
+
+/// What `asm` writes, minimised, still plays the labelled game of the program: state for address, and with the same score.
+pub fn assembled_and_minimised()
+    ensures { AssembledAndMinimised }
 {}

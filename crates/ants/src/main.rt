@@ -6,6 +6,7 @@
 //! What names no section of the contest's task is this project's own: the commands and what they print, the faults, and the statuses.
 #![tactic(auto)]
 
+mod asm;
 mod brain;
 mod cup;
 mod fetching;

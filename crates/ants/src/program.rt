@@ -16,6 +16,7 @@ ghost use Rattle.ants.specs.Stopping.{ending_status, fault_line, plain_ending, r
 ghost use Rattle.ants.specs.Stopping.Reason.{AtMemory};
 ghost use Rattle.std.specs.Process.{exit_status};
 
+use crate::asm::asm;
 use crate::brain::brain;
 use crate::cup::{Entry, cup};
 use crate::generating::gen_world;
@@ -183,6 +184,7 @@ fn carry_out_command<'w, R: Threads + Sync, S: Shelf, K: Sink, G: Gate>(
         } => carry_out_workload(rt, alloc, seed, rounds, workers, shelf, out, gate),
         Command::Help => help(shelf, out),
         Command::Version => version(shelf, out),
+        Command::Asm { file } => asm(alloc, file, shelf, out),
     }
 }
 

@@ -1,9 +1,10 @@
 // How a run ended, why a command stopped, and the line that says so.
 ghost use Rattle.std.specs.Prelude.{◌≡◌};
-ghost use Rattle.ants.specs.Stopping.{file_fault_text, brain_fault_text, break_fault_text, world_fault_text, ending_by, plain_ending, reason_of, reason_text, fault_line, status_of};
+ghost use Rattle.ants.specs.Stopping.{file_fault_text, brain_fault_text, break_fault_text, labelled_fault_text, world_fault_text, ending_by, plain_ending, reason_of, reason_text, fault_line, status_of};
 ghost use Rattle.ants.specs.Inner.Reading.{ending_of};
 
 use crate::status::Status;
+use ant_asm::AsmFault;
 use ant_base::{Failed, Layout, Sink, layout};
 use brain_read::BrainFault;
 use break_view::BreakFault;
@@ -22,6 +23,8 @@ pub enum FileFault {
     Brain(BrainFault),
     /// It is no list of breaks.
     Breaks(BreakFault),
+    /// It is no labelled program.
+    Labelled(AsmFault),
 }
 
 /// Why a command stopped before its whole text was written.
@@ -187,6 +190,33 @@ impl Layout for BreakWords {
 }
 
 #[derive(Clone, Copy)]
+struct LabelledWords(AsmFault);
+
+impl Layout for LabelledWords {
+    ghost text = { λ words. labelled_fault_text words.0 };
+
+    fn push_to<K: Sink>(&self, sink: &mut K) -> Result<(), Failed> {
+        match self.0 {
+            AsmFault::BadByte { line } => layout!("line ", line, ": bad byte").push_to(sink),
+            AsmFault::UnknownWord { line } => layout!("line ", line, ": unknown word").push_to(sink),
+            AsmFault::MissingToken { line } => layout!("line ", line, ": missing token").push_to(sink),
+            AsmFault::BadNumber { line } => layout!("line ", line, ": bad number").push_to(sink),
+            AsmFault::ExtraToken { line } => layout!("line ", line, ": extra token").push_to(sink),
+            AsmFault::BadName { line } => layout!("line ", line, ": bad name").push_to(sink),
+            AsmFault::Misplaced { line } => layout!("line ", line, ": misplaced").push_to(sink),
+            AsmFault::Twice { line } => layout!("line ", line, ": name taken").push_to(sink),
+            AsmFault::NoBlock { line } => layout!("line ", line, ": no such block").push_to(sink),
+            AsmFault::WrongCount { line } => layout!("line ", line, ": wrong number of labels").push_to(sink),
+            AsmFault::TooMany { line } => layout!("line ", line, ": too many").push_to(sink),
+            AsmFault::EmptyBlock { line } => layout!("line ", line, ": empty block").push_to(sink),
+            AsmFault::Empty => "no instruction".push_to(sink),
+            AsmFault::NoLabel { line } => layout!("line ", line, ": no such label").push_to(sink),
+            AsmFault::OutOfMemory => "out of memory".push_to(sink),
+        }
+    }
+}
+
+#[derive(Clone, Copy)]
 struct FileWords(FileFault);
 
 impl Layout for FileWords {
@@ -198,6 +228,7 @@ impl Layout for FileWords {
             FileFault::World(fault) => WorldWords(fault).push_to(sink),
             FileFault::Brain(fault) => BrainWords(fault).push_to(sink),
             FileFault::Breaks(fault) => BreakWords(fault).push_to(sink),
+            FileFault::Labelled(fault) => LabelledWords(fault).push_to(sink),
         }
     }
 }

@@ -1,4 +1,5 @@
 // What no clause says: that commands succeed, and the exact bytes that they write. Each file has tables of cases, and a loop for each.
+mod assembled;
 mod brains;
 mod counts;
 mod cups;

@@ -16,7 +16,7 @@ use Rattle.command_words.specs.declared.slot.Slot.TheVariants.{FileName, Number,
 use Rattle.command_words.specs.declared.slot.Place.{Place}
 use Rattle.command_words.specs.declared.slot.Place.TheVariants.{Word, Names}
 use Rattle.command_words.specs.declared.table.CommandKind.{CommandKind}
-use Rattle.command_words.specs.declared.table.CommandKind.TheVariants.{Show, Brain, Minimise, Run, Gen, Cup, View, Workload, Help, Version}
+use Rattle.command_words.specs.declared.table.CommandKind.TheVariants.{Show, Brain, Minimise, Run, Gen, Cup, View, Workload, Help, Version, Asm}
 use Rattle.command_words.specs.declared.table.Choice.{Choice}
 use Rattle.command_words.specs.declared.table.Choice.TheVariants.{Seed, Rounds, Dump, Workers, Window, Surround, Corpse, Rest, Stats, Width, Height, Rocks, Blobs}
 use Rattle.command_words.specs.Limits.{number_in}
@@ -27,7 +27,7 @@ use Rattle.command_words.specs.Table.{default_workers, default_window, default_s
 use Rattle.command_words.specs.Command.{RunSetup, Given, given_words, joined, FitAll, IsOptionOf, IsGiven, IsCommandOf, PlainCommand, kind_in, first_word, value_given}
 use Rattle.command_words.specs.Command.{has_given}
 use Rattle.command_words.specs.Command.{number_needed, number_or, dumps_or_none, SaysSetup, SaysShape, SaysCup, one, Says}
-use Rattle.command_words.specs.Command.PlainCommand.{ShowCommand, BrainCommand, MinimiseCommand, RunCommand, GenCommand, CupCommand, ViewCommand, WorkloadCommand, HelpCommand, VersionCommand}
+use Rattle.command_words.specs.Command.PlainCommand.{ShowCommand, BrainCommand, MinimiseCommand, RunCommand, GenCommand, CupCommand, ViewCommand, WorkloadCommand, HelpCommand, VersionCommand, AsmCommand}
 use Rattle.command_words.specs.Inner.Walk.{is_among, has_needed, rest_after, word_after, names_front, names_of, show_with, setup_with}
 use Rattle.command_words.specs.Inner.Walk.{setup_in, run_with, shape_with, shape_in, gen_with, cup_with, view_with, workload_with, command_in}
 use Rattle.command_words.proofs.ListLemmas.{Contains-none, Contains-cases, list_all-at, list_all-each}
@@ -293,6 +293,7 @@ command_in-says (WorkloadCommand seed rounds workers) front given fit options sa
     ∙ workload-some seed rounds workers (number_in SeedNumber says.0) (number_in RoundCount says.1) (number_in WorkerCount says.2) says.4 says.5 says.6
 command_in-says HelpCommand front given fit options says = refl
 command_in-says VersionCommand front given fit options says = refl
+command_in-says (AsmCommand file) front given fit options says = ap (λ f. command_in Asm (words_of Asm f given)) says
 
 -- what is there
 there : {A : Type 0} (o : Option A) → is_some o ≡ true → (x : A) × (o ≡ Some x)
@@ -490,6 +491,9 @@ command-says Workload front given words form =
     )
 command-says Help front given words form = said_so HelpCommand front given (no-place front form.places)
 command-says Version front given words form = said_so VersionCommand front given (no-place front form.places)
+command-says Asm front given words form =
+    let a = first-place FileName [] front form.places in
+    said_so (AsmCommand a.word) front given (a.whole ∙ ap (λ r. one a.word ∷ r) (no-place a.rest a.others))
 
 -- a command's words have the options that it needs
 pub has_needed-command : (kind : CommandKind) (front : List (List (List ℕ))) (given : List Given) (words : List (List ℕ)) → IsCommandOf kind front given words

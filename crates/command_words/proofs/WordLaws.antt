@@ -19,7 +19,7 @@ use Rattle.command_words.specs.Slots.DumpChoice.{NoDump, EveryDump, ChosenDumps}
 use Rattle.command_words.specs.Command.{Given, NoneTwice, FitAll, RunSetup, PlainCommand, kind_in, first_word, joined, value_given, has_given, number_needed, number_or}
 use Rattle.command_words.specs.Command.{dumps_or_none}
 use Rattle.command_words.specs.Command.{SaysSetup, SaysShape, SaysCup, SaysView, Says, IsCommand, IsBeginning, IsRefusedAt}
-use Rattle.command_words.specs.Command.PlainCommand.{ShowCommand, BrainCommand, MinimiseCommand, RunCommand, GenCommand, CupCommand, ViewCommand, WorkloadCommand, HelpCommand, VersionCommand}
+use Rattle.command_words.specs.Command.PlainCommand.{ShowCommand, BrainCommand, MinimiseCommand, RunCommand, GenCommand, CupCommand, ViewCommand, WorkloadCommand, HelpCommand, VersionCommand, AsmCommand}
 use Rattle.command_words.specs.Inner.Walk.{read_of}
 use Rattle.command_words.specs.Laws.{OneCommand, OneRefusedWord, NeverBoth, OneOfBoth, FrontBegins, AnyOrder, IsWithin, AreWithin, SetupWithin, ShapeWithin}
 use Rattle.command_words.specs.Laws.{CommandWithin, WithinLimits}
@@ -203,6 +203,7 @@ same-command (ViewCommand world red black breaks seed rounds) front given others
 same-command (WorkloadCommand seed rounds workers) front given others same says = says
 same-command HelpCommand front given others same says = says
 same-command VersionCommand front given others same says = says
+same-command (AsmCommand file) front given others same says = says
 
 pub any_order : AnyOrder
 any_order words more command is others form to from = record {
@@ -311,6 +312,7 @@ command-within (WorkloadCommand seed rounds workers) front given fit says =
     (said-within SeedNumber says.0 seed says.4, said-within RoundCount says.1 rounds says.5, said-within WorkerCount says.2 workers says.6)
 command-within HelpCommand front given fit says = tt
 command-within VersionCommand front given fit says = tt
+command-within (AsmCommand file) front given fit says = tt
 
 pub within_limits : WithinLimits
 within_limits words command is = command-within command is.front is.given is.form.places is.says

@@ -6,7 +6,7 @@ use Rattle.command_words.specs.declared.command.GenShape.{GenShape}
 use Rattle.command_words.specs.Slots.{is_file_name, is_dumps, dumps_of, DumpChoice}
 use Rattle.command_words.specs.Slots.DumpChoice.{NoDump, EveryDump, ChosenDumps}
 use Rattle.command_words.specs.Command.{RunSetup, IsCommand, IsRefusedAt}
-use Rattle.command_words.specs.Command.PlainCommand.{ShowCommand, BrainCommand, MinimiseCommand, RunCommand, GenCommand, CupCommand, ViewCommand, WorkloadCommand, HelpCommand, VersionCommand}
+use Rattle.command_words.specs.Command.PlainCommand.{ShowCommand, BrainCommand, MinimiseCommand, RunCommand, GenCommand, CupCommand, ViewCommand, WorkloadCommand, HelpCommand, VersionCommand, AsmCommand}
 use Rattle.command_words.specs.Inner.Walk.{command_kind_of, choice_of, is_among, rest_after}
 use Rattle.command_words.proofs.ReadLemmas.{read-accepts, read-refuses}
 
@@ -45,6 +45,11 @@ brain_command = read-accepts (words_of (codes "brain -b")) (BrainCommand (codes 
 pub minimise_command : IsCommand (words_of (codes "minimise b")) (MinimiseCommand (codes "b"))
 unfolding command_kind_of choice_of is_among rest_after is_file_name is_dumps dumps_of decimal_value
 minimise_command = read-accepts (words_of (codes "minimise b")) (MinimiseCommand (codes "b")) refl
+
+-- `asm`
+pub asm_command : IsCommand (words_of (codes "asm p")) (AsmCommand (codes "p"))
+unfolding command_kind_of choice_of is_among rest_after is_file_name is_dumps dumps_of decimal_value
+asm_command = read-accepts (words_of (codes "asm p")) (AsmCommand (codes "p")) refl
 
 -- without its free options a game has no dump, one worker, a whole round a window, the contest's rules and no stats
 pub run_defaults : IsCommand (words_of (codes "run w r b --seed 1 --rounds 1000000"))

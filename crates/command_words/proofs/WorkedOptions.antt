@@ -58,6 +58,12 @@ unfolding command_kind_of choice_of is_among rest_after is_file_name is_dumps du
 minimise_takes_none = refused_after (codes "minimise b") 3 all_options
     (refl, (refl, (refl, (refl, (refl, (refl, (refl, (refl, (refl, (refl, (refl, (refl, (refl, tt)))))))))))))
 
+-- `asm` takes no option
+pub asm_takes_none : AreRefusedAfter (codes "asm p") 3 all_options
+unfolding command_kind_of choice_of is_among rest_after is_file_name is_dumps dumps_of decimal_value
+asm_takes_none = refused_after (codes "asm p") 3 all_options
+    (refl, (refl, (refl, (refl, (refl, (refl, (refl, (refl, (refl, (refl, (refl, (refl, (refl, tt)))))))))))))
+
 -- `workload` takes no option
 pub workload_takes_none : AreRefusedAfter (codes "workload 1 2 3") 5 all_options
 unfolding command_kind_of choice_of is_among rest_after is_file_name is_dumps dumps_of decimal_value

@@ -10,7 +10,7 @@ use Rattle.command_words.specs.declared.limits.NumberKind.TheVariants.{ElementCo
 use Rattle.command_words.specs.declared.table.NameList.TheVariants.{Worlds, Brains}
 use Rattle.command_words.specs.declared.slot.Place.{Place}
 use Rattle.command_words.specs.declared.table.CommandKind.{CommandKind}
-use Rattle.command_words.specs.declared.table.CommandKind.TheVariants.{Show, Brain, Minimise, Run, Gen, Cup, View, Workload, Help, Version}
+use Rattle.command_words.specs.declared.table.CommandKind.TheVariants.{Show, Brain, Minimise, Run, Gen, Cup, View, Workload, Help, Version, Asm}
 use Rattle.command_words.specs.declared.table.Choice.{Choice}
 use Rattle.command_words.specs.declared.table.Choice.TheVariants.{Seed, Rounds, Dump, Workers, Window, Surround, Corpse, Rest, Stats, Width, Height, Rocks, Blobs}
 use Rattle.command_words.specs.Limits.{number_in}
@@ -43,6 +43,7 @@ pub data PlainCommand : Type 0 where
   WorkloadCommand : (seed rounds workers : ℕ) → PlainCommand
   HelpCommand : PlainCommand
   VersionCommand : PlainCommand
+  AsmCommand : (file : List ℕ) → PlainCommand
 
 -- the kind of a command
 abbrev pub kind_in : PlainCommand → CommandKind
@@ -56,6 +57,7 @@ kind_in (ViewCommand world red black breaks seed rounds) = View
 kind_in (WorkloadCommand seed rounds workers) = Workload
 kind_in HelpCommand = Help
 kind_in VersionCommand = Version
+kind_in (AsmCommand file) = Asm
 
 -- words place by place, one after another
 abbrev pub joined : List (List (List ℕ)) → List (List ℕ)
@@ -184,6 +186,8 @@ Says HelpCommand front given =
     front ≡ []
 Says VersionCommand front given =
     front ≡ []
+Says (AsmCommand file) front given =
+    front ≡ one file ∷ []
 
 -- the words are this command
 pub record IsCommand (words : List (List ℕ)) (command : PlainCommand) : Type 0 where

@@ -10,7 +10,7 @@ use Rattle.command_words.specs.Limits.{least_of, most_of}
 use Rattle.command_words.specs.Slots.{DumpChoice, AreNames}
 use Rattle.command_words.specs.Slots.DumpChoice.{NoDump, EveryDump, ChosenDumps}
 use Rattle.command_words.specs.Command.{Given, IsCommandOf, RunSetup, PlainCommand, kind_in, IsCommand, IsBeginning, IsRefusedAt}
-use Rattle.command_words.specs.Command.PlainCommand.{ShowCommand, BrainCommand, MinimiseCommand, RunCommand, GenCommand, CupCommand, ViewCommand, WorkloadCommand, HelpCommand, VersionCommand}
+use Rattle.command_words.specs.Command.PlainCommand.{ShowCommand, BrainCommand, MinimiseCommand, RunCommand, GenCommand, CupCommand, ViewCommand, WorkloadCommand, HelpCommand, VersionCommand, AsmCommand}
 
 -- some words are at most one command
 abbrev pub OneCommand : Type 0
@@ -88,6 +88,7 @@ CommandWithin (ViewCommand world red black breaks seed rounds) = IsWithin SeedNu
 CommandWithin (WorkloadCommand seed rounds workers) = IsWithin SeedNumber seed × IsWithin RoundCount rounds × IsWithin WorkerCount workers
 CommandWithin HelpCommand = Unit {0}
 CommandWithin VersionCommand = Unit {0}
+CommandWithin (AsmCommand file) = Unit {0}
 
 -- a command is within the limits
 abbrev pub WithinLimits : Type 0

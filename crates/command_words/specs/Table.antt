@@ -8,13 +8,13 @@ use Rattle.command_words.specs.declared.slot.Slot.TheVariants.{FileName, Number,
 use Rattle.command_words.specs.declared.slot.Place.{Place}
 use Rattle.command_words.specs.declared.slot.Place.TheVariants.{Word, Names}
 use Rattle.command_words.specs.declared.table.CommandKind.{CommandKind}
-use Rattle.command_words.specs.declared.table.CommandKind.TheVariants.{Show, Brain, Minimise, Run, Gen, Cup, View, Workload, Help, Version}
+use Rattle.command_words.specs.declared.table.CommandKind.TheVariants.{Show, Brain, Minimise, Run, Gen, Cup, View, Workload, Help, Version, Asm}
 use Rattle.command_words.specs.declared.table.Choice.{Choice}
 use Rattle.command_words.specs.declared.table.Choice.TheVariants.{Seed, Rounds, Dump, Workers, Window, Surround, Corpse, Rest, Stats, Width, Height, Rocks, Blobs}
 
 -- all commands that are known
 abbrev pub kinds : List CommandKind
-kinds = Show ∷ Brain ∷ Minimise ∷ Run ∷ Gen ∷ Cup ∷ View ∷ Workload ∷ Help ∷ Version ∷ []
+kinds = Show ∷ Brain ∷ Minimise ∷ Run ∷ Gen ∷ Cup ∷ View ∷ Workload ∷ Help ∷ Version ∷ Asm ∷ []
 
 -- a command's first word
 abbrev pub word_of : CommandKind → List ℕ
@@ -28,6 +28,7 @@ word_of View = codes "view"
 word_of Workload = codes "workload"
 word_of Help = codes "--help"
 word_of Version = codes "--version"
+word_of Asm = codes "asm"
 
 -- what stands after a command's first word
 abbrev pub places_of : CommandKind → List Place
@@ -41,6 +42,7 @@ places_of View = Word FileName ∷ Word FileName ∷ Word FileName ∷ Word File
 places_of Workload = Word (Number SeedNumber) ∷ Word (Number RoundCount) ∷ Word (Number WorkerCount) ∷ []
 places_of Help = []
 places_of Version = []
+places_of Asm = Word FileName ∷ []
 
 -- the options of a command that are known, which follow in any order
 abbrev pub choices_of : CommandKind → List Choice
@@ -54,6 +56,7 @@ choices_of View = Seed ∷ Rounds ∷ []
 choices_of Workload = []
 choices_of Help = []
 choices_of Version = []
+choices_of Asm = []
 
 -- an option's word
 abbrev pub option_of : Choice → List ℕ

@@ -2,14 +2,14 @@
 use Rattle.std.specs.Prelude.{ℕ, List, map, String, string_bytes}
 use Rattle.std.specs.declared.alloc.Global.{Global}
 use Rattle.command_words.specs.declared.command.Command.{Command}
-use Rattle.command_words.specs.declared.command.Command.TheVariants.{Show, Brain, Minimise, Run, Gen, Cup, View, Workload, Help, Version}
+use Rattle.command_words.specs.declared.command.Command.TheVariants.{Show, Brain, Minimise, Run, Gen, Cup, View, Workload, Help, Version, Asm}
 use Rattle.command_words.specs.declared.command.RunOptions.{RunOptions}
 use Rattle.command_words.specs.declared.dumps.DumpWord.{DumpWord}
 use Rattle.command_words.specs.declared.dumps.DumpWord.TheVariants.{Nothing, All, Chosen}
 use Rattle.command_words.specs.Slots.{DumpChoice}
 use Rattle.command_words.specs.Slots.DumpChoice.{NoDump, EveryDump, ChosenDumps}
 use Rattle.command_words.specs.Command.{PlainCommand, RunSetup}
-use Rattle.command_words.specs.Command.PlainCommand.{ShowCommand, BrainCommand, MinimiseCommand, RunCommand, GenCommand, CupCommand, ViewCommand, WorkloadCommand, HelpCommand, VersionCommand}
+use Rattle.command_words.specs.Command.PlainCommand.{ShowCommand, BrainCommand, MinimiseCommand, RunCommand, GenCommand, CupCommand, ViewCommand, WorkloadCommand, HelpCommand, VersionCommand, AsmCommand}
 
 -- the bytes of words
 abbrev pub texts : List (String Global) → List (List ℕ)
@@ -47,3 +47,4 @@ plain (View world red black breaks seed rounds) = ViewCommand world.now red.now 
 plain (Workload seed rounds workers) = WorkloadCommand seed rounds workers
 plain Help = HelpCommand
 plain Version = VersionCommand
+plain (Asm file) = AsmCommand file.now

@@ -80,6 +80,11 @@ pub enum Command<'w> {
     Help,
     /// `--version`
     Version,
+    /// `asm FILE`
+    Asm {
+        /// the name of the labelled program's file
+        file: &'w str,
+    },
 }
 
 /// What the options of `run` say, or what holds where they aren't given.

@@ -61,6 +61,7 @@ fn command_in<'w>(kind: CommandKind, words: &'w [String]) -> Option<Command<'w>>
         CommandKind::Workload => workload_in(words),
         CommandKind::Help => Some(Command::Help),
         CommandKind::Version => Some(Command::Version),
+        CommandKind::Asm => asm_in(words),
     }
 }
 
@@ -84,6 +85,13 @@ fn minimise_in<'w>(words: &'w [String]) -> Option<Command<'w>>
 {
     let file = word_at(words, 1)?;
     Some(Command::Minimise { file })
+}
+
+fn asm_in<'w>(words: &'w [String]) -> Option<Command<'w>>
+    ensures { option_map plain result ≡ command_in CommandKind.Asm (texts words.now) }
+{
+    let file = word_at(words, 1)?;
+    Some(Command::Asm { file })
 }
 
 fn run_in<'w>(words: &'w [String]) -> Option<Command<'w>>

@@ -27,6 +27,8 @@ pub enum CommandKind {
     Help,
     /// `--version`: which program this is
     Version,
+    /// `asm FILE`: the brain of a labelled program
+    Asm,
 }
 
 /// An option that may follow the words of a command's places, in any order and at most once.
@@ -103,6 +105,7 @@ pub(crate) fn kinds() -> &'static [CommandKind]
         CommandKind::Workload,
         CommandKind::Help,
         CommandKind::Version,
+        CommandKind::Asm,
     ]
 }
 
@@ -121,6 +124,7 @@ impl CommandKind {
             CommandKind::Workload => "workload",
             CommandKind::Help => "--help",
             CommandKind::Version => "--version",
+            CommandKind::Asm => "asm",
         }
     }
 
@@ -160,6 +164,7 @@ impl CommandKind {
             ],
             CommandKind::Help => &[],
             CommandKind::Version => &[],
+            CommandKind::Asm => &[Place::Word(Slot::FileName)],
         }
     }
 
@@ -188,6 +193,7 @@ impl CommandKind {
             CommandKind::Workload => &[],
             CommandKind::Help => &[],
             CommandKind::Version => &[],
+            CommandKind::Asm => &[],
         }
     }
 }

@@ -1,5 +1,7 @@
 -- What the private functions that fetch, read and carry out ensure.
 use Rattle.std.specs.Prelude.{◌≡◌, ℕ, List, [], ◌∷◌, Option, Some, None, Result, Ok, Err, Vec}
+use Rattle.ant_asm.specs.declared.fault.AsmFault.{AsmFault}
+use Rattle.ant_asm.specs.declared.fault.AsmFault.TheVariants as labelled
 use Rattle.ant_base.specs.Faults.{Rose}
 use Rattle.ant_base.specs.Fetched.{Fetched}
 use Rattle.ant_base.specs.Shelf.{Fetches, FetchesEach, ShelfState}
@@ -13,7 +15,7 @@ use Rattle.break_view.specs.declared.fault.BreakFault.TheVariants as breaks
 use Rattle.command_words.specs.Command.{PlainCommand}
 use Rattle.world_read.specs.declared.fault.WorldFault.{WorldFault}
 use Rattle.world_read.specs.declared.fault.WorldFault.TheVariants as world
-use Rattle.ants.specs.declared.stop.FileFault.TheVariants.{TooLong, World, Brain, Breaks}
+use Rattle.ants.specs.declared.stop.FileFault.TheVariants.{TooLong, World, Brain, Breaks, Labelled}
 use Rattle.ants.specs.declared.stop.CommandStop.{CommandStop}
 use Rattle.ants.specs.Files.{File, FileKind, FileContent, AreAccepted, AreBegun, Reads, Refuses, StopsAt}
 use Rattle.ants.specs.Judged.{IsRefusedAs}
@@ -82,6 +84,11 @@ brain_reason name fault = AtInput name (Brain fault)
 abbrev pub break_reason : List ℕ → BreakFault → Reason
 break_reason name breaks.OutOfMemory = AtMemory
 break_reason name fault = AtInput name (Breaks fault)
+
+-- why a command stops at the text of a labelled program
+abbrev pub labelled_reason : List ℕ → AsmFault → Reason
+labelled_reason name labelled.OutOfMemory = AtMemory
+labelled_reason name fault = AtInput name (Labelled fault)
 
 -- why the reading of the bytes of a file of this kind and name stopped
 abbrev pub TextStops : FileKind → List ℕ → List ℕ → Reason → Type 0

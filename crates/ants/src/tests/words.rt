@@ -4,7 +4,7 @@ use crate::tests::{CLOSED, Given, Job, NO_JOB, check_rows};
 use std::test::Fail;
 
 // Words, and the line that names the first one with which no command begins.
-const REFUSED: [(&str, &str); 70] = [
+const REFUSED: [(&str, &str); 72] = [
     ("", "ants: word 1 refused\n"),
     ("jump", "ants: word 1 refused\n"),
     ("-h", "ants: word 1 refused\n"),
@@ -70,6 +70,8 @@ const REFUSED: [(&str, &str); 70] = [
     ("gen", "ants: word 2 refused\n"),
     ("minimise", "ants: word 2 refused\n"),
     ("minimise b b", "ants: word 3 refused\n"),
+    ("asm", "ants: word 2 refused\n"),
+    ("asm r r", "ants: word 3 refused\n"),
     ("cup", "ants: word 2 refused\n"),
     ("cup w --brains r b", "ants: word 2 refused\n"),
     ("cup --brains r b --worlds w", "ants: word 2 refused\n"),

@@ -14,14 +14,14 @@ use Rattle.command_words.specs.declared.table.NameList.TheVariants.{Worlds, Brai
 use Rattle.command_words.specs.declared.slot.Place.{Place}
 use Rattle.command_words.specs.declared.slot.Place.TheVariants.{Word, Names}
 use Rattle.command_words.specs.declared.table.CommandKind.{CommandKind}
-use Rattle.command_words.specs.declared.table.CommandKind.TheVariants.{Show, Brain, Minimise, Run, Gen, Cup, View, Workload, Help, Version}
+use Rattle.command_words.specs.declared.table.CommandKind.TheVariants.{Show, Brain, Minimise, Run, Gen, Cup, View, Workload, Help, Version, Asm}
 use Rattle.command_words.specs.declared.table.Choice.{Choice}
 use Rattle.command_words.specs.declared.table.Choice.TheVariants.{Seed, Rounds, Dump, Workers, Window, Surround, Corpse, Rest, Stats, Width, Height, Rocks, Blobs}
 use Rattle.command_words.specs.Slots.{is_file_name, fits, DumpChoice}
 use Rattle.command_words.specs.Table.{kinds, word_of, places_of, choices_of, option_of, values_of, is_needed, keyword_of, fewest_names, most_names, must_differ}
 use Rattle.command_words.specs.Table.{default_workers, default_window, default_surround, default_corpse, default_rest, default_side, default_rocks, default_blobs}
 use Rattle.command_words.specs.Command.{PlainCommand, RunSetup, first_word, number_needed, number_or, dumps_or_none}
-use Rattle.command_words.specs.Command.PlainCommand.{ShowCommand, BrainCommand, MinimiseCommand, RunCommand, GenCommand, CupCommand, ViewCommand, WorkloadCommand, HelpCommand, VersionCommand}
+use Rattle.command_words.specs.Command.PlainCommand.{ShowCommand, BrainCommand, MinimiseCommand, RunCommand, GenCommand, CupCommand, ViewCommand, WorkloadCommand, HelpCommand, VersionCommand, AsmCommand}
 use Rattle.command_words.specs.Words.{plain}
 
 -- the known command of this first word
@@ -137,6 +137,11 @@ abbrev pub minimise_with : Option (List ℕ) → Option PlainCommand
 minimise_with (Some file) = Some (MinimiseCommand file)
 minimise_with _ = None
 
+-- `asm`: what its place says
+abbrev pub asm_with : Option (List ℕ) → Option PlainCommand
+asm_with (Some file) = Some (AsmCommand file)
+asm_with _ = None
+
 -- what the options of `run` say, one after another
 abbrev pub setup_with :
     Option ℕ → Option ℕ → Option DumpChoice → Option ℕ → Option ℕ → Option ℕ → Option ℕ → Option ℕ → Bool → Option RunSetup
@@ -216,6 +221,7 @@ command_in Workload words =
     (number_needed WorkerCount (slice_get words 3))
 command_in Help words = Some HelpCommand
 command_in Version words = Some VersionCommand
+command_in Asm words = asm_with (slice_get words 1)
 
 -- the words are a command, or are refused after the last
 abbrev pub finish : CommandKind → List (List ℕ) → Result (List Place) ℕ → Result PlainCommand ℕ

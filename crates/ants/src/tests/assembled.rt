@@ -1,0 +1,119 @@
+// The command `asm`.
+use crate::status::Status;
+use crate::tests::{Given, Job, NO_JOB, check, check_rows, cut};
+use std::test::Fail;
+
+// A block that turns back, put in place where an ant is stuck.
+const BACK: &str = "block back done ; half a turn\n\
+    Turn Left next\n\
+    Turn Left next\n\
+    Turn Left done\n\
+    end\n\
+    go:\n\
+    Move go stuck\n\
+    stuck:\n\
+    use back go\n";
+
+// Labelled programs, and the brain that each becomes.
+const ASSEMBLED: [(&str, &str); 6] = [
+    (
+        BACK,
+        "Move 0 1\nTurn Left 2\nTurn Left 3\nTurn Left 0\n",
+    ),
+    ("Drop next", "Drop 0\n"),
+    ("Move done done\ndone:", "Move 0 0\n"),
+    (
+        "here: ; names the item below\r\nsEnSe Ahead here NEXT fOOd\nfLiP 2 here Here\nHere:",
+        "Sense Ahead 0 1 Food\nFlip 2 0 0\n",
+    ),
+    (
+        "block drop after\nDrop after\nend\nblock two first second\nuse drop first\nuse drop second\nend\nup:\nuse two next up\nMark 0 up",
+        "Drop 2\nDrop 0\nMark 0 0\n",
+    ),
+    ("END:\nUnmark 5 END", "Unmark 5 0\n"),
+];
+
+// Texts that are no labelled program, and the line that names the fault of each.
+const REFUSED: [(&str, &str); 20] = [
+    ("use a", "ants: r: line 1: no such block\n"),
+    ("block a\nuse a", "ants: r: line 2: no such block\n"),
+    ("Move go 1", "ants: r: line 1: bad name\n"),
+    ("Move go go", "ants: r: line 1: no such label\n"),
+    ("block a\nend", "ants: r: line 2: empty block\n"),
+    ("", "ants: r: no instruction\n"),
+    ("; none\n\nhere:\n", "ants: r: no instruction\n"),
+    ("block a\nDrop next", "ants: r: line 1: misplaced\n"),
+    ("Drop next\nend", "ants: r: line 2: misplaced\n"),
+    ("Drop next\nDrop\u{7f}next", "ants: r: line 2: bad byte\n"),
+    ("Jump next", "ants: r: line 1: unknown word\n"),
+    ("next: Drop next", "ants: r: line 1: unknown word\n"),
+    ("Move next", "ants: r: line 1: missing token\n"),
+    ("Mark 6 next", "ants: r: line 1: bad number\n"),
+    ("Drop next next", "ants: r: line 1: extra token\n"),
+    ("a:\n\na:\nDrop next", "ants: r: line 3: name taken\n"),
+    (
+        "block a b\nDrop b\nend\nuse a",
+        "ants: r: line 4: wrong number of labels\n",
+    ),
+    (
+        "block a\nDrop next\nDrop next\nDrop next\nDrop next\nDrop next\nDrop next\nDrop next\nDrop next\nDrop next\nDrop next\nend\n\
+        block b\nuse a\nuse a\nuse a\nuse a\nuse a\nuse a\nuse a\nuse a\nuse a\nuse a\nend\n\
+        block c\nuse b\nuse b\nuse b\nuse b\nuse b\nuse b\nuse b\nuse b\nuse b\nuse b\nend\n\
+        block d\nuse c\nuse c\nuse c\nuse c\nuse c\nuse c\nuse c\nuse c\nuse c\nuse c\nend\n\
+        use d\nDrop next",
+        "ants: r: line 50: too many\n",
+    ),
+    (
+        "block a\nDrop here\nend\nhere:\nDrop here",
+        "ants: r: line 2: no such label\n",
+    ),
+    (
+        "Drop there\nMove next",
+        "ants: r: line 2: missing token\n",
+    ),
+];
+
+// The command, over any labelled program.
+const ASSEMBLE: Job<'static> = Job {
+    line: "asm r",
+    ..NO_JOB
+};
+
+#[test]
+fn a_labelled_program_becomes_a_brain(rt: HostRuntime) -> Result<(), Fail> {
+    check_rows(
+        &rt,
+        rt.alloc(),
+        ASSEMBLE,
+        Given::Red,
+        Status::Done,
+        &ASSEMBLED,
+    )
+}
+
+#[test]
+fn a_fault_of_a_labelled_program_is_told_with_its_line(rt: HostRuntime) -> Result<(), Fail> {
+    check_rows(
+        &rt,
+        rt.alloc(),
+        ASSEMBLE,
+        Given::Red,
+        Status::Input,
+        &REFUSED,
+    )
+}
+
+#[test]
+fn an_assembled_brain_that_is_cut_is_a_failed_output(rt: HostRuntime) -> Result<(), Fail> {
+    let job = Job {
+        red: BACK,
+        room: 9,
+        ..ASSEMBLE
+    };
+    check(
+        &rt,
+        rt.alloc(),
+        &job,
+        cut("Move 0 1\n", "ants: output failed\n"),
+    )
+}
