@@ -1,6 +1,6 @@
 // How a run ended, why a command stopped, and the line that says so.
 ghost use Rattle.std.specs.Prelude.{◌≡◌};
-ghost use Rattle.ants.specs.Stopping.{file_fault_text, brain_fault_text, break_fault_text, labelled_fault_text, world_fault_text, ending_by, plain_ending, reason_of, reason_text, fault_line, status_of};
+ghost use Rattle.ants.specs.Stopping.{file_fault_text, brain_fault_text, break_fault_text, labelled_fault_text, world_fault_text, ending_by, plain_ending, reason_of, reason_text, fault_line, status_of, save_fault_text};
 ghost use Rattle.ants.specs.Inner.Reading.{ending_of};
 
 use crate::status::Status;
@@ -9,6 +9,7 @@ use ant_base::{Failed, Layout, Sink, layout};
 use brain_read::BrainFault;
 use break_view::BreakFault;
 use match_run::{OutOfMemory, PlayFault};
+use match_save::SaveFault;
 use std::alloc::AllocFailed;
 use world_read::WorldFault;
 
@@ -25,6 +26,10 @@ pub enum FileFault {
     Breaks(BreakFault),
     /// It is no labelled program.
     Labelled(AsmFault),
+    /// It is no save.
+    Save(SaveFault),
+    /// It is a save of which this many rounds are done, more than are to be played in all.
+    AlreadyAt(u32),
 }
 
 /// Why a command stopped before its whole text was written.
@@ -198,20 +203,43 @@ impl Layout for LabelledWords {
     fn push_to<K: Sink>(&self, sink: &mut K) -> Result<(), Failed> {
         match self.0 {
             AsmFault::BadByte { line } => layout!("line ", line, ": bad byte").push_to(sink),
-            AsmFault::UnknownWord { line } => layout!("line ", line, ": unknown word").push_to(sink),
-            AsmFault::MissingToken { line } => layout!("line ", line, ": missing token").push_to(sink),
+            AsmFault::UnknownWord { line } => layout!("line ", line, ": unknown word").push_to(
+                sink,
+            ),
+            AsmFault::MissingToken { line } => layout!("line ", line, ": missing token").push_to(
+                sink,
+            ),
             AsmFault::BadNumber { line } => layout!("line ", line, ": bad number").push_to(sink),
             AsmFault::ExtraToken { line } => layout!("line ", line, ": extra token").push_to(sink),
             AsmFault::BadName { line } => layout!("line ", line, ": bad name").push_to(sink),
             AsmFault::Misplaced { line } => layout!("line ", line, ": misplaced").push_to(sink),
             AsmFault::Twice { line } => layout!("line ", line, ": name taken").push_to(sink),
             AsmFault::NoBlock { line } => layout!("line ", line, ": no such block").push_to(sink),
-            AsmFault::WrongCount { line } => layout!("line ", line, ": wrong number of labels").push_to(sink),
+            AsmFault::WrongCount { line } => layout!(
+                "line ",
+                line,
+                ": wrong number of labels"
+            ).push_to(sink),
             AsmFault::TooMany { line } => layout!("line ", line, ": too many").push_to(sink),
             AsmFault::EmptyBlock { line } => layout!("line ", line, ": empty block").push_to(sink),
             AsmFault::Empty => "no instruction".push_to(sink),
             AsmFault::NoLabel { line } => layout!("line ", line, ": no such label").push_to(sink),
             AsmFault::OutOfMemory => "out of memory".push_to(sink),
+        }
+    }
+}
+
+#[derive(Clone, Copy)]
+struct SaveWords(SaveFault);
+
+impl Layout for SaveWords {
+    ghost text = { λ words. save_fault_text words.0 };
+
+    fn push_to<K: Sink>(&self, sink: &mut K) -> Result<(), Failed> {
+        match self.0 {
+            SaveFault::BadLine { line } => layout!("line ", line, ": not a save").push_to(sink),
+            SaveFault::BadState => "no valid state".push_to(sink),
+            SaveFault::OutOfMemory => "out of memory".push_to(sink),
         }
     }
 }
@@ -229,6 +257,8 @@ impl Layout for FileWords {
             FileFault::Brain(fault) => BrainWords(fault).push_to(sink),
             FileFault::Breaks(fault) => BreakWords(fault).push_to(sink),
             FileFault::Labelled(fault) => LabelledWords(fault).push_to(sink),
+            FileFault::Save(fault) => SaveWords(fault).push_to(sink),
+            FileFault::AlreadyAt(round) => layout!("already at round ", round).push_to(sink),
         }
     }
 }

@@ -19,7 +19,7 @@ mod table;
 mod values;
 mod walk;
 
-pub use command::{Command, GenShape, Refused, RunOptions};
+pub use command::{Command, GenShape, Refused, ResumeOptions, RunOptions};
 pub use dumps::DumpWord;
 pub use laws::{
     any_order, front_begins, never_both, one_command, one_of_both, one_refused_word, within_limits,

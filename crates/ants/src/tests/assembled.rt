@@ -16,10 +16,7 @@ const BACK: &str = "block back done ; half a turn\n\
 
 // Labelled programs, and the brain that each becomes.
 const ASSEMBLED: [(&str, &str); 6] = [
-    (
-        BACK,
-        "Move 0 1\nTurn Left 2\nTurn Left 3\nTurn Left 0\n",
-    ),
+    (BACK, "Move 0 1\nTurn Left 2\nTurn Left 3\nTurn Left 0\n"),
     ("Drop next", "Drop 0\n"),
     ("Move done done\ndone:", "Move 0 0\n"),
     (
@@ -67,10 +64,7 @@ const REFUSED: [(&str, &str); 20] = [
         "block a\nDrop here\nend\nhere:\nDrop here",
         "ants: r: line 2: no such label\n",
     ),
-    (
-        "Drop there\nMove next",
-        "ants: r: line 2: missing token\n",
-    ),
+    ("Drop there\nMove next", "ants: r: line 2: missing token\n"),
 ];
 
 // The command, over any labelled program.
