@@ -205,7 +205,7 @@ lf_save_line : (line : List ℕ) → EndsInLf (line ++ 10 ∷ [])
 lf_save_line line = lf_last line (10 ∷ []) (record { is = refl })
 
 lf_save : (s : SavedValue) → EndsInLf (save_text s)
-unfolding save_text draft_text
+unfolding save_text draft_text draft_lines
 lf_save s = lf_flat_map (λ (line : List ℕ). line ++ 10 ∷ []) (draft_lines (draft_of s)) (omega arith) lf_save_line
 
 lf_rest : (setup : ResumeSetup) (saved : SavedValue) → EndsInLf (resume_output setup (SaveContent saved))

@@ -32,7 +32,7 @@ returns-in_err-write_saved g c = λ setup plans same.
     (setting_contents c.in_ok-setting.setting) c.from_residual-in_err-write_saved.result c.from_residual-in_err-write_saved.ensures.1 c.in_ok-setting.ensures
     (save_output setup (WorldContent c.in_ok-setting.setting.world) (BrainContent c.in_ok-setting.setting.red) (BrainContent c.in_ok-setting.setting.black)) refl
     (subst (PushedFront (g.K.Sink.state c.args.out.now) (g.K.Sink.state c.write_saved.new.sink))
-    (ap save_text c.in_ok-saved.ensures ∙ saved_planned setup c.args.plan.now c.args.sheet c.in_ok-setting.setting.world c.in_ok-setting.setting.red c.in_ok-setting.setting.black plans same) c.in_err-write_saved.ensures)
+    (ap save_text c.in_ok-saved.ensures ∙ saved_planned setup c.args.plan.now c.args.sheet c.in_ok-setting.setting.world c.in_ok-setting.setting.red c.in_ok-setting.setting.black plans same) c.in_err-write_saved.ensures.pushed)
 
 pub returns : goal.returns
 returns g c = λ setup plans same.
@@ -40,4 +40,4 @@ returns g c = λ setup plans same.
     (setting_contents c.in_ok-setting.setting) c.in_ok-setting.ensures
     (save_output setup (WorldContent c.in_ok-setting.setting.world) (BrainContent c.in_ok-setting.setting.red) (BrainContent c.in_ok-setting.setting.black)) refl
     (subst (PushedAll (g.K.Sink.state c.args.out.now) (g.K.Sink.state c.write_saved.new.sink))
-    (ap save_text c.in_ok-saved.ensures ∙ saved_planned setup c.args.plan.now c.args.sheet c.in_ok-setting.setting.world c.in_ok-setting.setting.red c.in_ok-setting.setting.black plans same) c.in_ok-write_saved.ensures)
+    (ap save_text c.in_ok-saved.ensures ∙ saved_planned setup c.args.plan.now c.args.sheet c.in_ok-setting.setting.world c.in_ok-setting.setting.red c.in_ok-setting.setting.black plans same) c.in_ok-write_saved.ensures.pushed)
