@@ -137,11 +137,10 @@ same_entries (x ∷ xs) (y ∷ ys) size same =
 pub one-assembled : (main : Items) (a b : List Instr) (first second : List Address) → IsAssembled main a first → IsAssembled main b second → (a ≡ b) × (first ≡ second)
 one-assembled main a b first second x y =
     let list : first ≡ second = x.places ∙ sym y.places in
-    let z : IsAssembled main b first = subst (λ (l : List Address). IsAssembled main b l) (sym list) y in
-    (
+    let z : IsAssembled main b first = subst (λ (l : List Address). IsAssembled main b l) (sym list) y in (
       same_entries a b (x.as_many ∙ sym z.as_many) (λ k below.
-      let there = element first k (let many = x.as_many in omega (arith, below, many)) in
-      x.each k there.0 there.1 ∙ sym (z.each k there.0 there.1)),
+          let there = element first k (let many = x.as_many in omega (arith, below, many)) in
+          x.each k there.0 there.1 ∙ sym (z.each k there.0 there.1)),
       list,
     )
 

@@ -73,11 +73,7 @@ fn number_target(spot: Spot, label: Label) -> u16
 }
 
 // The numbers to which the labels lead that an item hands to a block.
-fn handed_numbers(
-    alloc: Global,
-    spot: Spot,
-    handed: &[Label],
-) -> Result<Vec<u16>, OutOfMemory>
+fn handed_numbers(alloc: Global, spot: Spot, handed: &[Label]) -> Result<Vec<u16>, OutOfMemory>
     requires good { AreGood spot.bodies.now }
     requires known { spot.number < length spot.bodies.now }
     requires inside { IsPlaceOfItem spot.bodies.now spot.number spot.place }
@@ -186,10 +182,7 @@ fn emit(
 }
 
 // The instruction with numbers for labels.
-fn numbered_at(
-    spot: Spot,
-    action: Action<Label>,
-) -> Instr
+fn numbered_at(spot: Spot, action: Action<Label>) -> Instr
     requires good { AreGood spot.bodies.now }
     requires known { spot.number < length spot.bodies.now }
     requires inside { IsPlaceOfItem spot.bodies.now spot.number spot.place }
