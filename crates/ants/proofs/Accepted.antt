@@ -7,6 +7,7 @@ use Rattle.brain_read.specs.declared.instr.Instr.{Instr}
 use Rattle.brain_read.proofs.SoundnessLemmas.{brain_of}
 use Rattle.ant_turn.specs.Sheet.{Sheet}
 use Rattle.cell_world.specs.Grid.{Grid, world_of}
+use Rattle.world_read.specs.Opened.{IsOpeningWorld}
 use Rattle.ants.specs.Files.{AreAccepted, IsAccepted}
 use Rattle.ants.specs.Files.FileContent.{WorldContent, BrainContent}
 use Rattle.ants.specs.Jobs.{brain_file, game_files, world_file}
@@ -24,3 +25,9 @@ fits_accepted name red_name black_name [] grid red black sheet are = absurd are
 fits_accepted name red_name black_name (a ∷ []) grid red black sheet are = absurd are.1
 fits_accepted name red_name black_name (a ∷ b ∷ []) grid red black sheet are = absurd are.1.1
 fits_accepted name red_name black_name (a ∷ b ∷ c ∷ fetches) grid red black sheet are = fits name red_name black_name grid red black sheet a b c are.0 are.1.0 are.1.1.0
+
+-- such a world is one at the start of a game
+pub opened_accepted : (name red_name black_name : List ℕ) (fetches : List Fetched) (grid : Grid) (red black : List Instr)
+    → AreAccepted (game_files name red_name black_name) fetches (WorldContent grid ∷ BrainContent red ∷ BrainContent black ∷ []) → IsOpeningWorld grid
+opened_accepted name red_name black_name [] grid red black are = absurd are
+opened_accepted name red_name black_name (a ∷ fetches) grid red black are = (let opens = are.0.reads in record { kinds = opens.kinds; plan = opens.is.plan; is = opens.opened })

@@ -8,7 +8,7 @@ use Rattle.brain_read.proofs.SoundnessLemmas.{brain_of}
 use Rattle.brain_read.specs.declared.instr.Instr.{Instr}
 use Rattle.break_view.specs.Texts.{view_of}
 use Rattle.cell_world.specs.Grid.{Grid, world_of}
-use Rattle.command_words.specs.Command.PlainCommand.{ShowCommand, BrainCommand, MinimiseCommand, RunCommand, GenCommand, CupCommand, ViewCommand, WorkloadCommand, HelpCommand, VersionCommand, AsmCommand}
+use Rattle.command_words.specs.Command.PlainCommand.{ShowCommand, BrainCommand, MinimiseCommand, RunCommand, GenCommand, CupCommand, ViewCommand, WorkloadCommand, HelpCommand, VersionCommand, AsmCommand, SaveCommand, ResumeCommand}
 use Rattle.command_words.specs.Laws.{ShapeWithin}
 use Rattle.command_words.specs.declared.command.GenShape.{GenShape}
 use Rattle.tournament.proofs.Sorting.{has_standing}
@@ -20,9 +20,9 @@ use Rattle.world_gen.specs.declared.shape.Shape.{Shape}
 use Rattle.world_read.specs.Canonical.{canonical_text}
 use Rattle.world_read.specs.Opened.{kinds_of}
 use Rattle.ants.specs.Files.{AreAccepted, FileContent, IsAccepted}
-use Rattle.ants.specs.Files.FileContent.{BrainContent, BreakContent, WorldContent, LabelledContent}
+use Rattle.ants.specs.Files.FileContent.{BrainContent, BreakContent, WorldContent, LabelledContent, SaveContent}
 use Rattle.ants.specs.Help.{help_text, version_text}
-use Rattle.ants.specs.Jobs.{IsCupOutput, IsViewOutput, asm_output, brain_file, brain_output, break_file, contest_shape, cup_contents, cup_files, match_output, score_between, shape_named, show_output, summary_of, workload_text, world_file}
+use Rattle.ants.specs.Jobs.{IsCupOutput, IsViewOutput, asm_output, brain_file, brain_output, break_file, contest_shape, cup_contents, cup_files, match_output, resume_output, save_output, score_between, shape_named, show_output, summary_of, workload_text, world_file}
 use Rattle.ants.specs.Laws.{HasOutput}
 use Rattle.ants.proofs.Viewed.{view_of-view}
 
@@ -42,6 +42,7 @@ players_read (name ∷ names) (fetch ∷ fetches) (BrainContent list ∷ content
     (list ∷ rest.0, ap (λ (more : List FileContent). BrainContent list ∷ more) rest.1)
 players_read (name ∷ names) (fetch ∷ fetches) (BreakContent items ∷ contents) are = absurd are.0.reads
 players_read (name ∷ names) (fetch ∷ fetches) (LabelledContent made places ∷ contents) are = absurd are.0.reads
+players_read (name ∷ names) (fetch ∷ fetches) (SaveContent made ∷ contents) are = absurd are.0.reads
 
 cup_read : (worlds names : List (List ℕ)) (fetches : List Fetched) (contents : List FileContent) → AreAccepted (cup_files worlds names) fetches contents → IsRead contents
 cup_read [] names fetches contents are =
@@ -55,6 +56,7 @@ cup_read (world ∷ worlds) names (fetch ∷ fetches) (WorldContent grid ∷ con
 cup_read (world ∷ worlds) names (fetch ∷ fetches) (BrainContent list ∷ contents) are = absurd are.0.reads
 cup_read (world ∷ worlds) names (fetch ∷ fetches) (BreakContent items ∷ contents) are = absurd are.0.reads
 cup_read (world ∷ worlds) names (fetch ∷ fetches) (LabelledContent made places ∷ contents) are = absurd are.0.reads
+cup_read (world ∷ worlds) names (fetch ∷ fetches) (SaveContent made ∷ contents) are = absurd are.0.reads
 
 cup_output : (names : List (List ℕ)) (seed rounds : ℕ) (contents : List FileContent) → IsRead contents → (text : List ℕ) × IsCupOutput names seed rounds contents text
 cup_output names seed rounds contents read =
@@ -67,16 +69,20 @@ view_output world red black breaks seed rounds a b c d (WorldContent grid) (Brai
     (view_of (contest_minds one two) seed rounds (world_of grid) items, view_of-view (contest_minds one two) seed rounds (world_of grid) items)
 view_output world red black breaks seed rounds a b c d (WorldContent grid) (BrainContent one) (BrainContent two) (WorldContent fourth) x y z u = absurd u.reads
 view_output world red black breaks seed rounds a b c d (WorldContent grid) (BrainContent one) (BrainContent two) (LabelledContent made places) x y z u = absurd u.reads
+view_output world red black breaks seed rounds a b c d (WorldContent grid) (BrainContent one) (BrainContent two) (SaveContent made) x y z u = absurd u.reads
 view_output world red black breaks seed rounds a b c d (WorldContent grid) (BrainContent one) (BrainContent two) (BrainContent fourth) x y z u = absurd u.reads
 view_output world red black breaks seed rounds a b c d (WorldContent grid) (BrainContent one) (WorldContent third) fourth x y z u = absurd z.reads
 view_output world red black breaks seed rounds a b c d (WorldContent grid) (BrainContent one) (BreakContent third) fourth x y z u = absurd z.reads
 view_output world red black breaks seed rounds a b c d (WorldContent grid) (BrainContent one) (LabelledContent made places) fourth x y z u = absurd z.reads
+view_output world red black breaks seed rounds a b c d (WorldContent grid) (BrainContent one) (SaveContent made) fourth x y z u = absurd z.reads
 view_output world red black breaks seed rounds a b c d (WorldContent grid) (WorldContent second) third fourth x y z u = absurd y.reads
 view_output world red black breaks seed rounds a b c d (WorldContent grid) (BreakContent second) third fourth x y z u = absurd y.reads
 view_output world red black breaks seed rounds a b c d (WorldContent grid) (LabelledContent made places) third fourth x y z u = absurd y.reads
+view_output world red black breaks seed rounds a b c d (WorldContent grid) (SaveContent made) third fourth x y z u = absurd y.reads
 view_output world red black breaks seed rounds a b c d (BrainContent first) second third fourth x y z u = absurd x.reads
 view_output world red black breaks seed rounds a b c d (BreakContent first) second third fourth x y z u = absurd x.reads
 view_output world red black breaks seed rounds a b c d (LabelledContent made places) second third fourth x y z u = absurd x.reads
+view_output world red black breaks seed rounds a b c d (SaveContent made) second third fourth x y z u = absurd x.reads
 
 -- a world whose elements have room
 has_world : (seed : ℕ) (shape : Shape) → IsShape shape → ((element : ℕ) → HasNoRoom seed shape element → ⊥) → (world : Grid) × IsGenerated seed shape world
@@ -105,6 +111,7 @@ has_output (MinimiseCommand file) (fetch ∷ fetches) (BrainContent list ∷ [])
     (minimised_text list minimised.0, record { new = minimised.0; numbers = minimised.1; minimised = minimised.2; told = refl })
 has_output (MinimiseCommand file) (fetch ∷ fetches) (BreakContent items ∷ []) within are room = absurd are.0.reads
 has_output (MinimiseCommand file) (fetch ∷ fetches) (LabelledContent made places ∷ []) within are room = absurd are.0.reads
+has_output (MinimiseCommand file) (fetch ∷ fetches) (SaveContent made ∷ []) within are room = absurd are.0.reads
 has_output (MinimiseCommand file) (fetch ∷ fetches) (content ∷ next ∷ more) within are room = (let never = are.1.1 in absurd (cc))
 has_output (RunCommand world red black setup) [] contents within are room = absurd are
 has_output (RunCommand world red black setup) (a ∷ fetches) [] within are room = absurd are
@@ -142,3 +149,15 @@ has_output (AsmCommand file) [] contents within are room = absurd are
 has_output (AsmCommand file) (fetch ∷ fetches) [] within are room = absurd are
 has_output (AsmCommand file) (fetch ∷ fetches) (content ∷ []) within are room = (asm_output content, refl)
 has_output (AsmCommand file) (fetch ∷ fetches) (content ∷ next ∷ more) within are room = (let never = are.1.1 in absurd (cc))
+has_output (SaveCommand world red black setup) [] contents within are room = absurd are
+has_output (SaveCommand world red black setup) (a ∷ fetches) [] within are room = absurd are
+has_output (SaveCommand world red black setup) (a ∷ []) (first ∷ contents) within are room = absurd are.1
+has_output (SaveCommand world red black setup) (a ∷ b ∷ fetches) (first ∷ []) within are room = absurd are.1
+has_output (SaveCommand world red black setup) (a ∷ b ∷ []) (first ∷ second ∷ contents) within are room = absurd are.1.1
+has_output (SaveCommand world red black setup) (a ∷ b ∷ c ∷ fetches) (first ∷ second ∷ []) within are room = absurd are.1.1
+has_output (SaveCommand world red black setup) (a ∷ b ∷ c ∷ fetches) (first ∷ second ∷ third ∷ []) within are room = (save_output setup first second third, refl)
+has_output (SaveCommand world red black setup) (a ∷ b ∷ c ∷ fetches) (first ∷ second ∷ third ∷ next ∷ more) within are room = (let never = are.1.1.1.1 in absurd (cc))
+has_output (ResumeCommand save setup) [] contents within are room = absurd are
+has_output (ResumeCommand save setup) (fetch ∷ fetches) [] within are room = absurd are
+has_output (ResumeCommand save setup) (fetch ∷ fetches) (content ∷ []) within are room = (resume_output setup content, refl)
+has_output (ResumeCommand save setup) (fetch ∷ fetches) (content ∷ next ∷ more) within are room = (let never = are.1.1 in absurd (cc))

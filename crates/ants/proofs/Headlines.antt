@@ -10,7 +10,7 @@ use Rattle.match_run.specs.Counts.{whole_text}
 use Rattle.match_run.specs.Run.{run_text}
 use Rattle.ants.specs.declared.stop.FileFault.{FileFault}
 use Rattle.ants.specs.Files.{AreAccepted, FileContent, IsAccepted}
-use Rattle.ants.specs.Files.FileContent.{BrainContent, BreakContent, WorldContent, LabelledContent}
+use Rattle.ants.specs.Files.FileContent.{BrainContent, BreakContent, WorldContent, LabelledContent, SaveContent}
 use Rattle.ants.specs.Headline.{Headline, NamesTheReason, NamesTheWord, PrintsItsOutput, PrintsTheGame, KeepsPromise}
 use Rattle.ants.specs.Jobs.{IsJobText, brain_file, game_files, match_output, world_file}
 use Rattle.ants.specs.Outside.{Outside}
@@ -71,12 +71,15 @@ game_of world red black setup before after a b c fetches (WorldContent grid) (Br
 game_of world red black setup before after a b c fetches (WorldContent grid) (BrainContent one) (WorldContent third) text fetched x y z last is written flushed silent = absurd z.reads
 game_of world red black setup before after a b c fetches (WorldContent grid) (BrainContent one) (BreakContent third) text fetched x y z last is written flushed silent = absurd z.reads
 game_of world red black setup before after a b c fetches (WorldContent grid) (BrainContent one) (LabelledContent made places) text fetched x y z last is written flushed silent = absurd z.reads
+game_of world red black setup before after a b c fetches (WorldContent grid) (BrainContent one) (SaveContent made) text fetched x y z last is written flushed silent = absurd z.reads
 game_of world red black setup before after a b c fetches (WorldContent grid) (WorldContent second) third text fetched x y z last is written flushed silent = absurd y.reads
 game_of world red black setup before after a b c fetches (WorldContent grid) (BreakContent second) third text fetched x y z last is written flushed silent = absurd y.reads
 game_of world red black setup before after a b c fetches (WorldContent grid) (LabelledContent made places) third text fetched x y z last is written flushed silent = absurd y.reads
+game_of world red black setup before after a b c fetches (WorldContent grid) (SaveContent made) third text fetched x y z last is written flushed silent = absurd y.reads
 game_of world red black setup before after a b c fetches (BrainContent first) second third text fetched x y z last is written flushed silent = absurd x.reads
 game_of world red black setup before after a b c fetches (BreakContent first) second third text fetched x y z last is written flushed silent = absurd x.reads
 game_of world red black setup before after a b c fetches (LabelledContent made places) second third text fetched x y z last is written flushed silent = absurd x.reads
+game_of world red black setup before after a b c fetches (SaveContent made) second third text fetched x y z last is written flushed silent = absurd x.reads
 
 game_done : (world red black : List ℕ) (setup : RunSetup) (before after : Outside) (fetches : List Fetched) (contents : List FileContent) (text : List ℕ) → FetchesEach before.shelf after.shelf fetches
     → AreAccepted (game_files world red black) fetches contents → IsJobText (RunCommand world red black setup) contents text → PushedAll before.out after.out text

@@ -10,7 +10,9 @@ pub mod Listed
 pub mod OneTexts
 pub mod Planned
 pub mod Readings
+pub mod ResumedGames
 pub mod SampleWorked
+pub mod Saves
 pub mod TextEnds
 pub mod Texts
 pub mod Untouched

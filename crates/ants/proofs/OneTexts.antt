@@ -7,7 +7,7 @@ use Rattle.break_view.proofs.ViewLaws.{one_first_stop}
 use Rattle.ant_turn.specs.Minds.{contest_minds}
 use Rattle.cell_world.specs.Grid.{Grid, world_of}
 use Rattle.command_words.specs.Command.{RunSetup}
-use Rattle.command_words.specs.Command.PlainCommand.{ShowCommand, BrainCommand, MinimiseCommand, RunCommand, GenCommand, CupCommand, ViewCommand, WorkloadCommand, HelpCommand, VersionCommand, AsmCommand}
+use Rattle.command_words.specs.Command.PlainCommand.{ShowCommand, BrainCommand, MinimiseCommand, RunCommand, GenCommand, CupCommand, ViewCommand, WorkloadCommand, HelpCommand, VersionCommand, AsmCommand, SaveCommand, ResumeCommand}
 use Rattle.match_run.specs.Counts.{whole_text}
 use Rattle.tournament.specs.Text.{IsCupText, standing_text}
 use Rattle.tournament.proofs.LawsLemmas.{standing_law}
@@ -16,7 +16,7 @@ use Rattle.world_gen.specs.declared.shape.Shape.{Shape}
 use Rattle.world_read.specs.Canonical.{canonical_text}
 use Rattle.world_read.specs.Opened.{kinds_of}
 use Rattle.ants.specs.Files.{FileContent}
-use Rattle.ants.specs.Files.FileContent.{WorldContent, BrainContent, BreakContent, LabelledContent}
+use Rattle.ants.specs.Files.FileContent.{WorldContent, BrainContent, BreakContent, LabelledContent, SaveContent}
 use Rattle.ants.specs.Jobs.{IsCupOutput, IsJobText, IsMinimisedOutput, IsViewOutput, TellsGenerated, TellsMinimised, TellsWorkload, contest_shape, cup_contents, match_output, score_between, shape_named, summary_of, workload_text}
 use Rattle.ants.specs.Laws.{OneText, WindowsChangeCountsAlone, WorkersChangeNothing}
 
@@ -29,6 +29,7 @@ one_minimised_output (BrainContent list) text other a b = tells_minimised list t
 one_minimised_output (WorldContent grid) text other a b = absurd a
 one_minimised_output (BreakContent items) text other a b = absurd a
 one_minimised_output (LabelledContent made places) text other a b = absurd a
+one_minimised_output (SaveContent made) text other a b = absurd a
 
 one_view_output : (seed rounds : ℕ) (first second third fourth : FileContent) (text other : List ℕ) → IsViewOutput seed rounds first second third fourth text
     → IsViewOutput seed rounds first second third fourth other → text ≡ other
@@ -36,16 +37,20 @@ one_view_output seed rounds (WorldContent grid) (BrainContent red) (BrainContent
     one_first_stop.one_view (contest_minds red black) seed rounds (world_of grid) items text other a b
 one_view_output seed rounds (WorldContent grid) (BrainContent red) (BrainContent black) (WorldContent fourth) text other a b = absurd a
 one_view_output seed rounds (WorldContent grid) (BrainContent red) (BrainContent black) (LabelledContent made places) text other a b = absurd a
+one_view_output seed rounds (WorldContent grid) (BrainContent red) (BrainContent black) (SaveContent made) text other a b = absurd a
 one_view_output seed rounds (WorldContent grid) (BrainContent red) (BrainContent black) (BrainContent fourth) text other a b = absurd a
 one_view_output seed rounds (WorldContent grid) (BrainContent red) (WorldContent third) fourth text other a b = absurd a
 one_view_output seed rounds (WorldContent grid) (BrainContent red) (BreakContent third) fourth text other a b = absurd a
 one_view_output seed rounds (WorldContent grid) (BrainContent red) (LabelledContent made places) fourth text other a b = absurd a
+one_view_output seed rounds (WorldContent grid) (BrainContent red) (SaveContent made) fourth text other a b = absurd a
 one_view_output seed rounds (WorldContent grid) (WorldContent second) third fourth text other a b = absurd a
 one_view_output seed rounds (WorldContent grid) (BreakContent second) third fourth text other a b = absurd a
 one_view_output seed rounds (WorldContent grid) (LabelledContent made places) third fourth text other a b = absurd a
+one_view_output seed rounds (WorldContent grid) (SaveContent made) third fourth text other a b = absurd a
 one_view_output seed rounds (BrainContent first) second third fourth text other a b = absurd a
 one_view_output seed rounds (BreakContent first) second third fourth text other a b = absurd a
 one_view_output seed rounds (LabelledContent made places) second third fourth text other a b = absurd a
+one_view_output seed rounds (SaveContent made) second third fourth text other a b = absurd a
 
 -- contents are of one list of worlds and one of players
 players_same : (a b : List (List Instr)) → cup_contents [] a ≡ cup_contents [] b → a ≡ b
@@ -124,6 +129,14 @@ one_text VersionCommand (content ∷ contents) text other a b = absurd a
 one_text (AsmCommand file) [] text other a b = absurd a
 one_text (AsmCommand file) (content ∷ []) text other a b = a ∙ sym b
 one_text (AsmCommand file) (content ∷ next ∷ more) text other a b = absurd a
+one_text (SaveCommand world red black setup) [] text other a b = absurd a
+one_text (SaveCommand world red black setup) (first ∷ []) text other a b = absurd a
+one_text (SaveCommand world red black setup) (first ∷ second ∷ []) text other a b = absurd a
+one_text (SaveCommand world red black setup) (first ∷ second ∷ third ∷ []) text other a b = a ∙ sym b
+one_text (SaveCommand world red black setup) (first ∷ second ∷ third ∷ next ∷ more) text other a b = absurd a
+one_text (ResumeCommand save setup) [] text other a b = absurd a
+one_text (ResumeCommand save setup) (content ∷ []) text other a b = a ∙ sym b
+one_text (ResumeCommand save setup) (content ∷ next ∷ more) text other a b = absurd a
 
 same_match : (setup : RunSetup) (workers : ℕ) (first second third : FileContent) → match_output setup first second third ≡ match_output (record setup { workers = workers }) first second third
 unfolding match_output
@@ -131,12 +144,15 @@ same_match setup workers (WorldContent grid) (BrainContent red) (BrainContent bl
 same_match setup workers (WorldContent grid) (BrainContent red) (WorldContent third) = refl
 same_match setup workers (WorldContent grid) (BrainContent red) (BreakContent third) = refl
 same_match setup workers (WorldContent grid) (BrainContent red) (LabelledContent made places) = refl
+same_match setup workers (WorldContent grid) (BrainContent red) (SaveContent made) = refl
 same_match setup workers (WorldContent grid) (WorldContent second) third = refl
 same_match setup workers (WorldContent grid) (BreakContent second) third = refl
 same_match setup workers (WorldContent grid) (LabelledContent made places) third = refl
+same_match setup workers (WorldContent grid) (SaveContent made) third = refl
 same_match setup workers (BrainContent first) second third = refl
 same_match setup workers (BreakContent first) second third = refl
 same_match setup workers (LabelledContent made places) second third = refl
+same_match setup workers (SaveContent made) second third = refl
 
 other_workers : (world red black : List ℕ) (setup : RunSetup) (workers : ℕ) (contents : List FileContent) (text : List ℕ)
     → IsJobText (RunCommand world red black setup) contents text → IsJobText (RunCommand world red black (record setup { workers = workers })) contents text
@@ -186,12 +202,15 @@ same_windows setup window (WorldContent grid) (BrainContent red) (BrainContent b
 same_windows setup window (WorldContent grid) (BrainContent red) (WorldContent third) off = refl
 same_windows setup window (WorldContent grid) (BrainContent red) (BreakContent third) off = refl
 same_windows setup window (WorldContent grid) (BrainContent red) (LabelledContent made places) off = refl
+same_windows setup window (WorldContent grid) (BrainContent red) (SaveContent made) off = refl
 same_windows setup window (WorldContent grid) (WorldContent second) third off = refl
 same_windows setup window (WorldContent grid) (BreakContent second) third off = refl
 same_windows setup window (WorldContent grid) (LabelledContent made places) third off = refl
+same_windows setup window (WorldContent grid) (SaveContent made) third off = refl
 same_windows setup window (BrainContent first) second third off = refl
 same_windows setup window (BreakContent first) second third off = refl
 same_windows setup window (LabelledContent made places) second third off = refl
+same_windows setup window (SaveContent made) second third off = refl
 
 pub windows_change_counts_alone : WindowsChangeCountsAlone
 windows_change_counts_alone world red black setup window [] text off is = absurd is

@@ -14,7 +14,7 @@ use Rattle.match_run.specs.declared.fault.PlayFault.{PlayFault}
 use Rattle.match_run.specs.declared.fault.PlayFault.TheVariants as play
 use Rattle.match_run.specs.Play.{PushedSome, StoppedBy}
 use Rattle.ants.specs.declared.stop.FileFault.{FileFault}
-use Rattle.ants.specs.declared.stop.FileFault.TheVariants.{TooLong, World, Brain, Breaks, Labelled}
+use Rattle.ants.specs.declared.stop.FileFault.TheVariants.{TooLong, World, Brain, Breaks, Labelled, Save, AlreadyAt}
 use Rattle.ants.specs.declared.stop.CommandStop.{CommandStop}
 use Rattle.ants.specs.declared.stop.CommandStop.TheVariants as stop
 use Rattle.ants.specs.Files.{File, FileContent, AreAccepted, AreBegun, IsRefused, Refuses, StopsAt}
@@ -159,6 +159,8 @@ refused_text file fetch bytes (World fault) got refuses = record { bytes = bytes
 refused_text file fetch bytes (Brain fault) got refuses = record { bytes = bytes; got = got; refuses = refuses }
 refused_text file fetch bytes (Breaks fault) got refuses = record { bytes = bytes; got = got; refuses = refuses }
 refused_text file fetch bytes (Labelled fault) got refuses = record { bytes = bytes; got = got; refuses = refuses }
+refused_text file fetch bytes (Save fault) got refuses = record { bytes = bytes; got = got; refuses = refuses }
+refused_text file fetch bytes (AlreadyAt round) got refuses = record { bytes = bytes; got = got; refuses = refuses }
 
 text_stops : (shelf new_shelf : ShelfState) (file : File) (fetch : Fetched) (bytes : List ℕ) (reason : Reason) → fetch ≡ record { name = file.name; answer = Ok bytes } → TextStops file.kind bytes file.name reason
     → ReadingStops shelf new_shelf (file ∷ []) (fetch ∷ []) reason

@@ -4,14 +4,14 @@ use Rattle.std.proofs.lemmas.Bool.{false≢true}
 use Rattle.std.proofs.lemmas.List.{length-map}
 use Rattle.std.proofs.lemmas.List.Sorted.{length_permutation}
 use Rattle.std.specs.List.{flat_map}
-use Rattle.std.specs.Prelude.{◌*◌, ◌%◌, ◌==◌, codes, decimal, slice_index_or}
+use Rattle.std.specs.Prelude.{◌-◌, ◌*◌, ◌%◌, ◌==◌, codes, decimal, slice_index_or}
 use Rattle.ant_asm.proofs.HasAssembled.{assembled-some}
 use Rattle.ant_base.proofs.Numbered.{numbered-list}
 use Rattle.ant_base.proofs.Pushing.{ends_in_lf-append}
 use Rattle.ant_base.specs.Fetched.{Fetched}
 use Rattle.ant_base.specs.Layout.{numbered, ◌+++◌}
 use Rattle.ant_base.specs.Lines.{ends_in_lf}
-use Rattle.ant_turn.specs.Rounds.{start_of}
+use Rattle.ant_turn.specs.Rounds.{after_rounds, start_of}
 use Rattle.brain_minimise.specs.Text.{minimised_text}
 use Rattle.brain_read.proofs.SoundnessLemmas.{brain_of}
 use Rattle.brain_read.specs.Canonical.{brain_text, instruction_text}
@@ -26,8 +26,8 @@ use Rattle.cell_world.specs.declared.cell.Cell.{Cell}
 use Rattle.cell_world.specs.declared.kind.Kind.{Kind}
 use Rattle.cell_world.specs.declared.kind.Kind.TheVariants.{Rock}
 use Rattle.cell_world.specs.declared.score.Score.{Score}
-use Rattle.command_words.specs.Command.{PlainCommand, RunSetup}
-use Rattle.command_words.specs.Command.PlainCommand.{ShowCommand, BrainCommand, MinimiseCommand, RunCommand, GenCommand, CupCommand, ViewCommand, WorkloadCommand, HelpCommand, VersionCommand, AsmCommand}
+use Rattle.command_words.specs.Command.{PlainCommand, ResumeSetup, RunSetup}
+use Rattle.command_words.specs.Command.PlainCommand.{ShowCommand, BrainCommand, MinimiseCommand, RunCommand, GenCommand, CupCommand, ViewCommand, WorkloadCommand, HelpCommand, VersionCommand, AsmCommand, SaveCommand, ResumeCommand}
 use Rattle.command_words.specs.Laws.{CommandWithin, CupWithin}
 use Rattle.dump_print.specs.Content.{content_text}
 use Rattle.dump_print.specs.Texts.{cell_line, cells_text, dump_text, row_text, score_text, seed_text, stats_text}
@@ -35,6 +35,12 @@ use Rattle.dump_print.specs.declared.totals.Totals.{Totals}
 use Rattle.line_tokens.specs.Fields.{LineField, field_text, further_text, line_text}
 use Rattle.match_run.specs.Counts.{counts_text, totals_of, whole_text}
 use Rattle.match_run.specs.Run.{dumps_text, run_text, world_after}
+use Rattle.match_run.specs.Counts.{both}
+use Rattle.match_run.specs.Rest.{later_dumps, rest_text}
+use Rattle.match_save.specs.Resumed.{moment_of, rest_of}
+use Rattle.match_save.specs.Saved.{SavedValue, draft_of, save_text}
+use Rattle.match_save.specs.Saving.{saved_after}
+use Rattle.match_save.specs.Text.{draft_lines, draft_text}
 use Rattle.tournament.proofs.GamesLemmas.{length-below}
 use Rattle.tournament.specs.Games.{all_played, below}
 use Rattle.tournament.specs.Names.{name_of}
@@ -47,8 +53,8 @@ use Rattle.world_read.specs.Opened.{kinds_of}
 use Rattle.ants.specs.declared.workload.Summary.{Summary}
 use Rattle.ants.specs.Files.{AreAccepted, FileContent, IsAccepted}
 use Rattle.ants.specs.Help.{file_lines, game_lines, game_option_lines, head_lines, help_text, status_lines, version_text, world_option_lines}
-use Rattle.ants.specs.Files.FileContent.{BrainContent, BreakContent, WorldContent, LabelledContent}
-use Rattle.ants.specs.Jobs.{IsCupOutput, IsJobText, IsMinimisedOutput, IsViewOutput, asm_output, brain_file, brain_output, chosen_rounds, cup_files, match_output, minds_named, labelled_file, score_between, show_output, summary_lines, summary_of, workload_text, world_file}
+use Rattle.ants.specs.Files.FileContent.{BrainContent, BreakContent, WorldContent, LabelledContent, SaveContent}
+use Rattle.ants.specs.Jobs.{IsCupOutput, IsJobText, IsMinimisedOutput, IsViewOutput, asm_output, brain_file, brain_output, chosen_rounds, cup_files, match_output, minds_named, labelled_file, score_between, show_output, resume_output, save_file, save_output, summary_lines, summary_of, workload_text, world_file}
 use Rattle.ants.specs.Laws.{TextsEndInLf}
 use Rattle.ants.proofs.Cups.{players_counted}
 
@@ -194,6 +200,23 @@ lf_match setup grid red black =
     (lf_last (seed_text setup.seed) (dumps +++ score) (lf_last dumps score (lf_score (score_of (world_after minds setup.seed w setup.rounds)))))
     (lines_counts setup.stats (totals_of minds setup.seed setup.window (start_of w) setup.rounds))
 
+-- the lines of a save
+lf_save_line : (line : List ℕ) → EndsInLf (line ++ 10 ∷ [])
+lf_save_line line = lf_last line (10 ∷ []) (record { is = refl })
+
+lf_save : (s : SavedValue) → EndsInLf (save_text s)
+unfolding save_text draft_text draft_lines
+lf_save s = lf_flat_map (λ (line : List ℕ). line ++ 10 ∷ []) (draft_lines (draft_of s)) (omega arith) lf_save_line
+
+lf_rest : (setup : ResumeSetup) (saved : SavedValue) → EndsInLf (resume_output setup (SaveContent saved))
+unfolding resume_output rest_of rest_text
+lf_rest setup saved =
+    let more : ℕ = setup.rounds - saved.round in
+    let score : List ℕ = score_text (score_of (after_rounds saved.minds saved.seed (moment_of saved) more).world) in
+    let all = both saved.totals (totals_of saved.minds saved.seed saved.window (moment_of saved) more) in
+    lf_last (later_dumps saved.minds saved.seed (chosen_rounds setup.dumps) (moment_of saved) saved.round more) (score +++ counts_text setup.stats all)
+    (lf_then score (counts_text setup.stats all) (lf_score (score_of (after_rounds saved.minds saved.seed (moment_of saved) more).world)) (lines_counts setup.stats all))
+
 lf_row : (width : ℕ) (kinds : List Kind) (y : ℕ) → EndsInLf (line_of_row width kinds y)
 unfolding line_of_row
 lf_row width kinds y =
@@ -274,6 +297,7 @@ show_ends name seed fetch (WorldContent grid) text got is = ends is (lf_show see
 show_ends name seed fetch (BrainContent list) text got is = absurd got.reads
 show_ends name seed fetch (BreakContent items) text got is = absurd got.reads
 show_ends name seed fetch (LabelledContent made places) text got is = absurd got.reads
+show_ends name seed fetch (SaveContent made) text got is = absurd got.reads
 
 brain_ends : (name : List ℕ) (fetch : Fetched) (content : FileContent) (text : List ℕ) → IsAccepted (brain_file name) fetch content → text ≡ brain_output content → ends_in_lf text ≡ true
 unfolding brain_output
@@ -281,12 +305,14 @@ brain_ends name fetch (WorldContent grid) text got is = absurd got.reads
 brain_ends name fetch (BrainContent list) text got is = ends is (lf_brain list (brain_of got.bytes list got.reads).some)
 brain_ends name fetch (BreakContent items) text got is = absurd got.reads
 brain_ends name fetch (LabelledContent made places) text got is = absurd got.reads
+brain_ends name fetch (SaveContent made) text got is = absurd got.reads
 
 asm_ends : (name : List ℕ) (fetch : Fetched) (content : FileContent) (text : List ℕ) → IsAccepted (labelled_file name) fetch content → text ≡ asm_output content → ends_in_lf text ≡ true
 unfolding asm_output
 asm_ends name fetch (WorldContent grid) text got is = absurd got.reads
 asm_ends name fetch (BrainContent list) text got is = absurd got.reads
 asm_ends name fetch (BreakContent items) text got is = absurd got.reads
+asm_ends name fetch (SaveContent saved) text got is = absurd got.reads
 asm_ends name fetch (LabelledContent made places) text got is = ends is (lf_brain made (assembled-some got.bytes made places got.reads))
 
 minimised_ends : (content : FileContent) (text : List ℕ) → IsMinimisedOutput content text → ends_in_lf text ≡ true
@@ -294,6 +320,7 @@ minimised_ends (WorldContent grid) text is = absurd is
 minimised_ends (BrainContent list) text is = ends is.told (lf_minimised list is.new)
 minimised_ends (BreakContent items) text is = absurd is
 minimised_ends (LabelledContent made places) text is = absurd is
+minimised_ends (SaveContent made) text is = absurd is
 
 match_ends : (world red black : List ℕ) (setup : RunSetup) (a b c : Fetched) (first second third : FileContent) (text : List ℕ) → IsAccepted (world_file world) a first → IsAccepted (brain_file red) b second → IsAccepted (brain_file black) c third
     → text ≡ match_output setup first second third → ends_in_lf text ≡ true
@@ -301,27 +328,58 @@ match_ends world red black setup a b c (WorldContent grid) (BrainContent one) (B
 match_ends world red black setup a b c (WorldContent grid) (BrainContent one) (WorldContent third) text x y z is = absurd z.reads
 match_ends world red black setup a b c (WorldContent grid) (BrainContent one) (BreakContent third) text x y z is = absurd z.reads
 match_ends world red black setup a b c (WorldContent grid) (BrainContent one) (LabelledContent made places) text x y z is = absurd z.reads
+match_ends world red black setup a b c (WorldContent grid) (BrainContent one) (SaveContent made) text x y z is = absurd z.reads
 match_ends world red black setup a b c (WorldContent grid) (WorldContent second) third text x y z is = absurd y.reads
 match_ends world red black setup a b c (WorldContent grid) (BreakContent second) third text x y z is = absurd y.reads
 match_ends world red black setup a b c (WorldContent grid) (LabelledContent made places) third text x y z is = absurd y.reads
+match_ends world red black setup a b c (WorldContent grid) (SaveContent made) third text x y z is = absurd y.reads
 match_ends world red black setup a b c (BrainContent first) second third text x y z is = absurd x.reads
 match_ends world red black setup a b c (BreakContent first) second third text x y z is = absurd x.reads
 match_ends world red black setup a b c (LabelledContent made places) second third text x y z is = absurd x.reads
+match_ends world red black setup a b c (SaveContent made) second third text x y z is = absurd x.reads
+
+save_ends : (world red black : List ℕ) (setup : RunSetup) (a b c : Fetched) (first second third : FileContent) (text : List ℕ) → IsAccepted (world_file world) a first → IsAccepted (brain_file red) b second → IsAccepted (brain_file black) c third
+    → text ≡ save_output setup first second third → ends_in_lf text ≡ true
+unfolding save_output
+save_ends world red black setup a b c (WorldContent grid) (BrainContent one) (BrainContent two) text x y z is = ends is (lf_save (saved_after (minds_named setup one two) setup.seed setup.window (world_of grid) setup.rounds))
+save_ends world red black setup a b c (WorldContent grid) (BrainContent one) (WorldContent third) text x y z is = absurd z.reads
+save_ends world red black setup a b c (WorldContent grid) (BrainContent one) (BreakContent third) text x y z is = absurd z.reads
+save_ends world red black setup a b c (WorldContent grid) (BrainContent one) (LabelledContent made places) text x y z is = absurd z.reads
+save_ends world red black setup a b c (WorldContent grid) (BrainContent one) (SaveContent made) text x y z is = absurd z.reads
+save_ends world red black setup a b c (WorldContent grid) (WorldContent second) third text x y z is = absurd y.reads
+save_ends world red black setup a b c (WorldContent grid) (BreakContent second) third text x y z is = absurd y.reads
+save_ends world red black setup a b c (WorldContent grid) (LabelledContent made places) third text x y z is = absurd y.reads
+save_ends world red black setup a b c (WorldContent grid) (SaveContent made) third text x y z is = absurd y.reads
+save_ends world red black setup a b c (BrainContent first) second third text x y z is = absurd x.reads
+save_ends world red black setup a b c (BreakContent first) second third text x y z is = absurd x.reads
+save_ends world red black setup a b c (LabelledContent made places) second third text x y z is = absurd x.reads
+save_ends world red black setup a b c (SaveContent made) second third text x y z is = absurd x.reads
+
+resume_ends : (name : List ℕ) (setup : ResumeSetup) (fetch : Fetched) (content : FileContent) (text : List ℕ) → IsAccepted (save_file name setup.rounds) fetch content → text ≡ resume_output setup content → ends_in_lf text ≡ true
+resume_ends name setup fetch (WorldContent other) text got is = absurd got.reads
+resume_ends name setup fetch (BrainContent other) text got is = absurd got.reads
+resume_ends name setup fetch (BreakContent other) text got is = absurd got.reads
+resume_ends name setup fetch (LabelledContent made places) text got is = absurd got.reads
+resume_ends name setup fetch (SaveContent saved) text got is = ends is (lf_rest setup saved)
 
 view_ends : (seed rounds : ℕ) (first second third fourth : FileContent) (text : List ℕ) → IsViewOutput seed rounds first second third fourth text → ends_in_lf text ≡ true
 view_ends seed rounds (WorldContent grid) (BrainContent red) (BrainContent black) (BreakContent items) text is = ends is.view (lf_view is.end seed rounds is.stop)
 view_ends seed rounds (WorldContent grid) (BrainContent red) (BrainContent black) (WorldContent fourth) text is = absurd is
 view_ends seed rounds (WorldContent grid) (BrainContent red) (BrainContent black) (LabelledContent made places) text is = absurd is
+view_ends seed rounds (WorldContent grid) (BrainContent red) (BrainContent black) (SaveContent made) text is = absurd is
 view_ends seed rounds (WorldContent grid) (BrainContent red) (BrainContent black) (BrainContent fourth) text is = absurd is
 view_ends seed rounds (WorldContent grid) (BrainContent red) (WorldContent third) fourth text is = absurd is
 view_ends seed rounds (WorldContent grid) (BrainContent red) (BreakContent third) fourth text is = absurd is
 view_ends seed rounds (WorldContent grid) (BrainContent red) (LabelledContent made places) fourth text is = absurd is
+view_ends seed rounds (WorldContent grid) (BrainContent red) (SaveContent made) fourth text is = absurd is
 view_ends seed rounds (WorldContent grid) (WorldContent second) third fourth text is = absurd is
 view_ends seed rounds (WorldContent grid) (BreakContent second) third fourth text is = absurd is
 view_ends seed rounds (WorldContent grid) (LabelledContent made places) third fourth text is = absurd is
+view_ends seed rounds (WorldContent grid) (SaveContent made) third fourth text is = absurd is
 view_ends seed rounds (BrainContent first) second third fourth text is = absurd is
 view_ends seed rounds (BreakContent first) second third fourth text is = absurd is
 view_ends seed rounds (LabelledContent made places) second third fourth text is = absurd is
+view_ends seed rounds (SaveContent made) second third fourth text is = absurd is
 
 cup_ends : (worlds brains : List (List ℕ)) (seed rounds workers : ℕ) (fetches : List Fetched) (contents : List FileContent) (text : List ℕ) → CupWithin worlds brains seed rounds workers
     → AreAccepted (cup_files worlds brains) fetches contents → IsCupOutput brains seed rounds contents text → ends_in_lf text ≡ true
@@ -371,3 +429,16 @@ texts_end_in_lf (AsmCommand file) fetches [] text within are is = absurd is
 texts_end_in_lf (AsmCommand file) [] (content ∷ []) text within are is = absurd are
 texts_end_in_lf (AsmCommand file) (fetch ∷ fetches) (content ∷ []) text within are is = asm_ends file fetch content text are.0 is
 texts_end_in_lf (AsmCommand file) fetches (content ∷ next ∷ more) text within are is = absurd is
+texts_end_in_lf (SaveCommand world red black setup) fetches [] text within are is = absurd is
+texts_end_in_lf (SaveCommand world red black setup) fetches (first ∷ []) text within are is = absurd is
+texts_end_in_lf (SaveCommand world red black setup) fetches (first ∷ second ∷ []) text within are is = absurd is
+texts_end_in_lf (SaveCommand world red black setup) [] (first ∷ second ∷ third ∷ []) text within are is = absurd are
+texts_end_in_lf (SaveCommand world red black setup) (a ∷ []) (first ∷ second ∷ third ∷ []) text within are is = absurd are.1
+texts_end_in_lf (SaveCommand world red black setup) (a ∷ b ∷ []) (first ∷ second ∷ third ∷ []) text within are is = absurd are.1.1
+texts_end_in_lf (SaveCommand world red black setup) (a ∷ b ∷ c ∷ fetches) (first ∷ second ∷ third ∷ []) text within are is =
+    save_ends world red black setup a b c first second third text are.0 are.1.0 are.1.1.0 is
+texts_end_in_lf (SaveCommand world red black setup) fetches (first ∷ second ∷ third ∷ next ∷ more) text within are is = absurd is
+texts_end_in_lf (ResumeCommand save setup) fetches [] text within are is = absurd is
+texts_end_in_lf (ResumeCommand save setup) [] (content ∷ []) text within are is = absurd are
+texts_end_in_lf (ResumeCommand save setup) (fetch ∷ fetches) (content ∷ []) text within are is = resume_ends save setup fetch content text are.0 is
+texts_end_in_lf (ResumeCommand save setup) fetches (content ∷ next ∷ more) text within are is = absurd is

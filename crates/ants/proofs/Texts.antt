@@ -1,5 +1,6 @@
 -- The bytes of a file of each kind: they are read in one way or refused in one way, and never both.
-use Rattle.std.proofs.Common.{◌≡◌, ◌≢◌, ◌⊎◌, inl, inr, ℕ, List, Result, Ok, Err, refl, ap}
+use Rattle.std.proofs.Common.{◌≡◌, ◌≢◌, ◌⊎◌, inl, inr, ℕ, ◌<◌, ◌≤◌, List, Result, Ok, Err, refl, sym, ◌∙◌, ap, subst, arith}
+use Rattle.std.proofs.lemmas.Bool.{cases_lt}
 use Rattle.ant_asm.proofs.HasAssembled.{one-reading, some-reading}
 use Rattle.ant_asm.proofs.Assembling.{no-fault}
 use Rattle.ant_asm.proofs.LineLemmas.{lines_decide}
@@ -18,6 +19,11 @@ use Rattle.break_view.specs.Answers as break_answers
 use Rattle.break_view.specs.declared.fault.BreakFault.{BreakFault}
 use Rattle.break_view.specs.declared.fault.BreakFault.TheVariants as breaks
 use Rattle.cell_world.specs.Grid.{Grid}
+use Rattle.match_save.proofs.SaveVerdicts.{every_verdict}
+use Rattle.match_save.specs.Answers as save_answers
+use Rattle.match_save.specs.Saved.{IsSaveText, SavedValue}
+use Rattle.match_save.specs.declared.fault.SaveFault.{SaveFault}
+use Rattle.match_save.specs.declared.fault.SaveFault.TheVariants as save
 use Rattle.world_read.proofs.AnswersLemmas as told
 use Rattle.world_read.specs.Answers as world_answers
 use Rattle.world_read.specs.Faulty.{IsWorldFault}
@@ -25,12 +31,14 @@ use Rattle.world_read.specs.Opened.{OpensAs}
 use Rattle.world_read.specs.Inner.Reading.{world_of_text}
 use Rattle.world_read.specs.declared.fault.WorldFault.{WorldFault}
 use Rattle.world_read.specs.declared.fault.WorldFault.TheVariants as world
+use Rattle.ants.specs.declared.stop.CommandStop.{CommandStop}
 use Rattle.ants.specs.declared.stop.FileFault.{FileFault}
-use Rattle.ants.specs.declared.stop.FileFault.TheVariants.{TooLong, World, Brain, Breaks, Labelled}
-use Rattle.ants.specs.Files.{FileContent, FileKind, Reads, Refuses}
-use Rattle.ants.specs.Files.FileContent.{WorldContent, BrainContent, BreakContent, LabelledContent}
-use Rattle.ants.specs.Files.FileKind.{WorldFile, BrainFile, BreakFile, LabelledFile}
-use Rattle.ants.specs.Inner.Reading.{TextStops, brain_reason, break_reason, labelled_reason, world_reason}
+use Rattle.ants.specs.declared.stop.FileFault.TheVariants.{TooLong, World, Brain, Breaks, Labelled, Save, AlreadyAt}
+use Rattle.ants.specs.Files.{FileContent, FileKind, IsPast, Reads, Refuses}
+use Rattle.ants.specs.Inner.Planning.{IsUpTo}
+use Rattle.ants.specs.Files.FileContent.{WorldContent, BrainContent, BreakContent, LabelledContent, SaveContent}
+use Rattle.ants.specs.Files.FileKind.{WorldFile, BrainFile, BreakFile, LabelledFile, SaveFile}
+use Rattle.ants.specs.Inner.Reading.{TextStops, ReadsText, save_reason, brain_reason, break_reason, labelled_reason, world_reason}
 use Rattle.ants.specs.Stopping.Reason.{AtInput}
 
 -- bytes are never both a world's text and wrong
@@ -39,6 +47,15 @@ never_wrong bytes grid fault opens wrong =
     let read = told.world_of_text-opens bytes grid opens in
     let not_read = told.world_of_text-wrong bytes fault wrong in
     cc
+
+-- a save of which few rounds are done is none of which too many are
+never_past : (bytes : List ℕ) (rounds round : ℕ) (saved : SavedValue) → IsSaveText bytes saved × (saved.round ≤ rounds) → IsPast bytes rounds round → ⊥
+never_past bytes rounds round saved reads past =
+    let same : saved.round ≡ round = ap (λ (s : SavedValue). s.round) (every_verdict.one_save bytes saved past.saved reads.0 past.is) ∙ past.at in
+    let low = reads.1 in
+    let high = past.past in
+    let wrong : ⊥ = omega (arith, same, low, high) in
+    wrong
 
 -- bytes are never both read and refused
 pub never_both : (kind : FileKind) (bytes : List ℕ) (content : FileContent) (fault : FileFault) → Reads kind bytes content → Refuses kind bytes fault → ⊥
@@ -50,6 +67,9 @@ never_both WorldFile bytes (WorldContent grid) (World fault) reads refuses = nev
 never_both WorldFile bytes (BrainContent list) (World fault) reads refuses = reads
 never_both WorldFile bytes (BreakContent items) (World fault) reads refuses = reads
 never_both WorldFile bytes (LabelledContent made places) (World fault) reads refuses = reads
+never_both WorldFile bytes content (Save fault) reads refuses = refuses
+never_both WorldFile bytes content (AlreadyAt round) reads refuses = refuses
+never_both WorldFile bytes (SaveContent saved) (World fault) reads refuses = reads
 never_both BrainFile bytes content TooLong reads refuses = refuses
 never_both BrainFile bytes content (World fault) reads refuses = refuses
 never_both BrainFile bytes content (Breaks fault) reads refuses = refuses
@@ -58,6 +78,9 @@ never_both BrainFile bytes (WorldContent grid) (Brain fault) reads refuses = rea
 never_both BrainFile bytes (BrainContent list) (Brain fault) reads refuses = whole.never_both bytes list fault reads refuses
 never_both BrainFile bytes (BreakContent items) (Brain fault) reads refuses = reads
 never_both BrainFile bytes (LabelledContent made places) (Brain fault) reads refuses = reads
+never_both BrainFile bytes content (Save fault) reads refuses = refuses
+never_both BrainFile bytes content (AlreadyAt round) reads refuses = refuses
+never_both BrainFile bytes (SaveContent saved) (Brain fault) reads refuses = reads
 never_both BreakFile bytes content TooLong reads refuses = refuses
 never_both BreakFile bytes content (World fault) reads refuses = refuses
 never_both BreakFile bytes content (Brain fault) reads refuses = refuses
@@ -66,6 +89,9 @@ never_both BreakFile bytes (WorldContent grid) (Breaks fault) reads refuses = re
 never_both BreakFile bytes (BrainContent list) (Breaks fault) reads refuses = reads
 never_both BreakFile bytes (BreakContent items) (Breaks fault) reads refuses = break_whole.never_both bytes items fault reads refuses
 never_both BreakFile bytes (LabelledContent made places) (Breaks fault) reads refuses = reads
+never_both BreakFile bytes content (Save fault) reads refuses = refuses
+never_both BreakFile bytes content (AlreadyAt round) reads refuses = refuses
+never_both BreakFile bytes (SaveContent saved) (Breaks fault) reads refuses = reads
 never_both LabelledFile bytes content TooLong reads refuses = refuses
 never_both LabelledFile bytes content (World fault) reads refuses = refuses
 never_both LabelledFile bytes content (Brain fault) reads refuses = refuses
@@ -74,6 +100,24 @@ never_both LabelledFile bytes (WorldContent grid) (Labelled fault) reads refuses
 never_both LabelledFile bytes (BrainContent list) (Labelled fault) reads refuses = reads
 never_both LabelledFile bytes (BreakContent items) (Labelled fault) reads refuses = reads
 never_both LabelledFile bytes (LabelledContent made places) (Labelled fault) reads refuses = no-fault bytes made places reads fault refuses
+never_both LabelledFile bytes content (Save fault) reads refuses = refuses
+never_both LabelledFile bytes content (AlreadyAt round) reads refuses = refuses
+never_both LabelledFile bytes (SaveContent saved) (Labelled fault) reads refuses = reads
+never_both (SaveFile rounds) bytes content TooLong reads refuses = refuses
+never_both (SaveFile rounds) bytes content (World fault) reads refuses = refuses
+never_both (SaveFile rounds) bytes content (Brain fault) reads refuses = refuses
+never_both (SaveFile rounds) bytes content (Breaks fault) reads refuses = refuses
+never_both (SaveFile rounds) bytes content (Labelled fault) reads refuses = refuses
+never_both (SaveFile rounds) bytes (WorldContent other) (Save fault) reads refuses = reads
+never_both (SaveFile rounds) bytes (BrainContent other) (Save fault) reads refuses = reads
+never_both (SaveFile rounds) bytes (BreakContent other) (Save fault) reads refuses = reads
+never_both (SaveFile rounds) bytes (LabelledContent made places) (Save fault) reads refuses = reads
+never_both (SaveFile rounds) bytes (SaveContent saved) (Save fault) reads refuses = every_verdict.never_both bytes saved fault reads.0 refuses
+never_both (SaveFile rounds) bytes (WorldContent other) (AlreadyAt round) reads refuses = reads
+never_both (SaveFile rounds) bytes (BrainContent other) (AlreadyAt round) reads refuses = reads
+never_both (SaveFile rounds) bytes (BreakContent other) (AlreadyAt round) reads refuses = reads
+never_both (SaveFile rounds) bytes (LabelledContent made places) (AlreadyAt round) reads refuses = reads
+never_both (SaveFile rounds) bytes (SaveContent saved) (AlreadyAt round) reads refuses = never_past bytes rounds round saved reads refuses
 
 one_world : (bytes : List ℕ) (a b : Grid) → OpensAs bytes a → OpensAs bytes b → a ≡ b
 one_world bytes a b first second =
@@ -103,6 +147,8 @@ one_reading WorldFile bytes (WorldContent a) (LabelledContent made places) first
 one_reading WorldFile bytes (BrainContent a) b first second = absurd first
 one_reading WorldFile bytes (BreakContent a) b first second = absurd first
 one_reading WorldFile bytes (LabelledContent made places) b first second = absurd first
+one_reading WorldFile bytes (WorldContent a) (SaveContent b) first second = absurd second
+one_reading WorldFile bytes (SaveContent a) b first second = absurd first
 one_reading BrainFile bytes (BrainContent a) (BrainContent b) first second = ap BrainContent (whole.one_brain bytes a b first second)
 one_reading BrainFile bytes (BrainContent a) (WorldContent b) first second = absurd second
 one_reading BrainFile bytes (BrainContent a) (BreakContent b) first second = absurd second
@@ -110,6 +156,8 @@ one_reading BrainFile bytes (BrainContent a) (LabelledContent made places) first
 one_reading BrainFile bytes (WorldContent a) b first second = absurd first
 one_reading BrainFile bytes (BreakContent a) b first second = absurd first
 one_reading BrainFile bytes (LabelledContent made places) b first second = absurd first
+one_reading BrainFile bytes (BrainContent a) (SaveContent b) first second = absurd second
+one_reading BrainFile bytes (SaveContent a) b first second = absurd first
 one_reading BreakFile bytes (BreakContent a) (BreakContent b) first second = ap BreakContent (break_whole.one_list bytes a b first second)
 one_reading BreakFile bytes (BreakContent a) (WorldContent b) first second = absurd second
 one_reading BreakFile bytes (BreakContent a) (BrainContent b) first second = absurd second
@@ -117,6 +165,8 @@ one_reading BreakFile bytes (BreakContent a) (LabelledContent made places) first
 one_reading BreakFile bytes (WorldContent a) b first second = absurd first
 one_reading BreakFile bytes (BrainContent a) b first second = absurd first
 one_reading BreakFile bytes (LabelledContent made places) b first second = absurd first
+one_reading BreakFile bytes (BreakContent a) (SaveContent b) first second = absurd second
+one_reading BreakFile bytes (SaveContent a) b first second = absurd first
 one_reading LabelledFile bytes (LabelledContent made places) (LabelledContent other others) first second = one_labelled bytes made other places others first second
 one_reading LabelledFile bytes (LabelledContent made places) (WorldContent b) first second = absurd second
 one_reading LabelledFile bytes (LabelledContent made places) (BrainContent b) first second = absurd second
@@ -124,6 +174,17 @@ one_reading LabelledFile bytes (LabelledContent made places) (BreakContent b) fi
 one_reading LabelledFile bytes (WorldContent a) b first second = absurd first
 one_reading LabelledFile bytes (BrainContent a) b first second = absurd first
 one_reading LabelledFile bytes (BreakContent a) b first second = absurd first
+one_reading LabelledFile bytes (LabelledContent made places) (SaveContent b) first second = absurd second
+one_reading LabelledFile bytes (SaveContent a) b first second = absurd first
+one_reading (SaveFile rounds) bytes (SaveContent a) (SaveContent b) first second = ap SaveContent (every_verdict.one_save bytes a b first.0 second.0)
+one_reading (SaveFile rounds) bytes (SaveContent a) (WorldContent b) first second = absurd second
+one_reading (SaveFile rounds) bytes (SaveContent a) (BrainContent b) first second = absurd second
+one_reading (SaveFile rounds) bytes (SaveContent a) (BreakContent b) first second = absurd second
+one_reading (SaveFile rounds) bytes (SaveContent a) (LabelledContent made places) first second = absurd second
+one_reading (SaveFile rounds) bytes (WorldContent a) b first second = absurd first
+one_reading (SaveFile rounds) bytes (BrainContent a) b first second = absurd first
+one_reading (SaveFile rounds) bytes (BreakContent a) b first second = absurd first
+one_reading (SaveFile rounds) bytes (LabelledContent made places) b first second = absurd first
 
 -- bytes are refused in one way
 pub one_refusal : (kind : FileKind) (bytes : List ℕ) (a b : FileFault) → Refuses kind bytes a → Refuses kind bytes b → a ≡ b
@@ -136,6 +197,10 @@ one_refusal WorldFile bytes TooLong b first second = absurd first
 one_refusal WorldFile bytes (Brain a) b first second = absurd first
 one_refusal WorldFile bytes (Breaks a) b first second = absurd first
 one_refusal WorldFile bytes (Labelled a) b first second = absurd first
+one_refusal WorldFile bytes (World a) (Save b) first second = absurd second
+one_refusal WorldFile bytes (World a) (AlreadyAt b) first second = absurd second
+one_refusal WorldFile bytes (Save a) b first second = absurd first
+one_refusal WorldFile bytes (AlreadyAt a) b first second = absurd first
 one_refusal BrainFile bytes (Brain a) (Brain b) first second = ap Brain (whole.one_fault bytes a b first second)
 one_refusal BrainFile bytes (Brain a) TooLong first second = absurd second
 one_refusal BrainFile bytes (Brain a) (World b) first second = absurd second
@@ -145,6 +210,10 @@ one_refusal BrainFile bytes TooLong b first second = absurd first
 one_refusal BrainFile bytes (World a) b first second = absurd first
 one_refusal BrainFile bytes (Breaks a) b first second = absurd first
 one_refusal BrainFile bytes (Labelled a) b first second = absurd first
+one_refusal BrainFile bytes (Brain a) (Save b) first second = absurd second
+one_refusal BrainFile bytes (Brain a) (AlreadyAt b) first second = absurd second
+one_refusal BrainFile bytes (Save a) b first second = absurd first
+one_refusal BrainFile bytes (AlreadyAt a) b first second = absurd first
 one_refusal BreakFile bytes (Breaks a) (Breaks b) first second = ap Breaks (break_whole.one_fault bytes a b first second)
 one_refusal BreakFile bytes (Breaks a) TooLong first second = absurd second
 one_refusal BreakFile bytes (Breaks a) (World b) first second = absurd second
@@ -154,6 +223,10 @@ one_refusal BreakFile bytes TooLong b first second = absurd first
 one_refusal BreakFile bytes (World a) b first second = absurd first
 one_refusal BreakFile bytes (Brain a) b first second = absurd first
 one_refusal BreakFile bytes (Labelled a) b first second = absurd first
+one_refusal BreakFile bytes (Breaks a) (Save b) first second = absurd second
+one_refusal BreakFile bytes (Breaks a) (AlreadyAt b) first second = absurd second
+one_refusal BreakFile bytes (Save a) b first second = absurd first
+one_refusal BreakFile bytes (AlreadyAt a) b first second = absurd first
 one_refusal LabelledFile bytes (Labelled a) (Labelled b) first second = ap Labelled (program_text.one_fault lines_decide bytes a b first second)
 one_refusal LabelledFile bytes (Labelled a) TooLong first second = absurd second
 one_refusal LabelledFile bytes (Labelled a) (World b) first second = absurd second
@@ -163,6 +236,29 @@ one_refusal LabelledFile bytes TooLong b first second = absurd first
 one_refusal LabelledFile bytes (World a) b first second = absurd first
 one_refusal LabelledFile bytes (Brain a) b first second = absurd first
 one_refusal LabelledFile bytes (Breaks a) b first second = absurd first
+one_refusal LabelledFile bytes (Labelled a) (Save b) first second = absurd second
+one_refusal LabelledFile bytes (Labelled a) (AlreadyAt b) first second = absurd second
+one_refusal LabelledFile bytes (Save a) b first second = absurd first
+one_refusal LabelledFile bytes (AlreadyAt a) b first second = absurd first
+one_refusal (SaveFile rounds) bytes (Save a) (Save b) first second = ap Save (every_verdict.one_fault bytes a b first second)
+one_refusal (SaveFile rounds) bytes (Save a) (AlreadyAt b) first second = absurd (every_verdict.never_both bytes second.saved a second.is first)
+one_refusal (SaveFile rounds) bytes (Save a) TooLong first second = absurd second
+one_refusal (SaveFile rounds) bytes (Save a) (World b) first second = absurd second
+one_refusal (SaveFile rounds) bytes (Save a) (Brain b) first second = absurd second
+one_refusal (SaveFile rounds) bytes (Save a) (Breaks b) first second = absurd second
+one_refusal (SaveFile rounds) bytes (Save a) (Labelled b) first second = absurd second
+one_refusal (SaveFile rounds) bytes (AlreadyAt a) (Save b) first second = absurd (every_verdict.never_both bytes first.saved b first.is second)
+one_refusal (SaveFile rounds) bytes (AlreadyAt a) (AlreadyAt b) first second = ap AlreadyAt (sym first.at ∙ ap (λ (s : SavedValue). s.round) (every_verdict.one_save bytes first.saved second.saved first.is second.is) ∙ second.at)
+one_refusal (SaveFile rounds) bytes (AlreadyAt a) TooLong first second = absurd second
+one_refusal (SaveFile rounds) bytes (AlreadyAt a) (World b) first second = absurd second
+one_refusal (SaveFile rounds) bytes (AlreadyAt a) (Brain b) first second = absurd second
+one_refusal (SaveFile rounds) bytes (AlreadyAt a) (Breaks b) first second = absurd second
+one_refusal (SaveFile rounds) bytes (AlreadyAt a) (Labelled b) first second = absurd second
+one_refusal (SaveFile rounds) bytes TooLong b first second = absurd first
+one_refusal (SaveFile rounds) bytes (World a) b first second = absurd first
+one_refusal (SaveFile rounds) bytes (Brain a) b first second = absurd first
+one_refusal (SaveFile rounds) bytes (Breaks a) b first second = absurd first
+one_refusal (SaveFile rounds) bytes (Labelled a) b first second = absurd first
 
 some_world : (bytes : List ℕ) → ((grid : Grid) × OpensAs bytes grid) ⊎ ((fault : WorldFault) × IsWorldFault bytes fault)
 some_world bytes = go (world_of_text bytes) refl
@@ -171,12 +267,20 @@ some_world bytes = go (world_of_text bytes) refl
     go (Ok grid) is = inl (grid, told.OpensAs-known bytes grid is)
     go (Err fault) is = inr (fault, told.IsWorldFault-known bytes fault is)
 
+-- a save of which so many rounds are done, or too many
+some_save : (bytes : List ℕ) (rounds : ℕ) (saved : SavedValue) → IsSaveText bytes saved → ((content : FileContent) × Reads (SaveFile rounds) bytes content) ⊎ ((fault : FileFault) × Refuses (SaveFile rounds) bytes fault)
+some_save bytes rounds saved is = elim (cases_lt rounds saved.round) [
+  | inl past ↦ inr (AlreadyAt saved.round, record { saved = saved; is = is; at = refl; past = past })
+  | inr within ↦ inl (SaveContent saved, (is, within))
+]
+
 -- bytes are read or refused
 pub some_reading : (kind : FileKind) (bytes : List ℕ) → ((content : FileContent) × Reads kind bytes content) ⊎ ((fault : FileFault) × Refuses kind bytes fault)
 some_reading WorldFile bytes = elim (some_world bytes) [ inl opens ↦ inl (WorldContent opens.0, opens.1) | inr wrong ↦ inr (World wrong.0, wrong.1) ]
 some_reading BrainFile bytes = elim (whole.some_answer bytes) [ inl is ↦ inl (BrainContent is.0, is.1) | inr wrong ↦ inr (Brain wrong.0, wrong.1) ]
 some_reading BreakFile bytes = elim (break_whole.some_answer bytes) [ inl is ↦ inl (BreakContent is.0, is.1) | inr wrong ↦ inr (Breaks wrong.0, wrong.1) ]
 some_reading LabelledFile bytes = elim (some-reading bytes) [ inl is ↦ inl (LabelledContent is.0 is.1, is.2) | inr wrong ↦ inr (Labelled wrong.0, wrong.1) ]
+some_reading (SaveFile rounds) bytes = elim (every_verdict.some bytes) [ inl is ↦ some_save bytes rounds is.0 is.1 | inr wrong ↦ inr (Save wrong.0, wrong.1) ]
 
 -- bytes are never refused as too long: such a file gives no bytes
 pub never_long : (kind : FileKind) (bytes : List ℕ) → Refuses kind bytes TooLong → ⊥
@@ -184,6 +288,7 @@ never_long WorldFile bytes refuses = refuses
 never_long BrainFile bytes refuses = refuses
 never_long BreakFile bytes refuses = refuses
 never_long LabelledFile bytes refuses = refuses
+never_long (SaveFile rounds) bytes refuses = refuses
 
 -- the fault of a world's text stops the reading of its file
 pub world_stops : (name bytes : List ℕ) (fault : WorldFault) → world_answers.IsFaultOf bytes fault → TextStops WorldFile bytes name (world_reason name fault)
@@ -237,6 +342,17 @@ labelled_stops name bytes labelled.Empty is = (refl, is)
 labelled_stops name bytes (labelled.NoLabel line) is = (refl, is)
 labelled_stops name bytes labelled.OutOfMemory is = tt
 
+-- the fault of a save's text stops the reading of its file
+pub save_stops : (name bytes : List ℕ) (rounds : ℕ) (fault : SaveFault) → save_answers.IsFaultOf bytes fault → TextStops (SaveFile rounds) bytes name (save_reason name fault)
+save_stops name bytes rounds (save.BadLine line) is = (refl, is)
+save_stops name bytes rounds save.BadState is = (refl, is)
+save_stops name bytes rounds save.OutOfMemory is = tt
+
+-- a save is read where few of its rounds are done
+pub save_up_to : (name bytes : List ℕ) (rounds : ℕ) (saved : SavedValue) (result : Result SavedValue CommandStop) → IsSaveText bytes saved → IsUpTo rounds name saved result → ReadsText SaveContent (SaveFile rounds) bytes name result
+save_up_to name bytes rounds saved (Ok value) is up = (subst (IsSaveText bytes) (sym up.0) is, subst (λ (s : SavedValue). s.round ≤ rounds) (sym up.0) up.1)
+save_up_to name bytes rounds saved (Err stop) is up = subst (TextStops (SaveFile rounds) bytes name) (sym up.0) (refl, record { saved = saved; is = is; at = refl; past = up.1 })
+
 -- a fault of a world's text that isn't want of memory names its file
 pub world_reason_other : (name : List ℕ) (fault : WorldFault) → fault ≢ world.OutOfMemory → AtInput name (World fault) ≡ world_reason name fault
 world_reason_other name world.BadWidth other = refl
@@ -288,3 +404,9 @@ labelled_reason_other name (labelled.EmptyBlock line) other = refl
 labelled_reason_other name labelled.Empty other = refl
 labelled_reason_other name (labelled.NoLabel line) other = refl
 labelled_reason_other name labelled.OutOfMemory other = absurd (other refl)
+
+-- and one of a save's text
+pub save_reason_other : (name : List ℕ) (fault : SaveFault) → fault ≢ save.OutOfMemory → AtInput name (Save fault) ≡ save_reason name fault
+save_reason_other name (save.BadLine line) other = refl
+save_reason_other name save.BadState other = refl
+save_reason_other name save.OutOfMemory other = absurd (other refl)

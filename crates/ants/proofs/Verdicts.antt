@@ -9,12 +9,12 @@ use Rattle.ant_base.specs.Shelf.{AreSure, IsContent, IsTold, IsTooLong, ShelfSta
 use Rattle.ant_base.specs.declared.shelf.FetchFault.TheVariants as answer
 use Rattle.command_words.proofs.WordLaws as words_laws
 use Rattle.command_words.specs.Command.{PlainCommand, IsCommand}
-use Rattle.command_words.specs.Command.PlainCommand.{ShowCommand, BrainCommand, MinimiseCommand, RunCommand, GenCommand, CupCommand, ViewCommand, WorkloadCommand, HelpCommand, VersionCommand, AsmCommand}
+use Rattle.command_words.specs.Command.PlainCommand.{ShowCommand, BrainCommand, MinimiseCommand, RunCommand, GenCommand, CupCommand, ViewCommand, WorkloadCommand, HelpCommand, VersionCommand, AsmCommand, SaveCommand, ResumeCommand}
 use Rattle.world_gen.proofs.Unique.{one_outcome}
 use Rattle.ants.specs.declared.status.Status.{Status}
 use Rattle.ants.specs.declared.status.Status.TheVariants as status
 use Rattle.ants.specs.declared.stop.FileFault.{FileFault}
-use Rattle.ants.specs.declared.stop.FileFault.TheVariants.{TooLong, World, Brain, Breaks, Labelled}
+use Rattle.ants.specs.declared.stop.FileFault.TheVariants.{TooLong, World, Brain, Breaks, Labelled, Save, AlreadyAt}
 use Rattle.ants.specs.Files.{AreAccepted, AreBegun, AreInOrder, FileContent, File, IsAccepted, IsFetched, IsNoText, IsRefused, Reads, Refuses, StopsAt}
 use Rattle.ants.specs.Inner.Reading.{EndsBy}
 use Rattle.ants.specs.Jobs.{HasRoom, IsJobText, LacksRoom, contest_shape, files_of, shape_named}
@@ -78,6 +78,8 @@ one_verdict at file first second content (World fault) one two is refused = acce
 one_verdict at file first second content (Brain fault) one two is refused = accepted_no_text at file first second content (Brain fault) one two is refused
 one_verdict at file first second content (Breaks fault) one two is refused = accepted_no_text at file first second content (Breaks fault) one two is refused
 one_verdict at file first second content (Labelled fault) one two is refused = accepted_no_text at file first second content (Labelled fault) one two is refused
+one_verdict at file first second content (Save fault) one two is refused = accepted_no_text at file first second content (Save fault) one two is refused
+one_verdict at file first second content (AlreadyAt round) one two is refused = accepted_no_text at file first second content (AlreadyAt round) one two is refused
 
 -- files that are all accepted have none that is refused
 pub accepted_never_refused : (at : At) (files : List File) (first second : List Fetched) (contents : List FileContent) (name : List ℕ) (fault : FileFault) → AllByRecursion (IsTold (Some at)) first → AllByRecursion (IsTold (Some at)) second
@@ -103,6 +105,8 @@ refused_name file fetch (World fault) is = ap (λ (f : Fetched). f.name) is.got
 refused_name file fetch (Brain fault) is = ap (λ (f : Fetched). f.name) is.got
 refused_name file fetch (Breaks fault) is = ap (λ (f : Fetched). f.name) is.got
 refused_name file fetch (Labelled fault) is = ap (λ (f : Fetched). f.name) is.got
+refused_name file fetch (Save fault) is = ap (λ (f : Fetched). f.name) is.got
+refused_name file fetch (AlreadyAt round) is = ap (λ (f : Fetched). f.name) is.got
 
 -- the shelf was sure of a file of which it wasn't
 never_sure : (shelf : ShelfState) (name : List ℕ) (file : File) (fetch other : Fetched) → IsUnsure shelf name file fetch → other.name ≡ file.name → shelf.sure other.name ≡ true → ⊥
@@ -260,6 +264,8 @@ text_has_room (ViewCommand world red black breaks seed rounds) contents text ele
 text_has_room HelpCommand contents text element is lacks = lacks
 text_has_room VersionCommand contents text element is lacks = lacks
 text_has_room (AsmCommand file) contents text element is lacks = lacks
+text_has_room (SaveCommand world red black setup) contents text element is lacks = lacks
+text_has_room (ResumeCommand save setup) contents text element is lacks = lacks
 
 -- a command that lacks room fetches nothing
 lacks_no_file : (command : PlainCommand) (element : ℕ) → LacksRoom command element → files_of command ≡ []
@@ -274,6 +280,8 @@ lacks_no_file (ViewCommand world red black breaks seed rounds) element lacks = a
 lacks_no_file HelpCommand element lacks = absurd lacks
 lacks_no_file VersionCommand element lacks = absurd lacks
 lacks_no_file (AsmCommand file) element lacks = absurd lacks
+lacks_no_file (SaveCommand world red black setup) element lacks = absurd lacks
+lacks_no_file (ResumeCommand save setup) element lacks = absurd lacks
 
 -- a run of which an element has no room ends so, or wants memory
 crowding_by : (command : PlainCommand) (before after : Outside) (fetches : List Fetched) (element : ℕ) (stop : Option Reason) → LacksRoom command element → EndsBy command before after fetches stop

@@ -1,5 +1,5 @@
 -- The files of a command, and what is accepted of them.
-use Rattle.std.specs.Prelude.{◌≡◌, ℕ, List, [], ◌∷◌, ◌++◌, map, Ok, Err, ◌⊎◌}
+use Rattle.std.specs.Prelude.{◌≡◌, ℕ, ◌<◌, ◌≤◌, List, [], ◌∷◌, ◌++◌, map, Ok, Err, ◌⊎◌}
 use Rattle.ant_asm.specs.Answers.{IsAssembledText}
 use Rattle.ant_asm.specs.Places.{Address}
 use Rattle.ant_asm.specs.Text.{IsAsmFault}
@@ -12,17 +12,20 @@ use Rattle.break_view.specs.Grammar.{IsBreakText}
 use Rattle.break_view.specs.Faulty.{IsBreakFault}
 use Rattle.break_view.specs.declared.breaks.Break.{Break}
 use Rattle.cell_world.specs.Grid.{Grid}
+use Rattle.match_save.specs.Faulty.{IsSaveFault}
+use Rattle.match_save.specs.Saved.{IsSaveText, SavedValue}
 use Rattle.world_read.specs.Faulty.{IsWorldFault}
 use Rattle.world_read.specs.Opened.{OpensAs}
 use Rattle.ants.specs.declared.stop.FileFault.{FileFault}
-use Rattle.ants.specs.declared.stop.FileFault.TheVariants.{TooLong, World, Brain, Breaks, Labelled}
+use Rattle.ants.specs.declared.stop.FileFault.TheVariants.{TooLong, World, Brain, Breaks, Labelled, Save, AlreadyAt}
 
--- what a file is read as
+-- what a file is read as; a save is one of which at most so many rounds are done
 pub data FileKind : Type 0 where
   WorldFile : FileKind
   BrainFile : FileKind
   BreakFile : FileKind
   LabelledFile : FileKind
+  SaveFile : (rounds : ℕ) → FileKind
 
 -- a file that a command names
 pub record File : Type 0 where
@@ -36,6 +39,7 @@ pub data FileContent : Type 0 where
   BreakContent : List Break → FileContent
   -- of a labelled program: its brain, and the address of each of the brain's instructions
   LabelledContent : (brain : List Instr) → (places : List Address) → FileContent
+  SaveContent : SavedValue → FileContent
 
 -- bytes are read as this content in a file of this kind
 abbrev pub Reads : FileKind → List ℕ → FileContent → Type 0
@@ -43,7 +47,15 @@ Reads WorldFile bytes (WorldContent grid) = OpensAs bytes grid
 Reads BrainFile bytes (BrainContent list) = IsBrainText bytes list
 Reads BreakFile bytes (BreakContent items) = IsBreakText bytes items
 Reads LabelledFile bytes (LabelledContent brain places) = IsAssembledText bytes brain places
+Reads (SaveFile rounds) bytes (SaveContent saved) = IsSaveText bytes saved × (saved.round ≤ rounds)
 Reads kind bytes content = ⊥
+
+-- bytes are those of a save of which this many rounds are done, and they are too many
+pub record IsPast (bytes : List ℕ) (rounds round : ℕ) : Type 0 where
+  pub saved : SavedValue
+  pub is : IsSaveText bytes saved
+  pub at : saved.round ≡ round
+  pub past : rounds < round
 
 -- bytes have this fault in a file of this kind
 abbrev pub Refuses : FileKind → List ℕ → FileFault → Type 0
@@ -51,6 +63,8 @@ Refuses WorldFile bytes (World fault) = IsWorldFault bytes fault
 Refuses BrainFile bytes (Brain fault) = IsBrainFault bytes fault
 Refuses BreakFile bytes (Breaks fault) = IsBreakFault bytes fault
 Refuses LabelledFile bytes (Labelled fault) = IsAsmFault bytes fault
+Refuses (SaveFile rounds) bytes (Save fault) = IsSaveFault bytes fault
+Refuses (SaveFile rounds) bytes (AlreadyAt round) = IsPast bytes rounds round
 Refuses kind bytes fault = ⊥
 
 -- the file was fetched, and its bytes are read as this content
@@ -72,6 +86,8 @@ IsRefused file fetch (World fault) = IsNoText file fetch (World fault)
 IsRefused file fetch (Brain fault) = IsNoText file fetch (Brain fault)
 IsRefused file fetch (Breaks fault) = IsNoText file fetch (Breaks fault)
 IsRefused file fetch (Labelled fault) = IsNoText file fetch (Labelled fault)
+IsRefused file fetch (Save fault) = IsNoText file fetch (Save fault)
+IsRefused file fetch (AlreadyAt round) = IsNoText file fetch (AlreadyAt round)
 
 -- the files were fetched, each once and in order, and accepted as these contents
 abbrev pub AreAccepted : List File → List Fetched → List FileContent → Type 0

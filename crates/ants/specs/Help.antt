@@ -19,6 +19,10 @@ unfoldable pub game_lines : List ℕ
 game_lines =
     codes "  run WORLD RED BLACK --seed N --rounds N [OPTION]..\n"
     +++ codes "      plays a game between two brains, and prints its score\n"
+    +++ codes "  save WORLD RED BLACK --seed N --rounds N [OPTION]..\n"
+    +++ codes "      plays a game up to a round, and prints all that it takes to go on\n"
+    +++ codes "  resume SAVE --rounds N [OPTION]..\n"
+    +++ codes "      goes on with a saved game, and prints the rest of what run prints\n"
     +++ codes "  view WORLD RED BLACK BREAKS --seed N --rounds N\n"
     +++ codes "      plays a game up to the first of its breaks, and prints the world there\n"
     +++ codes "  cup --worlds WORLD.. --brains BRAIN BRAIN.. --seed N --rounds N [--workers N]\n"
@@ -48,7 +52,8 @@ file_lines =
 -- the options of a game
 unfoldable pub game_option_lines : List ℕ
 game_option_lines =
-    codes "Options of run, of which view and cup take the first two:\n"
+    codes "Options of run, of which view and cup take the first two, save all but --dump\n"
+    +++ codes "and --stats, and resume --rounds, --dump, --workers and --stats:\n"
     +++ codes "  --seed N      where the random numbers begin, 0 to 4294967295; needed\n"
     +++ codes "  --rounds N    how many rounds are played, 0 to 1000000; needed\n"
     +++ codes "  --dump D      dumps after rounds: none, all, or as 0,10,100; none\n"

@@ -21,9 +21,12 @@ use Rattle.command_words.specs.Slots.DumpChoice.{NoDump, EveryDump, ChosenDumps}
 use Rattle.match_run.specs.Counts.{totals_of, whole_text}
 use Rattle.match_run.specs.Dumps.{has_round}
 use Rattle.match_run.specs.Run.{world_after}
+use Rattle.match_save.specs.Resumed.{rest_of}
+use Rattle.match_save.specs.Saved.{save_text}
+use Rattle.match_save.specs.Saving.{saved_after}
 use Rattle.dump_print.specs.Texts.{seed_text, dump_text, score_text, stats_text}
-use Rattle.command_words.specs.Command.{PlainCommand, RunSetup}
-use Rattle.command_words.specs.Command.PlainCommand.{ShowCommand, BrainCommand, MinimiseCommand, RunCommand, GenCommand, CupCommand, ViewCommand, WorkloadCommand, HelpCommand, VersionCommand, AsmCommand}
+use Rattle.command_words.specs.Command.{PlainCommand, ResumeSetup, RunSetup}
+use Rattle.command_words.specs.Command.PlainCommand.{ShowCommand, BrainCommand, MinimiseCommand, RunCommand, GenCommand, CupCommand, ViewCommand, WorkloadCommand, HelpCommand, VersionCommand, AsmCommand, SaveCommand, ResumeCommand}
 use Rattle.tournament.specs.Text.{IsCupText}
 use Rattle.world_gen.specs.declared.shape.Shape.{Shape}
 use Rattle.world_gen.specs.Food.{food_on}
@@ -33,8 +36,8 @@ use Rattle.world_read.specs.Canonical.{canonical_text}
 use Rattle.world_read.specs.Opened.{kinds_of}
 use Rattle.ants.specs.declared.workload.Summary.{Summary}
 use Rattle.ants.specs.Files.{File, FileContent}
-use Rattle.ants.specs.Files.FileKind.{WorldFile, BrainFile, BreakFile, LabelledFile}
-use Rattle.ants.specs.Files.FileContent.{WorldContent, BrainContent, BreakContent, LabelledContent}
+use Rattle.ants.specs.Files.FileKind.{WorldFile, BrainFile, BreakFile, LabelledFile, SaveFile}
+use Rattle.ants.specs.Files.FileContent.{WorldContent, BrainContent, BreakContent, LabelledContent, SaveContent}
 use Rattle.ants.specs.Help.{help_text, version_text}
 use Rattle.ants.specs.Sample.{sample_brain}
 
@@ -51,6 +54,10 @@ break_file name = record { name = name; kind = BreakFile }
 -- and one with a labelled program
 abbrev pub labelled_file : List ℕ → File
 labelled_file name = record { name = name; kind = LabelledFile }
+
+-- a file with a save of which at most so many rounds are done
+abbrev pub save_file : List ℕ → ℕ → File
+save_file name rounds = record { name = name; kind = SaveFile rounds }
 
 -- the files of a game
 abbrev pub game_files : List ℕ → List ℕ → List ℕ → List File
@@ -73,6 +80,8 @@ files_of (WorkloadCommand seed rounds workers) = []
 files_of HelpCommand = []
 files_of VersionCommand = []
 files_of (AsmCommand file) = labelled_file file ∷ []
+files_of (SaveCommand world red black setup) = game_files world red black
+files_of (ResumeCommand save setup) = save_file save setup.rounds ∷ []
 
 -- the output of `show`: the line of the seed, and the dump after round 0
 unfoldable pub show_output : ℕ → FileContent → List ℕ
@@ -112,6 +121,19 @@ match_output setup (WorldContent grid) (BrainContent red) (BrainContent black) =
     whole_text (minds_named setup red black) setup.seed setup.rounds (chosen_rounds setup.dumps) setup.window setup.stats (world_of grid)
 -- never: its files are a world and two brains
 match_output setup world red black = []
+
+-- the output of `save`: the save of the game after its rounds
+unfoldable pub save_output : RunSetup → FileContent → FileContent → FileContent → List ℕ
+save_output setup (WorldContent grid) (BrainContent red) (BrainContent black) =
+    save_text (saved_after (minds_named setup red black) setup.seed setup.window (world_of grid) setup.rounds)
+-- never: its files are a world and two brains
+save_output setup world red black = []
+
+-- the output of `resume`: the rest of a saved game's text
+unfoldable pub resume_output : ResumeSetup → FileContent → List ℕ
+resume_output setup (SaveContent saved) = rest_of saved setup.rounds (chosen_rounds setup.dumps) setup.stats
+-- never: its file is a save
+resume_output setup content = []
 
 -- the output of `minimise`: what is told of this brain, minimised
 pub record TellsMinimised (old : List Instr) (text : List ℕ) : Type 0 where
@@ -228,5 +250,7 @@ IsJobText (WorkloadCommand seed rounds workers) [] text = TellsWorkload seed rou
 IsJobText HelpCommand [] text = text ≡ help_text
 IsJobText VersionCommand [] text = text ≡ version_text
 IsJobText (AsmCommand file) (content ∷ []) text = text ≡ asm_output content
+IsJobText (SaveCommand world red black setup) (first ∷ second ∷ third ∷ []) text = text ≡ save_output setup first second third
+IsJobText (ResumeCommand save setup) (content ∷ []) text = text ≡ resume_output setup content
 -- never: a command's files are as many as its contents
 IsJobText command contents text = ⊥

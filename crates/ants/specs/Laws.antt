@@ -1,10 +1,11 @@
 -- Laws on the texts of the commands.
-use Rattle.std.specs.Prelude.{◌≡◌, ℕ, Bool, true, false, List, Option}
+use Rattle.std.specs.Prelude.{◌≡◌, ℕ, ◌+◌, ◌≤◌, Bool, true, false, List, [], ◌∷◌, ◌++◌, Option}
 use Rattle.ant_asm.specs.Assembled.{IsAssembled}
 use Rattle.ant_asm.specs.Match.{label_game, numbered_moment}
 use Rattle.ant_asm.specs.Places.{Address}
 use Rattle.ant_asm.specs.Program.{Items}
 use Rattle.ant_base.specs.Fetched.{Fetched}
+use Rattle.ant_base.specs.Layout.{◌+++◌}
 use Rattle.ant_base.specs.Lines.{ends_in_lf}
 use Rattle.ant_turn.specs.Minds.{AreSound, Minds}
 use Rattle.ant_turn.specs.Renumber.{renumbered_moment, with_mind}
@@ -17,11 +18,16 @@ use Rattle.cell_world.specs.Score.{score_of}
 use Rattle.cell_world.specs.Valid.{Valid}
 use Rattle.cell_world.specs.declared.ant.Colour.{Colour}
 use Rattle.cell_world.specs.declared.kind.Kind.{Kind}
-use Rattle.command_words.specs.Command.{PlainCommand, RunSetup}
-use Rattle.command_words.specs.Command.PlainCommand.{RunCommand, CupCommand, WorkloadCommand}
+use Rattle.command_words.specs.Command.{PlainCommand, ResumeSetup, RunSetup}
+use Rattle.command_words.specs.Command.PlainCommand.{RunCommand, CupCommand, ResumeCommand, SaveCommand, WorkloadCommand}
 use Rattle.command_words.specs.Laws.{CommandWithin}
-use Rattle.ants.specs.Files.{AreAccepted, FileContent}
-use Rattle.ants.specs.Jobs.{HasRoom, IsJobText, files_of}
+use Rattle.command_words.specs.Slots.DumpChoice.{NoDump}
+use Rattle.dump_print.specs.Texts.{seed_text}
+use Rattle.match_run.specs.Run.{dumps_text}
+use Rattle.ants.specs.Files.{AreAccepted, FileContent, Reads}
+use Rattle.ants.specs.Files.FileContent.{BrainContent, WorldContent}
+use Rattle.ants.specs.Files.FileKind.{SaveFile}
+use Rattle.ants.specs.Jobs.{HasRoom, IsJobText, chosen_rounds, files_of, game_files, minds_named}
 
 -- each output of a command whose numbers and names are within the limits, and whose files were accepted, ends in LF
 abbrev pub TextsEndInLf : Type 0
@@ -71,3 +77,53 @@ abbrev pub AssembledAndMinimised : Type 0
 AssembledAndMinimised =
     (main : Items) (brain new : List Instr) (list : List Address) (numbers : List (Option ℕ)) → IsAssembled main brain list → IsMinimised brain new numbers
     → MinimisedPlaysLabelled main brain new list numbers
+
+-- what `save` says of a game of `run`: its numbers, but this round and these workers, and no dumps and counts
+abbrev pub saved_setup : RunSetup → ℕ → ℕ → RunSetup
+saved_setup setup round workers = record setup { rounds = round; dumps = NoDump; workers = workers; stats = false }
+
+-- what `resume` says of it: its rounds, its dumps and its counts, and these workers
+abbrev pub resumed_setup : RunSetup → ℕ → ResumeSetup
+resumed_setup setup workers = record { rounds = setup.rounds; dumps = setup.dumps; workers = workers; stats = setup.stats }
+
+-- what `run` prints up to a round: the line of the seed, and the chosen dumps up to that round
+unfoldable pub front_output : RunSetup → ℕ → FileContent → FileContent → FileContent → List ℕ
+front_output setup round (WorldContent grid) (BrainContent red) (BrainContent black) =
+    seed_text setup.seed +++ dumps_text (minds_named setup red black) setup.seed (chosen_rounds setup.dumps) (world_of grid) (round + 1)
+-- never: its files are a world and two brains
+front_output setup round world red black = []
+
+-- a game of `run`, within the limits, whose files were accepted
+pub record IsGameOf (world red black : List ℕ) (setup : RunSetup) (first second third : FileContent) : Type 0 where
+  pub within : CommandWithin (RunCommand world red black setup)
+  pub fetches : List Fetched
+  pub accepted : AreAccepted (game_files world red black) fetches (first ∷ second ∷ third ∷ [])
+
+-- such a game was saved after a round by so many workers, and what was printed is accepted where at most so many rounds are to be played in all
+pub record IsSavedAs (world red black : List ℕ) (setup : RunSetup) (first second third : FileContent) (round : ℕ) (content : FileContent) : Type 0 where
+  pub early : round ≤ setup.rounds
+  pub workers : ℕ
+  pub text : List ℕ
+  pub is_text : IsJobText (SaveCommand world red black (saved_setup setup round workers)) (first ∷ second ∷ third ∷ []) text
+  pub reads : Reads (SaveFile setup.rounds) text content
+
+-- games are saved and gone on with, whoever plays before the save and after it
+pub record SavesAreResumed : Type 0 where
+  -- what `save` prints up to the last round is accepted
+  pub accepted : (world red black : List ℕ) (setup : RunSetup) (first second third : FileContent) (round workers : ℕ) (text : List ℕ)
+      → IsGameOf world red black setup first second third → round ≤ setup.rounds
+      → IsJobText (SaveCommand world red black (saved_setup setup round workers)) (first ∷ second ∷ third ∷ []) text
+      → (content : FileContent) × Reads (SaveFile setup.rounds) text content
+  -- what `run` prints is what it prints up to the saved round, and then what `resume` prints of the save
+  pub goes_on : (world red black save : List ℕ) (setup : RunSetup) (first second third : FileContent) (round workers : ℕ) (content : FileContent) (text rest : List ℕ)
+      → IsGameOf world red black setup first second third → IsSavedAs world red black setup first second third round content
+      → IsJobText (RunCommand world red black setup) (first ∷ second ∷ third ∷ []) text
+      → IsJobText (ResumeCommand save (resumed_setup setup workers)) (content ∷ []) rest
+      → text ≡ front_output setup round first second third ++ rest
+  -- so it doesn't matter after which round it was saved
+  pub any_round : (world red black save other : List ℕ) (setup : RunSetup) (first second third : FileContent) (round later workers others : ℕ) (content changed : FileContent) (rest last : List ℕ)
+      → IsGameOf world red black setup first second third
+      → IsSavedAs world red black setup first second third round content → IsSavedAs world red black setup first second third later changed
+      → IsJobText (ResumeCommand save (resumed_setup setup workers)) (content ∷ []) rest
+      → IsJobText (ResumeCommand other (resumed_setup setup others)) (changed ∷ []) last
+      → front_output setup round first second third ++ rest ≡ front_output setup later first second third ++ last

@@ -6,7 +6,7 @@ use Rattle.ant_base.specs.Shelf.{ShelfState}
 use Rattle.ant_base.specs.Sink.{PushedAll, PushedFront}
 use Rattle.ant_base.specs.declared.shelf.FetchFault.TheVariants as answer
 use Rattle.command_words.specs.Command.{PlainCommand}
-use Rattle.command_words.specs.Command.PlainCommand.{RunCommand}
+use Rattle.command_words.specs.Command.PlainCommand.{ResumeCommand, RunCommand}
 use Rattle.match_run.specs.Play.{PushedSome}
 use Rattle.ants.specs.declared.stop.FileFault.{FileFault}
 use Rattle.ants.specs.Files.{File, FileContent, AreAccepted, AreBegun, StopsAt}
@@ -64,6 +64,7 @@ pub record IsUnbegun (command : PlainCommand) (before after : Outside) (fetches 
 -- the command writes while it plays; every other has all memory that it needs before it writes
 abbrev pub WritesInPlay : PlainCommand → Type 0
 WritesInPlay (RunCommand world red black setup) = Unit {0}
+WritesInPlay (ResumeCommand save setup) = Unit {0}
 WritesInPlay command = ⊥
 
 -- all files were accepted, and a front of the text was written before memory could not be had; only a command that writes while it plays ends so

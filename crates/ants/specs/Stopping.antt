@@ -7,12 +7,14 @@ use Rattle.brain_read.specs.declared.fault.BrainFault.{BrainFault}
 use Rattle.brain_read.specs.declared.fault.BrainFault.TheVariants as brain
 use Rattle.break_view.specs.declared.fault.BreakFault.{BreakFault}
 use Rattle.break_view.specs.declared.fault.BreakFault.TheVariants as breaks
+use Rattle.match_save.specs.declared.fault.SaveFault.{SaveFault}
+use Rattle.match_save.specs.declared.fault.SaveFault.TheVariants as save
 use Rattle.world_read.specs.declared.fault.WorldFault.{WorldFault}
 use Rattle.world_read.specs.declared.fault.WorldFault.TheVariants as world
 use Rattle.ants.specs.declared.status.Status.{Status}
 use Rattle.ants.specs.declared.status.Status.TheVariants as status
 use Rattle.ants.specs.declared.stop.FileFault.{FileFault}
-use Rattle.ants.specs.declared.stop.FileFault.TheVariants.{TooLong, World, Brain, Breaks, Labelled}
+use Rattle.ants.specs.declared.stop.FileFault.TheVariants.{TooLong, World, Brain, Breaks, Labelled, Save, AlreadyAt}
 use Rattle.ants.specs.declared.stop.CommandStop.{CommandStop}
 use Rattle.ants.specs.declared.stop.CommandStop.TheVariants as stop
 use Rattle.ants.specs.declared.stop.Ended.{Ended}
@@ -118,6 +120,12 @@ labelled_fault_text labelled.Empty = codes "no instruction"
 labelled_fault_text (labelled.NoLabel line) = codes "line " +++ decimal line +++ codes ": no such label"
 labelled_fault_text labelled.OutOfMemory = codes "out of memory"
 
+-- what a save's fault says
+abbrev pub save_fault_text : SaveFault → List ℕ
+save_fault_text (save.BadLine line) = codes "line " +++ decimal line +++ codes ": not a save"
+save_fault_text save.BadState = codes "no valid state"
+save_fault_text save.OutOfMemory = codes "out of memory"
+
 -- what a file's fault says
 abbrev pub file_fault_text : FileFault → List ℕ
 file_fault_text TooLong = codes "too long"
@@ -125,6 +133,8 @@ file_fault_text (World fault) = world_fault_text fault
 file_fault_text (Brain fault) = brain_fault_text fault
 file_fault_text (Breaks fault) = break_fault_text fault
 file_fault_text (Labelled fault) = labelled_fault_text fault
+file_fault_text (Save fault) = save_fault_text fault
+file_fault_text (AlreadyAt round) = codes "already at round " +++ decimal round
 
 -- what a reason says
 abbrev pub reason_text : Reason → List ℕ

@@ -41,6 +41,10 @@ impl Layout for GameLines {
         layout!(
             "  run WORLD RED BLACK --seed N --rounds N [OPTION]..\n",
             "      plays a game between two brains, and prints its score\n",
+            "  save WORLD RED BLACK --seed N --rounds N [OPTION]..\n",
+            "      plays a game up to a round, and prints all that it takes to go on\n",
+            "  resume SAVE --rounds N [OPTION]..\n",
+            "      goes on with a saved game, and prints the rest of what run prints\n",
             "  view WORLD RED BLACK BREAKS --seed N --rounds N\n",
             "      plays a game up to the first of its breaks, and prints the world there\n",
             "  cup --worlds WORLD.. --brains BRAIN BRAIN.. --seed N --rounds N [--workers N]\n",
@@ -92,7 +96,8 @@ impl Layout for GameOptionLines {
     #[tactic(auto, unfolding(crate::specs::Help::game_option_lines))]
     fn push_to<K: Sink>(&self, sink: &mut K) -> Result<(), Failed> {
         layout!(
-            "Options of run, of which view and cup take the first two:\n",
+            "Options of run, of which view and cup take the first two, save all but --dump\n",
+            "and --stats, and resume --rounds, --dump, --workers and --stats:\n",
             "  --seed N      where the random numbers begin, 0 to 4294967295; needed\n",
             "  --rounds N    how many rounds are played, 0 to 1000000; needed\n",
             "  --dump D      dumps after rounds: none, all, or as 0,10,100; none\n",

@@ -1,7 +1,7 @@
 // Laws on the definitions of what a command does. Each is proved by a function that does nothing.
 ghost use Rattle.ants.specs.Headline.{Headline};
 ghost use Rattle.ants.specs.Judged.{JudgesOnce};
-ghost use Rattle.ants.specs.Laws.{AssembledAndMinimised, HasOutput, OneText, TextsEndInLf, WindowsChangeCountsAlone, WorkersChangeNothing};
+ghost use Rattle.ants.specs.Laws.{AssembledAndMinimised, HasOutput, OneText, SavesAreResumed, TextsEndInLf, WindowsChangeCountsAlone, WorkersChangeNothing};
 
 /// The promise on one page: each run of the program ends with the status 0, 2, 3, 4, 5 or 6, and each of them says what was fetched, accepted
 /// and written. It follows from the one clause of `run_to_exit`.
@@ -44,4 +44,11 @@ pub fn has_output()
 /// What `asm` writes, minimised, still plays the labelled game of the program: state for address, and with the same score.
 pub fn assembled_and_minimised()
     ensures { AssembledAndMinimised }
+{}
+
+/// Where `run` prints a text, `save` after fewer rounds of the same game prints a save that `resume` accepts, and what `resume` prints of it is
+/// the rest of that text: before it stand the line of the seed and the chosen dumps up to the saved round. The seed, the window, the sheet, the
+/// dumps and the counts are those of `run`; each of the three may have any number of workers. So it is after whichever round the game is saved.
+pub fn saves_are_resumed()
+    ensures { SavesAreResumed }
 {}

@@ -1,10 +1,10 @@
 // The whole program, over any shelf and any sinks.
 ghost use Rattle.std.specs.Prelude.{◌≡◌, ◌↔◌, ◌≤◌};
 ghost use Rattle.command_words.specs.Far.{words_without_far};
-ghost use Rattle.command_words.specs.Command.PlainCommand.{CupCommand, RunCommand, WorkloadCommand};
-ghost use Rattle.command_words.specs.Laws.{CommandWithin, CupWithin, IsWithin, SetupWithin};
+ghost use Rattle.command_words.specs.Command.PlainCommand.{CupCommand, ResumeCommand, RunCommand, SaveCommand, WorkloadCommand};
+ghost use Rattle.command_words.specs.Laws.{CommandWithin, CupWithin, IsWithin, ResumeWithin, SetupWithin};
 ghost use Rattle.command_words.specs.declared.limits.NumberKind.TheVariants.{WorkerCount};
-ghost use Rattle.command_words.specs.Words.{plain, plain_setup, texts};
+ghost use Rattle.command_words.specs.Words.{plain, plain_resume, plain_setup, texts};
 ghost use Rattle.match_run.specs.Run.{most_rounds};
 ghost use Rattle.round_book.specs.Book.{CanBegin};
 ghost use Rattle.round_book.specs.Led.{IsWindow};
@@ -23,7 +23,9 @@ use crate::far::run_far;
 use crate::generating::gen_world;
 use crate::help::{help, version};
 use crate::minimise::minimise;
-use crate::run::{FileNames, plan_of, run, run_alone};
+use crate::resume::resume;
+use crate::run::{FileNames, dumps_of, plan_of, run, run_alone};
+use crate::save::save;
 use crate::show::show;
 use crate::status::Status;
 use crate::stop::{CommandStop, Ended};
@@ -31,8 +33,10 @@ use crate::view::view;
 use crate::workload::workload;
 use ant_base::{Gate, Layout, Shelf, Sink, layout};
 use ant_turn::Sheet;
-use command_words::{Command, RunOptions, is_far_run, read_words, read_words_without_far};
-use match_run::OutOfMemory;
+use command_words::{
+    Command, ResumeOptions, RunOptions, is_far_run, read_words, read_words_without_far,
+};
+use match_run::{OutOfMemory, Plan};
 use round_book::{Counts, Field, Led};
 use round_workers::BoardCrew;
 use std::alloc::Global;
@@ -68,6 +72,59 @@ fn carry_out_run<'w, R: Threads + Sync, S: Shelf, K: Sink, G: Gate>(
         { board.window(alloc, field, from, to) },
     );
     run(alloc, &mut crew, names, sheet, &plan, shelf, out)
+}
+
+// Saves the game that the words ask for, which as many workers play as they say.
+fn carry_out_save<'w, R: Threads + Sync, S: Shelf, K: Sink, G: Gate>(
+    rt: &R,
+    alloc: Global,
+    names: FileNames<'w>,
+    options: RunOptions<'w>,
+    shelf: &mut S,
+    out: &mut K,
+    gate: &G,
+) -> Result<(), CommandStop<'w>>
+    requires within { SetupWithin (plain_setup options) }
+    ensures { CarriesOut (SaveCommand names.entry.world.now names.entry.red.now names.entry.black.now (plain_setup options.entry))
+        (S.state shelf.old) (S.state shelf.new) (K.state out.old) (K.state out.new) (ending_of result) }
+{
+    let sheet = Sheet::new(options.surround, options.corpse, options.rest);
+    let mut board = BoardCrew::new(rt, options.workers, gate);
+    let plan = plan_of(alloc, options)?;
+    let mut crew = Led::by(
+        |field: &mut Field<'_>, from: u32, to: u32| -> Result<Counts, OutOfMemory>
+            requires { CanBegin field.now from to }
+            ensures { IsWindow result field.entry.now from to field.exit.now }
+        { board.window(alloc, field, from, to) },
+    );
+    save(alloc, &mut crew, names, sheet, &plan, shelf, out)
+}
+
+// Goes on with the game of the save that the words name, by as many workers as they say.
+fn carry_out_resume<'w, R: Threads + Sync, S: Shelf, K: Sink, G: Gate>(
+    rt: &R,
+    alloc: Global,
+    name: &'w str,
+    options: ResumeOptions<'w>,
+    shelf: &mut S,
+    out: &mut K,
+    gate: &G,
+) -> Result<(), CommandStop<'w>>
+    requires within { ResumeWithin (plain_resume options) }
+    ensures { CarriesOut (ResumeCommand name.now (plain_resume options.entry)) (S.state shelf.old) (S.state shelf.new) (K.state out.old) (K.state out.new)
+        (ending_of result) }
+{
+    let mut board = BoardCrew::new(rt, options.workers, gate);
+    let rounds = options.rounds;
+    let stats = options.stats;
+    let dumps = dumps_of(alloc, options.dumps)?;
+    let mut crew = Led::by(
+        |field: &mut Field<'_>, from: u32, to: u32| -> Result<Counts, OutOfMemory>
+            requires { CanBegin field.now from to }
+            ensures { IsWindow result field.entry.now from to field.exit.now }
+        { board.window(alloc, field, from, to) },
+    );
+    resume(alloc, &mut crew, name, rounds, &dumps, stats, shelf, out)
 }
 
 // Plays the workload that the words ask for, by as many workers as they say.
@@ -173,6 +230,18 @@ fn carry_out_command<'w, R: Threads + Sync, S: Shelf, K: Sink, G: Gate>(
         Command::Help => help(shelf, out),
         Command::Version => version(shelf, out),
         Command::Asm { file } => asm(alloc, file, shelf, out),
+        Command::Save {
+            world,
+            red,
+            black,
+            options,
+        } => {
+            let names = FileNames { world, red, black };
+            carry_out_save(rt, alloc, names, options, shelf, out, gate)
+        }
+        Command::Resume { save, options } => {
+            carry_out_resume(rt, alloc, save, options, shelf, out, gate)
+        }
     }
 }
 
@@ -249,7 +318,7 @@ fn carry_out_far<'w, R: Threads + Wait + Sync, S: Shelf, K: Sink, G: Gate>(
 /// - `Input`: the last file that was fetched is too long or not in its grammar, and each before it was accepted; or an element of the world
 ///   to be generated has no room; the output got nothing.
 /// - `Memory`: memory could not be had; no fetch failed or was too long. Either each file but perhaps the last was accepted, and the output
-///   got nothing; or all files of a `run`, which writes while it plays, were accepted, and the output got a front of the text.
+///   got nothing; or all files of a `run` or a `resume`, which write while they play, were accepted, and the output got a front of the text.
 ///
 /// At each but `Done` the errors got one line, which names the word (from 1) or the file and the place in it; or a front of that line,
 /// where they failed. The shelf keeps its contents and all of which it is sure, its log grows by the fetches, and its count of faults rises

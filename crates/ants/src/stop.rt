@@ -1,6 +1,6 @@
 // How a run ended, why a command stopped, and the line that says so.
 ghost use Rattle.std.specs.Prelude.{◌≡◌};
-ghost use Rattle.ants.specs.Stopping.{file_fault_text, brain_fault_text, break_fault_text, labelled_fault_text, world_fault_text, ending_by, plain_ending, reason_of, reason_text, fault_line, status_of};
+ghost use Rattle.ants.specs.Stopping.{file_fault_text, brain_fault_text, break_fault_text, labelled_fault_text, world_fault_text, ending_by, plain_ending, reason_of, reason_text, fault_line, status_of, save_fault_text};
 ghost use Rattle.ants.specs.Inner.Reading.{ending_of};
 
 use crate::status::Status;
@@ -9,6 +9,7 @@ use ant_base::{Failed, Layout, Sink, layout};
 use brain_read::BrainFault;
 use break_view::BreakFault;
 use match_run::{OutOfMemory, PlayFault};
+use match_save::SaveFault;
 use std::alloc::AllocFailed;
 use world_read::WorldFault;
 
@@ -25,6 +26,10 @@ pub enum FileFault {
     Breaks(BreakFault),
     /// It is no labelled program.
     Labelled(AsmFault),
+    /// It is no save.
+    Save(SaveFault),
+    /// It is a save of which this many rounds are done, more than are to be played in all.
+    AlreadyAt(u32),
 }
 
 /// Why a command stopped before its whole text was written.
@@ -225,6 +230,21 @@ impl Layout for LabelledWords {
 }
 
 #[derive(Clone, Copy)]
+struct SaveWords(SaveFault);
+
+impl Layout for SaveWords {
+    ghost text = { λ words. save_fault_text words.0 };
+
+    fn push_to<K: Sink>(&self, sink: &mut K) -> Result<(), Failed> {
+        match self.0 {
+            SaveFault::BadLine { line } => layout!("line ", line, ": not a save").push_to(sink),
+            SaveFault::BadState => "no valid state".push_to(sink),
+            SaveFault::OutOfMemory => "out of memory".push_to(sink),
+        }
+    }
+}
+
+#[derive(Clone, Copy)]
 struct FileWords(FileFault);
 
 impl Layout for FileWords {
@@ -237,6 +257,8 @@ impl Layout for FileWords {
             FileFault::Brain(fault) => BrainWords(fault).push_to(sink),
             FileFault::Breaks(fault) => BreakWords(fault).push_to(sink),
             FileFault::Labelled(fault) => LabelledWords(fault).push_to(sink),
+            FileFault::Save(fault) => SaveWords(fault).push_to(sink),
+            FileFault::AlreadyAt(round) => layout!("already at round ", round).push_to(sink),
         }
     }
 }

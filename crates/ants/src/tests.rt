@@ -8,6 +8,7 @@ mod generated;
 mod helped;
 mod outside;
 mod runs;
+mod saves;
 mod settling;
 mod shown;
 mod viewed;

@@ -1,13 +1,11 @@
 // The command `workload`.
-ghost use Rattle.std.specs.Prelude.{◌≡◌, ◌≤◌, ℕ, true, IfOk};
+ghost use Rattle.std.specs.Prelude.{◌≡◌, ◌≤◌, ℕ, IfOk};
 ghost use Rattle.ant_base.specs.Layout.{◌+++◌};
 ghost use Rattle.ant_base.specs.Sink.{Pushed};
 ghost use Rattle.ant_turn.specs.Minds.{Fits};
 ghost use Rattle.cell_world.specs.Grid.{world_of};
 ghost use Rattle.command_words.specs.Command.PlainCommand.{WorkloadCommand};
-ghost use Rattle.command_words.specs.Table.{default_window};
 ghost use Rattle.dump_print.specs.Texts.{score_text, stats_text};
-ghost use Rattle.match_run.specs.GameLaws.{IsAtRound};
 ghost use Rattle.match_run.specs.Run.{most_rounds};
 ghost use Rattle.ants.specs.Inner.Reading.{CarriesOut, ending_of};
 ghost use Rattle.ants.specs.Inner.Planning.{IsGenerating};
@@ -15,6 +13,7 @@ ghost use Rattle.ants.specs.Jobs.{contest_shape, sample_minds, summary_lines, su
 ghost use Rattle.ants.specs.Sample.{sample_brain};
 
 use crate::generating::generated;
+use crate::played::played;
 use crate::sample::sample_brain;
 use crate::stop::CommandStop;
 use ant_base::{Failed, Layout, Shelf, Sink, layout};
@@ -23,7 +22,7 @@ use brain_read::Brain;
 use cell_world::{Colour, Score, World};
 use command_words::DEFAULT_WINDOW;
 use dump_print::{push_score, push_stats};
-use match_run::{Game, OutOfMemory, Totals};
+use match_run::{OutOfMemory, Totals};
 use round_book::{Crew, Field};
 use std::alloc::Global;
 use world_gen::{Shape, food_on_cells};
@@ -52,26 +51,6 @@ fn contest_world<'w>(alloc: Global, seed: u32) -> Result<World, CommandStop<'w>>
     generated(alloc, seed, Shape::contest())
 }
 
-// The game on a field after so many rounds.
-fn played<'b, C: Crew>(
-    alloc: Global,
-    crew: &mut C,
-    field: Field<'b>,
-    rounds: u32,
-) -> Result<Game<'b>, OutOfMemory>
-    requires ready { C.ready crew.old }
-    requires whole { field.whole ≡ true }
-    requires first { field.place ≡ 0 }
-    requires few_rounds { rounds ≤ most_rounds }
-    ensures { IfOk result (λ game. IsAtRound field.entry default_window rounds game) }
-{
-    let mut game = Game::begin(field, DEFAULT_WINDOW);
-    for _ in 0..rounds {
-        game.round(alloc, crew)?;
-    }
-    Ok(game)
-}
-
 // What came of a game on a world, which both sides play with this brain.
 fn summary_of<C: Crew>(
     alloc: Global,
@@ -95,7 +74,7 @@ fn summary_of<C: Crew>(
         sheet: Sheet::contest(),
     };
     let field = Field::new(alloc, world, brains, seed, 0)?;
-    let game = played(alloc, crew, field, rounds)?;
+    let game = played(alloc, crew, field, DEFAULT_WINDOW, rounds)?;
     let end = game.world();
     Ok(Summary {
         ants,

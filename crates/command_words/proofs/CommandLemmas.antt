@@ -16,7 +16,7 @@ use Rattle.command_words.specs.declared.slot.Slot.TheVariants.{FileName, Number,
 use Rattle.command_words.specs.declared.slot.Place.{Place}
 use Rattle.command_words.specs.declared.slot.Place.TheVariants.{Word, Names}
 use Rattle.command_words.specs.declared.table.CommandKind.{CommandKind}
-use Rattle.command_words.specs.declared.table.CommandKind.TheVariants.{Show, Brain, Minimise, Run, Gen, Cup, View, Workload, Help, Version, Asm}
+use Rattle.command_words.specs.declared.table.CommandKind.TheVariants.{Show, Brain, Minimise, Run, Gen, Cup, View, Workload, Help, Version, Asm, Save, Resume}
 use Rattle.command_words.specs.declared.table.Choice.{Choice}
 use Rattle.command_words.specs.declared.table.Choice.TheVariants.{Seed, Rounds, Dump, Workers, Window, Surround, Corpse, Rest, Stats, Far, Width, Height, Rocks, Blobs}
 use Rattle.command_words.specs.Limits.{number_in}
@@ -24,12 +24,13 @@ use Rattle.command_words.specs.Slots.{fits, is_dumps, dumps_of, AreNames, DumpCh
 use Rattle.command_words.specs.Slots.DumpChoice.{NoDump}
 use Rattle.command_words.specs.Table.{word_of, places_of, choices_of, option_of, values_of, is_needed, keyword_of}
 use Rattle.command_words.specs.Table.{default_workers, default_window, default_surround, default_corpse, default_rest, default_side, default_rocks, default_blobs}
-use Rattle.command_words.specs.Command.{RunSetup, Given, given_words, joined, FitAll, IsOptionOf, IsGiven, IsCommandOf, PlainCommand, kind_in, first_word, value_given}
+use Rattle.command_words.specs.Command.{ResumeSetup, RunSetup, Given, given_words, joined, FitAll, IsOptionOf, IsGiven, IsCommandOf, PlainCommand, kind_in, first_word, value_given}
 use Rattle.command_words.specs.Command.{has_given}
-use Rattle.command_words.specs.Command.{number_needed, number_or, dumps_or_none, SaysSetup, SaysShape, SaysCup, one, Says}
-use Rattle.command_words.specs.Command.PlainCommand.{ShowCommand, BrainCommand, MinimiseCommand, RunCommand, GenCommand, CupCommand, ViewCommand, WorkloadCommand, HelpCommand, VersionCommand, AsmCommand}
+use Rattle.command_words.specs.Command.{number_needed, number_or, dumps_or_none, SaysSetup, SaysShape, SaysCup, SaysResume, one, Says}
+use Rattle.command_words.specs.Command.PlainCommand.{ShowCommand, BrainCommand, MinimiseCommand, RunCommand, GenCommand, CupCommand, ViewCommand, WorkloadCommand, HelpCommand, VersionCommand, AsmCommand, SaveCommand, ResumeCommand}
 use Rattle.command_words.specs.Inner.Walk.{is_among, has_needed, rest_after, word_after, names_front, names_of, show_with, setup_with}
 use Rattle.command_words.specs.Inner.Walk.{setup_in, run_with, shape_with, shape_in, gen_with, cup_with, view_with, workload_with, command_in}
+use Rattle.command_words.specs.Inner.Walk.{resume_setup_in, resume_setup_with, resume_with, save_with}
 use Rattle.list_lemmas.proofs.Elements.{Contains-none, Contains-cases}
 use Rattle.command_words.proofs.ListLemmas.{list_all-at, list_all-each}
 use Rattle.command_words.proofs.TableLemmas.{option-not_first, same_option, bytes_eq-same, keyword-no_name}
@@ -251,6 +252,21 @@ workload-some : (seed rounds workers : ℕ) (a b c : Option ℕ) → a ≡ Some 
     → workload_with a b c ≡ Some (WorkloadCommand seed rounds workers)
 workload-some seed rounds workers a b c is_a is_b is_c = rw (is_a, is_b, is_c) refl
 
+-- the options of `resume`, one after another
+resume-some : (setup : ResumeSetup) (rounds : Option ℕ) (dumps : Option DumpChoice) (workers : Option ℕ) (stats : Bool) → rounds ≡ Some setup.rounds
+    → dumps ≡ Some setup.dumps → workers ≡ Some setup.workers → stats ≡ setup.stats
+    → resume_setup_with rounds dumps workers stats ≡ Some setup
+resume-some setup rounds dumps workers stats a b c d = rw (a, b, c, d) refl
+
+resume-said : (words : List (List ℕ)) (given : List Given) (setup : ResumeSetup) → Gives words given → SaysResume setup given → resume_setup_in words ≡ Some setup
+resume-said words given setup gives says =
+    resume-some setup (number_needed RoundCount (word_after Rounds words)) (dumps_or_none (word_after Dump words))
+    (number_or default_workers WorkerCount (word_after Workers words)) (is_among (option_of Stats) words)
+    (ap (number_needed RoundCount) (gives.value Rounds (Number RoundCount) refl) ∙ says.rounds)
+    (ap dumps_or_none (gives.value Dump Dumps refl) ∙ says.dumps)
+    (ap (number_or default_workers WorkerCount) (gives.value Workers (Number WorkerCount) refl) ∙ says.workers)
+    (gives.has Stats ∙ says.stats)
+
 -- a command's words
 abbrev words_of : CommandKind → List (List (List ℕ)) → List Given → List (List ℕ)
 words_of kind front given = word_of kind ∷ (joined front ++ flat_map given_words given)
@@ -296,6 +312,16 @@ command_in-says (WorkloadCommand seed rounds workers) front given fit options sa
 command_in-says HelpCommand front given fit options says = refl
 command_in-says VersionCommand front given fit options says = refl
 command_in-says (AsmCommand file) front given fit options says = ap (λ f. command_in Asm (words_of Asm f given)) says
+command_in-says (SaveCommand world red black setup) front given fit options says =
+    let explicit = one world ∷ one red ∷ one black ∷ [] in
+    ap (λ f. command_in Save (words_of Save f given)) says.0
+    ∙ ap (save_with (Some world) (Some red) (Some black))
+    (setup-said (words_of Save explicit given) given setup (command-gives Save explicit given (subst (FitAll (places_of Save)) says.0 fit) options) says.1)
+command_in-says (ResumeCommand save setup) front given fit options says =
+    let explicit = one save ∷ [] in
+    ap (λ f. command_in Resume (words_of Resume f given)) says.0
+    ∙ ap (resume_with (Some save))
+    (resume-said (words_of Resume explicit given) given setup (command-gives Resume explicit given (subst (FitAll (places_of Resume)) says.0 fit) options) says.1)
 
 -- what is there
 there : {A : Type 0} (o : Option A) → is_some o ≡ true → (x : A) × (o ≡ Some x)
@@ -386,6 +412,43 @@ cup-whole front after_keyword after_worlds after_brains_keyword after_brains wor
 said_so : (command : PlainCommand) (front : List (List (List ℕ))) (given : List Given) → Says command front given → Said (kind_in command) front given
 said_so command front given says = record { command = command; of_kind = refl; says = says }
 
+-- the options of a game, whose seed and rounds are said, are those of a setup
+game-said : (kind : CommandKind) (given : List Given) → ((n : ℕ) × (number_needed SeedNumber (value_given Seed given) ≡ Some n))
+    → ((n : ℕ) × (number_needed RoundCount (value_given Rounds given) ≡ Some n)) → AllByRecursion (IsOptionOf kind) given
+    → (setup : RunSetup) × SaysSetup setup given
+game-said kind given seed rounds options =
+    let dumps = dumps-said (value_given Dump given) (value-fits kind given Dump Dumps refl options) in
+    let workers = free-said kind given Workers default_workers WorkerCount refl options in
+    let window = free-said kind given Window default_window WindowSize refl options in
+    let surround = free-said kind given Surround default_surround FoeCount refl options in
+    let corpse = free-said kind given Corpse default_corpse CorpseFood refl options in
+    let rest = free-said kind given Rest default_rest RestRounds refl options in (
+      record {
+        seed = seed.0;
+        rounds = rounds.0;
+        dumps = dumps.0;
+        workers = workers.0;
+        window = window.0;
+        surround = surround.0;
+        corpse = corpse.0;
+        rest = rest.0;
+        stats = has_given Stats given;
+        far = has_given Far given;
+      },
+      record {
+        seed = seed.1;
+        rounds = rounds.1;
+        dumps = dumps.1;
+        workers = workers.1;
+        window = window.1;
+        surround = surround.1;
+        corpse = corpse.1;
+        rest = rest.1;
+        stats = refl;
+        far = refl;
+      },
+    )
+
 -- words that are a command say one
 pub command-says : (kind : CommandKind) (front : List (List (List ℕ))) (given : List Given) (words : List (List ℕ)) → IsCommandOf kind front given words
     → Said kind front given
@@ -406,37 +469,10 @@ command-says Run front given words form =
     let c = first-place FileName [] b.rest b.others in
     let seed = needed-said Run given Seed SeedNumber refl form.options (form.needed Seed (0, lit< tt, refl) refl) in
     let rounds = needed-said Run given Rounds RoundCount refl form.options (form.needed Rounds (1, lit< tt, refl) refl) in
-    let dumps = dumps-said (value_given Dump given) (value-fits Run given Dump Dumps refl form.options) in
-    let workers = free-said Run given Workers default_workers WorkerCount refl form.options in
-    let window = free-said Run given Window default_window WindowSize refl form.options in
-    let surround = free-said Run given Surround default_surround FoeCount refl form.options in
-    let corpse = free-said Run given Corpse default_corpse CorpseFood refl form.options in
-    let rest = free-said Run given Rest default_rest RestRounds refl form.options in
-    said_so (RunCommand a.word b.word c.word (record {
-      seed = seed.0;
-      rounds = rounds.0;
-      dumps = dumps.0;
-      workers = workers.0;
-      window = window.0;
-      surround = surround.0;
-      corpse = corpse.0;
-      rest = rest.0;
-      stats = has_given Stats given;
-      far = has_given Far given;
-    })) front given (
+    let said = game-said Run given seed rounds form.options in
+    said_so (RunCommand a.word b.word c.word said.0) front given (
       a.whole ∙ ap (λ r. one a.word ∷ r) (b.whole ∙ ap (λ r. one b.word ∷ r) (c.whole ∙ ap (λ r. one c.word ∷ r) (no-place c.rest c.others))),
-      record {
-        seed = seed.1;
-        rounds = rounds.1;
-        dumps = dumps.1;
-        workers = workers.1;
-        window = window.1;
-        surround = surround.1;
-        corpse = corpse.1;
-        rest = rest.1;
-        stats = refl;
-        far = refl;
-      },
+      said.1,
     )
 command-says Gen front given words form =
     let a = first-place (Number SeedNumber) [] front form.places in
@@ -498,6 +534,26 @@ command-says Version front given words form = said_so VersionCommand front given
 command-says Asm front given words form =
     let a = first-place FileName [] front form.places in
     said_so (AsmCommand a.word) front given (a.whole ∙ ap (λ r. one a.word ∷ r) (no-place a.rest a.others))
+command-says Save front given words form =
+    let a = first-place FileName (Word FileName ∷ Word FileName ∷ []) front form.places in
+    let b = first-place FileName (Word FileName ∷ []) a.rest a.others in
+    let c = first-place FileName [] b.rest b.others in
+    let seed = needed-said Save given Seed SeedNumber refl form.options (form.needed Seed (0, lit< tt, refl) refl) in
+    let rounds = needed-said Save given Rounds RoundCount refl form.options (form.needed Rounds (1, lit< tt, refl) refl) in
+    let said = game-said Save given seed rounds form.options in
+    said_so (SaveCommand a.word b.word c.word said.0) front given (
+      a.whole ∙ ap (λ r. one a.word ∷ r) (b.whole ∙ ap (λ r. one b.word ∷ r) (c.whole ∙ ap (λ r. one c.word ∷ r) (no-place c.rest c.others))),
+      said.1,
+    )
+command-says Resume front given words form =
+    let a = first-place FileName [] front form.places in
+    let rounds = needed-said Resume given Rounds RoundCount refl form.options (form.needed Rounds (0, lit< tt, refl) refl) in
+    let dumps = dumps-said (value_given Dump given) (value-fits Resume given Dump Dumps refl form.options) in
+    let workers = free-said Resume given Workers default_workers WorkerCount refl form.options in
+    said_so (ResumeCommand a.word (record { rounds = rounds.0; dumps = dumps.0; workers = workers.0; stats = has_given Stats given })) front given (
+      a.whole ∙ ap (λ r. one a.word ∷ r) (no-place a.rest a.others),
+      record { rounds = rounds.1; dumps = dumps.1; workers = workers.1; stats = refl },
+    )
 
 -- a command's words have the options that it needs
 pub has_needed-command : (kind : CommandKind) (front : List (List (List ℕ))) (given : List Given) (words : List (List ℕ)) → IsCommandOf kind front given words

@@ -11,7 +11,7 @@ use Rattle.command_words.specs.declared.table.NameList.TheVariants.{Worlds, Brai
 use Rattle.command_words.specs.declared.slot.Slot.{Slot}
 use Rattle.command_words.specs.declared.slot.Slot.TheVariants.{FileName, Number, Dumps, Keyword}
 use Rattle.command_words.specs.declared.table.CommandKind.{CommandKind}
-use Rattle.command_words.specs.declared.table.CommandKind.TheVariants.{Show, Brain, Minimise, Run, Gen, Cup, View, Workload, Help, Version, Asm}
+use Rattle.command_words.specs.declared.table.CommandKind.TheVariants.{Show, Brain, Minimise, Run, Gen, Cup, View, Workload, Help, Version, Asm, Save, Resume}
 use Rattle.command_words.specs.declared.table.Choice.{Choice}
 use Rattle.command_words.specs.declared.table.Choice.TheVariants.{Seed, Rounds, Dump, Workers, Window, Surround, Corpse, Rest, Stats, Far, Width, Height, Rocks, Blobs}
 use Rattle.command_words.specs.Slots.{fits, is_file_name, is_dumps, dumps_of}
@@ -91,7 +91,7 @@ same_option-differs a b differ = false_from_ne_true (bytes_eq (option_of a) (opt
 
 -- the command of a word, known or not
 kind_named : List ℕ → Option CommandKind
-kind_named word = find (λ kind. bytes_eq (word_of kind) word) (Show ∷ Brain ∷ Minimise ∷ Run ∷ Gen ∷ Cup ∷ View ∷ Workload ∷ Help ∷ Version ∷ Asm ∷ [])
+kind_named word = find (λ kind. bytes_eq (word_of kind) word) (Show ∷ Brain ∷ Minimise ∷ Run ∷ Gen ∷ Cup ∷ View ∷ Workload ∷ Help ∷ Version ∷ Asm ∷ Save ∷ Resume ∷ [])
 
 kind_named-word : (kind : CommandKind) → kind_named (word_of kind) ≡ Some kind
 unfolding kind_named
@@ -106,6 +106,8 @@ kind_named-word Workload = refl
 kind_named-word Help = refl
 kind_named-word Version = refl
 kind_named-word Asm = refl
+kind_named-word Save = refl
+kind_named-word Resume = refl
 
 -- two commands have two words
 same_kind : (a b : CommandKind) → bytes_eq (word_of a) (word_of b) ≡ true → a ≡ b
@@ -167,6 +169,8 @@ no_option_first Workload = refl
 no_option_first Help = refl
 no_option_first Version = refl
 no_option_first Asm = refl
+no_option_first Save = refl
+no_option_first Resume = refl
 
 -- no option's word is a command's first word
 pub option-not_first : (kind : CommandKind) (choice : Choice) → bytes_eq (word_of kind) (option_of choice) ≡ false

@@ -11,7 +11,7 @@ use Rattle.command_words.specs.declared.slot.Slot.TheVariants.{FileName, Number,
 use Rattle.command_words.specs.declared.slot.Place.{Place}
 use Rattle.command_words.specs.declared.slot.Place.TheVariants.{Word, Names}
 use Rattle.command_words.specs.declared.table.CommandKind.{CommandKind}
-use Rattle.command_words.specs.declared.table.CommandKind.TheVariants.{Show, Brain, Minimise, Run, Gen, Cup, View, Workload, Help, Version, Asm}
+use Rattle.command_words.specs.declared.table.CommandKind.TheVariants.{Show, Brain, Minimise, Run, Gen, Cup, View, Workload, Help, Version, Asm, Save, Resume}
 use Rattle.command_words.specs.declared.table.Choice.{Choice}
 use Rattle.command_words.specs.declared.table.Choice.TheVariants.{Seed, Rounds, Dump, Workers, Window, Surround, Corpse, Rest, Stats, Far, Width, Height, Rocks, Blobs}
 use Rattle.command_words.specs.Slots.{is_file_name, AllDiffer, AreNames, FitsPlace}
@@ -92,6 +92,8 @@ places-end Workload = tt
 places-end Help = tt
 places-end Version = tt
 places-end Asm = tt
+places-end Save = tt
+places-end Resume = tt
 
 pub values-end : (choice : Choice) → RunsEnd (values_of choice)
 values-end Seed = tt

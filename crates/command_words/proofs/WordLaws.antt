@@ -16,12 +16,12 @@ use Rattle.command_words.specs.Table.{places_of, option_of}
 use Rattle.command_words.specs.Table.{default_workers, default_window, default_surround, default_corpse, default_rest, default_side, default_rocks, default_blobs}
 use Rattle.command_words.specs.Slots.{with_number, numbers_of, pieces_of, dumps_of, DumpChoice}
 use Rattle.command_words.specs.Slots.DumpChoice.{NoDump, EveryDump, ChosenDumps}
-use Rattle.command_words.specs.Command.{Given, NoneTwice, FitAll, RunSetup, PlainCommand, kind_in, first_word, joined, value_given, has_given, number_needed, number_or}
+use Rattle.command_words.specs.Command.{Given, NoneTwice, FitAll, ResumeSetup, RunSetup, PlainCommand, kind_in, first_word, joined, value_given, has_given, number_needed, number_or}
 use Rattle.command_words.specs.Command.{dumps_or_none}
-use Rattle.command_words.specs.Command.{SaysSetup, SaysShape, SaysCup, SaysView, Says, IsCommand, IsBeginning, IsRefusedAt}
-use Rattle.command_words.specs.Command.PlainCommand.{ShowCommand, BrainCommand, MinimiseCommand, RunCommand, GenCommand, CupCommand, ViewCommand, WorkloadCommand, HelpCommand, VersionCommand, AsmCommand}
+use Rattle.command_words.specs.Command.{SaysResume, SaysSetup, SaysShape, SaysCup, SaysView, Says, IsCommand, IsBeginning, IsRefusedAt}
+use Rattle.command_words.specs.Command.PlainCommand.{ShowCommand, BrainCommand, MinimiseCommand, RunCommand, GenCommand, CupCommand, ViewCommand, WorkloadCommand, HelpCommand, VersionCommand, AsmCommand, SaveCommand, ResumeCommand}
 use Rattle.command_words.specs.Inner.Walk.{read_of}
-use Rattle.command_words.specs.Laws.{OneCommand, OneRefusedWord, NeverBoth, OneOfBoth, FrontBegins, AnyOrder, IsWithin, AreWithin, SetupWithin, ShapeWithin}
+use Rattle.command_words.specs.Laws.{OneCommand, OneRefusedWord, NeverBoth, OneOfBoth, FrontBegins, AnyOrder, IsWithin, AreWithin, ResumeWithin, SetupWithin, ShapeWithin}
 use Rattle.command_words.specs.Laws.{CommandWithin, WithinLimits}
 use Rattle.list_lemmas.proofs.Elements.{Contains-none, Contains-first, Contains-later, Contains-cases}
 use Rattle.command_words.proofs.TableLemmas.{same_option, same_option-differs, bytes_eq-same}
@@ -191,6 +191,14 @@ same-view seed rounds given others same says = record {
   rounds_said = ap (number_needed RoundCount) (same.value Rounds) ∙ says.rounds_said;
 }
 
+same-resume : (setup : ResumeSetup) (given others : List Given) → SaySame given others → SaysResume setup given → SaysResume setup others
+same-resume setup given others same says = record {
+  rounds = ap (number_needed RoundCount) (same.value Rounds) ∙ says.rounds;
+  dumps = ap dumps_or_none (same.value Dump) ∙ says.dumps;
+  workers = ap (number_or default_workers WorkerCount) (same.value Workers) ∙ says.workers;
+  stats = same.has Stats ∙ says.stats;
+}
+
 -- a command is what its options say
 same-command : (command : PlainCommand) (front : List (List (List ℕ))) (given others : List Given) → SaySame given others → Says command front given
     → Says command front others
@@ -205,6 +213,8 @@ same-command (WorkloadCommand seed rounds workers) front given others same says 
 same-command HelpCommand front given others same says = says
 same-command VersionCommand front given others same says = says
 same-command (AsmCommand file) front given others same says = says
+same-command (SaveCommand world red black setup) front given others same says = (says.0, same-setup setup given others same says.1)
+same-command (ResumeCommand save setup) front given others same says = (says.0, same-resume setup given others same says.1)
 
 pub any_order : AnyOrder
 any_order words more command is others form to from = record {
@@ -283,6 +293,13 @@ setup-within setup given says = record {
   rest = free-within default_rest RestRounds (value_given Rest given) setup.rest (omega arith, omega arith) says.rest;
 }
 
+resume-within : (setup : ResumeSetup) (given : List Given) → SaysResume setup given → ResumeWithin setup
+resume-within setup given says = record {
+  rounds = needed-within RoundCount (value_given Rounds given) setup.rounds says.rounds;
+  dumps = dumps-within (value_given Dump given) setup.dumps says.dumps;
+  workers = free-within default_workers WorkerCount (value_given Workers given) setup.workers (omega arith, omega arith) says.workers;
+}
+
 shape-within : (shape : GenShape) (given : List Given) → SaysShape shape given → ShapeWithin shape
 shape-within shape given says = record {
   width = free-within default_side SideLength (value_given Width given) shape.width (omega arith, omega arith) says.width;
@@ -314,6 +331,8 @@ command-within (WorkloadCommand seed rounds workers) front given fit says =
 command-within HelpCommand front given fit says = tt
 command-within VersionCommand front given fit says = tt
 command-within (AsmCommand file) front given fit says = tt
+command-within (SaveCommand world red black setup) front given fit says = setup-within setup given says.1
+command-within (ResumeCommand save setup) front given fit says = resume-within setup given says.1
 
 pub within_limits : WithinLimits
 within_limits words command is = command-within command is.front is.given is.form.places is.says

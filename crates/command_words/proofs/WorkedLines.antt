@@ -5,9 +5,9 @@ use Rattle.ant_base.specs.Number.{decimal_value}
 use Rattle.command_words.specs.declared.command.GenShape.{GenShape}
 use Rattle.command_words.specs.Slots.{is_file_name, is_dumps, dumps_of, DumpChoice}
 use Rattle.command_words.specs.Slots.DumpChoice.{NoDump, EveryDump, ChosenDumps}
-use Rattle.command_words.specs.Command.{RunSetup, IsCommand, IsRefusedAt}
+use Rattle.command_words.specs.Command.{ResumeSetup, RunSetup, IsCommand, IsRefusedAt}
 use Rattle.command_words.specs.Far.{words_without_far}
-use Rattle.command_words.specs.Command.PlainCommand.{ShowCommand, BrainCommand, MinimiseCommand, RunCommand, GenCommand, CupCommand, ViewCommand, WorkloadCommand, HelpCommand, VersionCommand, AsmCommand}
+use Rattle.command_words.specs.Command.PlainCommand.{ShowCommand, BrainCommand, MinimiseCommand, RunCommand, GenCommand, CupCommand, ViewCommand, WorkloadCommand, HelpCommand, VersionCommand, AsmCommand, SaveCommand, ResumeCommand}
 use Rattle.command_words.specs.Inner.Walk.{command_kind_of, choice_of, is_among, rest_after}
 use Rattle.command_words.proofs.ReadLemmas.{read-accepts, read-refuses}
 
@@ -121,6 +121,35 @@ cup_sixteen = read-accepts (words_of (codes "cup --worlds a b c d e f g h i j k 
     (codes "k") ∷ (codes "l") ∷ (codes "m") ∷ (codes "n") ∷ (codes "o") ∷ (codes "p") ∷ [])
     ((codes "a") ∷ (codes "b") ∷ (codes "c") ∷ (codes "d") ∷ (codes "e") ∷ (codes "f") ∷ (codes "g") ∷ (codes "h") ∷ (codes "i") ∷ (codes "j") ∷ (codes "k") ∷
     (codes "l") ∷ (codes "m") ∷ (codes "n") ∷ (codes "o") ∷ (codes "p") ∷ []) 1 1 1) refl
+
+-- `save` has the options of a game but for the dumps and the counts
+pub save_defaults : IsCommand (words_of (codes "save w r b --rounds 2 --seed 1")) (SaveCommand (codes "w") (codes "r") (codes "b") (game 1 2 NoDump 1 16384 5 3 14 false))
+unfolding command_kind_of choice_of is_among rest_after is_file_name is_dumps dumps_of decimal_value
+save_defaults = read-accepts (words_of (codes "save w r b --rounds 2 --seed 1")) (SaveCommand (codes "w") (codes "r") (codes "b") (game 1 2 NoDump 1 16384 5 3 14 false)) refl
+
+pub save_without_dumps : IsRefusedAt (words_of (codes "save w r b --rounds 2 --dump all --seed 1")) 7
+unfolding command_kind_of choice_of is_among rest_after is_file_name is_dumps dumps_of decimal_value
+save_without_dumps = read-refuses (words_of (codes "save w r b --rounds 2 --dump all --seed 1")) 7 refl
+
+-- `resume` needs the rounds alone, and takes seed, window and sheet from the save
+abbrev resumed : ℕ → DumpChoice → ℕ → Bool → ResumeSetup
+resumed rounds dumps workers stats = record { rounds = rounds; dumps = dumps; workers = workers; stats = stats }
+
+pub resume_defaults : IsCommand (words_of (codes "resume s --rounds 2")) (ResumeCommand (codes "s") (resumed 2 NoDump 1 false))
+unfolding command_kind_of choice_of is_among rest_after is_file_name is_dumps dumps_of decimal_value
+resume_defaults = read-accepts (words_of (codes "resume s --rounds 2")) (ResumeCommand (codes "s") (resumed 2 NoDump 1 false)) refl
+
+pub resume_all : IsCommand (words_of (codes "resume - --stats --workers 16 --dump all --rounds 1000000")) (ResumeCommand (codes "-") (resumed 1000000 EveryDump 16 true))
+unfolding command_kind_of choice_of is_among rest_after is_file_name is_dumps dumps_of decimal_value
+resume_all = read-accepts (words_of (codes "resume - --stats --workers 16 --dump all --rounds 1000000")) (ResumeCommand (codes "-") (resumed 1000000 EveryDump 16 true)) refl
+
+pub resume_without_rounds : IsRefusedAt (words_of (codes "resume s")) 3
+unfolding command_kind_of choice_of is_among rest_after is_file_name is_dumps dumps_of decimal_value
+resume_without_rounds = read-refuses (words_of (codes "resume s")) 3 refl
+
+pub resume_with_a_seed : IsRefusedAt (words_of (codes "resume s --seed 1")) 3
+unfolding command_kind_of choice_of is_among rest_after is_file_name is_dumps dumps_of decimal_value
+resume_with_a_seed = read-refuses (words_of (codes "resume s --seed 1")) 3 refl
 
 -- the words that ask for the commands, and for the version
 pub help_command : IsCommand (words_of (codes "--help")) HelpCommand

@@ -10,7 +10,7 @@ use Rattle.command_words.specs.declared.limits.NumberKind.TheVariants.{ElementCo
 use Rattle.command_words.specs.declared.table.NameList.TheVariants.{Worlds, Brains}
 use Rattle.command_words.specs.declared.slot.Place.{Place}
 use Rattle.command_words.specs.declared.table.CommandKind.{CommandKind}
-use Rattle.command_words.specs.declared.table.CommandKind.TheVariants.{Show, Brain, Minimise, Run, Gen, Cup, View, Workload, Help, Version, Asm}
+use Rattle.command_words.specs.declared.table.CommandKind.TheVariants.{Show, Brain, Minimise, Run, Gen, Cup, View, Workload, Help, Version, Asm, Save, Resume}
 use Rattle.command_words.specs.declared.table.Choice.{Choice}
 use Rattle.command_words.specs.declared.table.Choice.TheVariants.{Seed, Rounds, Dump, Workers, Window, Surround, Corpse, Rest, Stats, Far, Width, Height, Rocks, Blobs}
 use Rattle.command_words.specs.Limits.{number_in}
@@ -32,7 +32,14 @@ pub record RunSetup : Type 0 where
   pub stats : Bool
   pub far : Bool
 
--- a command as data, with names as their bytes
+-- what the options of `resume` say
+pub record ResumeSetup : Type 0 where
+  pub rounds : ℕ
+  pub dumps : DumpChoice
+  pub workers : ℕ
+  pub stats : Bool
+
+-- a command as data, with names as their bytes; `save` has the options of `run` but for the dumps and the counts, of which it asks for none
 pub data PlainCommand : Type 0 where
   ShowCommand : (world : List ℕ) (seed : ℕ) → PlainCommand
   BrainCommand : (file : List ℕ) → PlainCommand
@@ -45,6 +52,8 @@ pub data PlainCommand : Type 0 where
   HelpCommand : PlainCommand
   VersionCommand : PlainCommand
   AsmCommand : (file : List ℕ) → PlainCommand
+  SaveCommand : (world red black : List ℕ) (setup : RunSetup) → PlainCommand
+  ResumeCommand : (save : List ℕ) (setup : ResumeSetup) → PlainCommand
 
 -- the kind of a command
 abbrev pub kind_in : PlainCommand → CommandKind
@@ -59,6 +68,8 @@ kind_in (WorkloadCommand seed rounds workers) = Workload
 kind_in HelpCommand = Help
 kind_in VersionCommand = Version
 kind_in (AsmCommand file) = Asm
+kind_in (SaveCommand world red black setup) = Save
+kind_in (ResumeCommand save setup) = Resume
 
 -- words place by place, one after another
 abbrev pub joined : List (List (List ℕ)) → List (List ℕ)
@@ -161,6 +172,13 @@ pub record SaysView (seed rounds : ℕ) (given : List Given) : Type 0 where
   pub seed_said : number_needed SeedNumber (value_given Seed given) ≡ Some seed
   pub rounds_said : number_needed RoundCount (value_given Rounds given) ≡ Some rounds
 
+-- what the options of `resume` say
+pub record SaysResume (setup : ResumeSetup) (given : List Given) : Type 0 where
+  pub rounds : number_needed RoundCount (value_given Rounds given) ≡ Some setup.rounds
+  pub dumps : dumps_or_none (value_given Dump given) ≡ Some setup.dumps
+  pub workers : number_or default_workers WorkerCount (value_given Workers given) ≡ Some setup.workers
+  pub stats : has_given Stats given ≡ setup.stats
+
 -- one word at a place
 abbrev pub one : List ℕ → List (List ℕ)
 one word = word ∷ []
@@ -190,6 +208,10 @@ Says VersionCommand front given =
     front ≡ []
 Says (AsmCommand file) front given =
     front ≡ one file ∷ []
+Says (SaveCommand world red black setup) front given =
+    (front ≡ one world ∷ one red ∷ one black ∷ []) × SaysSetup setup given
+Says (ResumeCommand save setup) front given =
+    (front ≡ one save ∷ []) × SaysResume setup given
 
 -- the words are this command
 pub record IsCommand (words : List (List ℕ)) (command : PlainCommand) : Type 0 where

@@ -9,8 +9,8 @@ use Rattle.command_words.specs.declared.table.NameList.TheVariants.{Worlds, Brai
 use Rattle.command_words.specs.Limits.{least_of, most_of}
 use Rattle.command_words.specs.Slots.{DumpChoice, AreNames}
 use Rattle.command_words.specs.Slots.DumpChoice.{NoDump, EveryDump, ChosenDumps}
-use Rattle.command_words.specs.Command.{Given, IsCommandOf, RunSetup, PlainCommand, kind_in, IsCommand, IsBeginning, IsRefusedAt}
-use Rattle.command_words.specs.Command.PlainCommand.{ShowCommand, BrainCommand, MinimiseCommand, RunCommand, GenCommand, CupCommand, ViewCommand, WorkloadCommand, HelpCommand, VersionCommand, AsmCommand}
+use Rattle.command_words.specs.Command.{Given, IsCommandOf, ResumeSetup, RunSetup, PlainCommand, kind_in, IsCommand, IsBeginning, IsRefusedAt}
+use Rattle.command_words.specs.Command.PlainCommand.{ShowCommand, BrainCommand, MinimiseCommand, RunCommand, GenCommand, CupCommand, ViewCommand, WorkloadCommand, HelpCommand, VersionCommand, AsmCommand, SaveCommand, ResumeCommand}
 
 -- some words are at most one command
 abbrev pub OneCommand : Type 0
@@ -61,6 +61,12 @@ pub record SetupWithin (setup : RunSetup) : Type 0 where
   pub corpse : IsWithin CorpseFood setup.corpse
   pub rest : IsWithin RestRounds setup.rest
 
+-- the numbers of a game that goes on are within the limits
+pub record ResumeWithin (setup : ResumeSetup) : Type 0 where
+  pub rounds : IsWithin RoundCount setup.rounds
+  pub dumps : AreWithin setup.dumps
+  pub workers : IsWithin WorkerCount setup.workers
+
 -- the numbers of a generated world are within the limits
 pub record ShapeWithin (shape : GenShape) : Type 0 where
   pub width : IsWithin SideLength shape.width
@@ -89,6 +95,8 @@ CommandWithin (WorkloadCommand seed rounds workers) = IsWithin SeedNumber seed Ã
 CommandWithin HelpCommand = Unit {0}
 CommandWithin VersionCommand = Unit {0}
 CommandWithin (AsmCommand file) = Unit {0}
+CommandWithin (SaveCommand world red black setup) = SetupWithin setup
+CommandWithin (ResumeCommand save setup) = ResumeWithin setup
 
 -- a command is within the limits
 abbrev pub WithinLimits : Type 0

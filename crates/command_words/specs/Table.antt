@@ -8,13 +8,13 @@ use Rattle.command_words.specs.declared.slot.Slot.TheVariants.{FileName, Number,
 use Rattle.command_words.specs.declared.slot.Place.{Place}
 use Rattle.command_words.specs.declared.slot.Place.TheVariants.{Word, Names}
 use Rattle.command_words.specs.declared.table.CommandKind.{CommandKind}
-use Rattle.command_words.specs.declared.table.CommandKind.TheVariants.{Show, Brain, Minimise, Run, Gen, Cup, View, Workload, Help, Version, Asm}
+use Rattle.command_words.specs.declared.table.CommandKind.TheVariants.{Show, Brain, Minimise, Run, Gen, Cup, View, Workload, Help, Version, Asm, Save, Resume}
 use Rattle.command_words.specs.declared.table.Choice.{Choice}
 use Rattle.command_words.specs.declared.table.Choice.TheVariants.{Seed, Rounds, Dump, Workers, Window, Surround, Corpse, Rest, Stats, Far, Width, Height, Rocks, Blobs}
 
 -- all commands that are known
 abbrev pub kinds : List CommandKind
-kinds = Show ∷ Brain ∷ Minimise ∷ Run ∷ Gen ∷ Cup ∷ View ∷ Workload ∷ Help ∷ Version ∷ Asm ∷ []
+kinds = Show ∷ Brain ∷ Minimise ∷ Run ∷ Gen ∷ Cup ∷ View ∷ Workload ∷ Help ∷ Version ∷ Asm ∷ Save ∷ Resume ∷ []
 
 -- a command's first word
 abbrev pub word_of : CommandKind → List ℕ
@@ -29,6 +29,8 @@ word_of Workload = codes "workload"
 word_of Help = codes "--help"
 word_of Version = codes "--version"
 word_of Asm = codes "asm"
+word_of Save = codes "save"
+word_of Resume = codes "resume"
 
 -- what stands after a command's first word
 abbrev pub places_of : CommandKind → List Place
@@ -43,6 +45,8 @@ places_of Workload = Word (Number SeedNumber) ∷ Word (Number RoundCount) ∷ W
 places_of Help = []
 places_of Version = []
 places_of Asm = Word FileName ∷ []
+places_of Save = Word FileName ∷ Word FileName ∷ Word FileName ∷ []
+places_of Resume = Word FileName ∷ []
 
 -- the options of a command that are known, which follow in any order
 abbrev pub choices_of : CommandKind → List Choice
@@ -57,6 +61,8 @@ choices_of Workload = []
 choices_of Help = []
 choices_of Version = []
 choices_of Asm = []
+choices_of Save = Seed ∷ Rounds ∷ Workers ∷ Window ∷ Surround ∷ Corpse ∷ Rest ∷ []
+choices_of Resume = Rounds ∷ Dump ∷ Workers ∷ Stats ∷ []
 
 -- an option's word
 abbrev pub option_of : Choice → List ℕ

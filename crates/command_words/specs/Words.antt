@@ -2,14 +2,15 @@
 use Rattle.std.specs.Prelude.{ℕ, List, map, String, string_bytes}
 use Rattle.std.specs.declared.alloc.Global.{Global}
 use Rattle.command_words.specs.declared.command.Command.{Command}
-use Rattle.command_words.specs.declared.command.Command.TheVariants.{Show, Brain, Minimise, Run, Gen, Cup, View, Workload, Help, Version, Asm}
+use Rattle.command_words.specs.declared.command.Command.TheVariants.{Show, Brain, Minimise, Run, Gen, Cup, View, Workload, Help, Version, Asm, Save, Resume}
+use Rattle.command_words.specs.declared.command.ResumeOptions.{ResumeOptions}
 use Rattle.command_words.specs.declared.command.RunOptions.{RunOptions}
 use Rattle.command_words.specs.declared.dumps.DumpWord.{DumpWord}
 use Rattle.command_words.specs.declared.dumps.DumpWord.TheVariants.{Nothing, All, Chosen}
 use Rattle.command_words.specs.Slots.{DumpChoice}
 use Rattle.command_words.specs.Slots.DumpChoice.{NoDump, EveryDump, ChosenDumps}
-use Rattle.command_words.specs.Command.{PlainCommand, RunSetup}
-use Rattle.command_words.specs.Command.PlainCommand.{ShowCommand, BrainCommand, MinimiseCommand, RunCommand, GenCommand, CupCommand, ViewCommand, WorkloadCommand, HelpCommand, VersionCommand, AsmCommand}
+use Rattle.command_words.specs.Command.{PlainCommand, ResumeSetup, RunSetup}
+use Rattle.command_words.specs.Command.PlainCommand.{ShowCommand, BrainCommand, MinimiseCommand, RunCommand, GenCommand, CupCommand, ViewCommand, WorkloadCommand, HelpCommand, VersionCommand, AsmCommand, SaveCommand, ResumeCommand}
 
 -- the bytes of words
 abbrev pub texts : List (String Global) → List (List ℕ)
@@ -36,6 +37,10 @@ plain_setup options = record {
   far = options.far;
 }
 
+-- the options of `resume` that were read
+abbrev pub plain_resume : ResumeOptions → ResumeSetup
+plain_resume options = record { rounds = options.rounds; dumps = plain_dumps options.dumps; workers = options.workers; stats = options.stats }
+
 -- the command that was read
 abbrev pub plain : Command → PlainCommand
 plain (Show world seed) = ShowCommand world.now seed
@@ -49,3 +54,5 @@ plain (Workload seed rounds workers) = WorkloadCommand seed rounds workers
 plain Help = HelpCommand
 plain Version = VersionCommand
 plain (Asm file) = AsmCommand file.now
+plain (Save world red black options) = SaveCommand world.now red.now black.now (plain_setup options)
+plain (Resume save options) = ResumeCommand save.now (plain_resume options)

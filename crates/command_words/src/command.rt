@@ -76,6 +76,24 @@ pub enum Command<'w> {
         /// how many workers play, from 1 to 16
         workers: u32,
     },
+    /// `save WORLD RED BLACK`, and its options
+    Save {
+        /// the name of the world's file
+        world: &'w str,
+        /// the name of the red brain's file
+        red: &'w str,
+        /// the name of the black brain's file
+        black: &'w str,
+        /// what its options say: those of `run`, with no dumps and no counts
+        options: RunOptions<'w>,
+    },
+    /// `resume SAVE`, and its options
+    Resume {
+        /// the name of the save's file
+        save: &'w str,
+        /// what its options say
+        options: ResumeOptions<'w>,
+    },
     /// `--help`
     Help,
     /// `--version`
@@ -110,6 +128,19 @@ pub struct RunOptions<'w> {
     pub stats: bool,
     /// whether workers are to play that stand for the whole game, and get their jobs by messages
     pub far: bool,
+}
+
+/// What the options of `resume` say, or what holds where they aren't given.
+#[derive(Drop)]
+pub struct ResumeOptions<'w> {
+    /// how many rounds are played in all, with those that are done, from 0 to 1,000,000
+    pub rounds: u32,
+    /// the rounds after which the world is dumped; those that are done are passed over
+    pub dumps: DumpWord<'w>,
+    /// how many workers play, from 1 to 16
+    pub workers: u32,
+    /// whether the counts of turns are wanted
+    pub stats: bool,
 }
 
 /// What the options of `gen` say, or what holds where they aren't given.

@@ -20,7 +20,7 @@ mod table;
 mod values;
 mod walk;
 
-pub use command::{Command, GenShape, Refused, RunOptions};
+pub use command::{Command, GenShape, Refused, ResumeOptions, RunOptions};
 pub use dumps::DumpWord;
 pub use far::{is_far_run, read_words_without_far};
 pub use laws::{

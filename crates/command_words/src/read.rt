@@ -1,9 +1,9 @@
 // The command that the words are.
 ghost use Rattle.std.specs.Prelude.{IfErr, IfOk, option_map, ◌≡◌};
 ghost use Rattle.command_words.specs.Command.{IsCommand, IsRefusedAt, PlainCommand, number_or};
-ghost use Rattle.command_words.specs.Inner.Walk.{command_in, plain_result, read_of, setup_in, shape_in, word_after};
+ghost use Rattle.command_words.specs.Inner.Walk.{command_in, plain_result, read_of, resume_setup_in, setup_in, shape_in, word_after};
 ghost use Rattle.command_words.specs.Table.{default_workers};
-ghost use Rattle.command_words.specs.Words.{plain, plain_setup, texts};
+ghost use Rattle.command_words.specs.Words.{plain, plain_resume, plain_setup, texts};
 
 use crate::table::{
     DEFAULT_BLOBS, DEFAULT_CORPSE, DEFAULT_REST, DEFAULT_ROCKS, DEFAULT_SIDE, DEFAULT_SURROUND,
@@ -13,7 +13,10 @@ use crate::values::{
     dumps_or_none, names_of, number_needed, number_or, side_or, small_or, word_after, word_at,
 };
 use crate::walk::{is_among, is_finished, kind_of, walk};
-use crate::{Choice, Command, CommandKind, GenShape, NameList, NumberKind, Refused, RunOptions};
+use crate::{
+    Choice, Command, CommandKind, GenShape, NameList, NumberKind, Refused, ResumeOptions,
+    RunOptions,
+};
 
 /// The command that the program's words are, without the program's own name. Refused exactly where they are none, at the first word,
 /// counted from 1, with which the words up to and including it are not the beginning of any command, or at the number of words plus one
@@ -59,6 +62,8 @@ fn command_in<'w>(kind: CommandKind, words: &'w [String]) -> Option<Command<'w>>
         CommandKind::Cup => cup_in(words),
         CommandKind::View => view_in(words),
         CommandKind::Workload => workload_in(words),
+        CommandKind::Save => save_in(words),
+        CommandKind::Resume => resume_in(words),
         CommandKind::Help => Some(Command::Help),
         CommandKind::Version => Some(Command::Version),
         CommandKind::Asm => asm_in(words),
@@ -244,5 +249,44 @@ fn workload_in<'w>(words: &'w [String]) -> Option<Command<'w>>
         seed,
         rounds,
         workers,
+    })
+}
+
+fn save_in<'w>(words: &'w [String]) -> Option<Command<'w>>
+    ensures { option_map plain result ≡ command_in CommandKind.Save (texts words.now) }
+{
+    let world = word_at(words, 1)?;
+    let red = word_at(words, 2)?;
+    let black = word_at(words, 3)?;
+    let options = options_in(words)?;
+    Some(Command::Save {
+        world,
+        red,
+        black,
+        options,
+    })
+}
+
+fn resume_in<'w>(words: &'w [String]) -> Option<Command<'w>>
+    ensures { option_map plain result ≡ command_in CommandKind.Resume (texts words.now) }
+{
+    let save = word_at(words, 1)?;
+    let options = resume_options_in(words)?;
+    Some(Command::Resume { save, options })
+}
+
+// What the options of `resume` say.
+fn resume_options_in<'w>(words: &'w [String]) -> Option<ResumeOptions<'w>>
+    ensures { option_map plain_resume result ≡ resume_setup_in (texts words.now) }
+{
+    let rounds = number_needed(NumberKind::RoundCount, word_after(Choice::Rounds, words))?;
+    let dumps = dumps_or_none(word_after(Choice::Dump, words))?;
+    let workers = workers_in(words)?;
+    let stats = is_among(Choice::Stats.word(), words);
+    Some(ResumeOptions {
+        rounds,
+        dumps,
+        workers,
+        stats,
     })
 }

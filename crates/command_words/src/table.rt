@@ -29,6 +29,10 @@ pub enum CommandKind {
     Version,
     /// `asm FILE`: the brain of a labelled program
     Asm,
+    /// `save WORLD RED BLACK`, and its options: a game after some rounds, to go on with
+    Save,
+    /// `resume SAVE`, and its options: the rest of a game that was saved
+    Resume,
 }
 
 /// An option that may follow the words of a command's places, in any order and at most once.
@@ -108,6 +112,8 @@ pub(crate) fn kinds() -> &'static [CommandKind]
         CommandKind::Help,
         CommandKind::Version,
         CommandKind::Asm,
+        CommandKind::Save,
+        CommandKind::Resume,
     ]
 }
 
@@ -124,6 +130,8 @@ impl CommandKind {
             CommandKind::Cup => "cup",
             CommandKind::View => "view",
             CommandKind::Workload => "workload",
+            CommandKind::Save => "save",
+            CommandKind::Resume => "resume",
             CommandKind::Help => "--help",
             CommandKind::Version => "--version",
             CommandKind::Asm => "asm",
@@ -164,6 +172,12 @@ impl CommandKind {
                 Place::Word(Slot::Number(NumberKind::RoundCount)),
                 Place::Word(Slot::Number(NumberKind::WorkerCount)),
             ],
+            CommandKind::Save => &[
+                Place::Word(Slot::FileName),
+                Place::Word(Slot::FileName),
+                Place::Word(Slot::FileName),
+            ],
+            CommandKind::Resume => &[Place::Word(Slot::FileName)],
             CommandKind::Help => &[],
             CommandKind::Version => &[],
             CommandKind::Asm => &[Place::Word(Slot::FileName)],
@@ -194,6 +208,16 @@ impl CommandKind {
             CommandKind::Cup => &[Choice::Seed, Choice::Rounds, Choice::Workers],
             CommandKind::View => &[Choice::Seed, Choice::Rounds],
             CommandKind::Workload => &[],
+            CommandKind::Save => &[
+                Choice::Seed,
+                Choice::Rounds,
+                Choice::Workers,
+                Choice::Window,
+                Choice::Surround,
+                Choice::Corpse,
+                Choice::Rest,
+            ],
+            CommandKind::Resume => &[Choice::Rounds, Choice::Dump, Choice::Workers, Choice::Stats],
             CommandKind::Help => &[],
             CommandKind::Version => &[],
             CommandKind::Asm => &[],

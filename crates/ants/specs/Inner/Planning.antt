@@ -1,5 +1,5 @@
 -- What the private functions that plan a game ensure.
-use Rattle.std.specs.Prelude.{◌≡◌, ℕ, ◌≤◌, List, [], ◌∷◌, Result, Ok, Err}
+use Rattle.std.specs.Prelude.{◌≡◌, ℕ, ◌<◌, ◌≤◌, List, [], ◌∷◌, Result, Ok, Err}
 use Rattle.ant_turn.specs.declared.sheet.Sheet.{Sheet}
 use Rattle.ant_turn.specs.Sheet.{sheet_of}
 use Rattle.command_words.specs.Command.{RunSetup}
@@ -9,15 +9,19 @@ use Rattle.match_run.specs.declared.fault.PlayFault.TheVariants as play
 use Rattle.match_run.specs.declared.plan.Plan.{Plan}
 use Rattle.match_run.specs.Dumps.{chooses}
 use Rattle.match_run.specs.Run.{most_rounds}
+use Rattle.match_save.specs.Saved.{SavedValue}
 use Rattle.world_gen.specs.declared.shape.Shape.{Shape}
 use Rattle.world_gen.specs.Painting.{IsGenerated}
 use Rattle.world_gen.specs.Placing.{HasNoRoom}
 use Rattle.ants.specs.declared.run.Setting.{Setting}
+use Rattle.ants.specs.declared.stop.FileFault.TheVariants.{AlreadyAt}
 use Rattle.ants.specs.declared.stop.CommandStop.{CommandStop}
 use Rattle.ants.specs.declared.stop.CommandStop.TheVariants as stop
 use Rattle.ants.specs.Files.{FileContent}
 use Rattle.ants.specs.Files.FileContent.{WorldContent, BrainContent}
 use Rattle.ants.specs.Jobs.{chosen_rounds, sheet_named}
+use Rattle.ants.specs.Stopping.{reason_of}
+use Rattle.ants.specs.Stopping.Reason.{AtInput}
 
 -- the plan is what the words say
 pub record Plans (setup : RunSetup) (plan : Plan) : Type 0 where
@@ -45,6 +49,11 @@ stop_of play.OutOfMemory = stop.Memory
 abbrev pub IsPlanned : RunSetup → Result Plan CommandStop → Type 0
 IsPlanned setup (Ok plan) = Plans setup plan
 IsPlanned setup (Err reason) = reason ≡ stop.Memory
+
+-- the save, of which at most so many rounds are done; or that more are
+abbrev pub IsUpTo : ℕ → List ℕ → SavedValue → Result SavedValue CommandStop → Type 0
+IsUpTo rounds name saved (Ok value) = (value ≡ saved) × (saved.round ≤ rounds)
+IsUpTo rounds name saved (Err stop) = (reason_of stop ≡ AtInput name (AlreadyAt saved.round)) × (rounds < saved.round)
 
 -- a world was generated, or why not
 abbrev pub IsGenerating : ℕ → Shape → Result Grid CommandStop → Type 0

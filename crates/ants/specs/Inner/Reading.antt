@@ -13,9 +13,11 @@ use Rattle.brain_read.specs.declared.fault.BrainFault.TheVariants as brain
 use Rattle.break_view.specs.declared.fault.BreakFault.{BreakFault}
 use Rattle.break_view.specs.declared.fault.BreakFault.TheVariants as breaks
 use Rattle.command_words.specs.Command.{PlainCommand}
+use Rattle.match_save.specs.declared.fault.SaveFault.{SaveFault}
+use Rattle.match_save.specs.declared.fault.SaveFault.TheVariants as save
 use Rattle.world_read.specs.declared.fault.WorldFault.{WorldFault}
 use Rattle.world_read.specs.declared.fault.WorldFault.TheVariants as world
-use Rattle.ants.specs.declared.stop.FileFault.TheVariants.{TooLong, World, Brain, Breaks, Labelled}
+use Rattle.ants.specs.declared.stop.FileFault.TheVariants.{TooLong, World, Brain, Breaks, Labelled, Save, AlreadyAt}
 use Rattle.ants.specs.declared.stop.CommandStop.{CommandStop}
 use Rattle.ants.specs.Files.{File, FileKind, FileContent, AreAccepted, AreBegun, Reads, Refuses, StopsAt}
 use Rattle.ants.specs.Judged.{IsRefusedAs}
@@ -89,6 +91,11 @@ break_reason name fault = AtInput name (Breaks fault)
 abbrev pub labelled_reason : List ℕ → AsmFault → Reason
 labelled_reason name labelled.OutOfMemory = AtMemory
 labelled_reason name fault = AtInput name (Labelled fault)
+
+-- why a command stops at the text of a save
+abbrev pub save_reason : List ℕ → SaveFault → Reason
+save_reason name save.OutOfMemory = AtMemory
+save_reason name fault = AtInput name (Save fault)
 
 -- why the reading of the bytes of a file of this kind and name stopped
 abbrev pub TextStops : FileKind → List ℕ → List ℕ → Reason → Type 0

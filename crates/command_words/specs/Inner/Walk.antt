@@ -14,14 +14,14 @@ use Rattle.command_words.specs.declared.table.NameList.TheVariants.{Worlds, Brai
 use Rattle.command_words.specs.declared.slot.Place.{Place}
 use Rattle.command_words.specs.declared.slot.Place.TheVariants.{Word, Names}
 use Rattle.command_words.specs.declared.table.CommandKind.{CommandKind}
-use Rattle.command_words.specs.declared.table.CommandKind.TheVariants.{Show, Brain, Minimise, Run, Gen, Cup, View, Workload, Help, Version, Asm}
+use Rattle.command_words.specs.declared.table.CommandKind.TheVariants.{Show, Brain, Minimise, Run, Gen, Cup, View, Workload, Help, Version, Asm, Save, Resume}
 use Rattle.command_words.specs.declared.table.Choice.{Choice}
 use Rattle.command_words.specs.declared.table.Choice.TheVariants.{Seed, Rounds, Dump, Workers, Window, Surround, Corpse, Rest, Stats, Far, Width, Height, Rocks, Blobs}
 use Rattle.command_words.specs.Slots.{is_file_name, fits, DumpChoice}
 use Rattle.command_words.specs.Table.{kinds, word_of, places_of, choices_of, option_of, values_of, is_needed, keyword_of, fewest_names, most_names, must_differ}
 use Rattle.command_words.specs.Table.{default_workers, default_window, default_surround, default_corpse, default_rest, default_side, default_rocks, default_blobs}
-use Rattle.command_words.specs.Command.{PlainCommand, RunSetup, first_word, number_needed, number_or, dumps_or_none}
-use Rattle.command_words.specs.Command.PlainCommand.{ShowCommand, BrainCommand, MinimiseCommand, RunCommand, GenCommand, CupCommand, ViewCommand, WorkloadCommand, HelpCommand, VersionCommand, AsmCommand}
+use Rattle.command_words.specs.Command.{PlainCommand, ResumeSetup, RunSetup, first_word, number_needed, number_or, dumps_or_none}
+use Rattle.command_words.specs.Command.PlainCommand.{ShowCommand, BrainCommand, MinimiseCommand, RunCommand, GenCommand, CupCommand, ViewCommand, WorkloadCommand, HelpCommand, VersionCommand, AsmCommand, SaveCommand, ResumeCommand}
 use Rattle.command_words.specs.Words.{plain}
 
 -- the known command of this first word
@@ -204,6 +204,27 @@ abbrev pub workload_with : Option ℕ → Option ℕ → Option ℕ → Option P
 workload_with (Some seed) (Some rounds) (Some workers) = Some (WorkloadCommand seed rounds workers)
 workload_with _ _ _ = None
 
+-- `save`: what its places and its options say
+abbrev pub save_with : Option (List ℕ) → Option (List ℕ) → Option (List ℕ) → Option RunSetup → Option PlainCommand
+save_with (Some world) (Some red) (Some black) (Some setup) = Some (SaveCommand world red black setup)
+save_with _ _ _ _ = None
+
+-- what the options of `resume` say, one after another
+abbrev pub resume_setup_with : Option ℕ → Option DumpChoice → Option ℕ → Bool → Option ResumeSetup
+resume_setup_with (Some rounds) (Some dumps) (Some workers) stats = Some (record { rounds = rounds; dumps = dumps; workers = workers; stats = stats })
+resume_setup_with _ _ _ _ = None
+
+-- what the options of `resume` say among the words
+abbrev pub resume_setup_in : List (List ℕ) → Option ResumeSetup
+resume_setup_in words =
+    resume_setup_with (number_needed RoundCount (word_after Rounds words)) (dumps_or_none (word_after Dump words))
+    (number_or default_workers WorkerCount (word_after Workers words)) (is_among (option_of Stats) words)
+
+-- `resume`: what its place and its options say
+abbrev pub resume_with : Option (List ℕ) → Option ResumeSetup → Option PlainCommand
+resume_with (Some save) (Some setup) = Some (ResumeCommand save setup)
+resume_with _ _ = None
+
 -- the command that the words say
 abbrev pub command_in : CommandKind → List (List ℕ) → Option PlainCommand
 command_in Show words = show_with (slice_get words 1) (number_needed SeedNumber (slice_get words 2))
@@ -223,6 +244,8 @@ command_in Workload words =
 command_in Help words = Some HelpCommand
 command_in Version words = Some VersionCommand
 command_in Asm words = asm_with (slice_get words 1)
+command_in Save words = save_with (slice_get words 1) (slice_get words 2) (slice_get words 3) (setup_in words)
+command_in Resume words = resume_with (slice_get words 1) (resume_setup_in words)
 
 -- the words are a command, or are refused after the last
 abbrev pub finish : CommandKind → List (List ℕ) → Result (List Place) ℕ → Result PlainCommand ℕ

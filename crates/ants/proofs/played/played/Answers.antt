@@ -1,10 +1,9 @@
 -- one round more was played
 use Rattle.std.proofs.Common.{◌≡◌, ℕ, ◌+◌, suc, arith, subst}
-use Rattle.command_words.specs.Table.{default_window}
 use Rattle.match_run.proofs.GamesByRounds.{AreRounds-played, games_follow_the_rules}
 use Rattle.match_run.specs.Game.{beginning}
 use Rattle.match_run.specs.GameLaws.{AreRounds, IsAtRound}
-use Rattle.ants.proofs.workload.played.Goals as goal
+use Rattle.ants.proofs.played.played.Goals as goal
 
 pub loop-init : goal.loop-init
 loop-init g c = record { ready = c.requires.ready; rounds = c.begin-game.ensures }
@@ -14,7 +13,7 @@ round-requires-clause-ready g c = c.loop.invariant.ready
 
 pub round-requires-clause-few : goal.round-requires-clause-few
 round-requires-clause-few g c =
-    let at = games_follow_the_rules c.args.field default_window c.loop.counter c.loop.game (omega arith) c.requires.first c.loop.invariant.rounds in
+    let at = games_follow_the_rules c.args.field c.args.window c.loop.counter c.loop.game c.requires.sized c.requires.first c.loop.invariant.rounds in
     let done = at.done in
     omega (arith, done, c.loop-test.true, c.requires.few_rounds)
 
@@ -23,12 +22,12 @@ loop-preserved g c =
     let next : suc c.loop.counter ≡ c.loop.counter + 1 = omega arith in
     record {
       ready = c.in_ok-round.ensures.ready;
-      rounds = subst (λ (r : ℕ). AreRounds r (beginning c.args.field default_window) c.round.new.self) next
-          (AreRounds-played (beginning c.args.field default_window) c.loop.game c.round.new.self c.loop.counter c.loop.invariant.rounds c.in_ok-round.ensures.played);
+      rounds = subst (λ (r : ℕ). AreRounds r (beginning c.args.field c.args.window) c.round.new.self) next
+          (AreRounds-played (beginning c.args.field c.args.window) c.loop.game c.round.new.self c.loop.counter c.loop.invariant.rounds c.in_ok-round.ensures.played);
     }
 
 pub returns : goal.returns
 returns g c =
     let all : c.loop.counter ≡ c.args.rounds = omega (arith, c.loop-test.false, c.loop.auto.counter-end) in
-    subst (λ (round : ℕ). IsAtRound c.args.field default_window round c.loop.game) all
-    (games_follow_the_rules c.args.field default_window c.loop.counter c.loop.game (omega arith) c.requires.first c.loop.invariant.rounds)
+    subst (λ (round : ℕ). IsAtRound c.args.field c.args.window round c.loop.game) all
+    (games_follow_the_rules c.args.field c.args.window c.loop.counter c.loop.game c.requires.sized c.requires.first c.loop.invariant.rounds)

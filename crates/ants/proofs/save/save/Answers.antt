@@ -1,0 +1,43 @@
+-- the files were accepted, and their game was saved
+use Rattle.std.proofs.Common.{◌≡◌, ℕ, List, ◌∙◌, ap, refl, subst}
+use Rattle.ant_base.specs.Sink.{PushedAll, PushedFront}
+use Rattle.ant_turn.specs.Sheet.{sheet_of}
+use Rattle.command_words.specs.Command.{RunSetup}
+use Rattle.command_words.specs.Command.PlainCommand.{SaveCommand}
+use Rattle.match_save.specs.Saved.{save_text}
+use Rattle.ants.specs.Inner.Planning.{IsSheetOf, Plans, setting_contents}
+use Rattle.ants.specs.Files.FileContent.{BrainContent, WorldContent}
+use Rattle.ants.specs.Jobs.{save_output}
+use Rattle.ants.proofs.Accepted.{fits_accepted, opened_accepted}
+use Rattle.ants.proofs.Planned.{saved_planned}
+use Rattle.ants.proofs.Readings.{carries_done, carries_failure, carries_wanting_later}
+use Rattle.ants.proofs.save.save.Goals as goal
+
+pub saved_setting-requires-clause-opened : goal.saved_setting-requires-clause-opened
+saved_setting-requires-clause-opened g c =
+    opened_accepted c.args.names.world.now c.args.names.red.now c.args.names.black.now c.in_ok-setting.ensures.fetches c.in_ok-setting.setting.world c.in_ok-setting.setting.red c.in_ok-setting.setting.black c.in_ok-setting.ensures.comes
+
+pub saved_setting-requires-clause-fit : goal.saved_setting-requires-clause-fit
+saved_setting-requires-clause-fit g c =
+    fits_accepted c.args.names.world.now c.args.names.red.now c.args.names.black.now c.in_ok-setting.ensures.fetches c.in_ok-setting.setting.world c.in_ok-setting.setting.red c.in_ok-setting.setting.black (sheet_of c.args.sheet) c.in_ok-setting.ensures.comes
+
+pub returns-in_err-saved : goal.returns-in_err-saved
+returns-in_err-saved g c = λ setup plans same.
+    carries_wanting_later (SaveCommand c.args.names.world.now c.args.names.red.now c.args.names.black.now setup) (g.S.Shelf.state c.args.shelf.now) (g.S.Shelf.state c.setting_of.new.shelf) (g.K.Sink.state c.args.out.now) (setting_contents c.in_ok-setting.setting)
+    c.from_residual-in_err-saved.result c.from_residual-in_err-saved.ensures.1 c.in_ok-setting.ensures
+
+pub returns-in_err-write_saved : goal.returns-in_err-write_saved
+returns-in_err-write_saved g c = λ setup plans same.
+    carries_failure (SaveCommand c.args.names.world.now c.args.names.red.now c.args.names.black.now setup) (g.S.Shelf.state c.args.shelf.now) (g.S.Shelf.state c.setting_of.new.shelf) (g.K.Sink.state c.args.out.now) (g.K.Sink.state c.write_saved.new.sink)
+    (setting_contents c.in_ok-setting.setting) c.from_residual-in_err-write_saved.result c.from_residual-in_err-write_saved.ensures.1 c.in_ok-setting.ensures
+    (save_output setup (WorldContent c.in_ok-setting.setting.world) (BrainContent c.in_ok-setting.setting.red) (BrainContent c.in_ok-setting.setting.black)) refl
+    (subst (PushedFront (g.K.Sink.state c.args.out.now) (g.K.Sink.state c.write_saved.new.sink))
+    (ap save_text c.in_ok-saved.ensures ∙ saved_planned setup c.args.plan.now c.args.sheet c.in_ok-setting.setting.world c.in_ok-setting.setting.red c.in_ok-setting.setting.black plans same) c.in_err-write_saved.ensures.pushed)
+
+pub returns : goal.returns
+returns g c = λ setup plans same.
+    carries_done (SaveCommand c.args.names.world.now c.args.names.red.now c.args.names.black.now setup) (g.S.Shelf.state c.args.shelf.now) (g.S.Shelf.state c.setting_of.new.shelf) (g.K.Sink.state c.args.out.now) (g.K.Sink.state c.write_saved.new.sink)
+    (setting_contents c.in_ok-setting.setting) c.in_ok-setting.ensures
+    (save_output setup (WorldContent c.in_ok-setting.setting.world) (BrainContent c.in_ok-setting.setting.red) (BrainContent c.in_ok-setting.setting.black)) refl
+    (subst (PushedAll (g.K.Sink.state c.args.out.now) (g.K.Sink.state c.write_saved.new.sink))
+    (ap save_text c.in_ok-saved.ensures ∙ saved_planned setup c.args.plan.now c.args.sheet c.in_ok-setting.setting.world c.in_ok-setting.setting.red c.in_ok-setting.setting.black plans same) c.in_ok-write_saved.ensures.pushed)

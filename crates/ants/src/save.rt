@@ -1,0 +1,96 @@
+// The command `save`.
+ghost use Rattle.std.specs.Prelude.{◌≡◌, ◌≤◌, IfOk};
+ghost use Rattle.ant_turn.specs.Minds.{Fits, minds_of};
+ghost use Rattle.ant_turn.specs.Sheet.{sheet_of};
+ghost use Rattle.cell_world.specs.Grid.{world_of};
+ghost use Rattle.command_words.specs.Command.PlainCommand.{SaveCommand};
+ghost use Rattle.command_words.specs.Command.{RunSetup};
+ghost use Rattle.match_save.specs.Saving.{saved_after};
+ghost use Rattle.world_read.specs.Opened.{IsOpeningWorld};
+ghost use Rattle.ants.specs.Inner.Planning.{CanPlay, IsSheetOf, Plans};
+ghost use Rattle.ants.specs.Inner.Reading.{CarriesOut, ending_of};
+
+use crate::played::played;
+use crate::run::{FileNames, Setting, setting_of};
+use crate::stop::CommandStop;
+use ant_base::{Shelf, Sink};
+use ant_turn::{Brains, Sheet};
+use cell_world::World;
+use match_run::{OutOfMemory, Plan};
+use match_save::{Saved, save_of, write_saved};
+use round_book::{Crew, Field};
+use std::alloc::Global;
+
+// The save of a game between these brains after the rounds of its plan.
+fn saved_game<C: Crew>(
+    alloc: Global,
+    crew: &mut C,
+    world: World,
+    brains: Brains<'_>,
+    plan: &Plan,
+) -> Result<Saved, OutOfMemory>
+    requires ready { C.ready crew.old }
+    requires opened { IsOpeningWorld world }
+    requires fit { Fits (world_of world) (minds_of brains) }
+    requires planned { CanPlay plan.now }
+    requires narrow { plan.now.window ≤ 16384 }
+    ensures { IfOk result (λ saved. saved ≡ saved_after (minds_of brains.entry) plan.now.seed plan.now.window (world_of world) plan.now.rounds) }
+{
+    let field = Field::new(alloc, world, brains, plan.seed, 0)?;
+    let game = played(alloc, crew, field, plan.window, plan.rounds)?;
+    let _width = game.world().width();
+    let _brains = game.field().brains();
+    save_of(alloc, &game)
+}
+
+// The save of the game whose files were read.
+fn saved_setting<C: Crew>(
+    alloc: Global,
+    crew: &mut C,
+    setting: Setting,
+    sheet: Sheet,
+    plan: &Plan,
+) -> Result<Saved, OutOfMemory>
+    requires ready { C.ready crew.old }
+    requires opened { IsOpeningWorld setting.world }
+    requires fit { Fits (world_of setting.world) (record { red = setting.red; black = setting.black; sheet = sheet_of sheet }) }
+    requires planned { CanPlay plan.now }
+    requires narrow { plan.now.window ≤ 16384 }
+    ensures { IfOk result (λ saved. saved ≡ saved_after (record { red = setting.red; black = setting.black; sheet = sheet_of sheet })
+        plan.now.seed plan.now.window (world_of setting.world) plan.now.rounds) }
+{
+    let Setting { world, red, black } = setting;
+    let brains = Brains {
+        red: &red,
+        black: &black,
+        sheet,
+    };
+    match saved_game(alloc, crew, world, brains, plan) {
+        Ok(saved) => Ok(saved),
+        Err(fault) => Err(fault),
+    }
+}
+
+/// Plays a game of at most 1,000,000 rounds by a crew, in windows of 1 to 16,384 turns, and writes its save. Nothing is written before the last
+/// round is played.
+pub fn save<'w, C: Crew, S: Shelf, K: Sink>(
+    alloc: Global,
+    crew: &mut C,
+    names: FileNames<'w>,
+    sheet: Sheet,
+    plan: &Plan,
+    shelf: &mut S,
+    out: &mut K,
+) -> Result<(), CommandStop<'w>>
+    requires ready { C.ready crew.old }
+    requires planned { CanPlay plan.now }
+    requires narrow { plan.now.window ≤ 16384 }
+    ensures { (setup : RunSetup) → Plans setup plan.now → IsSheetOf setup sheet
+        → CarriesOut (SaveCommand names.entry.world.now names.entry.red.now names.entry.black.now setup) (S.state shelf.old) (S.state shelf.new)
+        (K.state out.old) (K.state out.new) (ending_of result) }
+{
+    let setting = setting_of(alloc, names, shelf)?;
+    let saved = saved_setting(alloc, crew, setting, sheet, plan)?;
+    write_saved(&saved, out)?;
+    Ok(())
+}

@@ -1,0 +1,88 @@
+// The commands `save` and `resume`.
+use crate::status::Status;
+use crate::tests::{CLOSED, Given, Job, NO_JOB, check, check_rows, stopped};
+use std::alloc::Global;
+use std::process::Abort;
+use std::test::Fail;
+use std::thread::Threads;
+
+// A game of one red ant, which turns.
+const TURNING: Job<'static> = Job {
+    line: "",
+    world: CLOSED,
+    red: "Turn Left 0",
+    black: "Turn Left 0",
+    ..NO_JOB
+};
+
+// It after one round.
+const SAVED: &str =
+    "ants save 1\nseed 12345\nsheet 5 3 14\nwindow 16384\nround 1\nplace 0\ntaken 1 redone 0\nsize 3 3\nred 1\nTurn Left 0\nblack 1\nTurn Left 0\n###\n#+#\n###\n000\n000\n000\n000\n000\n000\n000\n000\n000\nant 0 red 1 1 5 0 0 0\nend\n";
+
+// The same, but two turns are counted.
+const TWO_TURNS: &str =
+    "ants save 1\nseed 12345\nsheet 5 3 14\nwindow 16384\nround 1\nplace 0\ntaken 2 redone 0\nsize 3 3\nred 1\nTurn Left 0\nblack 1\nTurn Left 0\n###\n#+#\n###\n000\n000\n000\n000\n000\n000\n000\n000\n000\nant 0 red 1 1 5 0 0 0\nend\n";
+
+// The rest of its text up to round 2, with the counts.
+const REST: &str =
+    "\nAfter round 2...\ncell (0, 0): rock\ncell (1, 0): rock\ncell (2, 0): rock\ncell (0, 1): rock\ncell (1, 1): red hill; red ant of id 0, dir 4, food 0, state 0, resting 0\ncell (2, 1): rock\ncell (0, 2): rock\ncell (1, 2): rock\ncell (2, 2): rock\n\nscore: red 0 black 0\nturns 2 taken 2 redone 0\n";
+
+// Words that save the game.
+const SAVES: [(&str, &str); 2] = [
+    ("save w r b --seed 12345 --rounds 1", SAVED),
+    ("save w r b --rounds 1 --workers 3 --seed 12345", SAVED),
+];
+
+// Words that go on with it.
+const RESUMES: [(&str, &str); 3] = [
+    ("resume k --rounds 2 --dump 1,2 --stats", REST),
+    ("resume k --stats --workers 2 --dump all --rounds 2", REST),
+    ("resume k --rounds 1 --dump all", "\nscore: red 0 black 0\n"),
+];
+
+// Words that don't.
+const TOO_FEW: [(&str, &str); 1] = [("resume k --rounds 0", "ants: k: already at round 1\n")];
+
+// Texts that are no save to go on with.
+const REFUSED: [(&str, &str); 3] = [
+    ("", "ants: k: line 1: not a save\n"),
+    (
+        "ants save 1\nseed 1\nsheet 5 3",
+        "ants: k: line 3: not a save\n",
+    ),
+    (TWO_TURNS, "ants: k: no valid state\n"),
+];
+
+// Asserts that a file of so many spaces is too long.
+fn check_long<R: Threads + Sync + Abort>(rt: &R, alloc: Global, job: &Job<'_>) -> Result<(), Fail> {
+    let long = " ".repeat(alloc, 4194305)?;
+    let wanted = stopped(Status::Input, "ants: k: too long\n");
+    check(rt, alloc, &job.with(Given::Breaks, &long), wanted)
+}
+
+#[test]
+fn a_game_is_saved_and_gone_on_with(rt: HostRuntime) -> Result<(), Fail> {
+    check_rows(&rt, rt.alloc(), TURNING, Given::Line, Status::Done, &SAVES)?;
+    let saved = TURNING.with(Given::Breaks, SAVED);
+    check_rows(&rt, rt.alloc(), saved, Given::Line, Status::Done, &RESUMES)
+}
+
+#[test]
+fn a_save_above_the_rounds_is_refused(rt: HostRuntime) -> Result<(), Fail> {
+    let saved = TURNING.with(Given::Breaks, SAVED);
+    check_rows(&rt, rt.alloc(), saved, Given::Line, Status::Input, &TOO_FEW)
+}
+
+#[test]
+fn a_text_that_is_no_save_is_refused(rt: HostRuntime) -> Result<(), Fail> {
+    let resumed = TURNING.with(Given::Line, "resume k --rounds 2");
+    check_rows(
+        &rt,
+        rt.alloc(),
+        resumed,
+        Given::Breaks,
+        Status::Input,
+        &REFUSED,
+    )?;
+    check_long(&rt, rt.alloc(), &resumed)
+}
