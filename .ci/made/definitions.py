@@ -50,8 +50,8 @@ def page(tree):
                 above = says(definition, above)
                 out.append("| `%s` | [%d](../%s) | %s |" % (definition.name, definition.line, definition.link, cell(above)))
             out.append("")
-    out += ["## What the gate costs", "", "Processor seconds of one `rt ci` from nothing on two cores, with other work on the machine's two other cores. A tilde marks the time of"]
-    out += ["the proof that wrong bodies begin with, where the first one's was not measured.", "", cost_table()]
+    out += ["## What the gate costs", "", "Processor seconds of `rt ci`, from `docs/gate_costs.txt`, which says how they were measured. A tilde marks the time of the proof that wrong"]
+    out += ["bodies begin with, where the first one's was not measured.", "", cost_table()]
     out += ["## Lemmas that other crates cite", "", "The files of `proofs/`, all of them.", "", lemma_table()]
     out += ["## Glossary", "", "Words that are coined here, or used in a sense of their own, from `docs/glossary.txt`.", "", glossary()]
     return "\n".join(out).rstrip() + "\n"

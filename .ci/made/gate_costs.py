@@ -1,9 +1,39 @@
-"""The table of docs/DEFINITIONS.md of what the gate costs, from docs/gate_costs.txt and the wrong bodies on disk."""
+"""What the gate costs: docs/gate_costs.txt from the log of a run, and the table of docs/DEFINITIONS.md from that file and the wrong bodies on disk."""
 import glob
+import re
 
 from tree import Unknown, crates, read
 
 FILE = "docs/gate_costs.txt"
+KINDS = ("proof", "tests", "edits")
+HEAD = """# What a crate costs in one `rt ci`: processor seconds of its proof, of the same with its tests, and of its wrong bodies together.
+# Written by `.ci/gate-costs` from the log of a `.ci/timed-ci`; what that run didn't prove anew stays as an earlier one measured it. A dash: it
+# has none, or none was measured. The tilde: a third proof's time, of the wrong bodies, where the first one's was not measured.
+"""
+
+
+def costs_in(log):
+    """The figures that the lines of a log have, by crate and kind."""
+    found = {}
+    for line in log:
+        it = re.fullmatch(r"cost (\w+) (proof|tests|edits) (\d+(?:\.\d+)?)", line.strip())
+        if it:
+            found[it[1], it[2]] = "%d" % max(1, round(float(it[3])))
+    return found
+
+
+def text_of(costs, before, names):
+    """The file's text: the figures that were measured, and else those of before."""
+    for name, _ in costs:
+        if name not in names:
+            raise Unknown("the log has a crate %s, and crates.txt hasn't" % name)
+    lines = []
+    for name in names:
+        old = before.get(name, ["-"] * len(KINDS))
+        figures = [costs.get((name, kind), it) for kind, it in zip(KINDS, old)]
+        if set(figures) != {"-"}:
+            lines.append(" ".join([name] + figures))
+    return HEAD + "\n".join(lines) + "\n"
 
 
 def rows():

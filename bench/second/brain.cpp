@@ -4,11 +4,9 @@
 #include <map>
 
 #include "files.hpp"
-#include "text.hpp"
 
 namespace {
 
-constexpr size_t most_instructions = 10000;
 constexpr uint64_t any_number = 9999999999;
 
 const Table operations = {"Sense", "Mark", "Unmark", "PickUp", "Drop", "Turn", "Move", "Flip"};
@@ -17,11 +15,68 @@ const Table sides = {"Left", "Right"};
 const Table conditions = {"Friend", "Foe",    "FriendWithFood", "FoeWithFood", "Food",
                           "Rock",   "Marker", "FoeMarker",      "Home",        "FoeHome"};
 
-Instruction read_instruction(Places& places) {
+// Which states state 0 leads to.
+std::vector<bool> live_states(const Brain& brain) {
+    std::vector<bool> live(brain.size(), false);
+    std::vector<uint64_t> left = {0};
+    live[0] = true;
+    while (!left.empty()) {
+        const uint64_t state = left.back();
+        left.pop_back();
+        for (uint64_t next : brain[state].next) {
+            if (!live[next]) {
+                live[next] = true;
+                left.push_back(next);
+            }
+        }
+    }
+    return live;
+}
+
+using Key = std::vector<uint64_t>;
+
+Key kind_of(const Instruction& it) {
+    return {static_cast<uint64_t>(it.operation), static_cast<uint64_t>(it.sight), static_cast<uint64_t>(it.condition),
+            static_cast<uint64_t>(it.marker),    static_cast<uint64_t>(it.side),  it.bound};
+}
+
+// The classes of equivalent live states, numbered in the order of their least members. States begin in the class of
+// their kind, and classes are split until each has only states whose successors are, place by place, in the same
+// classes.
+std::vector<size_t> classes_of(const Brain& brain, const std::vector<bool>& live) {
+    std::vector<size_t> classes(brain.size(), 0);
+    std::map<Key, size_t> numbers;
+    for (size_t state = 0; state < brain.size(); state++) {
+        if (live[state]) {
+            classes[state] = numbers.emplace(kind_of(brain[state]), numbers.size()).first->second;
+        }
+    }
+    size_t count = 0;
+    while (numbers.size() != count) {
+        count = numbers.size();
+        numbers.clear();
+        std::vector<size_t> split(brain.size(), 0);
+        for (size_t state = 0; state < brain.size(); state++) {
+            if (live[state]) {
+                Key key = {classes[state]};
+                for (uint64_t next : brain[state].next) {
+                    key.push_back(classes[next]);
+                }
+                split[state] = numbers.emplace(key, numbers.size()).first->second;
+            }
+        }
+        classes = split;
+    }
+    return classes;
+}
+
+}  // namespace
+
+Instruction read_instruction(Places& places, const std::function<uint64_t(Places&)>& read_state) {
     Instruction read;
     const auto read_states = [&](int count) {
         for (int i = 0; i < count; i++) {
-            read.next.push_back(places.number(0, any_number));
+            read.next.push_back(read_state(places));
         }
     };
     read.operation = places.word(operations);
@@ -88,67 +143,13 @@ std::string line_of(const Instruction& it) {
     return line;
 }
 
-// Which states state 0 leads to.
-std::vector<bool> live_states(const Brain& brain) {
-    std::vector<bool> live(brain.size(), false);
-    std::vector<uint64_t> left = {0};
-    live[0] = true;
-    while (!left.empty()) {
-        const uint64_t state = left.back();
-        left.pop_back();
-        for (uint64_t next : brain[state].next) {
-            if (!live[next]) {
-                live[next] = true;
-                left.push_back(next);
-            }
-        }
-    }
-    return live;
-}
-
-using Key = std::vector<uint64_t>;
-
-Key kind_of(const Instruction& it) {
-    return {static_cast<uint64_t>(it.operation), static_cast<uint64_t>(it.sight), static_cast<uint64_t>(it.condition),
-            static_cast<uint64_t>(it.marker),    static_cast<uint64_t>(it.side),  it.bound};
-}
-
-// The classes of equivalent live states, numbered in the order of their least members. States begin in the class of
-// their kind, and classes are split until each has only states whose successors are, place by place, in the same
-// classes.
-std::vector<size_t> classes_of(const Brain& brain, const std::vector<bool>& live) {
-    std::vector<size_t> classes(brain.size(), 0);
-    std::map<Key, size_t> numbers;
-    for (size_t state = 0; state < brain.size(); state++) {
-        if (live[state]) {
-            classes[state] = numbers.emplace(kind_of(brain[state]), numbers.size()).first->second;
-        }
-    }
-    size_t count = 0;
-    while (numbers.size() != count) {
-        count = numbers.size();
-        numbers.clear();
-        std::vector<size_t> split(brain.size(), 0);
-        for (size_t state = 0; state < brain.size(); state++) {
-            if (live[state]) {
-                Key key = {classes[state]};
-                for (uint64_t next : brain[state].next) {
-                    key.push_back(classes[next]);
-                }
-                split[state] = numbers.emplace(key, numbers.size()).first->second;
-            }
-        }
-        classes = split;
-    }
-    return classes;
-}
-
-}  // namespace
-
 Brain read_brain(const std::string& name, const std::string& text) {
     Brain brain;
     std::vector<uint64_t> line_numbers;
     uint64_t line_number = 0;
+    const auto read_state = [](Places& places) {
+        return places.number(0, any_number);
+    };
     for (const std::string& line : lines_of(text)) {
         line_number++;
         const std::vector<std::string> tokens = tokens_of(line);
@@ -160,7 +161,7 @@ Brain read_brain(const std::string& name, const std::string& text) {
             refuse(5, where + "too many instructions");
         }
         Places places(where, tokens, true);
-        brain.push_back(read_instruction(places));
+        brain.push_back(read_instruction(places, read_state));
         line_numbers.push_back(line_number);
     }
     if (brain.empty()) {

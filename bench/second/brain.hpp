@@ -1,8 +1,11 @@
 // Brains: the instructions of "Rounds and turns", the sections "Brains" and "Minimised brains" of docs/RULES.md.
 #pragma once
 #include <cstdint>
+#include <functional>
 #include <string>
 #include <vector>
+
+#include "text.hpp"
 
 enum Operation { SENSE, MARK, UNMARK, PICK_UP, DROP, TURN, MOVE, FLIP };
 enum Sight { HERE, AHEAD, LEFT_AHEAD, RIGHT_AHEAD };
@@ -21,6 +24,14 @@ struct Instruction {
 };
 
 using Brain = std::vector<Instruction>;
+
+constexpr size_t most_instructions = 10000;
+
+// Reads one line of a brain, of which `read_state` reads each state.
+Instruction read_instruction(Places& places, const std::function<uint64_t(Places&)>& read_state);
+
+// One line of the canonical text, without its end.
+std::string line_of(const Instruction& it);
 
 // Refuses a text that is no brain.
 Brain read_brain(const std::string& name, const std::string& text);

@@ -1,15 +1,22 @@
 """Random cases: the words of a command, its files and its standard input."""
 from brains import any_brain
 from breaks import Game, break_text
+from programs import any_program
+from saves import any_save, faulty_save
 from spelling import chance
 from worlds import any_world, faulty_world, grid, world_text
 
 
 class Case:
-    """What a program is started with. A case is run in a folder with the files and an empty folder `sub`."""
+    """What a program is started with. A case is run in a folder with the files and an empty folder `sub`.
+
+    The commands of `further` are run one after another behind the first one, as long as each ends with status 0. What
+    each printed is for the next one the file `printed`.
+    """
 
     def __init__(self, words=()):
         self.words = list(words)
+        self.further = []
         self.files = {}
         self.stdin = b''
         self.is_full = False  # whether standard output takes nothing
@@ -17,6 +24,7 @@ class Case:
     def copy(self):
         """A case of its own with the same in it."""
         case = Case(self.words)
+        case.further = [list(words) for words in self.further]
         case.files = dict(self.files)
         case.stdin = self.stdin
         case.is_full = self.is_full
@@ -99,6 +107,37 @@ def run_options(r, rounds):
     if chance(r, .8):
         windows = [r.randint(1, 20), r.randint(2, 20), r.randint(5, 20), 16384, r.randint(10, 30)]
         options.append(['--window', str(r.choice(windows))])
+    if chance(r, .4):
+        options.append(workers_option(r))
+    if chance(r, .2):
+        options.append(['--far'])
+    return shuffled(r, options)
+
+
+def save_options(r, rounds):
+    """The options of `save`."""
+    options = seed_and_rounds(r, rounds)
+    if chance(r, .3):
+        options.append(['--surround', str(r.randint(4, 6))])
+    if chance(r, .3):
+        options.append(['--corpse', str(r.randint(0, 9))])
+    if chance(r, .6):
+        options.append(['--rest', str(r.choice([0, 0, 0, 1, 2, 3, 14, 255]))])
+    if chance(r, .7):
+        options.append(['--window', str(r.choice([1, r.randint(1, 20), r.randint(5, 30), 16384]))])
+    if chance(r, .4):
+        options.append(workers_option(r))
+    return shuffled(r, options)
+
+
+def resume_options(r, rounds):
+    """The options of `resume`, up to a round."""
+    options = [['--rounds', str(rounds)]]
+    if chance(r, .7):
+        near = [rounds, max(0, rounds - 1), max(0, rounds - r.randint(0, 5)), r.randint(0, 5)]
+        options.append(['--dump', r.choice([dump_word(r, rounds), ','.join(map(str, near))])])
+    if chance(r, .7):
+        options.append(['--stats'])
     if chance(r, .4):
         options.append(workers_option(r))
     return shuffled(r, options)
@@ -238,3 +277,41 @@ def case_of_workload(r):
     seed = seed_word(r)
     rounds = r.choice([0, 1, 2, 3, 5, 10, 30]) if chance(r, .97) else r.randint(100, 400)
     return Case(['workload', seed, str(rounds), str(r.randint(1, 16))])
+
+
+def case_of_asm(r):
+    """`asm`, often of a faulty program; now and then the brain that comes of it is read again."""
+    case = Case()
+    name = put(case, r, 'p', any_program(r, .55))
+    case.words = ['asm', name]
+    if chance(r, .3):
+        case.further = [[r.choice(['brain', 'minimise']), 'printed']]
+    return case
+
+
+def case_of_save(r):
+    """`save`, and most often the game goes on."""
+    case = Case()
+    rows = grid(r)
+    world = put(case, r, 'w', world_text(r, rows) if chance(r, .97) else faulty_world(r), .01)
+    red = put(case, r, 'r', any_brain(r, .03), .01)
+    black = red if chance(r, .2) else put(case, r, 'b', any_brain(r, .03), .01)
+    rounds = min(rounds_of_run(r, rows), 120)
+    case.words = ['save', world, red, black] + save_options(r, rounds)
+    if chance(r, .8):
+        later = rounds + r.choice([0, 1, 2, r.randint(0, 40), -1])
+        case.further = [['resume', 'printed'] + resume_options(r, max(0, later))]
+    return case
+
+
+def case_of_resume(r):
+    """`resume` of a save that was made up, often of a faulty one."""
+    case = Case()
+    save = any_save(r)
+    rounds = min(1000000, max(0, save.round + r.choice([0, 1, 1, 2, 5, r.randint(0, 30), -1])))
+    text = save.text() if chance(r, .45) else faulty_save(r, save)
+    name = put(case, r, 's', text, .01)
+    case.words = ['resume', name] + resume_options(r, rounds)
+    if 'all' in case.words and len(save.rows) * save.width > 200:
+        case.words[case.words.index('all')] = case.words[case.words.index('--rounds') + 1]
+    return case

@@ -2,11 +2,13 @@
 // of docs/RULES.md.
 #include "commands.hpp"
 
+#include "assemble.hpp"
 #include "breaks.hpp"
 #include "files.hpp"
 #include "generate.hpp"
 #include "looks.hpp"
 #include "printed.hpp"
+#include "saved.hpp"
 #include "turn.hpp"
 
 namespace {
@@ -31,6 +33,7 @@ Run read_run(Words& words) {
     const auto read_counts = [&](Words&) {
         run.has_counts = true;
     };
+    const auto read_far = [](Words&) {};  // nothing that is printed depends on it
     words.options({needed_number("--seed", 0, most_of_32_bits, run.seed),
                    needed_number("--rounds", 0, most_rounds, run.rounds),
                    {"--dump", false, read_dumps},
@@ -39,17 +42,21 @@ Run read_run(Words& words) {
                    free_number("--surround", 4, 6, run.sheet.surround),
                    free_number("--corpse", 0, 9, run.sheet.corpse),
                    free_number("--rest", 0, 255, run.sheet.rest),
-                   {"--stats", false, read_counts}});
+                   {"--stats", false, read_counts},
+                   {"--far", false, read_far}});
     return run;
 }
 
-void play(Game& game, const Run& run) {
+// Plays up to a round, and prints the chosen dumps of these rounds, the score and the counts. `text` is what is printed
+// before them; `counts` are those of the rounds before.
+void play(Game& game, const Run& run, std::string text, uint64_t round, const Counts& counts) {
     Windows windows(game, run.window);
-    std::string text = seed_line(run.seed);
-    for (uint64_t round = 0; round <= run.rounds; round++) {
-        if (round > 0 && run.has_counts) {
+    windows.counts = counts;
+    while (round < run.rounds) {
+        round++;
+        if (run.has_counts) {
             windows.play_round();
-        } else if (round > 0) {
+        } else {
             game.play_round();
         }
         if (run.dumps.has(round)) {
@@ -133,7 +140,63 @@ void run(Words& words) {
     const Brain red = fetch_brain(red_name);
     const Brain black = fetch_brain(black_name);
     Game game(world, {{&red, &black}, run.sheet}, run.seed);
-    play(game, run);
+    const std::string start = run.dumps.has(0) ? dump_text(world, 0) : "";
+    play(game, run, seed_line(run.seed) + start, 0, Counts());
+}
+
+void assemble(Words& words) {
+    const std::string name = words.file_name();
+    words.end();
+    print(canonical_text(assembled(name, fetch(name))));
+}
+
+void save(Words& words) {
+    const std::string world_name = words.file_name();
+    const std::string red_name = words.file_name();
+    const std::string black_name = words.file_name();
+    Saved saved;
+    uint64_t workers = 1;
+    saved.window = most_turns;
+    words.options(
+        {needed_number("--seed", 0, most_of_32_bits, saved.seed),
+         needed_number("--rounds", 0, most_rounds, saved.round), free_number("--workers", 1, most_workers, workers),
+         free_number("--window", 1, most_turns, saved.window), free_number("--surround", 4, 6, saved.sheet.surround),
+         free_number("--corpse", 0, 9, saved.sheet.corpse), free_number("--rest", 0, 255, saved.sheet.rest)});
+    const World world = fetch_world(world_name);
+    saved.brains[RED] = fetch_brain(red_name);
+    saved.brains[BLACK] = fetch_brain(black_name);
+    Game game(world, {{&saved.brains[RED], &saved.brains[BLACK]}, saved.sheet}, saved.seed);
+    Windows windows(game, saved.window);
+    for (uint64_t round = 0; round < saved.round; round++) {
+        windows.play_round();
+    }
+    saved.place = game.random.place();
+    saved.taken = windows.counts.taken;
+    saved.redone = windows.counts.redone;
+    saved.world = game.world;
+    print(saved_text(saved));
+}
+
+void resume(Words& words) {
+    const std::string name = words.file_name();
+    Run run;
+    const auto read_dumps = [&](Words& these) {
+        run.dumps = these.dumps();
+    };
+    const auto read_counts = [&](Words&) {
+        run.has_counts = true;
+    };
+    words.options({needed_number("--rounds", 0, most_rounds, run.rounds),
+                   {"--dump", false, read_dumps},
+                   free_number("--workers", 1, most_workers, run.workers),
+                   {"--stats", false, read_counts}});
+    const Saved saved = read_saved(name, fetch(name));
+    if (saved.round > run.rounds) {
+        refuse(5, name + ": already at round " + decimal(saved.round));
+    }
+    run.window = saved.window;
+    Game game(saved.world, {{&saved.brains[RED], &saved.brains[BLACK]}, saved.sheet}, saved.seed, saved.place);
+    play(game, run, "", saved.round, {saved.taken + saved.redone, saved.taken, saved.redone});
 }
 
 void generate(Words& words) {
@@ -160,4 +223,14 @@ void view(Words& words) {
     const std::vector<Break> breaks = read_breaks(breaks_name, fetch(breaks_name));
     Game game(world, {{&red, &black}, Sheet()}, seed);
     print(seed_line(seed) + view_text(game, breaks, rounds));
+}
+
+// Its words are judged, and the page itself isn't here: docs/RULES.md shows its first line alone.
+void help(Words& words) {
+    words.end();
+}
+
+void version(Words& words) {
+    words.end();
+    print("ants 1.0.0\n");
 }

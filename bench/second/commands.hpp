@@ -1,4 +1,4 @@
-// The commands: the sections "The commands", "Breaks", "Cups" and "Workloads" of docs/RULES.md.
+// The commands: the sections "The commands", "Saved games", "Breaks", "Cups" and "Workloads" of docs/RULES.md.
 #pragma once
 #include "brain.hpp"
 #include "words.hpp"
@@ -15,7 +15,12 @@ void show(Words& words);
 void print_brain(Words& words);
 void minimise(Words& words);
 void run(Words& words);
+void assemble(Words& words);
+void save(Words& words);
+void resume(Words& words);
 void generate(Words& words);
 void view(Words& words);
 void cup(Words& words);
 void workload(Words& words);
+void help(Words& words);
+void version(Words& words);

@@ -56,6 +56,8 @@ def fight_options(r):
     options.append(['--window', str(r.choice([16384, r.randint(2, 20), r.randint(10, 40)]))])
     if chance(r, .3):
         options.append(workers_option(r))
+    if chance(r, .2):
+        options.append(['--far'])
     return shuffled(r, options)
 
 

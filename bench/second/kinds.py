@@ -12,6 +12,9 @@ KINDS = {
     'brain': cases.case_of_brain,
     'minimise': cases.case_of_minimise,
     'run': cases.case_of_run,
+    'asm': cases.case_of_asm,
+    'save': cases.case_of_save,
+    'resume': cases.case_of_resume,
     'gen': cases.case_of_gen,
     'cup': cases.case_of_cup,
     'view': cases.case_of_view,
@@ -23,7 +26,7 @@ KINDS = {
 }
 
 # Of some kinds no more cases than these are made, since each takes long.
-MOST = {'size': 90, 'gen': 1500, 'workload': 300}
+MOST = {'size': 160, 'gen': 1500, 'workload': 300}
 
 
 def case_of(kind, seed, number):

@@ -1,7 +1,11 @@
 """Random cases of several faults at once, of large files, and of a full output."""
 from brains import any_brain, instruction
 from breaks import Game, break_text
-from cases import Case, case_of_brain, case_of_gen, case_of_run, case_of_show
+from programs import doubling, many_blocks, text_of
+from saves import Save
+from cases import (
+    Case, case_of_asm, case_of_brain, case_of_gen, case_of_resume, case_of_run, case_of_save, case_of_show,
+)
 from spelling import chance
 from worlds import any_world
 
@@ -19,7 +23,7 @@ def name_of_any(case, r, name, make, others):
 def case_of_order(r):
     """Several files, of which more than one may be refused."""
     case = Case()
-    command = r.choice(['run', 'cup', 'view'])
+    command = r.choice(['run', 'cup', 'view', 'save'])
 
     def world(number):
         """The name of a world."""
@@ -59,7 +63,9 @@ def long_brain(r):
     size = r.choice([4194303, 4194304, 4194305, 4194306])
     case = Case()
     case.files['f'] = b'Drop 0 ;'.ljust(size)
-    case.words = [r.choice(['brain', 'minimise']), 'f']
+    case.words = [r.choice(['brain', 'minimise', 'asm']), 'f']
+    if case.words[0] == 'asm':
+        case.files['f'] = b'Drop next ;'.ljust(size)
     return case
 
 
@@ -108,8 +114,10 @@ def wide_world(r):
 
 def full_output(r):
     """A case whose output is taken by nobody."""
-    case = r.choice([case_of_show, case_of_gen, case_of_brain, case_of_run])(r)
+    makers = [case_of_show, case_of_gen, case_of_brain, case_of_run, case_of_asm, case_of_save, case_of_resume]
+    case = r.choice(makers)(r)
     case.is_full = True
+    case.further = []
     return case
 
 
@@ -130,9 +138,54 @@ def many_states(r):
     return case
 
 
+def doubled_program(r):
+    """A program whose brain has about as many instructions as there may be."""
+    case = Case(['asm', 'f'])
+    case.files['f'] = doubling(r)
+    return case
+
+
+def program_of_many_blocks(r):
+    """A program with about as many blocks as there may be."""
+    case = Case(['asm', 'f'])
+    case.files['f'] = many_blocks(r)
+    return case
+
+
+def plain_program(r):
+    """About as many instructions as a program may have, without a block."""
+    count = r.choice([9999, 10000, 10001])
+    case = Case(['asm', '-'])
+    case.stdin = text_of(r, ['Move next next'] * count + r.choice([[], ['@end:'], ['x'], ['end']]), 0)
+    return case
+
+
+def long_save(r):
+    """A save with brains of as many lines as there may be, or of about as many bytes as a file may have."""
+    case = Case(['resume', 'f', '--rounds', '2', '--stats'])
+    save = Save(['###', '#+#', '###'])
+    save.brains['red'] = ['Drop %d' % ((number + 1) % 10000) for number in range(10000)]
+    save.brains['black'] = ['Flip 4294967295 9999 0'] * r.choice([9999, 10000, 10001])
+    text = save.text()
+    if chance(r, .3):
+        text = text.ljust(r.choice([4194303, 4194304, 4194305]), b'\n')
+    case.files['f'] = text
+    return case
+
+
+def crowded_save(r):
+    """A save with about as many hill cells as there may be, or as wide as a world may be."""
+    case = Case(['resume', 'f', '--rounds', '0', '--dump', r.choice(['none', '0'])])
+    width, height = r.choice([(130, 130), (131, 130), (512, 3), (512, 35), (513, 3), (2, 3)])
+    rim = '#' * width
+    save = Save([rim] + ['#' + '+' * (width - 2) + '#'] * (height - 2) + [rim])
+    case.files['f'] = save.text()
+    return case
+
+
 LARGE_CASES = [
     long_brain, long_world, many_instructions, high_states, many_ants, wide_world, full_output, many_breaks,
-    many_states,
+    many_states, doubled_program, program_of_many_blocks, plain_program, long_save, crowded_save,
 ]
 
 

@@ -1,11 +1,12 @@
 """Random cases of words at fault, and of numbers at their limits."""
 from cases import (
-    Case, case_of_brain, case_of_cup, case_of_gen, case_of_minimise, case_of_run, case_of_show, case_of_view,
-    case_of_workload, shuffled,
+    Case, case_of_asm, case_of_brain, case_of_cup, case_of_gen, case_of_minimise, case_of_resume, case_of_run,
+    case_of_save, case_of_show, case_of_view, case_of_workload, shuffled,
 )
+from saves import Save
 from spelling import chance
 
-COMMANDS = ['show', 'run', 'brain', 'gen', 'minimise', 'cup', 'view', 'workload']
+COMMANDS = ['show', 'run', 'brain', 'gen', 'minimise', 'cup', 'view', 'workload', 'asm', 'save', 'resume']
 DUMPS = [
     'none', 'all', 'None', 'ALL', '0', '1,2', '1,,2', '1,2,', ',1', ',', '', '1000000', '1000001', '00000000001',
     '0000000001', '1-3', '1, 2', '-1', 'none,1', '1,none', 'all,', '1000000,1000000', '0000000000,1', '+1', ' 1',
@@ -13,7 +14,7 @@ DUMPS = [
 ]
 OPTIONS = [
     '--seed', '--rounds', '--dump', '--workers', '--window', '--stats', '--surround', '--corpse', '--rest', '--width',
-    '--height', '--rocks', '--blobs', '--worlds', '--brains',
+    '--height', '--rocks', '--blobs', '--worlds', '--brains', '--far',
 ]
 OTHER_WORDS = [
     '--', '-', '---', '-x', '--help', '--version', '--Seed', '--seed=1', '--SEED', '', ' ', 'w', 'r', 'b', './--w',
@@ -23,11 +24,12 @@ OTHER_WORDS = [
 ]
 WORDS = COMMANDS + ['minimize', 'Show'] + OPTIONS + OTHER_WORDS + DUMPS
 FIRST_WORDS = [
-    [], ['help'], ['--help'], ['show'], ['run'], ['cup'], ['view'], ['gen'], ['workload'], ['brain'], ['minimise'],
+    [], ['help'], ['--help', 'x'], ['show'], ['run'], ['cup'], ['view'], ['gen'], ['workload'], ['brain'], ['minimise'],
+    ['asm'], ['save'], ['resume'], ['--version'], ['--version', '--version'],
 ]
 GOOD_CASES = [
     case_of_show, case_of_brain, case_of_minimise, case_of_run, case_of_run, case_of_gen, case_of_cup, case_of_view,
-    case_of_workload,
+    case_of_workload, case_of_asm, case_of_save, case_of_resume,
 ]
 NEAR_LIMITS = {
     '--seed': ['0', '4294967295', '4294967296', '9999999999'],
@@ -48,18 +50,24 @@ HEADS = {
     'gen': ['gen', '1'],
     'cup': ['cup', '--worlds', 'w', '--brains', 'r', 'b'],
     'view': ['view', 'w', 'r', 'b', 'k'],
+    'save': ['save', 'w', 'r', 'b'],
+    'resume': ['resume', 's'],
 }
 OPTIONS_OF = {
     'run': ['--seed', '--rounds', '--surround', '--corpse', '--rest', '--dump', '--workers', '--window'],
     'gen': ['--width', '--height', '--rocks', '--blobs'],
     'cup': ['--seed', '--rounds', '--workers'],
     'view': ['--seed', '--rounds'],
+    'save': ['--seed', '--rounds', '--surround', '--corpse', '--rest', '--workers', '--window'],
+    'resume': ['--rounds', '--dump', '--workers'],
 }
+SMALL_SAVE = Save(['####', '#+.#', '#-.#', '####'])
 SMALL_FILES = {
     'w': b'4\n4\n####\n#+.#\n#-.#\n####\n',
     'b': b'Move 0 0\n',
     'r': b'Flip 2 0 0\n',
     'k': b'Killed 0\n',
+    's': SMALL_SAVE.text(),
 }
 
 
@@ -128,9 +136,12 @@ def case_of_words(r):
     case = make(r)
     if make is case_of_cup and chance(r, .1):
         case.words = with_many_names(r, case.words)
+    case.further = []
     for _ in range(r.choice([1, 1, 1, 2, 2, 3])):
         case.words = with_other_word(r, case.words)
     case.words = without_long_games(case.words)
+    if case.words == ['--help']:  # its page stands in the program alone
+        case.words = ['--version']
     return case
 
 
@@ -138,7 +149,7 @@ def case_of_limits(r):
     """Options with numbers at their limits."""
     case = Case()
     case.files = dict(SMALL_FILES)
-    command = r.choice(['run', 'run', 'gen', 'cup', 'view'])
+    command = r.choice(['run', 'run', 'gen', 'cup', 'view', 'save', 'save', 'resume'])
     options = []
     for name in OPTIONS_OF[command]:
         if name in ('--seed', '--rounds') or chance(r, .4):
@@ -146,7 +157,8 @@ def case_of_limits(r):
             if chance(r, .1) and is_between(value, 0, 999999999) and len(value) < 10:
                 value = value.zfill(r.choice([10, 11]))
             options.append([name, value])
-    if command == 'run' and chance(r, .3):
-        options.append(['--stats'])
+    for name, commands in (('--stats', ['run', 'resume']), ('--far', ['run'])):
+        if command in commands and chance(r, .3):
+            options.append([name])
     case.words = HEADS[command] + shuffled(r, options)
     return case

@@ -21,10 +21,23 @@ def build(folder):
 
 
 def run(program, case, folder):
-    """Runs a program on a case that is laid out in the folder."""
+    """Runs a program on a case that is laid out in the folder, with what comes behind its first command."""
+    done = run_once(program, case.words, case, folder)
+    for words in case.further:
+        if done.status != 0:
+            return done
+        with open(os.path.join(folder, 'printed'), 'wb') as file:
+            file.write(done.text)
+        after = run_once(program, words, case, folder)
+        done = Outcome(done.text + b'\0' + after.text, after.fault, after.status)
+    return done
+
+
+def run_once(program, words, case, folder):
+    """Runs a program once, with these words."""
     with open('/dev/full' if case.is_full else os.devnull, 'wb') as sink:
         output = sink if case.is_full else subprocess.PIPE
-        command = [program] + case.words
+        command = [program] + words
         try:
             done = subprocess.run(command, input=case.stdin, stdout=output, stderr=subprocess.PIPE, cwd=folder,
                                   timeout=SECONDS, check=False)

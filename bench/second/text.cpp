@@ -6,9 +6,14 @@
 namespace {
 
 constexpr size_t most_digits = 10;
+constexpr size_t most_of_a_name = 32;
 
 char lower(char byte) {
     return byte >= 'A' && byte <= 'Z' ? static_cast<char>(byte - 'A' + 'a') : byte;
+}
+
+bool is_letter(char byte) {
+    return lower(byte) >= 'a' && lower(byte) <= 'z';
 }
 
 bool are_one_word(const std::string& left, const std::string& right) {
@@ -88,6 +93,22 @@ bool has_bad_byte(const std::string& token) {
     return false;
 }
 
+bool is_name(const std::string& token) {
+    if (token.empty() || token.size() > most_of_a_name || !is_letter(token[0])) {
+        return false;
+    }
+    for (char byte : token) {
+        if (!is_letter(byte) && !(byte >= '0' && byte <= '9') && byte != '_') {
+            return false;
+        }
+    }
+    return !is_next(token);
+}
+
+bool is_next(const std::string& token) {
+    return are_one_word(token, "next");
+}
+
 int place_in(const Table& table, const std::string& word) {
     for (size_t place = 0; place < table.size(); place++) {
         if (are_one_word(table[place], word)) {
@@ -97,12 +118,12 @@ int place_in(const Table& table, const std::string& word) {
     return -1;
 }
 
-Places::Places(std::string where, std::vector<std::string> tokens, bool judges_bytes)
-    : where(std::move(where)), tokens(std::move(tokens)), judges_bytes(judges_bytes) {
+Places::Places(std::string where, std::vector<std::string> tokens, bool judges_bytes, bool is_whole)
+    : where(std::move(where)), tokens(std::move(tokens)), judges_bytes(judges_bytes), is_whole(is_whole) {
 }
 
 void Places::fault(const std::string& what) {
-    refuse(5, where + what);
+    refuse(5, is_whole ? where : where + what);
 }
 
 const std::string& Places::next() {
@@ -129,6 +150,26 @@ uint64_t Places::number(uint64_t least, uint64_t most) {
         fault("bad number");
     }
     return number;
+}
+
+std::string Places::name() {
+    const std::string& token = next();
+    if (!is_name(token)) {
+        fault("bad name");
+    }
+    return token;
+}
+
+std::string Places::label() {
+    const std::string& token = next();
+    if (!is_name(token) && !is_next(token)) {
+        fault("bad name");
+    }
+    return token;
+}
+
+bool Places::is_end() const {
+    return read >= tokens.size();
 }
 
 void Places::end() {

@@ -120,9 +120,16 @@ int act(const World& world, Random& random, int place, const Instruction& it, Ce
 
 }  // namespace
 
-Random::Random(uint64_t seed) : state(static_cast<uint32_t>(seed)) {
-    for (int i = 0; i < 4; i++) {
-        state = state * factor + 1;
+// One step is s * factor + 1. Two steps of a kind are one of another kind, so that many steps go by doubling.
+Random::Random(uint64_t seed, uint64_t place) : state(static_cast<uint32_t>(seed)), drawn(place) {
+    uint32_t times = factor;
+    uint32_t more = 1;
+    for (uint64_t left = place + 4; left > 0; left /= 2) {
+        if (left % 2 == 1) {
+            state = state * times + more;
+        }
+        more = more * times + more;
+        times = times * times;
     }
 }
 
@@ -177,7 +184,8 @@ Score score_of(const World& world) {
     return score;
 }
 
-Game::Game(const World& world, const Rules& rules, uint64_t seed) : world(world), rules(rules), random(seed) {
+Game::Game(const World& world, const Rules& rules, uint64_t seed, uint64_t place)
+    : world(world), rules(rules), random(seed, place) {
 }
 
 void Game::play_round() {

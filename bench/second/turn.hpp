@@ -9,7 +9,8 @@
 
 class Random {
   public:
-    explicit Random(uint64_t seed);
+    // The numbers of a seed, of which so many were drawn already.
+    explicit Random(uint64_t seed, uint64_t place = 0);
     uint64_t draw_below(uint64_t bound);
 
     // How many numbers were drawn.
@@ -19,7 +20,7 @@ class Random {
 
   private:
     uint32_t state;  // s(drawn + 4), of which only the lowest 30 bits matter
-    uint64_t drawn = 0;
+    uint64_t drawn;
 };
 
 struct Sheet {
@@ -57,6 +58,6 @@ struct Game {
     Rules rules;
     Random random;
 
-    Game(const World& world, const Rules& rules, uint64_t seed);
+    Game(const World& world, const Rules& rules, uint64_t seed, uint64_t place = 0);
     void play_round();
 };

@@ -1,23 +1,29 @@
+-- Where an address lies, and that each is numbered once.
 pub mod Addresses
+pub mod Firsts
+pub mod Brains
+-- A turn that names states by addresses is the turn that names them by numbers.
 pub mod Leaving
 pub mod LabelTurns
 pub mod LabelGames
-pub mod Emission
+pub mod Scores
+-- What is expanded is the program.
 pub mod FlatLemmas
-pub mod Worked
+pub mod Emission
+-- Lines and their faults.
 pub mod TextLemmas
-pub mod Firsts
 pub mod LineSteps
 pub mod LineTokens
 pub mod LineForms
 pub mod LineLemmas
 pub mod TakeAll
+-- From line to line, and to the end of the text.
 pub mod OpenLemmas
 pub mod ReadingLemmas
-pub mod Brains
-pub mod Scores
+pub mod BlockLemmas
+pub mod ProgramLemmas
 pub mod Assembling
 pub mod HasAssembled
-pub mod ProgramLemmas
-pub mod BlockLemmas
 pub mod OnAnswers
+-- Worked values.
+pub mod Worked

@@ -10,3 +10,8 @@ pub mod Lines
 pub mod LineFaults
 pub mod Standing
 pub mod Text
+pub use Rattle.ant_base.specs.Shelf
+pub use Rattle.brain_read.specs.Forms
+pub use Rattle.brain_read.specs.Soundness
+pub use Rattle.line_tokens.specs.TokenLines
+pub use Rattle.word_table.specs.Words

@@ -13,7 +13,7 @@ ghost use Rattle.ant_asm.specs.Inner.Flat.{most};
 use crate::action::{Action, Label};
 use crate::body::{Body, Item};
 use crate::fault::AsmFault;
-use crate::scope::{Names, add_name, is_unknown, meaning, resolved, way_or_next};
+use crate::scope::{Names, add_name, is_unknown, meaning_of, resolve, way_or_next};
 use crate::spelling::Source;
 use brain_read::MOST_STATES;
 use hex_geometry::OutOfMemory;
@@ -56,7 +56,7 @@ impl<'t> OpenBody<'t> {
         ensures good { (bodies : List Body) → IsGoodOpen bodies self.old → OnOk result (IsGoodOpen bodies self.new) }
         ensures fault { IfErr result (λ fault. FailsWith fault (mark_fault (known_as self.old.names.entries name.now) line)) }
     {
-        if meaning(&self.names, name).is_some() {
+        if meaning_of(&self.names, name).is_some() {
             return Err(AsmFault::Twice { line });
         }
         let place = self.items.len() as u32;
@@ -168,7 +168,7 @@ fn resolved_item(alloc: Global, names: &Names, kind: &OpenKind) -> Result<Item, 
     ensures { IfOk result (λ made. flat_of made ≡ flat_kind (way_or_next (known_as names.now.entries)) kind.now) }
 {
     match kind {
-        OpenKind::Do(action) => Ok(Item::Do(resolved(names, *action))),
+        OpenKind::Do(action) => Ok(Item::Do(resolve(names, *action))),
         OpenKind::Use { block, handed } => {
             let handed = resolved_labels(alloc, names, handed.as_slice())?;
             Ok(Item::Use {
@@ -211,7 +211,7 @@ pub(crate) fn starts_of(
 }
 
 // The body, with what its labels stand for.
-pub(crate) fn closed(alloc: Global, draft: &OpenBody) -> Result<Body, OutOfMemory>
+pub(crate) fn close_body(alloc: Global, draft: &OpenBody) -> Result<Body, OutOfMemory>
     requires small { draft.now.size ≤ most }
     ensures { IfOk result (IsClosedAs draft.now) }
 {

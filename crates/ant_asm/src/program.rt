@@ -20,7 +20,7 @@ use crate::action::Action;
 use crate::body::Body;
 use crate::fault::AsmFault;
 use crate::line::{Line, read_line};
-use crate::open::{OpenBody, OpenKind, closed, first_unknown};
+use crate::open::{OpenBody, OpenKind, close_body, first_unknown};
 use crate::scope::parameter_names;
 use crate::spelling::Source;
 use ant_base::Lines;
@@ -206,7 +206,7 @@ impl<'t> Program<'t> {
             return Err(AsmFault::EmptyBlock { line: number });
         }
         let unknown = first_unknown(&self.current);
-        let body = closed(alloc, &self.current)?;
+        let body = close_body(alloc, &self.current)?;
         let block = self.bodies.len();
         self.blocks.insert(outer.name, block)?;
         self.bodies.push(body)?;
@@ -330,6 +330,6 @@ fn main_of(alloc: Global, program: &Program) -> Result<Body, AsmFault>
     if let Some(line) = earlier(program.unknown, unknown) {
         return Err(AsmFault::NoLabel { line });
     }
-    let main = closed(alloc, &program.current)?;
+    let main = close_body(alloc, &program.current)?;
     Ok(main)
 }

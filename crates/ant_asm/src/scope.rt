@@ -15,7 +15,7 @@ use std::alloc::Global;
 pub type Names<'t> = IndexMap<&'t [u8], Label>;
 
 // What a name stands for, if the body has it.
-pub fn meaning(names: &Names, name: &[u8]) -> Option<Label>
+pub fn meaning_of(names: &Names, name: &[u8]) -> Option<Label>
     ensures { result ≡ known_as names.now.entries name.now }
 {
     names.get(name).copied()
@@ -35,7 +35,7 @@ pub(crate) fn is_unknown(names: &Names, label: Source) -> bool
 {
     match label {
         Source::Next => false,
-        Source::Named(name) => meaning(names, name).is_none(),
+        Source::Named(name) => meaning_of(names, name).is_none(),
     }
 }
 
@@ -45,12 +45,12 @@ pub(crate) fn way_or_next(names: &Names, label: Source) -> Label
 {
     match label {
         Source::Next => Label::Next,
-        Source::Named(name) => meaning(names, name).unwrap_or(Label::Next),
+        Source::Named(name) => meaning_of(names, name).unwrap_or(Label::Next),
     }
 }
 
 // An instruction with what its labels stand for.
-pub(crate) fn resolved(names: &Names, action: Action<Source>) -> Action<Label>
+pub(crate) fn resolve(names: &Names, action: Action<Source>) -> Action<Label>
     ensures { result ≡ mapped (λ label. way_or_next (known_as names.now.entries) (seen label)) action.entry }
 {
     match action {

@@ -1,5 +1,6 @@
 -- Decimal digits and their value.
-use Rattle.std.proofs.Common.{◌≡◌, ℕ, ◌+◌, ◌*◌, ◌-◌, ◌<◌, ◌≤◌, Bool, true, false, Some, None, ◌&&◌, List, length, take, drop, get_or, refl, ◌∙◌, ap, arith}
+use Rattle.std.proofs.Common.{◌≡◌, ℕ, ◌+◌, ◌*◌, ◌-◌, ◌<◌, ◌≤◌, true, false, Some, None, ◌&&◌, List, length, take, drop, get_or, refl, ◌∙◌, ap, arith}
+use Rattle.std.proofs.Math.Bool.{and-false}
 use Rattle.std.proofs.lemmas.List.{drop_more, length-take}
 use Rattle.std.proofs.lemmas.Str.{digit_value_digit}
 use Rattle.std.proofs.lemmas.Str.Parse.{IsNumeralModel, digit_from_value, numerals_by_value, tells_all_ascii_digits, tells_digits, digits_value_short}
@@ -39,10 +40,6 @@ read_more text at n lt test small read =
 -- a byte that is no digit
 pub read_other : (text : List ℕ) (at n : ℕ) → at < length text → is_ascii_digit (get_or text at 0) ≡ false → Read text at n → all_ascii_digits text ≡ false
 read_other text at n lt other read = read.rest ∙ ap all_ascii_digits (drop_more text at 0 lt) ∙ rw other refl
-
-and-false : (b : Bool) → (b && false) ≡ false
-and-false true = refl
-and-false false = refl
 
 -- a text with a byte that is no digit is no number
 pub none_of_other : (text : List ℕ) → all_ascii_digits text ≡ false → decimal_value text ≡ None

@@ -6,6 +6,7 @@ use Rattle.std.proofs.lemmas.List.{at_drop_more, drop-append-le, length-append, 
 use Rattle.std.specs.List.{AllByRecursion}
 use Rattle.std.specs.Prelude.{Vec}
 use Rattle.std.specs.Str.{bytes_eq}
+use Rattle.list_lemmas.proofs.AllElements.{AllByRecursion-append, AllByRecursion-append_first, AllByRecursion-append_second, AllByRecursion-weaker}
 use Rattle.ant_base.specs.Calls.{is_failing}
 use Rattle.ant_base.specs.Inner.Entries.{bytes_in, files_in}
 use Rattle.ant_base.specs.Inner.Noted.{noted}
@@ -146,33 +147,17 @@ fetches_one old new name result fetches =
       later = fetches.later;
     }
 
-all_then : {X : Type 0} (P : X → Type 0) (xs ys : List X) → AllByRecursion P xs → AllByRecursion P ys → AllByRecursion P (xs ++ ys)
-all_then P [] ys first second = second
-all_then P (x ∷ xs) ys first second = (first.0, all_then P xs ys first.1 second)
-
-all_first : {X : Type 0} (P : X → Type 0) (xs ys : List X) → AllByRecursion P (xs ++ ys) → AllByRecursion P xs
-all_first P [] ys all = tt
-all_first P (x ∷ xs) ys all = (all.0, all_first P xs ys all.1)
-
-all_second : {X : Type 0} (P : X → Type 0) (xs ys : List X) → AllByRecursion P (xs ++ ys) → AllByRecursion P ys
-all_second P [] ys all = all
-all_second P (x ∷ xs) ys all = all_second P xs ys all.1
-
-all_weaker : {X : Type 0} (P Q : X → Type 0) (xs : List X) → ((x : X) → P x → Q x) → AllByRecursion P xs → AllByRecursion Q xs
-all_weaker P Q [] weaker all = tt
-all_weaker P Q (x ∷ xs) weaker all = (weaker x all.0, all_weaker P Q xs weaker all.1)
-
 -- some fetches, and then others
 pub fetches_then : (first second third : ShelfState) (a b : List Fetched) → FetchesEach first second a → FetchesEach second third b → FetchesEach first third (a ++ b)
 fetches_then first second third a b one two =
     record {
       log = two.log ∙ ap (λ log. log ++ b) one.log ∙ append_assoc first.log a b;
-      told = all_then (IsTold first.files) a b one.told (subst (λ (files : Told). AllByRecursion (IsTold files) b) one.files two.told);
+      told = AllByRecursion-append (IsTold first.files) a b one.told (subst (λ (files : Told). AllByRecursion (IsTold files) b) one.files two.told);
       files = two.files ∙ one.files;
       sure = λ name is. two.sure name (one.sure name is);
       quiet = λ sure.
-          two.quiet (all_weaker (λ fetch. first.sure fetch.name ≡ true) (λ fetch. second.sure fetch.name ≡ true) b (λ fetch is. one.sure fetch.name is)
-          (all_second (λ fetch. first.sure fetch.name ≡ true) a b sure))
-          ∙ one.quiet (all_first (λ fetch. first.sure fetch.name ≡ true) a b sure);
+          two.quiet (AllByRecursion-weaker (λ fetch. first.sure fetch.name ≡ true) (λ fetch. second.sure fetch.name ≡ true) b
+          (AllByRecursion-append_second (λ fetch. first.sure fetch.name ≡ true) a b sure) (λ fetch is. one.sure fetch.name is))
+          ∙ one.quiet (AllByRecursion-append_first (λ fetch. first.sure fetch.name ≡ true) a b sure);
       later = omega (arith, one.later, two.later);
     }

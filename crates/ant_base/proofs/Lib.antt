@@ -1,7 +1,11 @@
+-- Numbers and lines.
 pub mod Digits
-pub mod Fetching
-pub mod Linewise
 pub mod Numbered
+pub mod Linewise
+-- What is pushed, and what a stream was given.
 pub mod Pushing
 pub mod Streaming
+-- What is fetched.
+pub mod Fetching
+-- Worked values.
 pub mod Worked

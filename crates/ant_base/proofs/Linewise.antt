@@ -1,6 +1,6 @@
 -- Lines of a text.
-use Rattle.std.proofs.Common.{◌≡◌, ℕ, suc, ◌+◌, ◌-◌, ◌^◌, ◌<◌, ◌≤◌, Bool, true, false, not, cond, List, [], ◌∷◌, ◌++◌, length, take, drop, get_or, map, refl, sym, ◌∙◌, ap, append_assoc, arith}
-use Rattle.std.proofs.lemmas.Bool.{and_from, and_parts, ne_eqb}
+use Rattle.std.proofs.Common.{◌≡◌, ℕ, suc, ◌+◌, ◌-◌, ◌^◌, ◌<◌, ◌≤◌, Bool, true, false, not, cond, List, [], ◌∷◌, ◌++◌, length, take, drop, get_or, map, refl, ◌∙◌, ap, append_assoc, arith}
+use Rattle.std.proofs.lemmas.Bool.{and_from, and_parts, ne_eqb, not-true}
 use Rattle.std.proofs.lemmas.List.{take_all}
 use Rattle.std.proofs.lemmas.List.Folds.{list_all-append}
 use Rattle.std.proofs.lemmas.List.Splits.{length-slice_split}
@@ -69,24 +69,20 @@ lines_of-slice_split (byte ∷ text) = go (is_lf byte) (lines_of-slice_split tex
   go true same = ap (λ lines. [] ∷ lines) same ∙ without_empty_end-more (slice_split is_lf text) (omega (arith, length-slice_split is_lf text))
   go false same = ap (onto_first byte) same ∙ without_empty_end-onto_first byte (slice_split is_lf text)
 
-false_of_not : (b : Bool) → not b ≡ true → b ≡ false
-false_of_not true e = sym e
-false_of_not false e = refl
-
 -- a line, its LF, and the lines of the rest
 pub lines_of-line : (line rest : List ℕ) → has_no_lf line ≡ true → lines_of (line ++ 10 ∷ rest) ≡ line ∷ lines_of rest
 lines_of-line [] rest e = refl
 lines_of-line (byte ∷ line) rest e =
     let parts = and_parts (not (is_lf byte)) (has_no_lf line) e in
-    rw (false_of_not (is_lf byte) parts.0, lines_of-line line rest parts.1) refl
+    rw (not-true (is_lf byte) parts.0, lines_of-line line rest parts.1) refl
 
 -- a last line without an LF
 pub lines_of-last : (line : List ℕ) → has_no_lf line ≡ true → 0 < length line → lines_of line ≡ line ∷ []
 lines_of-last [] e some = absurd (omega arith)
-lines_of-last (byte ∷ []) e some = rw (false_of_not (is_lf byte) (and_parts (not (is_lf byte)) true e).0) refl
+lines_of-last (byte ∷ []) e some = rw (not-true (is_lf byte) (and_parts (not (is_lf byte)) true e).0) refl
 lines_of-last (byte ∷ next ∷ line) e some =
     let parts = and_parts (not (is_lf byte)) (has_no_lf (next ∷ line)) e in
-    rw (false_of_not (is_lf byte) parts.0, lines_of-last (next ∷ line) parts.1 (omega arith)) refl
+    rw (not-true (is_lf byte) parts.0, lines_of-last (next ∷ line) parts.1 (omega arith)) refl
 
 length-onto_first : (byte : ℕ) (lines : List (List ℕ)) → length (onto_first byte lines) ≤ suc (length lines)
 length-onto_first byte [] = omega arith

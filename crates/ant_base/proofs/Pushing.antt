@@ -1,7 +1,8 @@
 -- Pushes one after another.
-use Rattle.std.proofs.Common.{◌≡◌, ℕ, suc, ◌+◌, ◌-◌, ◌≤◌, Bool, true, ◌&&◌, nat_lt, ◌==◌, List, [], ◌∷◌, ◌++◌, length, slice_index, take, drop, Some, None, Ok, Err, Option, Result, refl, sym, ◌∙◌, ap, append_assoc, append-nil, take-append-drop, arith}
+use Rattle.std.proofs.Common.{◌≡◌, ℕ, ◌+◌, ◌-◌, ◌≤◌, Bool, true, ◌&&◌, nat_lt, ◌==◌, List, [], ◌∷◌, ◌++◌, length, slice_index, take, drop, Some, None, Ok, Err, Option, Result, refl, sym, ◌∙◌, ap, append_assoc, append-nil, take-append-drop, arith}
 use Rattle.std.proofs.lemmas.Bool.{false≢true, lt-ltb}
 use Rattle.std.proofs.lemmas.List.{get_or-append-add, length-append}
+use Rattle.list_lemmas.proofs.Elements.{append-empty}
 use Rattle.ant_base.specs.declared.sink.Failed.{Failed}
 use Rattle.ant_base.specs.Lines.{ends_in_lf}
 use Rattle.ant_base.specs.Faults.{Rose}
@@ -11,7 +12,7 @@ with_more-with_more : (held : Option (List ℕ)) (a b : List ℕ) → with_more 
 with_more-with_more None a b = refl
 with_more-with_more (Some held) a b = ap Some (append_assoc held a b)
 
-rose_later : (before mid now : ℕ) → before ≤ mid → Rose mid now → Rose before now
+pub rose_later : (before mid now : ℕ) → before ≤ mid → Rose mid now → Rose before now
 rose_later before mid now le rose = omega arith
 
 -- a front of a text is a front of a longer one
@@ -36,11 +37,6 @@ front_then old mid new a b p q = record {
   later = (let quiet = p.quiet in let later = q.later in omega arith);
 }
 
--- two texts without bytes are one without bytes, and no other two are
-pub append_is_nil : (a b : List ℕ) → a ++ b ≡ [] → (a ≡ []) × (b ≡ [])
-append_is_nil [] b none = (refl, none)
-append_is_nil (x ∷ a) b none = absurd (cc)
-
 -- a text that goes on is ended by what it goes on with
 pub ends_in_lf-append : (a : List ℕ) (byte : ℕ) (b : List ℕ) → ends_in_lf (a ++ byte ∷ b) ≡ ends_in_lf (byte ∷ b)
 ends_in_lf-append a byte b =
@@ -64,7 +60,7 @@ all_then old mid new a b p q = record {
   held = q.held ∙ ap (λ h. with_more h b) p.held ∙ with_more-with_more old.held a b;
   quiet = q.quiet ∙ p.quiet;
   flushed = flushed_then old mid new a b p q;
-  kept = λ none waits. q.kept (append_is_nil a b none).1 (p.kept (append_is_nil a b none).0 waits);
+  kept = λ none waits. q.kept (append-empty a b none).1 (p.kept (append-empty a b none).0 waits);
 }
 
 -- one text, and then a push of another

@@ -15,7 +15,8 @@ use Rattle.ant_base.specs.Lines.{ends_in_lf}
 use Rattle.ant_base.specs.Inner.Answered.{TakesAtMost, given_at, given_of, taken_at, taken_of}
 use Rattle.ant_base.specs.Shelf.{longest}
 use Rattle.ant_base.specs.Sink.{Pushed}
-use Rattle.ant_base.proofs.Pushing.{append_is_nil, ends_in_lf-append}
+use Rattle.list_lemmas.proofs.Elements.{append-empty}
+use Rattle.ant_base.proofs.Pushing.{ends_in_lf-append}
 use Rattle.ant_base.specs.Streams.{IsFlushedByLines, StreamState, TookUpTo, Takes, sink_of_stream}
 
 consumes_nothing : (known : Option (List ℕ)) → Consumes known known []
@@ -152,7 +153,7 @@ flushed_by_taking old new [] (Ok _) some takes count sent none text = absurd (so
 flushed_by_taking old new (byte ∷ piece) (Ok _) some takes count sent none text =
     let taken : new.taken ≡ old.taken ++ byte ∷ piece = takes.took ∙ ap (λ bytes. old.taken ++ bytes) (sym (append-nil takes.front) ∙ sym takes.whole) in
     elim text [
-      | inl empty ↦ absurd (some (append_is_nil old.taken (byte ∷ piece) (sym taken ∙ empty)).1)
+      | inl empty ↦ absurd (some (append-empty old.taken (byte ∷ piece) (sym taken ∙ empty)).1)
       | inr ends ↦ sent (sym (ends_in_lf-append old.taken byte piece) ∙ ap ends_in_lf (sym taken) ∙ ends)
     ]
 flushed_by_taking old new piece (Err _) some takes count sent none text = absurd (omega (arith, count, none))

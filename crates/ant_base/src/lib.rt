@@ -4,7 +4,7 @@
 //! only where a count of faults rose; a name of which a shelf is sure is never Failed; a gate changes nothing; a value that is a
 //! `Layout` is pushed as one exact text. Lines, separators and numbers of the contest's files are read here once for all readers.
 //!
-//! It stands on no crate of this repository, and prints numbers by `itoa`.
+//! Of this repository it stands on lemmas alone, and prints numbers by `itoa`.
 //!
 //! What names no section of the contest's task is this project's own.
 #![tactic(auto)]
@@ -33,7 +33,7 @@ pub use file_shelf::FileShelf;
 pub use files::Files;
 pub use gate::{Gate, NoGate};
 pub use layout::Layout;
-pub use lines::{Lines, after_separators, cut_line, is_blank, is_separator, trimmed};
+pub use lines::{Lines, after_separators, cut_line, is_blank, is_separator, trim_line};
 pub use mem_shelf::MemShelf;
 pub use mem_sink::MemSink;
 pub use memory::OutOfMemory;

@@ -99,7 +99,7 @@ pub fn after_separators(text: &[u8]) -> &[u8]
 }
 
 /// A line without the separators at its front and at its end; those between other bytes stay (the contest's files).
-pub fn trimmed(line: &[u8]) -> &[u8]
+pub fn trim_line(line: &[u8]) -> &[u8]
     ensures { result.now ≡ trimmed line.now }
 {
     let line = after_separators(line);
@@ -107,7 +107,6 @@ pub fn trimmed(line: &[u8]) -> &[u8]
     line
 }
 
-// How many separators stand at the front of a line.
 fn separators_in_front(line: &[u8]) -> usize
     ensures count { result ≡ prefix_len is_separator line.now }
     ensures within { result ≤ length line.now }
@@ -115,7 +114,6 @@ fn separators_in_front(line: &[u8]) -> usize
     line.iter().take_while(|byte| is_separator(**byte)).count()
 }
 
-// How many separators stand at the end of a line.
 fn separators_at_end(line: &[u8]) -> usize
     ensures count { result ≡ suffix_len is_separator line.now }
     ensures within { result ≤ length line.now }

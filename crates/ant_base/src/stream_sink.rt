@@ -101,9 +101,9 @@ fn write_whole<W: Writer>(
     // As many turns as std's own loops have: nothing says how often a write is interrupted.
     for _turn in 0..u64::MAX {
         if rest.is_empty() {
-            return send_line(stream, piece);
+            return flush_line(stream, piece);
         }
-        let taken = taken_by(stream.take(rest))?;
+        let taken = taken_by(stream.write_some(rest))?;
         system_log.note_bytes(&rest[..taken]);
         rest = &rest[taken..];
     }
@@ -125,7 +125,7 @@ fn taken_by(answer: io::Result<usize>) -> Result<usize, Failed>
 }
 
 // Sends on what waits where the piece ends in LF.
-fn send_line<W: Writer>(stream: &mut W, piece: &[u8]) -> Result<(), Failed>
+fn flush_line<W: Writer>(stream: &mut W, piece: &[u8]) -> Result<(), Failed>
     ensures kept { Keeps (W.contents stream.old) (W.contents stream.new) }
     ensures sent { OnOk result (ends_in_lf piece.now ≡ true → W.waiting stream.new ≡ []) }
     ensures sure { W.sure stream.old ≡ true → IsOk result × (W.sure stream.new ≡ true) }
@@ -133,7 +133,7 @@ fn send_line<W: Writer>(stream: &mut W, piece: &[u8]) -> Result<(), Failed>
     if piece.is_empty() || piece[piece.len() - 1] != b'\n' {
         return Ok(());
     }
-    match stream.send() {
+    match stream.flush_waiting() {
         Ok(()) => Ok(()),
         Err(_) => Err(Failed),
     }

@@ -128,7 +128,7 @@ fn no_line_follows_a_last_lf(rt: HostRuntime) {
 
 // Whether this stands within the separators of a line.
 fn has_within(line: &[u8], inner: &[u8]) -> bool {
-    trimmed(line) == inner && is_blank(line) == inner.is_empty()
+    trim_line(line) == inner && is_blank(line) == inner.is_empty()
 }
 
 #[test]

@@ -15,13 +15,13 @@ pub trait Writer: Write {
     ghost sure: { Self → Bool };
 
     /// Takes a prefix of the piece, and answers how many bytes that is: `Write::write`, and what a writer that is sure answers to it.
-    fn take(&mut self, piece: &[u8]) -> io::Result<usize>
+    fn write_some(&mut self, piece: &[u8]) -> io::Result<usize>
         ensures bound { WritesAtMost result piece.now }
         ensures taken { WriteAppends (Self.contents self.old) (Self.contents self.new) result piece.now }
         ensures sure { sure self.old ≡ true → piece.now ≢ [] → TakesSome result × (sure self.new ≡ true) };
 
     /// Sends on what waits.
-    fn send(&mut self) -> io::Result<()>
+    fn flush_waiting(&mut self) -> io::Result<()>
         ensures kept { Keeps (Self.contents self.old) (Self.contents self.new) }
         ensures sent { OnOk result (waiting self.new ≡ []) }
         ensures sure { sure self.old ≡ true → IsOk result × (sure self.new ≡ true) };
@@ -34,11 +34,11 @@ impl<W: Write + Drop> Writer for BufWriter<W> {
 
     ghost sure = { λ _. false };
 
-    fn take(&mut self, piece: &[u8]) -> io::Result<usize> {
+    fn write_some(&mut self, piece: &[u8]) -> io::Result<usize> {
         self.write(piece)
     }
 
-    fn send(&mut self) -> io::Result<()> {
+    fn flush_waiting(&mut self) -> io::Result<()> {
         self.flush()
     }
 }
@@ -49,11 +49,11 @@ impl Writer for Stderr {
 
     ghost sure = { λ _. false };
 
-    fn take(&mut self, piece: &[u8]) -> io::Result<usize> {
+    fn write_some(&mut self, piece: &[u8]) -> io::Result<usize> {
         self.write(piece)
     }
 
-    fn send(&mut self) -> io::Result<()> {
+    fn flush_waiting(&mut self) -> io::Result<()> {
         self.flush()
     }
 }

@@ -11,7 +11,7 @@ const INCREMENT: u32 = 1;
 
 /// The state one place on.
 #[inline]
-pub(crate) fn stepped(state: u32) -> u32
+pub(crate) fn next_state(state: u32) -> u32
     ensures { result ≡ next_state state }
 {
     state.wrapping_mul(MULTIPLIER).wrapping_add(INCREMENT)

@@ -2,7 +2,7 @@
 ghost use Rattle.std.specs.Prelude.{◌≡◌, ℕ, ◌+◌, ◌-◌, ◌*◌, ◌%◌, ◌^◌, ◌<◌, ◌≤◌};
 ghost use Rattle.ant_random.specs.Stream.{SeedAndPlace, state_at, drawn};
 
-use crate::jump::{Jump, stepped};
+use crate::jump::{Jump, next_state};
 use crate::steps::Steps;
 use std::marker::{Brand, Model};
 use std::sync::ledger::{Blank, Ledger};
@@ -89,7 +89,7 @@ impl Stream {
         ensures seed { self.new.seed ≡ self.old.seed }
     {
         let number = (self.ahead >> 16) & 16383;
-        self.ahead = stepped(self.ahead);
+        self.ahead = next_state(self.ahead);
         self.place += 1;
         number % n
     }
@@ -101,7 +101,7 @@ fn fourth_state(seed: u32) -> u32
 {
     let mut state = seed;
     for _ in 0..4u8 {
-        state = stepped(state);
+        state = next_state(state);
     }
     state
 }

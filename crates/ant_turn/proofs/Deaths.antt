@@ -1,9 +1,10 @@
 -- Who is killed, and that nobody else is.
-use Rattle.std.proofs.Common.{◌≡◌, ◌≢◌, inl, inr, ℕ, zero, suc, ◌<◌, ◌≤◌, true, List, [], ◌∷◌, ◌++◌, length, take, slice_index_or, Some, None, refl, sym, ap, ◌∙◌, subst, arith}
+use Rattle.std.proofs.Common.{◌≡◌, ◌≢◌, inl, inr, ℕ, suc, ◌<◌, ◌≤◌, true, List, [], ◌∷◌, ◌++◌, length, take, slice_index_or, Some, None, refl, sym, ap, ◌∙◌, subst, arith}
 use Rattle.std.specs.List.{AllPairs, Contains}
 use Rattle.std.proofs.lemmas.List.Elements.{All-contains_itself, Contains-append_cases, Contains-append_left, Contains-append_right}
 use Rattle.std.proofs.lemmas.List.Kept.{AllPairs-cons}
 use Rattle.std.proofs.lemmas.Bool.{both_ways, false_from_ne_true, true_from_ne_false}
+use Rattle.list_lemmas.proofs.Elements.{Contains-none, Contains-one}
 use Rattle.hex_geometry.specs.declared.position.Pos.{Pos}
 use Rattle.cell_world.specs.Cell.{holds_id}
 use Rattle.cell_world.specs.World.{Cells, World, place_in, put_cell, with_cells}
@@ -14,21 +15,12 @@ use Rattle.ant_turn.specs.Sheet.{Sheet}
 use Rattle.ant_turn.proofs.Checks.{check_at-cases}
 use Rattle.ant_turn.proofs.KeptByChecks.{check_all-holds_id, check_at-Valid}
 
--- the one element of a list
-contains_one : (x y : ℕ) → Contains (x ∷ []) y → x ≡ y
-contains_one x y (zero, within, at) = at
-contains_one x y (suc k, within, at) = absurd (omega arith)
-
--- a list of none has none
-contains_none : (y : ℕ) → Contains [] y → ⊥
-contains_none y found = absurd (omega (arith, found.1))
-
 -- whom a check kills was surrounded there
 pub killed_at-surrounded : (sheet : Sheet) (cells : Cells) (p : Pos) (t : ℕ) → Contains (killed_at sheet cells p) t → (is_surrounded sheet cells p ≡ true) × (holds_id t (cells p) ≡ true)
 killed_at-surrounded sheet cells p t =
     check_at-cases sheet cells p (λ _ killed. Contains killed t → (is_surrounded sheet cells p ≡ true) × (holds_id t (cells p) ≡ true))
-    (λ found. absurd (contains_none t found))
-    (λ it found. (it.surrounded, subst (λ i. holds_id i (cells p) ≡ true) (contains_one it.ant.id t found) (holds_id-own (cells p) it.ant it.is)))
+    (λ found. absurd (Contains-none t found))
+    (λ it found. (it.surrounded, subst (λ i. holds_id i (cells p) ≡ true) (Contains-one it.ant.id t found) (holds_id-own (cells p) it.ant it.is)))
 
 -- one of the checks of a list of places that finds the ant t surrounded
 pub record Kill (sheet : Sheet) (cells : Cells) (places : List Pos) (t : ℕ) : Type 0 where
@@ -41,7 +33,7 @@ pub record Kill (sheet : Sheet) (cells : Cells) (places : List Pos) (t : ℕ) : 
 
 -- nobody is killed that isn't surrounded when its cell is checked
 pub killed_all-surrounded : (sheet : Sheet) (places : List Pos) (cells : Cells) (t : ℕ) → Contains (killed_all sheet cells places) t → Kill sheet cells places t
-killed_all-surrounded sheet [] cells t found = absurd (contains_none t found)
+killed_all-surrounded sheet [] cells t found = absurd (Contains-none t found)
 killed_all-surrounded sheet (p ∷ places) cells t found =
     elim (Contains-append_cases (killed_at sheet cells p) (killed_all sheet (check_at sheet cells p) places) t found) [
       | inl first ↦
@@ -80,12 +72,12 @@ check_all-dead sheet places w t valid dead =
 pub killed_at-gone : (sheet : Sheet) (w : World) (p : Pos) (t : ℕ) → Valid w → Contains (killed_at sheet w.cells p) t → place_in (with_cells w (check_at sheet w.cells p)) t ≡ None
 killed_at-gone sheet w p t valid =
     check_at-cases sheet w.cells p (λ now killed. Contains killed t → place_in (with_cells w now) t ≡ None)
-    (λ found. absurd (contains_none t found))
-    (λ it found. place_in-put_gone w p (after_kill sheet (w.cells p)) t valid (subst (λ i. holds_id i (w.cells p) ≡ true) (contains_one it.ant.id t found) (holds_id-own (w.cells p) it.ant it.is)) refl)
+    (λ found. absurd (Contains-none t found))
+    (λ it found. place_in-put_gone w p (after_kill sheet (w.cells p)) t valid (subst (λ i. holds_id i (w.cells p) ≡ true) (Contains-one it.ant.id t found) (holds_id-own (w.cells p) it.ant it.is)) refl)
 
 -- the killed have none after the checks
 pub killed_all-gone : (sheet : Sheet) (places : List Pos) (w : World) (t : ℕ) → sheet.corpse ≤ 9 → Valid w → Contains (killed_all sheet w.cells places) t → place_in (with_cells w (check_all sheet w.cells places)) t ≡ None
-killed_all-gone sheet [] w t light valid found = absurd (contains_none t found)
+killed_all-gone sheet [] w t light valid found = absurd (Contains-none t found)
 killed_all-gone sheet (p ∷ places) w t light valid found =
     let next : World = with_cells w (check_at sheet w.cells p) in
     let still : Valid next = check_at-Valid sheet w p light valid in

@@ -1,9 +1,9 @@
 -- Edges of instructions, conditions, checks and rounds, worked out.
-use Rattle.std.proofs.Common.{◌≡◌, ℕ, Bool, true, false, List, [], ◌∷◌, Option, Some, None, map, refl}
+use Rattle.std.proofs.Common.{◌≡◌, ℕ, Bool, true, false, [], ◌∷◌, Option, Some, None, map, refl}
+use Rattle.hex_geometry.proofs.Places.{at}
 use Rattle.hex_geometry.specs.declared.direction.Dir.TheVariants.{East, SouthEast}
 use Rattle.hex_geometry.specs.declared.direction.Side.TheVariants.{Left}
 use Rattle.hex_geometry.specs.declared.neighbourhood.Sight.TheVariants.{Ahead}
-use Rattle.hex_geometry.specs.declared.position.Pos.{Pos}
 use Rattle.hex_geometry.specs.Direction.{directions, turned_by}
 use Rattle.hex_geometry.specs.Neighbourhood.{adjacent_pos, neighbours_of, sensed_pos}
 use Rattle.hex_geometry.specs.Position.{same_pos}
@@ -17,7 +17,6 @@ use Rattle.cell_world.specs.Grid.{cell_in, world_of}
 use Rattle.cell_world.specs.Marks.{no_marks, with_mark}
 use Rattle.cell_world.specs.Opening.{floor, hill_cell, opening}
 use Rattle.cell_world.specs.World.{Cells, World, place_in, put_cell}
-use Rattle.brain_read.specs.declared.instr.Cond.{Cond}
 use Rattle.brain_read.specs.declared.instr.Cond.TheVariants.{Food, Rock as RockCondition, Home, FoeHome}
 use Rattle.brain_read.specs.declared.instr.Instr.{Instr}
 use Rattle.brain_read.specs.declared.instr.Instr.TheVariants.{Sense, Mark, Unmark, PickUp, Drop, Turn, Move, Flip}
@@ -28,10 +27,8 @@ use Rattle.ant_turn.specs.Minds.{Minds, contest_minds}
 use Rattle.ant_turn.specs.Rounds.{after_round, after_turn, start_of}
 use Rattle.ant_turn.specs.Sheet.{contest}
 use Rattle.ant_turn.specs.Turn.{Outcome, acts, execute, stepped, turn}
+use Rattle.ant_turn.proofs.RulesWorked.{said}
 use Rattle.ant_turn.proofs.TurnWorked.{beset, middle, with_foes}
-
-abbrev at : ℕ → ℕ → Pos
-at x y = record { x = x; y = y }
 
 -- a red ant in state 4, with food or without
 abbrev red_ant : Bool → Ant
@@ -44,10 +41,6 @@ holding cell ant = record cell { ant = Some ant }
 -- what the ant of the middle does, with this cell below it and this one ahead
 abbrev done : Ant → Cell → Cell → Instr → Outcome
 done ant own front instruction = execute contest 12345 (put_cell (put_cell (λ q. floor) (at 3 2) front) middle (holding own ant)) 0 middle ant instruction
-
--- what a condition says of a cell for a red and for a black ant
-abbrev said : Cond → Cell → List Bool
-said condition cell = map (meets cell condition) (Red ∷ Black ∷ [])
 
 -- a clear cell of the red hill, with a black ant on it
 abbrev visited : Cell

@@ -10,6 +10,7 @@ use Rattle.hex_geometry.proofs.Beside.{adjacent_pos_inside, neighbours_of_at, ne
 use Rattle.cell_world.specs.declared.ant.Colour.{Colour}
 use Rattle.cell_world.specs.Cell.{is_ant_of, one_if}
 use Rattle.cell_world.specs.World.{Cells}
+use Rattle.cell_world.proofs.GridSums.{one_if-le_one}
 use Rattle.ant_turn.specs.Kills.{ants_among}
 
 -- the neighbour at a place of the list is inside where the position is not on the rim
@@ -25,15 +26,11 @@ length-cond false p places = omega arith
 pub ants_among-cons : (cells : Cells) (colour : Colour) (p : Pos) (places : List Pos) → ants_among cells colour (p ∷ places) ≡ one_if (is_ant_of colour (cells p).ant) + ants_among cells colour places
 ants_among-cons cells colour p places = length-cond (is_ant_of colour (cells p).ant) p _
 
-one_if-le : (test : Bool) → one_if test ≤ 1
-one_if-le true = omega arith
-one_if-le false = omega arith
-
 -- at most all of them do
 pub ants_among-le : (cells : Cells) (colour : Colour) (places : List Pos) → ants_among cells colour places ≤ length places
 ants_among-le cells colour [] = omega arith
 ants_among-le cells colour (p ∷ places) =
-    let one : one_if (is_ant_of colour (cells p).ant) ≤ 1 = one_if-le (is_ant_of colour (cells p).ant) in
+    let one : one_if (is_ant_of colour (cells p).ant) ≤ 1 = one_if-le_one (is_ant_of colour (cells p).ant) in
     omega (arith, ants_among-cons cells colour p places, ants_among-le cells colour places)
 
 -- the cells from a place on: the cell there, and the rest

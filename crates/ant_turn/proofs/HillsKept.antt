@@ -1,5 +1,5 @@
 -- The hills that turns and rounds keep, and how many cells they have.
-use Rattle.std.proofs.Common.{◌≡◌, ℕ, ◌+◌, ◌*◌, List, [], ◌∷◌, length, sum_by, refl, sym, ◌∙◌, ap, ap₂, arith}
+use Rattle.std.proofs.Common.{◌≡◌, ℕ, ◌+◌, ◌*◌, List, [], ◌∷◌, length, sum_by, refl, sym, ◌∙◌, ap, ap₂}
 use Rattle.std.specs.Option.{is_some}
 use Rattle.std.proofs.lemmas.List.Sums.{sum_by-cons}
 use Rattle.hex_geometry.specs.declared.position.Pos.{Pos}
@@ -9,7 +9,6 @@ use Rattle.cell_world.specs.declared.kind.Kind.TheVariants.{Rock, Clear, RedHill
 use Rattle.cell_world.specs.Cell.{one_if, rock}
 use Rattle.cell_world.specs.Grid.{Grid, world_of}
 use Rattle.cell_world.specs.Opening.{IsPlan, floor, hill_count, is_hill, opening, opening_cell, opening_cells}
-use Rattle.cell_world.specs.Valid.{Valid}
 use Rattle.cell_world.specs.World.{World, area, sum_over}
 use Rattle.hex_geometry.specs.RowOrder.{pos_at}
 use Rattle.cell_world.proofs.GridSums.{total-list}

@@ -1,18 +1,14 @@
 -- What turns and rounds keep, one after another.
-use Rattle.std.proofs.Common.{◌≡◌, ℕ, zero, suc, ◌+◌, ◌*◌, ◌≤◌, Bool, true, false, refl, sym, ◌∙◌, ap, ap₂, subst, arith, add-zero, add-one}
+use Rattle.std.proofs.Common.{◌≡◌, ℕ, zero, suc, ◌+◌, ◌*◌, ◌≤◌, refl, sym, ◌∙◌, ap, ap₂, subst, arith, add-zero, add-one}
 use Rattle.cell_world.specs.Cell.{one_if}
 use Rattle.cell_world.specs.Valid.{Valid}
+use Rattle.cell_world.proofs.GridSums.{one_if-le_one}
 use Rattle.ant_turn.specs.Keeps.{Keeps}
 use Rattle.ant_turn.specs.Minds.{Minds, Fits, AreSound}
 use Rattle.ant_turn.specs.Rounds.{Moment, after_turn, after_turns, after_round, after_rounds}
 use Rattle.ant_turn.specs.Turn.{turn}
 use Rattle.ant_turn.proofs.KeepsLemmas.{Keeps-self, Keeps-then}
 use Rattle.ant_turn.proofs.KeptByTurns.{Keeps-turn}
-
--- one where a thing is, and nothing where it isn't
-one_if-le_one : (b : Bool) → one_if b ≤ 1
-one_if-le_one true = omega arith
-one_if-le_one false = omega arith
 
 -- what one turn keeps
 pub Keeps-after_turn : (minds : Minds) (seed : ℕ) (m : Moment) (t : ℕ) → AreSound minds → Valid m.world → Fits m.world minds → Keeps minds m.world (after_turn minds seed m t).world

@@ -1,6 +1,6 @@
 -- What a turn keeps of a world.
-use Rattle.std.proofs.Common.{◌≡◌, ◌≢◌, inl, inr, ℕ, ◌+◌, ◌<◌, ◌≤◌, Bool, true, false, ◌||◌, Option, Some, None, List, length, refl, sym, ◌∙◌, ap, subst, arith}
-use Rattle.std.proofs.lemmas.Bool.{false_from_ne_true}
+use Rattle.std.proofs.Common.{◌≡◌, ◌≢◌, inl, inr, ℕ, ◌+◌, ◌<◌, ◌≤◌, false, Option, Some, None, List, length, refl, sym, ◌∙◌, ap, subst, arith}
+use Rattle.std.proofs.lemmas.Bool.{false_from_ne_true, or_parts}
 use Rattle.std.proofs.lemmas.Option.{slice_get-get_or}
 use Rattle.hex_geometry.specs.declared.position.Pos.{Pos}
 use Rattle.hex_geometry.specs.Neighbourhood.{adjacent_pos}
@@ -30,11 +30,6 @@ use Rattle.ant_turn.proofs.KeepsLemmas.{Keeps-self, Keeps-then, Keeps-put, Fits-
 use Rattle.ant_turn.proofs.OwnCells.{Stays, stays_replaces}
 use Rattle.ant_turn.proofs.TurnParts.{Does, execute_parts, turn_parts}
 
--- neither of two tests holds where not one of them does
-pub neither : (a b : Bool) → (a || b) ≡ false → (a ≡ false) × (b ≡ false)
-neither true b e = absurd (cc)
-neither false b e = (refl, e)
-
 -- what holds no ant holds none
 no_ant : (o : Option Ant) → has_ant o ≡ false → o ≡ None
 no_ant None e = refl
@@ -42,11 +37,11 @@ no_ant (Some ant) e = absurd (cc)
 
 -- a cell onto which an ant can move is clear
 pub free_clear : (cell : Cell) → is_blocked cell ≡ false → cell.rocky ≡ false
-free_clear cell free = (neither cell.rocky (has_ant cell.ant) free).0
+free_clear cell free = (or_parts cell.rocky (has_ant cell.ant) free).0
 
 -- and holds no ant
 pub free_empty : (cell : Cell) → is_blocked cell ≡ false → cell.ant ≡ None
-free_empty cell free = no_ant cell.ant (neither cell.rocky (has_ant cell.ant) free).1
+free_empty cell free = no_ant cell.ant (or_parts cell.rocky (has_ant cell.ant) free).1
 
 -- so it isn't the cell of an ant
 pub free_apart : (cells : Cells) (p : Pos) (ant : Ant) (q : Pos) → (cells p).ant ≡ Some ant → is_blocked (cells q) ≡ false → p ≢ q

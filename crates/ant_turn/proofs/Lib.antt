@@ -1,27 +1,36 @@
+-- What a check does: who is killed, and what it leaves.
 pub mod Checks
 pub mod Corpses
-pub mod Counting
-pub mod Deaths
-pub mod EdgesWorked
-pub mod Fitting
 pub mod Foes
-pub mod FoodByRounds
-pub mod HillsKept
-pub mod HillsWorked
+pub mod Deaths
+-- The parts of a turn.
+pub mod OwnCells
+pub mod TurnParts
+pub mod Turns
+-- What checks, turns and rounds keep.
 pub mod KeepsLemmas
 pub mod KeptByChecks
-pub mod KeptByRounds
 pub mod KeptByTurns
-pub mod Killing
+pub mod KeptByRounds
+pub mod Fitting
+pub mod HillsKept
 pub mod MarksKept
-pub mod OwnCells
+pub mod StandsLemmas
+-- Food and kills, counted.
+pub mod Counting
+pub mod FoodByRounds
+pub mod Killing
+-- Turns that change nothing, and states under other numbers.
 pub mod QuietLemmas
 pub mod RenumberLemmas
-pub mod RenumberWorked
 pub mod RenumberedTurns
-pub mod RulesWorked
-pub mod SheetWorked
-pub mod StandsLemmas
-pub mod TurnParts
+-- The turns of those that rest may be taken first.
+pub mod RestingTurns
+pub mod RestingChunks
+-- Worked values: the rules of the task, one by one.
 pub mod TurnWorked
-pub mod Turns
+pub mod RulesWorked
+pub mod EdgesWorked
+pub mod HillsWorked
+pub mod SheetWorked
+pub mod RenumberWorked

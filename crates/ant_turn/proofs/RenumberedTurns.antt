@@ -4,6 +4,7 @@ use Rattle.std.specs.Prelude.{option_map, unwrap_or, IsSome, ◌||◌, ◌==◌,
 use Rattle.std.specs.List.{AllByRecursion}
 use Rattle.std.proofs.lemmas.Bool.{cond_both}
 use Rattle.std.proofs.lemmas.Option.{same_Some}
+use Rattle.list_lemmas.proofs.AllElements.{AllByRecursion-weaker}
 use Rattle.hex_geometry.specs.declared.position.Pos.{Pos}
 use Rattle.hex_geometry.specs.Neighbourhood.{adjacent_pos, sensed_pos}
 use Rattle.cell_world.specs.declared.ant.Ant.{Ant}
@@ -186,11 +187,6 @@ carried_side numbers Red Black minds brain state carries some = sym (redirected-
 carried_side numbers Black Red minds brain state carries some = sym (redirected-self (instruction_at minds.red state))
 carried_side numbers Black Black minds brain state carries some = carried numbers minds.black brain state carries (some refl)
 
--- what follows of each follows of all
-pub All-then : {P Q : ℕ → Type 0} → (list : List ℕ) → AllByRecursion P list → ((n : ℕ) → P n → Q n) → AllByRecursion Q list
-All-then [] all each = tt
-All-then (n ∷ list) all each = (each n all.0, All-then list all.1 each)
-
 -- where nothing is asked, it holds of all
 AllByRecursion-any : {P : ℕ → Type 0} → ((n : ℕ) → P n) → (list : List ℕ) → AllByRecursion P list
 AllByRecursion-any each [] = tt
@@ -200,7 +196,7 @@ AllByRecursion-any each (n ∷ list) = (each n, AllByRecursion-any each list)
 onward_own : (numbers : Numbers) (old new : List Instr) (colour : Colour) (state : ℕ) → Carries numbers old new → IsSome (numbers state) → AllByRecursion (HasNumber numbers colour colour) (states_of (instruction_at old state))
 onward_own numbers old new colour state carries some =
     let k : (k : ℕ) × (numbers state ≡ Some k) = the_number (numbers state) some in
-    All-then (states_of (instruction_at old state)) (carries.onward state k.0 k.1) (λ n holds _. holds)
+    AllByRecursion-weaker _ _ (states_of (instruction_at old state)) (carries.onward state k.0 k.1) (λ n holds _. holds)
 
 -- the successors of a state of a side are numbered where it's the side that matters
 onward_side : (numbers : Numbers) (colour own : Colour) (minds : Minds) (brain : List Instr) (state : ℕ) → Carries numbers (mind_of minds colour) brain → HasNumber numbers colour own state → AllByRecursion (HasNumber numbers colour own) (states_of (instruction_at (mind_of minds own) state))

@@ -134,7 +134,7 @@ unfolding around put_cell same_pos drawn random_at state_at floor
 flip = (refl, refl)
 
 -- what a condition says of a cell for a red and for a black ant
-abbrev said : Cond → Cell → List Bool
+abbrev pub said : Cond → Cell → List Bool
 said condition cell = map (meets cell condition) (Red ∷ Black ∷ [])
 
 -- cells with an unladen red ant, with a laden black one

@@ -6,6 +6,7 @@ pub mod Inner
 pub mod Keeps
 pub mod KillLaws
 pub mod Kills
+pub mod Listed
 pub mod Minds
 pub mod QuietLaws
 pub mod Renumber
@@ -14,3 +15,13 @@ pub mod Rounds
 pub mod Sheet
 pub mod Turn
 pub mod TurnLaws
+pub use Rattle.brain_read.specs.Soundness
+pub use Rattle.cell_world.specs.Cell
+pub use Rattle.cell_world.specs.Colour
+pub use Rattle.cell_world.specs.Limits
+pub use Rattle.cell_world.specs.Marks
+pub use Rattle.cell_world.specs.Valid
+pub use Rattle.cell_world.specs.World
+pub use Rattle.hex_geometry.specs.Direction
+pub use Rattle.hex_geometry.specs.Neighbourhood
+pub use Rattle.hex_geometry.specs.Position

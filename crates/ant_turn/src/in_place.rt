@@ -10,7 +10,10 @@ ghost use Rattle.ant_turn.specs.Sheet.{Sheet};
 ghost use Rattle.ant_turn.specs.Turn as turn;
 
 use crate::conditions::meets;
-use crate::own_cell::{branched, dropped, faced, in_state, marked, picked_up, unmarked, with_ant};
+use crate::own_cell::{
+    ant_after_branch, ant_after_turn, cell_after_drop, cell_after_mark, cell_after_pick_up,
+    cell_after_unmark, in_state, with_ant,
+};
 use ant_random::Stream;
 use brain_read::Instr;
 use cell_world::{Ant, Cell};
@@ -57,18 +60,18 @@ pub fn turn_in_place(
     match instruction {
         Instr::Sense { yes, no, cond, .. } => {
             let saw = meets(seen, cond, ant.colour);
-            undrawn(with_ant(own, branched(ant, saw, yes, no)))
+            undrawn(with_ant(own, ant_after_branch(ant, saw, yes, no)))
         }
-        Instr::Mark { mark, next } => undrawn(marked(own, ant, mark, next)),
-        Instr::Unmark { mark, next } => undrawn(unmarked(own, ant, mark, next)),
-        Instr::PickUp { yes, no } => undrawn(picked_up(own, ant, yes, no)),
-        Instr::Drop { next } => undrawn(dropped(own, ant, next)),
-        Instr::Turn { side, next } => undrawn(with_ant(own, faced(ant, side, next))),
+        Instr::Mark { mark, next } => undrawn(cell_after_mark(own, ant, mark, next)),
+        Instr::Unmark { mark, next } => undrawn(cell_after_unmark(own, ant, mark, next)),
+        Instr::PickUp { yes, no } => undrawn(cell_after_pick_up(own, ant, yes, no)),
+        Instr::Drop { next } => undrawn(cell_after_drop(own, ant, next)),
+        Instr::Turn { side, next } => undrawn(with_ant(own, ant_after_turn(ant, side, next))),
         Instr::Move { no, .. } => undrawn(with_ant(own, in_state(ant, no))),
         Instr::Flip { bound, yes, no } => {
             let number = stream.draw(bound);
             InPlace {
-                cell: with_ant(own, branched(ant, number == 0, yes, no)),
+                cell: with_ant(own, ant_after_branch(ant, number == 0, yes, no)),
                 drew: true,
             }
         }

@@ -27,7 +27,7 @@ pub use in_place::{InPlace, turn_in_place};
 pub use kills::{check_around, surrounded};
 pub use renumber_laws::{rounds_renumber, turns_renumber};
 pub use sheet::Sheet;
-pub use turn::{Deed, take_turn};
+pub use turn::{Deed, take_acting_turn, take_turn};
 pub use turn_laws::{
     idle_turns, openings_fit, rounds_keep, rounds_keep_food, turns_are_near, turns_draw,
     turns_follow, turns_keep, turns_keep_ants, turns_keep_food, turns_keep_weight,

@@ -20,7 +20,7 @@ pub(crate) fn in_state(ant: Ant, state: u16) -> Ant
 
 // The ant when it has rested for a turn.
 #[inline]
-pub(crate) fn rested(ant: Ant) -> Ant
+pub(crate) fn ant_after_rest(ant: Ant) -> Ant
     requires { 1 ≤ ant.resting }
     ensures { result ≡ record ant { resting = ant.resting - 1 } }
 {
@@ -32,7 +32,7 @@ pub(crate) fn rested(ant: Ant) -> Ant
 
 // The ant after a Sense or a Flip: it goes on in one of two states.
 #[inline]
-pub(crate) fn branched(ant: Ant, first: bool, met: u16, unmet: u16) -> Ant
+pub(crate) fn ant_after_branch(ant: Ant, first: bool, met: u16, unmet: u16) -> Ant
     ensures { result ≡ turn.in_state ant (if first then met else unmet) }
 {
     in_state(ant, if first { met } else { unmet })
@@ -40,7 +40,7 @@ pub(crate) fn branched(ant: Ant, first: bool, met: u16, unmet: u16) -> Ant
 
 // The ant after a Turn.
 #[inline]
-pub(crate) fn faced(ant: Ant, side: Side, next: u16) -> Ant
+pub(crate) fn ant_after_turn(ant: Ant, side: Side, next: u16) -> Ant
     ensures { result ≡ record ant { facing = turned_by ant.facing side; state = next } }
 {
     Ant {
@@ -63,7 +63,7 @@ pub(crate) fn with_ant(cell: &Cell, ant: Ant) -> Cell
 
 // The own cell after a Mark.
 #[inline]
-pub(crate) fn marked(cell: &Cell, ant: Ant, mark: u8, next: u16) -> Cell
+pub(crate) fn cell_after_mark(cell: &Cell, ant: Ant, mark: u8, next: u16) -> Cell
     requires { mark < 6 }
     ensures { result ≡ turn.with_ant (turn.marked cell.now ant.colour mark) (turn.in_state ant next) }
 {
@@ -84,7 +84,7 @@ pub(crate) fn marked(cell: &Cell, ant: Ant, mark: u8, next: u16) -> Cell
 
 // The own cell after an Unmark.
 #[inline]
-pub(crate) fn unmarked(cell: &Cell, ant: Ant, mark: u8, next: u16) -> Cell
+pub(crate) fn cell_after_unmark(cell: &Cell, ant: Ant, mark: u8, next: u16) -> Cell
     requires { mark < 6 }
     ensures { result ≡ turn.with_ant (turn.unmarked cell.now ant.colour mark) (turn.in_state ant next) }
 {
@@ -105,7 +105,7 @@ pub(crate) fn unmarked(cell: &Cell, ant: Ant, mark: u8, next: u16) -> Cell
 
 // The own cell after a PickUp.
 #[inline]
-pub(crate) fn picked_up(cell: &Cell, ant: Ant, met: u16, unmet: u16) -> Cell
+pub(crate) fn cell_after_pick_up(cell: &Cell, ant: Ant, met: u16, unmet: u16) -> Cell
     ensures { result ≡ (if ant.laden || cell.now.food == 0
         then turn.with_ant cell.now (turn.in_state ant unmet)
         else record cell.now { food = cell.now.food - 1; ant = Some (record ant { laden = true; state = met }) }) }
@@ -127,7 +127,7 @@ pub(crate) fn picked_up(cell: &Cell, ant: Ant, met: u16, unmet: u16) -> Cell
 // The own cell after a Drop.
 #[inline]
 #[tactic(auto, unfolding(cell_world::specs::Limits::most_weight))]
-pub(crate) fn dropped(cell: &Cell, ant: Ant, next: u16) -> Cell
+pub(crate) fn cell_after_drop(cell: &Cell, ant: Ant, next: u16) -> Cell
     requires { cell.now.food ≤ most_weight }
     ensures { result ≡ record cell.now { food = cell.now.food + one_if ant.laden; ant = Some (record ant { laden = false; state = next }) } }
 {
@@ -152,7 +152,7 @@ pub(crate) fn is_blocked(cell: &Cell) -> bool
 
 // The cell without its ant.
 #[inline]
-pub(crate) fn left_by_ant(cell: &Cell) -> Cell
+pub(crate) fn cell_without_ant(cell: &Cell) -> Cell
     ensures { result ≡ turn.left_by_ant cell.now }
 {
     Cell { ant: None, ..*cell }
@@ -160,7 +160,7 @@ pub(crate) fn left_by_ant(cell: &Cell) -> Cell
 
 // The cell onto which an ant has stepped.
 #[inline]
-pub(crate) fn arrived(sheet: Sheet, cell: &Cell, ant: Ant, next: u16) -> Cell
+pub(crate) fn cell_after_arrival(sheet: Sheet, cell: &Cell, ant: Ant, next: u16) -> Cell
     ensures { result ≡ turn.with_ant cell.now (turn.arrived (sheet_of sheet) ant next) }
 {
     with_ant(

@@ -5,6 +5,7 @@ ghost use Rattle.cell_world.specs.Valid.{Valid, CanThink};
 ghost use Rattle.cell_world.specs.Inner.Replaces.{Replaces};
 ghost use Rattle.cell_world.specs.World.{put, with_cells};
 ghost use Rattle.brain_read.specs.Soundness.{IsSound};
+ghost use Rattle.ant_turn.specs.Listed.{IsUp};
 ghost use Rattle.ant_turn.specs.Minds.{Fits, minds_of};
 ghost use Rattle.ant_turn.specs.Sheet.{sheet_of};
 ghost use Rattle.ant_turn.specs.Inner.Stands.{StandsAt};
@@ -14,8 +15,8 @@ use crate::brains::Brains;
 use crate::conditions::meets;
 use crate::kills::check_around;
 use crate::own_cell::{
-    arrived, branched, dropped, faced, in_state, is_blocked, left_by_ant, marked, picked_up,
-    rested, unmarked,
+    ant_after_branch, ant_after_rest, ant_after_turn, cell_after_arrival, cell_after_drop,
+    cell_after_mark, cell_after_pick_up, cell_after_unmark, cell_without_ant, in_state, is_blocked,
 };
 use crate::sheet::Sheet;
 use ant_random::Stream;
@@ -101,8 +102,8 @@ fn step<G: Ground>(
     ensures valid { Valid (G.world ground.new) }
 {
     let cell = ground.cell_at(p);
-    ground.set(p, left_by_ant(&cell));
-    ground.set(q, arrived(sheet, there, ant, next));
+    ground.set(p, cell_without_ant(&cell));
+    ground.set(q, cell_after_arrival(sheet, there, ant, next));
     Deed {
         drew: false,
         killed: check_around(ground, sheet, q),
@@ -162,31 +163,31 @@ fn execute<G: Ground>(
         } => {
             let sensed_cell = ground.cell_at(sensed(p, ant.facing, sight));
             let saw = meets(&sensed_cell, cond, ant.colour);
-            think(ground, p, branched(ant, saw, yes, no))
+            think(ground, p, ant_after_branch(ant, saw, yes, no))
         }
         Instr::Mark { mark, next } => {
             let cell = ground.cell_at(p);
-            stay(ground, p, marked(&cell, ant, mark, next))
+            stay(ground, p, cell_after_mark(&cell, ant, mark, next))
         }
         Instr::Unmark { mark, next } => {
             let cell = ground.cell_at(p);
-            stay(ground, p, unmarked(&cell, ant, mark, next))
+            stay(ground, p, cell_after_unmark(&cell, ant, mark, next))
         }
         Instr::PickUp { yes, no } => {
             let cell = ground.cell_at(p);
-            stay(ground, p, picked_up(&cell, ant, yes, no))
+            stay(ground, p, cell_after_pick_up(&cell, ant, yes, no))
         }
         Instr::Drop { next } => {
             let cell = ground.cell_at(p);
-            stay(ground, p, dropped(&cell, ant, next))
+            stay(ground, p, cell_after_drop(&cell, ant, next))
         }
-        Instr::Turn { side, next } => think(ground, p, faced(ant, side, next)),
+        Instr::Turn { side, next } => think(ground, p, ant_after_turn(ant, side, next)),
         Instr::Move { yes, no } => go(ground, sheet, p, ant, yes, no),
         Instr::Flip { bound, yes, no } => {
             let number = stream.draw(bound);
             Deed {
                 drew: true,
-                ..think(ground, p, branched(ant, number == 0, yes, no))
+                ..think(ground, p, ant_after_branch(ant, number == 0, yes, no))
             }
         }
     }
@@ -224,8 +225,41 @@ pub fn take_turn<G: Ground>(
     };
     let (p, ant) = (standing.place, standing.ant);
     if ant.resting > 0 {
-        return think(ground, p, rested(ant));
+        return think(ground, p, ant_after_rest(ant));
     }
+    let instruction = brains.of(ant.colour).at(ant.state);
+    execute(ground, brains.sheet, stream, p, ant, instruction)
+}
+
+/// Takes the turn of the ant of this id, which doesn't rest, if it is alive: what `take_turn` does, without asking whether it rests (the
+/// task's kinetics).
+#[inline(always)]
+pub fn take_acting_turn<G: Ground>(
+    ground: &mut G,
+    brains: Brains<'_>,
+    stream: &mut Stream,
+    id: u32,
+) -> Deed
+    requires fit { Fits (G.world ground.old) (minds_of brains) }
+    requires id { id < (G.world ground.old).ids }
+    requires up { IsUp (G.world ground.old) id }
+    requires place { stream.old.place + 1 < 2 ^ 63 }
+    requires room { 9 ≤ G.room ground.old }
+    ensures world { G.world ground.new ≡ with_cells (G.world ground.old)
+        (turn.turn (minds_of brains.entry) stream.old.seed (G.world ground.old) stream.old.place id).cells }
+    ensures stream { stream.new ≡ record stream.old {
+      place = stream.old.place + one_if (turn.turn (minds_of brains.entry) stream.old.seed (G.world ground.old) stream.old.place id).drew;
+    } }
+    ensures drew { result.drew ≡ (turn.turn (minds_of brains.entry) stream.old.seed (G.world ground.old) stream.old.place id).drew }
+    ensures killed { result.killed.items ≡ (turn.turn (minds_of brains.entry) stream.old.seed (G.world ground.old) stream.old.place id).killed }
+    ensures room { G.room ground.old ≤ G.room ground.new + 9 }
+    ensures valid { Valid (G.world ground.new) }
+    ensures fit { Fits (G.world ground.new) (minds_of brains.entry) }
+{
+    let Some(standing) = ground.ant_of(id) else {
+        return idle();
+    };
+    let (p, ant) = (standing.place, standing.ant);
     let instruction = brains.of(ant.colour).at(ant.state);
     execute(ground, brains.sheet, stream, p, ant, instruction)
 }

@@ -15,6 +15,7 @@ pub mod SampleWorked
 pub mod Saves
 pub mod TextEnds
 pub mod Texts
+pub mod Untouched
 pub mod Verdicts
 pub mod Viewed
 pub mod WorkedStops

@@ -1,5 +1,5 @@
 -- The text of a command is one, and does not depend on who plays.
-use Rattle.std.proofs.Common.{◌≡◌, ℕ, false, List, [], ◌∷◌, length, refl, sym, ◌∙◌, ap, subst}
+use Rattle.std.proofs.Common.{◌≡◌, ℕ, Bool, false, List, [], ◌∷◌, length, refl, sym, ◌∙◌, ap, subst}
 use Rattle.brain_minimise.specs.Text.{minimised_text}
 use Rattle.brain_minimise.proofs.Uniqueness.{one_minimised}
 use Rattle.brain_read.specs.declared.instr.Instr.{Instr}
@@ -162,6 +162,27 @@ other_workers world red black setup workers (first ∷ second ∷ []) text is = 
 other_workers world red black setup workers (first ∷ second ∷ third ∷ []) text is = is ∙ same_match setup workers first second third
 other_workers world red black setup workers (first ∷ second ∷ third ∷ next ∷ more) text is = absurd is
 
+same_far : (setup : RunSetup) (far : Bool) (first second third : FileContent) → match_output setup first second third ≡ match_output (record setup { far = far }) first second third
+unfolding match_output
+same_far setup far (WorldContent grid) (BrainContent red) (BrainContent black) = refl
+same_far setup far (WorldContent grid) (BrainContent red) (WorldContent third) = refl
+same_far setup far (WorldContent grid) (BrainContent red) (BreakContent third) = refl
+same_far setup far (WorldContent grid) (BrainContent red) (LabelledContent made places) = refl
+same_far setup far (WorldContent grid) (WorldContent second) third = refl
+same_far setup far (WorldContent grid) (BreakContent second) third = refl
+same_far setup far (WorldContent grid) (LabelledContent made places) third = refl
+same_far setup far (BrainContent first) second third = refl
+same_far setup far (BreakContent first) second third = refl
+same_far setup far (LabelledContent made places) second third = refl
+
+other_far : (world red black : List ℕ) (setup : RunSetup) (far : Bool) (contents : List FileContent) (text : List ℕ)
+    → IsJobText (RunCommand world red black setup) contents text → IsJobText (RunCommand world red black (record setup { far = far })) contents text
+other_far world red black setup far [] text is = absurd is
+other_far world red black setup far (first ∷ []) text is = absurd is
+other_far world red black setup far (first ∷ second ∷ []) text is = absurd is
+other_far world red black setup far (first ∷ second ∷ third ∷ []) text is = is ∙ same_far setup far first second third
+other_far world red black setup far (first ∷ second ∷ third ∷ next ∷ more) text is = absurd is
+
 other_workload : (seed rounds workers others : ℕ) (contents : List FileContent) (text : List ℕ) → IsJobText (WorkloadCommand seed rounds workers) contents text
     → IsJobText (WorkloadCommand seed rounds others) contents text
 other_workload seed rounds workers others [] text is = is
@@ -170,6 +191,7 @@ other_workload seed rounds workers others (content ∷ contents) text is = absur
 pub workers_change_nothing : WorkersChangeNothing
 workers_change_nothing = record {
   run = other_workers;
+  far = other_far;
   cup = λ worlds brains seed rounds workers others contents text is. is;
   workload = other_workload;
 }

@@ -63,6 +63,7 @@ game_option_lines =
     +++ codes "  --corpse N    food that a dead ant leaves, 0 to 9; 3\n"
     +++ codes "  --rest N      turns that an ant rests after a step, 0 to 255; 14\n"
     +++ codes "  --stats       adds the counts of turns and looks\n"
+    +++ codes "  --far         keeps the workers for the whole game, and sends them their jobs\n"
     +++ codes "\n"
 
 -- the options of a world that is made

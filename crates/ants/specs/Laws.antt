@@ -1,5 +1,5 @@
 -- Laws on the texts of the commands.
-use Rattle.std.specs.Prelude.{◌≡◌, ℕ, ◌+◌, ◌≤◌, true, false, List, [], ◌∷◌, ◌++◌, Option}
+use Rattle.std.specs.Prelude.{◌≡◌, ℕ, ◌+◌, ◌≤◌, Bool, true, false, List, [], ◌∷◌, ◌++◌, Option}
 use Rattle.ant_asm.specs.Assembled.{IsAssembled}
 use Rattle.ant_asm.specs.Match.{label_game, numbered_moment}
 use Rattle.ant_asm.specs.Places.{Address}
@@ -39,10 +39,12 @@ TextsEndInLf =
 abbrev pub OneText : Type 0
 OneText = (command : PlainCommand) (contents : List FileContent) (text other : List ℕ) → IsJobText command contents text → IsJobText command contents other → text ≡ other
 
--- the number of workers changes nothing of an output
+-- the number of workers changes nothing of an output, nor does it whether they stand by for the whole game
 pub record WorkersChangeNothing : Type 0 where
   pub run : (world red black : List ℕ) (setup : RunSetup) (workers : ℕ) (contents : List FileContent) (text : List ℕ)
       → IsJobText (RunCommand world red black setup) contents text → IsJobText (RunCommand world red black (record setup { workers = workers })) contents text
+  pub far : (world red black : List ℕ) (setup : RunSetup) (standing : Bool) (contents : List FileContent) (text : List ℕ)
+      → IsJobText (RunCommand world red black setup) contents text → IsJobText (RunCommand world red black (record setup { far = standing })) contents text
   pub cup : (worlds brains : List (List ℕ)) (seed rounds workers others : ℕ) (contents : List FileContent) (text : List ℕ)
       → IsJobText (CupCommand worlds brains seed rounds workers) contents text → IsJobText (CupCommand worlds brains seed rounds others) contents text
   pub workload : (seed rounds workers others : ℕ) (contents : List FileContent) (text : List ℕ)

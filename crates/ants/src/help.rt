@@ -107,6 +107,7 @@ impl Layout for GameOptionLines {
             "  --corpse N    food that a dead ant leaves, 0 to 9; 3\n",
             "  --rest N      turns that an ant rests after a step, 0 to 255; 14\n",
             "  --stats       adds the counts of turns and looks\n",
+            "  --far         keeps the workers for the whole game, and sends them their jobs\n",
             "\n"
         )
         .push_to(sink)

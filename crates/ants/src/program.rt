@@ -1,5 +1,6 @@
 // The whole program, over any shelf and any sinks.
 ghost use Rattle.std.specs.Prelude.{◌≡◌, ◌↔◌, ◌≤◌};
+ghost use Rattle.command_words.specs.Far.{words_without_far};
 ghost use Rattle.command_words.specs.Command.PlainCommand.{CupCommand, ResumeCommand, RunCommand, SaveCommand, WorkloadCommand};
 ghost use Rattle.command_words.specs.Laws.{CommandWithin, CupWithin, IsWithin, ResumeWithin, SetupWithin};
 ghost use Rattle.command_words.specs.declared.limits.NumberKind.TheVariants.{WorkerCount};
@@ -7,7 +8,6 @@ ghost use Rattle.command_words.specs.Words.{plain, plain_resume, plain_setup, te
 ghost use Rattle.match_run.specs.Run.{most_rounds};
 ghost use Rattle.round_book.specs.Book.{CanBegin};
 ghost use Rattle.round_book.specs.Led.{IsWindow};
-ghost use Rattle.ants.specs.Inner.Planning.{IsPlanned};
 ghost use Rattle.ants.specs.Inner.Reading.{CarriesOut, CarriesOutWords, ending_of};
 ghost use Rattle.ants.specs.Outside.{outside_of};
 ghost use Rattle.ants.specs.Running.{GotLine, IsComplete, IsCrowding, IsNoCommand, IsOrderly, NeverUnread, IsRefusing, IsRun, IsRunTo, Reports};
@@ -19,11 +19,12 @@ ghost use Rattle.std.specs.Process.{exit_status};
 use crate::asm::asm;
 use crate::brain::brain;
 use crate::cup::{Entry, cup};
+use crate::far::run_far;
 use crate::generating::gen_world;
 use crate::help::{help, version};
 use crate::minimise::minimise;
 use crate::resume::resume;
-use crate::run::{FileNames, dumps_of, run, run_alone};
+use crate::run::{FileNames, dumps_of, plan_of, run, run_alone};
 use crate::save::save;
 use crate::show::show;
 use crate::status::Status;
@@ -32,27 +33,16 @@ use crate::view::view;
 use crate::workload::workload;
 use ant_base::{Gate, Layout, Shelf, Sink, layout};
 use ant_turn::Sheet;
-use command_words::{Command, ResumeOptions, RunOptions, read_words};
+use command_words::{
+    Command, ResumeOptions, RunOptions, is_far_run, read_words, read_words_without_far,
+};
 use match_run::{OutOfMemory, Plan};
 use round_book::{Counts, Field, Led};
 use round_workers::BoardCrew;
 use std::alloc::Global;
 use std::process::ExitCode;
+use std::sync::Wait;
 use std::thread::Threads;
-
-// What a game is asked to do.
-fn plan_of<'w>(alloc: Global, options: RunOptions<'_>) -> Result<Plan, CommandStop<'w>>
-    ensures { IsPlanned (plain_setup options.entry) result }
-{
-    let dumps = dumps_of(alloc, options.dumps)?;
-    Ok(Plan {
-        seed: options.seed,
-        rounds: options.rounds,
-        dumps,
-        window: options.window,
-        stats: options.stats,
-    })
-}
 
 // Plays the game that the words ask for: by as many workers as they say, or, where one is to play and no counts are asked for, turn by turn.
 fn carry_out_run<'w, R: Threads + Sync, S: Shelf, K: Sink, G: Gate>(
@@ -255,8 +245,51 @@ fn carry_out_command<'w, R: Threads + Sync, S: Shelf, K: Sink, G: Gate>(
     }
 }
 
-// Carries out the command that the words are.
-fn carry_out<'w, R: Threads + Sync, S: Shelf, K: Sink, G: Gate>(
+// Carries out the command that the words are, where `--far` is no option.
+fn carry_out_here<'w, R: Threads + Sync, S: Shelf, K: Sink, G: Gate>(
+    rt: &R,
+    alloc: Global,
+    words: &'w [String],
+    shelf: &mut S,
+    out: &mut K,
+    gate: &G,
+) -> Ended<'w>
+    ensures { CarriesOutWords (words_without_far (texts words.now)) (S.state shelf.old) (S.state shelf.new) (K.state out.old) (K.state out.new) (plain_ending result) }
+{
+    match read_words_without_far(words) {
+        Ok(command) => Ended::after(carry_out_command(rt, alloc, command, shelf, out, gate)),
+        Err(refused) => Ended::RefusedWord(refused.word),
+    }
+}
+
+// Carries out a command by standing workers, where it is a run.
+fn carry_out_far_command<'w, R: Threads + Wait + Sync, S: Shelf, K: Sink, G: Gate>(
+    rt: &R,
+    alloc: Global,
+    command: Command<'w>,
+    shelf: &mut S,
+    out: &mut K,
+    gate: &G,
+) -> Result<(), CommandStop<'w>>
+    requires within { CommandWithin (plain command) }
+    ensures { CarriesOut (plain command.entry) (S.state shelf.old) (S.state shelf.new) (K.state out.old) (K.state out.new) (ending_of result) }
+{
+    match command {
+        Command::Run {
+            world,
+            red,
+            black,
+            options,
+        } => {
+            let names = FileNames { world, red, black };
+            run_far(rt, alloc, names, options, shelf, out, gate)
+        }
+        other => carry_out_command(rt, alloc, other, shelf, out, gate),
+    }
+}
+
+// Carries out the command that the words are, by standing workers where it is a run.
+fn carry_out_far<'w, R: Threads + Wait + Sync, S: Shelf, K: Sink, G: Gate>(
     rt: &R,
     alloc: Global,
     words: &'w [String],
@@ -267,12 +300,13 @@ fn carry_out<'w, R: Threads + Sync, S: Shelf, K: Sink, G: Gate>(
     ensures { CarriesOutWords (texts words.now) (S.state shelf.old) (S.state shelf.new) (K.state out.old) (K.state out.new) (plain_ending result) }
 {
     match read_words(words) {
-        Ok(command) => Ended::after(carry_out_command(rt, alloc, command, shelf, out, gate)),
+        Ok(command) => Ended::after(carry_out_far_command(rt, alloc, command, shelf, out, gate)),
         Err(refused) => Ended::RefusedWord(refused.word),
     }
 }
 
-/// Does all that the program does, over a shelf of files, an output and a place for faults.
+/// Does all that the program does without standing workers, over a shelf of files, an output and a place for faults. To it `--far` is no
+/// option of `run`, nor any word that a command has.
 ///
 /// `words` doesn't hold the program's name. The words are read first; then each file is fetched and read before the next one, in the order
 /// of its word, and each once; then the text is written. The answer is
@@ -293,7 +327,37 @@ fn carry_out<'w, R: Threads + Sync, S: Shelf, K: Sink, G: Gate>(
 ///
 /// The first clause says all of it: the others follow from it, by `no_command_run`, `words_run`, `orderly_run`, `complete_run`,
 /// `crowding_run`, `refusing_run` and `read_run` of proofs/Verdicts.antt. They stand here for callers, each in words of its own.
-pub fn run_ants<R: Threads + Sync, S: Shelf, K: Sink, E: Sink, G: Gate>(
+pub fn run_here<R: Threads + Sync, S: Shelf, K: Sink, E: Sink, G: Gate>(
+    rt: &R,
+    alloc: Global,
+    words: &[String],
+    shelf: &mut S,
+    out: &mut K,
+    err: &mut E,
+    gate: &G,
+) -> Status
+    ensures run { IsRun (words_without_far (texts words.now)) (outside_of (S.state shelf.old) (K.state out.old) (E.state err.old))
+        (outside_of (S.state shelf.new) (K.state out.new) (E.state err.new)) result }
+    ensures words { (result ≡ Status.Words) ↔ IsNoCommand (words_without_far (texts words.now)) }
+    ensures orderly { IsOrderly (words_without_far (texts words.now)) (outside_of (S.state shelf.old) (K.state out.old) (E.state err.old))
+        (outside_of (S.state shelf.new) (K.state out.new) (E.state err.new)) }
+    ensures complete { IsComplete (words_without_far (texts words.now)) (outside_of (S.state shelf.old) (K.state out.old) (E.state err.old))
+        (outside_of (S.state shelf.new) (K.state out.new) (E.state err.new)) result }
+    ensures crowding { IsCrowding (words_without_far (texts words.now)) result }
+    ensures refusing { IsRefusing (words_without_far (texts words.now)) (outside_of (S.state shelf.old) (K.state out.old) (E.state err.old))
+        (outside_of (S.state shelf.new) (K.state out.new) (E.state err.new)) result }
+    ensures read { NeverUnread (words_without_far (texts words.now)) (outside_of (S.state shelf.old) (K.state out.old) (E.state err.old)) result }
+{
+    let ended = carry_out_here(rt, alloc, words, shelf, out, gate);
+    report(ended, err)
+}
+
+/// Does all that the program does, over a shelf of files, an output and a place for faults: `run_here` does it for all words but a `run` among
+/// whose words `--far` stands, right or wrong. Such a run's workers stand by for the whole game, and the call may wait for one of them; what
+/// it promises holds if it returns.
+///
+/// The clauses are those of `run_here`, of all words: the first says all of it, and its doc says which status comes when.
+pub fn run_ants<R: Threads + Wait + Sync, S: Shelf, K: Sink, E: Sink, G: Gate>(
     rt: &R,
     alloc: Global,
     words: &[String],
@@ -314,7 +378,10 @@ pub fn run_ants<R: Threads + Sync, S: Shelf, K: Sink, E: Sink, G: Gate>(
         (outside_of (S.state shelf.new) (K.state out.new) (E.state err.new)) result }
     ensures read { NeverUnread (texts words.now) (outside_of (S.state shelf.old) (K.state out.old) (E.state err.old)) result }
 {
-    let ended = carry_out(rt, alloc, words, shelf, out, gate);
+    if !is_far_run(words) {
+        return run_here(rt, alloc, words, shelf, out, err, gate);
+    }
+    let ended = carry_out_far(rt, alloc, words, shelf, out, gate);
     report(ended, err)
 }
 
@@ -350,7 +417,7 @@ fn report_stop<E: Sink>(stop: &CommandStop<'_>, err: &mut E) -> Status
 }
 
 /// Does what `run_ants` does, and gives the number of its status as an exit code: all that `main` does once it has its words and its memory.
-pub fn run_to_exit<R: Threads + Sync, S: Shelf, K: Sink, E: Sink, G: Gate>(
+pub fn run_to_exit<R: Threads + Wait + Sync, S: Shelf, K: Sink, E: Sink, G: Gate>(
     rt: &R,
     alloc: Global,
     words: &[String],

@@ -5,11 +5,11 @@ ghost use Rattle.ant_turn.specs.Sheet.{sheet_of};
 ghost use Rattle.cell_world.specs.Grid.{world_of};
 ghost use Rattle.command_words.specs.Command.PlainCommand.{RunCommand};
 ghost use Rattle.command_words.specs.Command.{RunSetup};
-ghost use Rattle.command_words.specs.Words.{plain_dumps};
+ghost use Rattle.command_words.specs.Words.{plain_dumps, plain_setup};
 ghost use Rattle.match_run.specs.Counts.{whole_text};
 ghost use Rattle.match_run.specs.Dumps.{chooses};
 ghost use Rattle.match_run.specs.Play.{PushedBy};
-ghost use Rattle.ants.specs.Inner.Planning.{CanPlay, IsSheetOf, Plans, setting_contents};
+ghost use Rattle.ants.specs.Inner.Planning.{CanPlay, IsPlanned, IsSheetOf, Plans, setting_contents};
 ghost use Rattle.ants.specs.Inner.Reading.{CarriesOut, ReadsFiles, ending_of, outcome_of};
 ghost use Rattle.ants.specs.Jobs.{chosen_rounds, game_files};
 
@@ -19,7 +19,7 @@ use ant_base::{Shelf, Sink};
 use ant_turn::{Brains, Sheet};
 use brain_read::Brain;
 use cell_world::World;
-use command_words::{DumpWord, Numbers};
+use command_words::{DumpWord, Numbers, RunOptions};
 use match_run::{Dumps, OutOfMemory, Plan, PlayFault, Rounds, play, play_alone};
 use round_book::Crew;
 use std::alloc::Global;
@@ -64,6 +64,20 @@ pub fn dumps_of(alloc: Global, word: DumpWord<'_>) -> Result<Dumps, OutOfMemory>
             Ok(Dumps::Chosen(rounds))
         }
     }
+}
+
+/// What a game is asked to do.
+pub fn plan_of<'w>(alloc: Global, options: RunOptions<'_>) -> Result<Plan, CommandStop<'w>>
+    ensures { IsPlanned (plain_setup options.entry) result }
+{
+    let dumps = dumps_of(alloc, options.dumps)?;
+    Ok(Plan {
+        seed: options.seed,
+        rounds: options.rounds,
+        dumps,
+        window: options.window,
+        stats: options.stats,
+    })
 }
 
 // The files of a game, in the order in which its words name them: each is read before the next one is fetched, and both brains are fetched

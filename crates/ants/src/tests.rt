@@ -21,6 +21,7 @@ use crate::status::Status;
 use ant_base::{Calls, Files, Gate, MemShelf, MemSink, NoGate};
 use std::alloc::Global;
 use std::process::Abort;
+use std::sync::Wait;
 use std::test::Fail;
 use std::thread::Threads;
 
@@ -108,12 +109,12 @@ fn files_of(alloc: Global, job: &Job<'_>) -> Result<Files, Fail> {
 }
 
 // Carries out a command.
-fn answer<R: Threads + Sync>(rt: &R, alloc: Global, job: &Job<'_>) -> Result<Outcome, Fail> {
+fn answer<R: Threads + Wait + Sync>(rt: &R, alloc: Global, job: &Job<'_>) -> Result<Outcome, Fail> {
     answer_over(rt, alloc, job, files_of(alloc, job)?, &NoGate)
 }
 
 // Carries out a command over these files, whose workers call this gate.
-fn answer_over<R: Threads + Sync, G: Gate>(
+fn answer_over<R: Threads + Wait + Sync, G: Gate>(
     rt: &R,
     alloc: Global,
     job: &Job<'_>,
@@ -173,7 +174,7 @@ fn ending_of(outcome: &Outcome) -> Result<Ending<'_>, Fail> {
 }
 
 // Asserts what comes of a command.
-fn check<R: Threads + Sync + Abort>(
+fn check<R: Threads + Wait + Sync + Abort>(
     rt: &R,
     alloc: Global,
     job: &Job<'_>,
@@ -183,7 +184,7 @@ fn check<R: Threads + Sync + Abort>(
 }
 
 // Asserts what comes of a command over these files, whose workers call this gate.
-fn check_over<R: Threads + Sync + Abort, G: Gate>(
+fn check_over<R: Threads + Wait + Sync + Abort, G: Gate>(
     rt: &R,
     alloc: Global,
     job: &Job<'_>,
@@ -227,7 +228,7 @@ fn is_told(text: &str, told: &Told<'_>) -> bool {
 }
 
 // Asserts that a command is done, and how its text is told.
-fn check_text<R: Threads + Sync + Abort>(
+fn check_text<R: Threads + Wait + Sync + Abort>(
     rt: &R,
     alloc: Global,
     job: &Job<'_>,
@@ -273,7 +274,7 @@ impl<'t> Job<'t> {
 }
 
 // Asserts of each row what comes of the command with its first text: the second is what the output gets at Done, and else the errors.
-fn check_rows<R: Threads + Sync + Abort>(
+fn check_rows<R: Threads + Wait + Sync + Abort>(
     rt: &R,
     alloc: Global,
     job: Job<'_>,

@@ -1,1 +1,2 @@
+-- What is left of a table.
 pub mod Left

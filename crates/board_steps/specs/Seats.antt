@@ -1,5 +1,6 @@
 -- What the two seats of a table know, from step to step (this project's own).
 use Rattle.std.specs.Prelude.{◌≡◌, ℕ, ◌+◌, ◌-◌, ◌≤◌, ◌<◌, ◌^◌, true, false, [], ◌∷◌, ◌++◌, slice_index_or, None}
+use Rattle.std.specs.Vec.{vec_capacity}
 use Rattle.board_steps.specs.declared.Laid.{Laid}
 use Rattle.round_book.specs.Book.{FieldValue, IsLentFor, StandsFor}
 use Rattle.round_book.specs.Machine.{times}
@@ -10,6 +11,7 @@ use Rattle.round_workers.specs.declared.board.view.Basis.{Basis}
 use Rattle.round_workers.specs.declared.board.view.Phase.TheVariants.{Resting}
 use Rattle.round_workers.specs.declared.board.view.Try.TheVariants.{Never}
 use Rattle.round_workers.specs.declared.board.view.View.{View}
+use Rattle.round_workers.specs.declared.board.worker.Worker.{Worker}
 use Rattle.round_workers.specs.BoardPlays.{has_seen, made_one, newcomer}
 use Rattle.round_workers.specs.BoardSeats.{IsSeatOf, basis_of, known, left_look, board_window}
 use Rattle.round_workers.specs.BoardTotals.{once_below}
@@ -69,3 +71,8 @@ pub record AreLeft (board : Board) (v : View) (closed : Closed) : Type 0 where
   pub book : StandsFor (board_window board) closed.book
   pub drawn : (k : ℕ) → times k v.drawn ≡ once_below k closed.drawn
   pub looks : (k : ℕ) → k < (basis_of board).to - (basis_of board).from → slice_index_or closed.looks.items k None ≡ left_look (board_window board) v k
+
+-- a worker with the second seat, which drew nothing yet, and with room for the turns of the board
+pub record CanWork (board : Board) (worker : Worker) : Type 0 where
+  pub seat : Shows board (second_at (basis_of board)) worker.seat
+  pub room : 7 ≤ vec_capacity worker.made

@@ -1,8 +1,9 @@
-//! Plays two worked tables of the steps of a board, on one thread, and prints a line for each step with its answer.
+//! Plays three worked tables of the steps of a board, on one thread, and prints a line for each step with its answer.
 //!
 //! The board is for the seven turns of a world with seven ants, and has two seats, a and b, which draw the tickets 0 and 1. In the first
 //! table b puts the look of turn 1; a takes the book and finds no look of turn 0; then a puts that one, and b takes the book and settles both
-//! turns. What the board leaves is settled on this thread. In the second table nobody takes the book.
+//! turns. What the board leaves is settled on this thread. In the second table nobody takes the book. In the third one a worker has the seat b
+//! and works alone: it makes all looks, and settles each as soon as it is there, so that the book is at the window's end and no look is left.
 //!
 //! The conditions of all calls are proved from what the calls tell of the two seats, and so is what `close_first` and `close_second` say of
 //! the looks and the tickets that are left. The other answers are tested, by what is printed. It is this project's own.
@@ -11,16 +12,17 @@
 ghost use Rattle.std.specs.Prelude.{◌≡◌, ◌≢◌, ℕ, ◌+◌, ◌<◌, ◌≤◌, ◌^◌, true, slice_index_or, IfSome, OnSome};
 ghost use Rattle.round_book.specs.Book.{CanBegin, StandsFor, StandsOn, window_of};
 ghost use Rattle.round_book.specs.Machine.{times};
-ghost use Rattle.round_book.specs.Window.{look_for};
+ghost use Rattle.round_book.specs.Window.{guesses_for, look_for};
 ghost use Rattle.round_workers.specs.BoardPlays.{drew, has_put, views_joined};
 ghost use Rattle.round_workers.specs.BoardSeats as seats;
 ghost use Rattle.round_workers.specs.BoardSeats.{IsSeatOf, basis_of, known};
-ghost use Rattle.board_steps.specs.Seats.{AreLeft, IsFirst, IsFor, IsLaid, IsSecond, Shows, calm, first_at, second_at, view_taking};
+ghost use Rattle.board_steps.specs.Seats.{AreLeft, CanWork, IsFirst, IsFor, IsLaid, IsSecond, Shows, calm, first_at, second_at, view_taking};
 
+use ant_base::NoGate;
 use ant_turn::{Brains, Sheet};
 use brain_read::{Brain, read_brain};
 use round_book::{Book, Cause, Field, advance};
-use round_workers::{Board, Closed, Seat};
+use round_workers::{Board, Closed, Seat, Worker};
 use spec_record::{Look, guess_at, guesses, look};
 use std::alloc::Global;
 use std::process::ExitCode;
@@ -355,9 +357,62 @@ fn play_second<R: Print>(rt: &R, alloc: Global, field: &mut Field<'_>) -> Option
     Some(())
 }
 
-// Says the guess of each turn.
-fn tell_guesses<R: Print>(rt: &R, alloc: Global, field: &Field<'_>) -> Option<()>
-    requires { CanBegin field.now 0 7 }
+// A worker with the seat b, and with room for the turns whose looks it makes.
+fn worker_with(alloc: Global, board: &Board, b: Seat) -> Option<Worker>
+    requires b { Shows board.now (second_at (basis_of board.now)) b }
+    requires from { (basis_of board.now).from ≡ 0 }
+    requires to { (basis_of board.now).to ≡ 7 }
+    ensures { IfSome result (CanWork board.now) }
+{
+    let made = Vec::with_capacity(alloc, TURNS as usize).ok()?;
+    Some(Worker {
+        number: 0,
+        seat: b,
+        made,
+    })
+}
+
+// Has the worker work, and closes the board.
+fn work_alone<R: Print>(
+    rt: &R,
+    board: Board,
+    field: &Field<'_>,
+    guesses: &[u64],
+    a: Seat,
+    mut worker: Worker,
+) -> Option<Closed>
+    requires field { IsFor field.now board }
+    requires guesses { guesses.now ≡ guesses_for (window_of field.now 0 7) }
+    requires a { Shows board (first_at (basis_of board)) a }
+    requires worker { CanWork board worker }
+    ensures { IfSome result (λ closed. StandsFor (seats.board_window board) closed.book) }
+{
+    worker.work(&board, field, guesses, &NoGate);
+    let Worker {
+        number: _,
+        seat,
+        made,
+    } = worker;
+    println!(rt; "b works alone: {made:?}").ok()?;
+    close(rt, board, a, seat)
+}
+
+// Plays the third table.
+fn play_third<R: Print>(rt: &R, alloc: Global, field: &mut Field<'_>) -> Option<()>
+    requires { CanBegin field.old 0 7 }
+{
+    let Laid { board, a, b } = lay(alloc, field)?;
+    let guesses = guesses_of(alloc, field)?;
+    let worker = worker_with(alloc, &board, b)?;
+    let _closed = work_alone(rt, board, field, &guesses, a, worker)?;
+    Some(())
+}
+
+// The guess of each turn.
+fn guesses_of(alloc: Global, field: &Field<'_>) -> Option<Vec<u64>>
+    requires ids { 7 ≤ field.now.world.ids }
+    requires lasting { field.now.place + 7 < 2 ^ 63 }
+    ensures { IfSome result (λ all. all.items ≡ guesses_for (window_of field.now 0 7)) }
 {
     let Ok(all) = guesses(
         alloc,
@@ -369,10 +424,18 @@ fn tell_guesses<R: Print>(rt: &R, alloc: Global, field: &Field<'_>) -> Option<()
     ) else {
         return None;
     };
+    Some(all)
+}
+
+// Says the guess of each turn.
+fn tell_guesses<R: Print>(rt: &R, alloc: Global, field: &Field<'_>) -> Option<()>
+    requires { CanBegin field.now 0 7 }
+{
+    let all = guesses_of(alloc, field)?;
     println!(rt; "guesses: {all:?}").ok()
 }
 
-// Plays both tables, each on a field of its own.
+// Plays the tables, each on a field of its own.
 fn play<R: Print>(rt: &R, alloc: Global) -> Option<()> {
     let red = brain_of(alloc, "Flip 2 0 0")?;
     let black = brain_of(alloc, "Move 0 0")?;
@@ -387,7 +450,10 @@ fn play<R: Print>(rt: &R, alloc: Global) -> Option<()> {
     play_first(rt, alloc, &mut field)?;
     println!(rt; "second table").ok()?;
     let mut field = field_of(alloc, brains)?;
-    play_second(rt, alloc, &mut field)
+    play_second(rt, alloc, &mut field)?;
+    println!(rt; "third table").ok()?;
+    let mut field = field_of(alloc, brains)?;
+    play_third(rt, alloc, &mut field)
 }
 
 fn main(rt: HostRuntime) -> ExitCode {

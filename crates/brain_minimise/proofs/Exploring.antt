@@ -4,16 +4,17 @@ use Rattle.std.specs.List.{Contains}
 use Rattle.std.proofs.lemmas.Bool.{cases_eq, cases_lt, false≢true}
 use Rattle.std.proofs.lemmas.List.{get_or-replicate, get_or-set_same, get_or-set_other, get_or_past, length-replicate, length-set, length_push}
 use Rattle.std.proofs.lemmas.List.Elements.{Contains-append_left, Contains-push, Contains-push_cases}
+use Rattle.list_lemmas.proofs.AllElements.{AllByRecursion-at}
 use Rattle.brain_read.specs.declared.instr.Instr.{Instr}
 use Rattle.brain_read.specs.declared.instr.Instr.TheVariants.{Sense, Mark, Unmark, PickUp, Drop, Turn, Move, Flip}
 use Rattle.brain_read.specs.Grammar.{states_of}
 use Rattle.brain_read.specs.Soundness.{IsSound}
+use Rattle.brain_read.proofs.SoundnessLemmas.{states_of-below}
 use Rattle.ant_turn.specs.Turn.{instruction_at}
 use Rattle.brain_minimise.specs.Reach.{IsReachable}
 use Rattle.brain_minimise.specs.Reach.IsReachable.{Start, Next}
 use Rattle.brain_minimise.specs.Inner.Exploring.{AreSeen, is_seen, with_waiting}
 use Rattle.brain_minimise.specs.Inner.Successors.{first_next, last_next}
-use Rattle.brain_minimise.proofs.Redirecting.{All-at, states-below}
 
 -- how many states weren't seen
 abbrev pub unseen : List Bool → ℕ
@@ -195,10 +196,10 @@ named_cases (Flip bound met unmet) state there = one_of_two met unmet state ther
 
 -- the first and the last state of a sound instruction are states of the brain
 pub first-below : (n : ℕ) (x : Instr) → IsSound n x → first_next x < n
-first-below n x sound = All-at (λ state. state < n) (states_of x) (first_next x) (states-below n x sound) (first_named x)
+first-below n x sound = AllByRecursion-at (λ state. state < n) (states_of x) (first_next x) (states_of-below n x sound) (first_named x)
 
 pub last-below : (n : ℕ) (x : Instr) → IsSound n x → last_next x < n
-last-below n x sound = All-at (λ state. state < n) (states_of x) (last_next x) (states-below n x sound) (last_named x)
+last-below n x sound = AllByRecursion-at (λ state. state < n) (states_of x) (last_next x) (states_of-below n x sound) (last_named x)
 
 -- a state is taken, and its two successors are visited
 pub Explores-more : (brain : List Instr) (seen : List Bool) (rest : List ℕ) (state first last : ℕ) → Explores brain seen (rest ++ state ∷ []) → first ≡ first_next (instruction_at brain state) → last ≡ last_next (instruction_at brain state) → first < length brain → last < length brain →

@@ -1,227 +1,29 @@
 -- Each brain has a minimised one: its states are explored, parted into classes, numbered and merged, step by step.
 use Rattle.std.proofs.Common.{◌≡◌, ◌⊎◌, inl, inr, ℕ, zero, suc, ◌+◌, ◌*◌, ◌<◌, ◌≤◌, Bool, true, false, List, [], ◌∷◌, ◌++◌, length, replicate, slice_index, slice_index_or, slice_set, Option, Some, None, unwrap_or, refl, sym, ◌∙◌, ap, subst, arith}
-use Rattle.std.specs.List.{AllByRecursion, IsDistinct}
+use Rattle.std.specs.List.{IsDistinct}
 use Rattle.std.specs.Prelude.{nat_eq}
-use Rattle.std.proofs.lemmas.Bool.{cases_Bool, cases_eq, cases_lt, false≢true, ne_eqb}
+use Rattle.std.proofs.lemmas.Bool.{cases_Bool, cases_eq, false≢true, ne_eqb}
 use Rattle.std.proofs.lemmas.List.{get_or_push, length-replicate, length_push}
-use Rattle.std.proofs.lemmas.Option.{none-some, same_Some}
+use Rattle.std.proofs.lemmas.Option.{none-some}
+use Rattle.list_lemmas.proofs.AllElements.{AllByRecursion-push}
 use Rattle.ant_turn.specs.Renumber.{redirected}
 use Rattle.ant_turn.specs.Turn.{instruction_at}
-use Rattle.brain_read.specs.Soundness.{IsBrain, IsSound}
-use Rattle.brain_read.specs.declared.instr.Cond.{Cond}
-use Rattle.brain_read.specs.declared.instr.Cond.TheVariants as condition
+use Rattle.brain_read.specs.Soundness.{IsBrain}
 use Rattle.brain_read.specs.declared.instr.Instr.{Instr}
-use Rattle.brain_read.specs.declared.instr.Instr.TheVariants.{Sense, Mark, Unmark, PickUp, Drop, Turn, Move, Flip}
-use Rattle.hex_geometry.specs.declared.direction.Side.{Side}
-use Rattle.hex_geometry.specs.declared.direction.Side.TheVariants as side
-use Rattle.hex_geometry.specs.declared.neighbourhood.Sight.{Sight}
-use Rattle.hex_geometry.specs.declared.neighbourhood.Sight.TheVariants as sight
 use Rattle.brain_minimise.specs.Existence.{HasMinimised}
-use Rattle.brain_minimise.specs.Inner.Classes.{AreClasses, AreStable, DoAlike, slack}
+use Rattle.brain_minimise.specs.Inner.Classes.{AreClasses, AreStable, slack}
 use Rattle.brain_minimise.specs.Inner.Exploring.{AreSeen, is_seen, with_waiting}
 use Rattle.brain_minimise.specs.Inner.Kept.{AreKept}
 use Rattle.brain_minimise.specs.Inner.Numbering.{AreNumbers, IsRising, IsTable}
 use Rattle.brain_minimise.specs.Inner.Successors.{first_next, last_next}
 use Rattle.brain_minimise.specs.Minimised.{new_number}
+use Rattle.brain_minimise.proofs.CasesInstruction.{cases_instruction}
 use Rattle.brain_minimise.proofs.Exploring.{Explores, Explores-all, Explores-below, Explores-more, Explores-start, first-below, last-below, step-work, unseen}
 use Rattle.brain_minimise.proofs.Merging.{IsMinimised-from}
 use Rattle.brain_minimise.proofs.Numbers.{IsKeeping, IsKeeping-all, IsKeeping-more, IsKeeping-none, IsKeeping-skip, IsNumbering, IsNumbering-all, IsNumbering-more, IsNumbering-none, IsNumbering-skip, IsTabling, IsTabling-all, IsTabling-more, IsTabling-none}
+use Rattle.brain_minimise.proofs.Ranks.{is_number}
 use Rattle.brain_minimise.proofs.Redirecting.{instruction-sound}
 use Rattle.brain_minimise.proofs.Refining.{AreClasses-one, IsRefining, IsRefining-classes, IsRefining-finer, IsRefining-parts, IsRefining-stays}
-
--- parameters of instructions are one, or not
-cases_sight : (a b : Sight) → (a ≡ b) ⊎ (a ≡ b → ⊥)
-cases_sight sight.Here sight.Here = inl refl
-cases_sight sight.Here sight.Ahead = inr (λ same. cc)
-cases_sight sight.Here sight.LeftAhead = inr (λ same. cc)
-cases_sight sight.Here sight.RightAhead = inr (λ same. cc)
-cases_sight sight.Ahead sight.Here = inr (λ same. cc)
-cases_sight sight.Ahead sight.Ahead = inl refl
-cases_sight sight.Ahead sight.LeftAhead = inr (λ same. cc)
-cases_sight sight.Ahead sight.RightAhead = inr (λ same. cc)
-cases_sight sight.LeftAhead sight.Here = inr (λ same. cc)
-cases_sight sight.LeftAhead sight.Ahead = inr (λ same. cc)
-cases_sight sight.LeftAhead sight.LeftAhead = inl refl
-cases_sight sight.LeftAhead sight.RightAhead = inr (λ same. cc)
-cases_sight sight.RightAhead sight.Here = inr (λ same. cc)
-cases_sight sight.RightAhead sight.Ahead = inr (λ same. cc)
-cases_sight sight.RightAhead sight.LeftAhead = inr (λ same. cc)
-cases_sight sight.RightAhead sight.RightAhead = inl refl
-
-cases_side : (a b : Side) → (a ≡ b) ⊎ (a ≡ b → ⊥)
-cases_side side.Left side.Left = inl refl
-cases_side side.Left side.Right = inr (λ same. cc)
-cases_side side.Right side.Left = inr (λ same. cc)
-cases_side side.Right side.Right = inl refl
-
-cases_condition : (a b : Cond) → (a ≡ b) ⊎ (a ≡ b → ⊥)
-cases_condition condition.Friend condition.Friend = inl refl
-cases_condition condition.Friend condition.Foe = inr (λ same. cc)
-cases_condition condition.Friend condition.FriendWithFood = inr (λ same. cc)
-cases_condition condition.Friend condition.FoeWithFood = inr (λ same. cc)
-cases_condition condition.Friend condition.Food = inr (λ same. cc)
-cases_condition condition.Friend condition.Rock = inr (λ same. cc)
-cases_condition condition.Friend condition.FoeMarker = inr (λ same. cc)
-cases_condition condition.Friend condition.Home = inr (λ same. cc)
-cases_condition condition.Friend condition.FoeHome = inr (λ same. cc)
-cases_condition condition.Foe condition.Friend = inr (λ same. cc)
-cases_condition condition.Foe condition.Foe = inl refl
-cases_condition condition.Foe condition.FriendWithFood = inr (λ same. cc)
-cases_condition condition.Foe condition.FoeWithFood = inr (λ same. cc)
-cases_condition condition.Foe condition.Food = inr (λ same. cc)
-cases_condition condition.Foe condition.Rock = inr (λ same. cc)
-cases_condition condition.Foe condition.FoeMarker = inr (λ same. cc)
-cases_condition condition.Foe condition.Home = inr (λ same. cc)
-cases_condition condition.Foe condition.FoeHome = inr (λ same. cc)
-cases_condition condition.FriendWithFood condition.Friend = inr (λ same. cc)
-cases_condition condition.FriendWithFood condition.Foe = inr (λ same. cc)
-cases_condition condition.FriendWithFood condition.FriendWithFood = inl refl
-cases_condition condition.FriendWithFood condition.FoeWithFood = inr (λ same. cc)
-cases_condition condition.FriendWithFood condition.Food = inr (λ same. cc)
-cases_condition condition.FriendWithFood condition.Rock = inr (λ same. cc)
-cases_condition condition.FriendWithFood condition.FoeMarker = inr (λ same. cc)
-cases_condition condition.FriendWithFood condition.Home = inr (λ same. cc)
-cases_condition condition.FriendWithFood condition.FoeHome = inr (λ same. cc)
-cases_condition condition.FoeWithFood condition.Friend = inr (λ same. cc)
-cases_condition condition.FoeWithFood condition.Foe = inr (λ same. cc)
-cases_condition condition.FoeWithFood condition.FriendWithFood = inr (λ same. cc)
-cases_condition condition.FoeWithFood condition.FoeWithFood = inl refl
-cases_condition condition.FoeWithFood condition.Food = inr (λ same. cc)
-cases_condition condition.FoeWithFood condition.Rock = inr (λ same. cc)
-cases_condition condition.FoeWithFood condition.FoeMarker = inr (λ same. cc)
-cases_condition condition.FoeWithFood condition.Home = inr (λ same. cc)
-cases_condition condition.FoeWithFood condition.FoeHome = inr (λ same. cc)
-cases_condition condition.Food condition.Friend = inr (λ same. cc)
-cases_condition condition.Food condition.Foe = inr (λ same. cc)
-cases_condition condition.Food condition.FriendWithFood = inr (λ same. cc)
-cases_condition condition.Food condition.FoeWithFood = inr (λ same. cc)
-cases_condition condition.Food condition.Food = inl refl
-cases_condition condition.Food condition.Rock = inr (λ same. cc)
-cases_condition condition.Food condition.FoeMarker = inr (λ same. cc)
-cases_condition condition.Food condition.Home = inr (λ same. cc)
-cases_condition condition.Food condition.FoeHome = inr (λ same. cc)
-cases_condition condition.Rock condition.Friend = inr (λ same. cc)
-cases_condition condition.Rock condition.Foe = inr (λ same. cc)
-cases_condition condition.Rock condition.FriendWithFood = inr (λ same. cc)
-cases_condition condition.Rock condition.FoeWithFood = inr (λ same. cc)
-cases_condition condition.Rock condition.Food = inr (λ same. cc)
-cases_condition condition.Rock condition.Rock = inl refl
-cases_condition condition.Rock condition.FoeMarker = inr (λ same. cc)
-cases_condition condition.Rock condition.Home = inr (λ same. cc)
-cases_condition condition.Rock condition.FoeHome = inr (λ same. cc)
-cases_condition condition.FoeMarker condition.Friend = inr (λ same. cc)
-cases_condition condition.FoeMarker condition.Foe = inr (λ same. cc)
-cases_condition condition.FoeMarker condition.FriendWithFood = inr (λ same. cc)
-cases_condition condition.FoeMarker condition.FoeWithFood = inr (λ same. cc)
-cases_condition condition.FoeMarker condition.Food = inr (λ same. cc)
-cases_condition condition.FoeMarker condition.Rock = inr (λ same. cc)
-cases_condition condition.FoeMarker condition.FoeMarker = inl refl
-cases_condition condition.FoeMarker condition.Home = inr (λ same. cc)
-cases_condition condition.FoeMarker condition.FoeHome = inr (λ same. cc)
-cases_condition condition.Home condition.Friend = inr (λ same. cc)
-cases_condition condition.Home condition.Foe = inr (λ same. cc)
-cases_condition condition.Home condition.FriendWithFood = inr (λ same. cc)
-cases_condition condition.Home condition.FoeWithFood = inr (λ same. cc)
-cases_condition condition.Home condition.Food = inr (λ same. cc)
-cases_condition condition.Home condition.Rock = inr (λ same. cc)
-cases_condition condition.Home condition.FoeMarker = inr (λ same. cc)
-cases_condition condition.Home condition.Home = inl refl
-cases_condition condition.Home condition.FoeHome = inr (λ same. cc)
-cases_condition condition.FoeHome condition.Friend = inr (λ same. cc)
-cases_condition condition.FoeHome condition.Foe = inr (λ same. cc)
-cases_condition condition.FoeHome condition.FriendWithFood = inr (λ same. cc)
-cases_condition condition.FoeHome condition.FoeWithFood = inr (λ same. cc)
-cases_condition condition.FoeHome condition.Food = inr (λ same. cc)
-cases_condition condition.FoeHome condition.Rock = inr (λ same. cc)
-cases_condition condition.FoeHome condition.FoeMarker = inr (λ same. cc)
-cases_condition condition.FoeHome condition.Home = inr (λ same. cc)
-cases_condition condition.FoeHome condition.FoeHome = inl refl
-cases_condition condition.Friend (condition.Marker j) = inr (λ same. cc)
-cases_condition (condition.Marker i) condition.Friend = inr (λ same. cc)
-cases_condition condition.Foe (condition.Marker j) = inr (λ same. cc)
-cases_condition (condition.Marker i) condition.Foe = inr (λ same. cc)
-cases_condition condition.FriendWithFood (condition.Marker j) = inr (λ same. cc)
-cases_condition (condition.Marker i) condition.FriendWithFood = inr (λ same. cc)
-cases_condition condition.FoeWithFood (condition.Marker j) = inr (λ same. cc)
-cases_condition (condition.Marker i) condition.FoeWithFood = inr (λ same. cc)
-cases_condition condition.Food (condition.Marker j) = inr (λ same. cc)
-cases_condition (condition.Marker i) condition.Food = inr (λ same. cc)
-cases_condition condition.Rock (condition.Marker j) = inr (λ same. cc)
-cases_condition (condition.Marker i) condition.Rock = inr (λ same. cc)
-cases_condition condition.FoeMarker (condition.Marker j) = inr (λ same. cc)
-cases_condition (condition.Marker i) condition.FoeMarker = inr (λ same. cc)
-cases_condition condition.Home (condition.Marker j) = inr (λ same. cc)
-cases_condition (condition.Marker i) condition.Home = inr (λ same. cc)
-cases_condition condition.FoeHome (condition.Marker j) = inr (λ same. cc)
-cases_condition (condition.Marker i) condition.FoeHome = inr (λ same. cc)
-cases_condition (condition.Marker i) (condition.Marker j) = elim (cases_eq i j) [ inl one ↦ inl (ap condition.Marker one) | inr apart ↦ inr (λ same. apart (cc)) ]
-
--- two instructions are one, or not
-cases_instruction : (a b : Instr) → (a ≡ b) ⊎ (a ≡ b → ⊥)
-cases_instruction (Sense s n m k) (Mark i' n') = inr (λ same. cc)
-cases_instruction (Sense s n m k) (Unmark i' n') = inr (λ same. cc)
-cases_instruction (Sense s n m k) (PickUp n' m') = inr (λ same. cc)
-cases_instruction (Sense s n m k) (Drop n') = inr (λ same. cc)
-cases_instruction (Sense s n m k) (Turn s' n') = inr (λ same. cc)
-cases_instruction (Sense s n m k) (Move n' m') = inr (λ same. cc)
-cases_instruction (Sense s n m k) (Flip p' n' m') = inr (λ same. cc)
-cases_instruction (Sense s n m k) (Sense s' n' m' k') = elim (cases_sight s s') [ inl e0 ↦ elim (cases_eq n n') [ inl e1 ↦ elim (cases_eq m m') [ inl e2 ↦ elim (cases_condition k k') [ inl e3 ↦ inl (ap (λ (z : Sight). Sense z n m k) e0 ∙ ap (λ (z : ℕ). Sense s' z m k) e1 ∙ ap (λ (z : ℕ). Sense s' n' z k) e2 ∙ ap (λ (z : Cond). Sense s' n' m' z) e3) | inr apart ↦ inr (λ same. apart (cc)) ] | inr apart ↦ inr (λ same. apart (cc)) ] | inr apart ↦ inr (λ same. apart (cc)) ] | inr apart ↦ inr (λ same. apart (cc)) ]
-cases_instruction (Mark i n) (Sense s' n' m' k') = inr (λ same. cc)
-cases_instruction (Mark i n) (Unmark i' n') = inr (λ same. cc)
-cases_instruction (Mark i n) (PickUp n' m') = inr (λ same. cc)
-cases_instruction (Mark i n) (Drop n') = inr (λ same. cc)
-cases_instruction (Mark i n) (Turn s' n') = inr (λ same. cc)
-cases_instruction (Mark i n) (Move n' m') = inr (λ same. cc)
-cases_instruction (Mark i n) (Flip p' n' m') = inr (λ same. cc)
-cases_instruction (Mark i n) (Mark i' n') = elim (cases_eq i i') [ inl e0 ↦ elim (cases_eq n n') [ inl e1 ↦ inl (ap (λ (z : ℕ). Mark z n) e0 ∙ ap (λ (z : ℕ). Mark i' z) e1) | inr apart ↦ inr (λ same. apart (cc)) ] | inr apart ↦ inr (λ same. apart (cc)) ]
-cases_instruction (Unmark i n) (Sense s' n' m' k') = inr (λ same. cc)
-cases_instruction (Unmark i n) (Mark i' n') = inr (λ same. cc)
-cases_instruction (Unmark i n) (PickUp n' m') = inr (λ same. cc)
-cases_instruction (Unmark i n) (Drop n') = inr (λ same. cc)
-cases_instruction (Unmark i n) (Turn s' n') = inr (λ same. cc)
-cases_instruction (Unmark i n) (Move n' m') = inr (λ same. cc)
-cases_instruction (Unmark i n) (Flip p' n' m') = inr (λ same. cc)
-cases_instruction (Unmark i n) (Unmark i' n') = elim (cases_eq i i') [ inl e0 ↦ elim (cases_eq n n') [ inl e1 ↦ inl (ap (λ (z : ℕ). Unmark z n) e0 ∙ ap (λ (z : ℕ). Unmark i' z) e1) | inr apart ↦ inr (λ same. apart (cc)) ] | inr apart ↦ inr (λ same. apart (cc)) ]
-cases_instruction (PickUp n m) (Sense s' n' m' k') = inr (λ same. cc)
-cases_instruction (PickUp n m) (Mark i' n') = inr (λ same. cc)
-cases_instruction (PickUp n m) (Unmark i' n') = inr (λ same. cc)
-cases_instruction (PickUp n m) (Drop n') = inr (λ same. cc)
-cases_instruction (PickUp n m) (Turn s' n') = inr (λ same. cc)
-cases_instruction (PickUp n m) (Move n' m') = inr (λ same. cc)
-cases_instruction (PickUp n m) (Flip p' n' m') = inr (λ same. cc)
-cases_instruction (PickUp n m) (PickUp n' m') = elim (cases_eq n n') [ inl e0 ↦ elim (cases_eq m m') [ inl e1 ↦ inl (ap (λ (z : ℕ). PickUp z m) e0 ∙ ap (λ (z : ℕ). PickUp n' z) e1) | inr apart ↦ inr (λ same. apart (cc)) ] | inr apart ↦ inr (λ same. apart (cc)) ]
-cases_instruction (Drop n) (Sense s' n' m' k') = inr (λ same. cc)
-cases_instruction (Drop n) (Mark i' n') = inr (λ same. cc)
-cases_instruction (Drop n) (Unmark i' n') = inr (λ same. cc)
-cases_instruction (Drop n) (PickUp n' m') = inr (λ same. cc)
-cases_instruction (Drop n) (Turn s' n') = inr (λ same. cc)
-cases_instruction (Drop n) (Move n' m') = inr (λ same. cc)
-cases_instruction (Drop n) (Flip p' n' m') = inr (λ same. cc)
-cases_instruction (Drop n) (Drop n') = elim (cases_eq n n') [ inl e0 ↦ inl (ap (λ (z : ℕ). Drop z) e0) | inr apart ↦ inr (λ same. apart (cc)) ]
-cases_instruction (Turn s n) (Sense s' n' m' k') = inr (λ same. cc)
-cases_instruction (Turn s n) (Mark i' n') = inr (λ same. cc)
-cases_instruction (Turn s n) (Unmark i' n') = inr (λ same. cc)
-cases_instruction (Turn s n) (PickUp n' m') = inr (λ same. cc)
-cases_instruction (Turn s n) (Drop n') = inr (λ same. cc)
-cases_instruction (Turn s n) (Move n' m') = inr (λ same. cc)
-cases_instruction (Turn s n) (Flip p' n' m') = inr (λ same. cc)
-cases_instruction (Turn s n) (Turn s' n') = elim (cases_side s s') [ inl e0 ↦ elim (cases_eq n n') [ inl e1 ↦ inl (ap (λ (z : Side). Turn z n) e0 ∙ ap (λ (z : ℕ). Turn s' z) e1) | inr apart ↦ inr (λ same. apart (cc)) ] | inr apart ↦ inr (λ same. apart (cc)) ]
-cases_instruction (Move n m) (Sense s' n' m' k') = inr (λ same. cc)
-cases_instruction (Move n m) (Mark i' n') = inr (λ same. cc)
-cases_instruction (Move n m) (Unmark i' n') = inr (λ same. cc)
-cases_instruction (Move n m) (PickUp n' m') = inr (λ same. cc)
-cases_instruction (Move n m) (Drop n') = inr (λ same. cc)
-cases_instruction (Move n m) (Turn s' n') = inr (λ same. cc)
-cases_instruction (Move n m) (Flip p' n' m') = inr (λ same. cc)
-cases_instruction (Move n m) (Move n' m') = elim (cases_eq n n') [ inl e0 ↦ elim (cases_eq m m') [ inl e1 ↦ inl (ap (λ (z : ℕ). Move z m) e0 ∙ ap (λ (z : ℕ). Move n' z) e1) | inr apart ↦ inr (λ same. apart (cc)) ] | inr apart ↦ inr (λ same. apart (cc)) ]
-cases_instruction (Flip p n m) (Sense s' n' m' k') = inr (λ same. cc)
-cases_instruction (Flip p n m) (Mark i' n') = inr (λ same. cc)
-cases_instruction (Flip p n m) (Unmark i' n') = inr (λ same. cc)
-cases_instruction (Flip p n m) (PickUp n' m') = inr (λ same. cc)
-cases_instruction (Flip p n m) (Drop n') = inr (λ same. cc)
-cases_instruction (Flip p n m) (Turn s' n') = inr (λ same. cc)
-cases_instruction (Flip p n m) (Move n' m') = inr (λ same. cc)
-cases_instruction (Flip p n m) (Flip p' n' m') = elim (cases_eq p p') [ inl e0 ↦ elim (cases_eq n n') [ inl e1 ↦ elim (cases_eq m m') [ inl e2 ↦ inl (ap (λ (z : ℕ). Flip z n m) e0 ∙ ap (λ (z : ℕ). Flip p' z m) e1 ∙ ap (λ (z : ℕ). Flip p' n' z) e2) | inr apart ↦ inr (λ same. apart (cc)) ] | inr apart ↦ inr (λ same. apart (cc)) ] | inr apart ↦ inr (λ same. apart (cc)) ]
 
 -- a list is empty, or has a last element
 last_cases : (xs : List ℕ) → (xs ≡ []) ⊎ ((rest : List ℕ) × (x : ℕ) × (xs ≡ rest ++ x ∷ []))
@@ -362,15 +164,11 @@ at_or_not (key ∷ keys) class =
     none_at keys apart none zero within is = apart is
     none_at keys apart none (suc j) within is = none j (omega arith) is
 
-all_last : (P : ℕ → Type 0) (xs : List ℕ) (x : ℕ) → AllByRecursion P xs → P x → AllByRecursion P (xs ++ x ∷ [])
-all_last P [] x all last = (last, tt)
-all_last P (y ∷ xs) x all last = (all.0, all_last P xs x all.1 last)
-
 distinct_last : (keys : List ℕ) (class : ℕ) → IsDistinct nat_eq keys → ((j : ℕ) → j < length keys → slice_index keys j ≡ class → ⊥) → IsDistinct nat_eq (keys ++ class ∷ [])
 unfolding IsDistinct
 distinct_last [] class distinct none = (tt, tt)
 distinct_last (key ∷ keys) class distinct none =
-    (all_last (λ y. nat_eq key y ≡ false) keys class distinct.0 (ne_eqb key class (λ same. none 0 (omega arith) same)), distinct_last keys class distinct.1 (λ j within is. none (suc j) (omega arith) is))
+    (AllByRecursion-push (λ y. nat_eq key y ≡ false) keys class distinct.0 (ne_eqb key class (λ same. none 0 (omega arith) same)), distinct_last keys class distinct.1 (λ j within is. none (suc j) (omega arith) is))
 
 no_keys : IsDistinct nat_eq []
 unfolding IsDistinct
@@ -430,10 +228,6 @@ record Kept (brain : List Instr) (numbers : List (Option ℕ)) (table : List ℕ
   list : List Instr
   keeping : IsKeeping brain numbers table list i
 
-is_next : (found : Option ℕ) (n : ℕ) → (found ≡ Some n) ⊎ (found ≡ Some n → ⊥)
-is_next None n = inr (λ same. cc)
-is_next (Some m) n = elim (cases_eq m n) [ inl one ↦ inl (ap Some one) | inr apart ↦ inr (λ same. apart (same_Some m n same)) ]
-
 kept_to : (brain : List Instr) (numbers : List (Option ℕ)) (table : List ℕ) → IsRising numbers → (i : ℕ) → Kept brain numbers table i
 kept_to brain numbers table rising zero = record { list = []; keeping = IsKeeping-none brain numbers table }
 kept_to brain numbers table rising (suc i) =
@@ -441,7 +235,7 @@ kept_to brain numbers table rising (suc i) =
     let instruction : Instr = redirected (slice_index table) (instruction_at brain i) in
     let next : i + 1 ≡ suc i = omega arith in
     subst (Kept brain numbers table) next
-    (elim (is_next (new_number numbers i) (length before.list)) [
+    (elim (is_number (new_number numbers i) (length before.list)) [
       | inl has ↦ record { list = before.list ++ instruction ∷ []; keeping = IsKeeping-more brain numbers table before.list i instruction before.keeping has refl }
       | inr other ↦ record { list = before.list; keeping = IsKeeping-skip brain numbers table before.list i rising before.keeping other }
     ])

@@ -2,6 +2,7 @@
 use Rattle.std.proofs.Common.{◌≡◌, ℕ, zero, suc, ◌<◌, Bool, true, false, List, [], ◌∷◌, map, length, slice_index, slice_get, Option, Some, None, IsSome, unwrap_or, refl, sym, ap, ap₂, ◌∙◌, subst, arith}
 use Rattle.std.specs.List.{AllByRecursion, Contains}
 use Rattle.std.proofs.lemmas.Option.{same_Some, get_or_from_slice_get, slice_get_within}
+use Rattle.list_lemmas.proofs.AllElements.{AllByRecursion-each, AllByRecursion-weaker}
 use Rattle.brain_read.specs.declared.instr.Instr.{Instr}
 use Rattle.brain_read.specs.declared.instr.Instr.TheVariants.{Drop}
 use Rattle.brain_read.specs.Grammar.{states_of}
@@ -18,11 +19,11 @@ use Rattle.brain_minimise.specs.Reach.{IsReachable}
 use Rattle.brain_minimise.specs.Reach.IsReachable.{Start, Next}
 use Rattle.brain_minimise.proofs.Equivalences.{class-equivalent, equivalent-class, stable_alike}
 use Rattle.brain_minimise.proofs.Numbers.{seen-inside, the_number}
-use Rattle.brain_minimise.proofs.Redirecting.{All-from, All-then, Contains-map, IsSound-redirected, instruction-sound, redirected-same, shape-from, shape_of-redirected, states-from, states_of-redirected}
+use Rattle.brain_minimise.proofs.Redirecting.{Contains-map, IsSound-redirected, instruction-sound, redirected-same, shape-from, shape_of-redirected, states-from, states_of-redirected}
 
 -- the successors of a state that can be reached can be reached
 pub successors-reached : (brain : List Instr) (state : ℕ) → IsReachable brain state → AllByRecursion (IsReachable brain) (states_of (instruction_at brain state))
-successors-reached brain state reached = All-from (states_of (instruction_at brain state)) (λ next named. Next state next reached named)
+successors-reached brain state reached = AllByRecursion-each (IsReachable brain) (states_of (instruction_at brain state)) (λ next named. Next state next reached named)
 
 -- a test of two numbers, where there are two
 both : Relation → Option ℕ → Option ℕ → Bool
@@ -77,7 +78,7 @@ module _ (old new : List Instr) (seen : List Bool) (classes : List ℕ) (numbers
 
   -- the successors of what can be reached have numbers
   successors-numbered : (state : ℕ) → IsReachable old state → AllByRecursion (λ next. IsSome (new_number numbers next)) (states_of (instruction_at old state))
-  successors-numbered state reached = All-then (states_of (instruction_at old state)) (successors-reached old state reached) reached-has
+  successors-numbered state reached = AllByRecursion-weaker _ _ (states_of (instruction_at old state)) (successors-reached old state reached) reached-has
 
   -- states of the same classes that can be reached have the same numbers
   same-numbers : (states others : List ℕ) → map (slice_index classes) states ≡ map (slice_index classes) others → AllByRecursion (IsReachable old) states → AllByRecursion (IsReachable old) others → map f states ≡ map f others
@@ -185,7 +186,7 @@ module _ (old new : List Instr) (seen : List Bool) (classes : List ℕ) (numbers
         let reached = has-reached it.0 number it.1 in
         let same : redirected f (instruction_at old it.0) ≡ instruction = same_Some (redirected f (instruction_at old it.0)) instruction (sym it.2 ∙ is) in
         subst (IsSound (length new)) same (IsSound-redirected (length old) (length new) f (instruction_at old it.0) (instruction-sound old it.0 is_brain (reached-inside it.0 reached))
-        (All-then (states_of (instruction_at old it.0)) (successors-numbered it.0 reached) (λ next some.
+        (AllByRecursion-weaker _ _ (states_of (instruction_at old it.0)) (successors-numbered it.0 reached) (λ next some.
         let k = the_number (new_number numbers next) some in
         let image : f next ≡ k.0 = ap (λ o. unwrap_or o next) k.1 in
         omega (arith, kept.below next k.0 k.1))));

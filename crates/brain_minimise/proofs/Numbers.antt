@@ -7,6 +7,7 @@ use Rattle.std.proofs.lemmas.Bool.{cases_lt, cases_order, eq-eqb, false≢true}
 use Rattle.std.proofs.lemmas.List.{get_or_append_left, get_or_past, get_or_push, length_push}
 use Rattle.std.proofs.lemmas.Map.Keys.{apart_from_distinct}
 use Rattle.std.proofs.lemmas.Option.{none-some, same_Some}
+use Rattle.list_lemmas.proofs.AllElements.{AllByRecursion-weaker}
 use Rattle.brain_read.specs.declared.instr.Instr.{Instr}
 use Rattle.brain_read.specs.Grammar.{states_of}
 use Rattle.brain_read.specs.Soundness.{IsBrain}
@@ -16,7 +17,7 @@ use Rattle.brain_minimise.specs.Inner.Exploring.{is_seen}
 use Rattle.brain_minimise.specs.Inner.Numbering.{AreNumbers, IsRising, IsTable}
 use Rattle.brain_minimise.specs.Inner.Kept.{AreKept}
 use Rattle.brain_minimise.specs.Minimised.{new_number}
-use Rattle.brain_minimise.proofs.Redirecting.{All-then, redirected-agree, successors-below}
+use Rattle.brain_minimise.proofs.Redirecting.{redirected-agree, successors-below}
 
 -- what stays in the numbering, before the state i: the keys are the classes by number
 pub record IsNumbering (classes : List ℕ) (seen : List Bool) (keys : List ℕ) (numbers : List (Option ℕ)) (i : ℕ) : Type 0 where
@@ -289,6 +290,6 @@ IsKeeping-all brain numbers table list is_brain each tabled all = record {
       let it = all.from number below in
       let same : redirected (slice_index table) (instruction_at brain it.0) ≡ redirected (state_number (new_number numbers)) (instruction_at brain it.0) =
       redirected-agree (slice_index table) (state_number (new_number numbers)) (instruction_at brain it.0)
-      (All-then (states_of (instruction_at brain it.0)) (successors-below brain it.0 is_brain it.1) (λ state low. tabled.entry state (omega arith))) in
+      (AllByRecursion-weaker _ _ (states_of (instruction_at brain it.0)) (successors-below brain it.0 is_brain it.1) (λ state low. tabled.entry state (omega arith))) in
       (it.0, it.2, it.3 ∙ ap Some same);
 }

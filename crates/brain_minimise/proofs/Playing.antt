@@ -3,6 +3,7 @@ use Rattle.std.proofs.Common.{◌≡◌, ◌≢◌, ℕ, Bool, true, false, cond
 use Rattle.std.specs.Prelude.{option_map, unwrap_or}
 use Rattle.std.proofs.Math.Path.{fun_ext}
 use Rattle.std.proofs.lemmas.Option.{get_or_from_slice_get, slice_get_within}
+use Rattle.list_lemmas.proofs.AllElements.{AllByRecursion-weaker}
 use Rattle.hex_geometry.specs.declared.position.Pos.{Pos}
 use Rattle.cell_world.specs.declared.ant.Ant.{Ant}
 use Rattle.cell_world.specs.declared.ant.Colour.{Colour}
@@ -29,7 +30,6 @@ use Rattle.brain_minimise.specs.Reach.IsReachable.{Start}
 use Rattle.brain_minimise.proofs.Merging.{successors-reached}
 use Rattle.brain_minimise.proofs.Numbers.{number-inside}
 use Rattle.brain_minimise.proofs.Ranks.{zero-number}
-use Rattle.brain_minimise.proofs.Redirecting.{All-then}
 
 -- the map carries the brain over to its minimised one
 pub Carries-minimised : (old new : List Instr) (numbers : List (Option ℕ)) → IsMinimised old new numbers → Carries (new_number numbers) old new
@@ -38,7 +38,7 @@ Carries-minimised old new numbers minimised = record {
       let each = minimised.each in
       (omega (arith, number-inside numbers state number has), slice_get_within new number (redirected (state_number (new_number numbers)) (instruction_at old state)) (minimised.acts state number has));
   acts = λ state number has. get_or_from_slice_get new number (redirected (state_number (new_number numbers)) (instruction_at old state)) (Drop 0) (minimised.acts state number has);
-  onward = λ state number has. All-then (states_of (instruction_at old state)) (successors-reached old state (minimised.dropped state number has)) minimised.kept;
+  onward = λ state number has. AllByRecursion-weaker _ _ (states_of (instruction_at old state)) (successors-reached old state (minimised.dropped state number has)) minimised.kept;
 }
 
 -- a choice of which both sides are one

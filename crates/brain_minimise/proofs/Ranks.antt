@@ -5,6 +5,7 @@ use Rattle.std.proofs.lemmas.Bool.{cases_eq, cases_lt, cases_order}
 use Rattle.std.proofs.lemmas.List.{length-map, same_lists}
 use Rattle.std.proofs.lemmas.Option.{get_or_from_slice_get, none-some, same_Some, slice_get-get_or, slice_get-map, slice_get_within}
 use Rattle.indexmap.proofs.IndexTableLemmas.Probe.{pigeonhole}
+use Rattle.list_lemmas.proofs.AllElements.{AllByRecursion-weaker}
 use Rattle.brain_read.specs.declared.instr.Instr.{Instr}
 use Rattle.brain_read.specs.declared.instr.Instr.TheVariants.{Drop}
 use Rattle.brain_read.specs.Grammar.{states_of}
@@ -18,10 +19,10 @@ use Rattle.brain_minimise.specs.Reach.{IsReachable}
 use Rattle.brain_minimise.specs.Reach.IsReachable.{Start}
 use Rattle.brain_minimise.proofs.Merging.{successors-reached}
 use Rattle.brain_minimise.proofs.Numbers.{number-inside, the_number}
-use Rattle.brain_minimise.proofs.Redirecting.{All-then, redirected-agree, redirected-self}
+use Rattle.brain_minimise.proofs.Redirecting.{redirected-agree, redirected-self}
 
 -- an entry is this number or not
-is_number : (o : Option ℕ) (number : ℕ) → (o ≡ Some number) ⊎ (o ≡ Some number → ⊥)
+pub is_number : (o : Option ℕ) (number : ℕ) → (o ≡ Some number) ⊎ (o ≡ Some number → ⊥)
 is_number None number = inr (none-some number)
 is_number (Some other) number = elim (cases_eq other number) [
   | inl same ↦ inl (ap Some same)
@@ -254,7 +255,7 @@ module _ (old new : List Instr) (numbers : List (Option ℕ)) (minimised : IsMin
       let inside : k < length old = omega arith in
       let f = state_number (new_number numbers) in
       let agree : redirected f (instruction_at old k) ≡ redirected (λ state. state) (instruction_at old k) =
-      redirected-agree f (λ state. state) (instruction_at old k) (All-then (states_of (instruction_at old k)) (successors-reached old k (all k inside)) (λ next reached.
+      redirected-agree f (λ state. state) (instruction_at old k) (AllByRecursion-weaker _ _ (states_of (instruction_at old k)) (successors-reached old k (all k inside)) (λ next reached.
       let some = the_number (new_number numbers next) (minimised.kept next reached) in
       let low : next < length old = omega (arith, number-inside numbers next some.0 some.1) in
       ap (λ o. unwrap_or o next) (number-same all next low))) in

@@ -1,12 +1,13 @@
 -- Instructions whose states are mapped: their shape, and the states that they name.
-pub use Rattle.ant_turn.proofs.RenumberedTurns.{All-then, redirected-self}
-use Rattle.std.proofs.Common.{◌≡◌, ℕ, zero, suc, ◌<◌, List, [], ◌∷◌, map, length, slice_index_or, refl, sym, ap, ap₂, ◌∙◌, subst, arith}
+pub use Rattle.ant_turn.proofs.RenumberedTurns.{redirected-self}
+use Rattle.std.proofs.Common.{◌≡◌, ℕ, zero, suc, ◌<◌, List, [], ◌∷◌, map, length, slice_index_or, refl, sym, ap, ap₂, ◌∙◌, arith}
 use Rattle.std.specs.List.{AllByRecursion, Contains}
 use Rattle.std.proofs.lemmas.Option.{slice_get-get_or}
 use Rattle.brain_read.specs.declared.instr.Instr.{Instr}
 use Rattle.brain_read.specs.declared.instr.Instr.TheVariants.{Sense, Mark, Unmark, PickUp, Drop, Turn, Move, Flip}
 use Rattle.brain_read.specs.Grammar.{states_of}
 use Rattle.brain_read.specs.Soundness.{IsBrain, IsSound}
+use Rattle.brain_read.proofs.SoundnessLemmas.{states_of-below}
 use Rattle.ant_turn.specs.Renumber.{redirected}
 use Rattle.ant_turn.specs.Turn.{instruction_at}
 use Rattle.brain_minimise.specs.Equivalence.{shape_of}
@@ -79,17 +80,6 @@ map-agree f g (n ∷ list) agree = ap₂ ◌∷◌ agree.0 (map-agree f g list a
 pub redirected-agree : (f g : ℕ → ℕ) (x : Instr) → AllByRecursion (λ n. f n ≡ g n) (states_of x) → redirected f x ≡ redirected g x
 redirected-agree f g x agree = redirected-same f g x x refl (map-agree f g (states_of x) agree)
 
--- what holds of all that a list contains holds of all of it
-pub All-from : {P : ℕ → Type 0} → (list : List ℕ) → ((n : ℕ) → Contains list n → P n) → AllByRecursion P list
-All-from [] each = tt
-All-from (n ∷ list) each = (each n (0, omega arith, refl), All-from list (λ m there. each m (suc there.0, omega (arith, there.1), there.2)))
-
--- what holds of all of a list holds of what it contains
-pub All-at : (P : ℕ → Type 0) (list : List ℕ) (n : ℕ) → AllByRecursion P list → Contains list n → P n
-All-at P [] n all (k, below, is) = absurd (omega arith)
-All-at P (m ∷ list) n all (zero, below, is) = subst P is all.0
-All-at P (m ∷ list) n all (suc k, below, is) = All-at P list n all.1 (k, omega arith, is)
-
 -- what is among some states is among their images
 pub Contains-map : (f : ℕ → ℕ) (list : List ℕ) (n : ℕ) → Contains list n → Contains (map f list) (f n)
 Contains-map f [] n (k, below, is) = absurd (omega arith)
@@ -97,17 +87,6 @@ Contains-map f (m ∷ list) n (zero, below, is) = (0, omega arith, ap f is)
 Contains-map f (m ∷ list) n (suc k, below, is) =
     let there : Contains (map f list) (f n) = Contains-map f list n (k, omega arith, is) in
     (suc there.0, omega (arith, there.1), there.2)
-
--- a sound instruction names states of the brain
-pub states-below : (n : ℕ) (x : Instr) → IsSound n x → AllByRecursion (λ state. state < n) (states_of x)
-states-below n (Sense sight met unmet condition) sound = (sound.0, (sound.1, tt))
-states-below n (Mark i next) sound = (sound.1, tt)
-states-below n (Unmark i next) sound = (sound.1, tt)
-states-below n (PickUp met unmet) sound = (sound.0, (sound.1, tt))
-states-below n (Drop next) sound = (sound, tt)
-states-below n (Turn side next) sound = (sound, tt)
-states-below n (Move met unmet) sound = (sound.0, (sound.1, tt))
-states-below n (Flip bound met unmet) sound = (sound.1, (sound.2, tt))
 
 -- with its states mapped below another number it is sound for that number
 pub IsSound-redirected : (n m : ℕ) (f : ℕ → ℕ) (x : Instr) → IsSound n x → AllByRecursion (λ state. f state < m) (states_of x) → IsSound m (redirected f x)
@@ -126,4 +105,4 @@ instruction-sound brain state is_brain below = is_brain.sound state (instruction
 
 -- names states of that brain
 pub successors-below : (brain : List Instr) (state : ℕ) → IsBrain brain → state < length brain → AllByRecursion (λ next. next < length brain) (states_of (instruction_at brain state))
-successors-below brain state is_brain below = states-below (length brain) (instruction_at brain state) (instruction-sound brain state is_brain below)
+successors-below brain state is_brain below = states_of-below (length brain) (instruction_at brain state) (instruction-sound brain state is_brain below)

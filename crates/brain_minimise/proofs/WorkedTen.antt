@@ -4,6 +4,7 @@ use Rattle.std.specs.List.{AllByRecursion}
 use Rattle.std.proofs.lemmas.Bool.{cases_lt, false≢true}
 use Rattle.std.proofs.lemmas.List.{get_or_past}
 use Rattle.std.proofs.lemmas.Option.{get_or_from_slice_get, none-some, same_Some, slice_get_within}
+use Rattle.list_lemmas.proofs.AllElements.{AllByRecursion-at}
 use Rattle.hex_geometry.specs.declared.direction.Side.TheVariants.{Left, Right}
 use Rattle.hex_geometry.specs.declared.neighbourhood.Sight.TheVariants.{Ahead}
 use Rattle.brain_read.specs.declared.instr.Cond.TheVariants.{Food}
@@ -20,7 +21,6 @@ use Rattle.brain_minimise.specs.Reach.{IsReachable}
 use Rattle.brain_minimise.specs.Reach.IsReachable.{Start, Next}
 use Rattle.brain_minimise.proofs.Equivalences.{class-equivalent}
 use Rattle.brain_minimise.proofs.Numbers.{number-inside}
-use Rattle.brain_minimise.proofs.Redirecting.{All-at}
 
 -- the brain: states 3 and 7 are equivalent, and nothing leads to state 9
 abbrev ten : List Instr
@@ -117,7 +117,7 @@ ten_kept : (state : ℕ) → IsReachable ten state → IsSome (new_number number
 ten_kept _ Start = refl
 ten_kept _ (Next state next before there) =
     let some = ten_kept state before in
-    All-at (λ n. IsSome (new_number numbers n)) (states_of (instruction_at ten state)) next (each-at Onward 10 state ten_onward (inside state some) some) there
+    AllByRecursion-at (λ n. IsSome (new_number numbers n)) (states_of (instruction_at ten state)) next (each-at Onward 10 state ten_onward (inside state some) some) there
 
 -- the place of a reachable state's instruction is its number
 abbrev IsPlaced : ℕ → Type 0

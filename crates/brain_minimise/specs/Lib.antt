@@ -6,3 +6,5 @@ pub mod Match
 pub mod Minimised
 pub mod Reach
 pub mod Text
+pub use Rattle.ant_base.specs.Sink
+pub use Rattle.brain_read.specs.Soundness

@@ -1,22 +1,16 @@
 -- Games with a brain and with its minimised one (the task's game play).
+pub use Rattle.ant_turn.specs.HillLaws.{game_after as game}
 use Rattle.std.specs.Prelude.{◌≡◌, ◌≢◌, ℕ, List, Option, Some, None}
 use Rattle.hex_geometry.specs.declared.position.Pos.{Pos}
 use Rattle.cell_world.specs.declared.ant.Ant.{Ant}
 use Rattle.cell_world.specs.declared.ant.Colour.{Colour}
 use Rattle.cell_world.specs.declared.kind.Kind.{Kind}
-use Rattle.cell_world.specs.Grid.{world_of}
-use Rattle.cell_world.specs.Opening.{opening}
 use Rattle.cell_world.specs.Score.{score_of}
 use Rattle.cell_world.specs.World.{World}
 use Rattle.brain_read.specs.declared.instr.Instr.{Instr}
 use Rattle.ant_turn.specs.Minds.{Minds, mind_of}
 use Rattle.ant_turn.specs.Renumber.{renumbered_moment, with_mind}
-use Rattle.ant_turn.specs.Rounds.{Moment, after_rounds, start_of}
 use Rattle.brain_minimise.specs.Minimised.{IsMinimised, new_number}
-
--- the moment after r rounds of the game of these minds that starts in the opening world of these kinds
-abbrev pub game : Minds → ℕ → ℕ → ℕ → List Kind → ℕ → Moment
-game minds seed width height kinds r = after_rounds minds seed (start_of (world_of (opening width height kinds))) r
 
 -- whatever the opening world, the other brain, the numbers of the rules, the seed, the side and the number of rounds: the game with
 -- the minimised brain on that side is the game with the brain, but for the numbers of that side's states, at an equal place of the stream

@@ -2,7 +2,7 @@
 ghost use Rattle.std.specs.Prelude.{◌≡◌, ◌<◌, ◌↔◌, IsTrue, Some, None, length, slice_index, slice_index_or, slice_set, unwrap_or, IfOk, IfSome, IfNone};
 ghost use Rattle.brain_minimise.specs.Inner.Classes.{AreClasses, AreStable, DoAlike, slack};
 
-use crate::redirect::redirected;
+use crate::redirect::redirect;
 use brain_read::{Brain, are_same};
 use hex_geometry::OutOfMemory;
 use std::alloc::Global;
@@ -13,14 +13,14 @@ pub(crate) fn equivalence_classes(alloc: Global, brain: &Brain) -> Result<Vec<u1
     ensures stable { IfOk result (λ classes. AreStable brain.now classes.items) }
 {
     let mut classes = vec![in alloc; 0; brain.len() as usize]?;
-    while let Some(finer) = refined(alloc, brain, &classes)? {
+    while let Some(finer) = refine(alloc, brain, &classes)? {
         classes = finer;
     }
     Ok(classes)
 }
 
 // Each class, parted into the states that do as its least member and the others; nothing where there are no others.
-fn refined(alloc: Global, brain: &Brain, classes: &[u16]) -> Result<Option<Vec<u16>>, OutOfMemory>
+fn refine(alloc: Global, brain: &Brain, classes: &[u16]) -> Result<Option<Vec<u16>>, OutOfMemory>
     requires { AreClasses brain.now classes.now }
     ensures classes { IfOk result (λ finer. IfSome finer (λ new. AreClasses brain.now new.items)) }
     ensures finer { IfOk result (λ finer. IfSome finer (λ new. slack 0 new.items < slack 0 classes.now)) }
@@ -52,8 +52,8 @@ fn do_alike(brain: &Brain, classes: &[u16], state: u16, other: u16) -> bool
 {
     state == other
         || are_same(
-            redirected(brain.at(state), classes),
-            redirected(brain.at(other), classes),
+            redirect(brain.at(state), classes),
+            redirect(brain.at(other), classes),
         )
 }
 

@@ -5,14 +5,14 @@ ghost use Rattle.brain_minimise.specs.Inner.Kept.{AreKept};
 ghost use Rattle.brain_minimise.specs.Inner.Numbering.{AreNumbers, IsRising, IsTable};
 ghost use Rattle.brain_minimise.specs.Minimised.{new_number};
 
-use crate::redirect::redirected;
+use crate::redirect::redirect;
 use brain_read::{Brain, Instr};
 use hex_geometry::OutOfMemory;
 use indexmap::IndexSet;
 use std::alloc::Global;
 
 // The number of each seen state's class, in the order in which the states show the classes.
-pub(crate) fn numbered(
+pub(crate) fn number_states(
     alloc: Global,
     classes: &[u16],
     seen: &[bool],
@@ -62,7 +62,7 @@ pub(crate) fn kept(
     let mut list = Vec::new(alloc);
     for state in 0..brain.len() as u16 {
         if has_number(numbers, state, list.len() as u16) {
-            list.push(redirected(brain.at(state), table))?;
+            list.push(redirect(brain.at(state), table))?;
         }
     }
     Ok(list)

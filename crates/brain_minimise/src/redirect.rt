@@ -8,7 +8,7 @@ use brain_read::Instr;
 
 // The instruction with each state that it names replaced by the table's entry for it. Its kind and its parameters stay.
 #[inline]
-pub(crate) fn redirected(instruction: Instr, table: &[u16]) -> Instr
+pub(crate) fn redirect(instruction: Instr, table: &[u16]) -> Instr
     requires { IsSound (length table.now) instruction }
     ensures { result ≡ renumber.redirected (slice_index table.now) instruction }
 {

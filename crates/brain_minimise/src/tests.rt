@@ -33,7 +33,6 @@ fn spelled(alloc: Global, map: &StateMap) -> Result<String, Fail> {
     Ok(words)
 }
 
-// The brain of a text.
 fn brain_of<R: Abort>(rt: &R, alloc: Global, text: &str) -> Brain {
     let bytes = text.as_bytes();
     assert!(rt; bytes.len() <= LONGEST);

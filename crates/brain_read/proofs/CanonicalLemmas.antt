@@ -20,8 +20,9 @@ use Rattle.line_tokens.specs.Fields.{field_text}
 use Rattle.brain_read.specs.Forms.{word_of_sight, word_of_side, fields_of_condition, fields_of, IsInRange, HasBound, InstrLine}
 use Rattle.line_tokens.specs.Fields.LineField.{Word, Number}
 use Rattle.line_tokens.specs.TokenLines.{TokenLine, with_line, token_lines}
-use Rattle.brain_read.specs.Grammar.{AreLines, states_of, StatesBelow, IsBrainText}
+use Rattle.brain_read.specs.Grammar.{AreLines, StatesBelow, IsBrainText}
 use Rattle.brain_read.specs.Canonical.{instruction_text, brain_text}
+use Rattle.brain_read.proofs.SoundnessLemmas.{states_of-below}
 
 pub sight_token : (s : Sight) → IsToken (word_of_sight s)
 sight_token Here = token (codes "Here") refl refl
@@ -109,19 +110,9 @@ are_lines_again n k (i ∷ list) few all =
     subst (λ tokens. AreLines (with_line k tokens (token_lines (k + 1) (map (λ j. body (fields_of j)) list))) (i ∷ list)) (sym (tokens_of-line i here))
     (one_line k (map field_text (fields_of i)) (token_lines (k + 1) (map (λ j. body (fields_of j)) list)) i list (has_token-line i) line (are_lines_again n (k + 1) list few all.1))
 
-states_below : (n : ℕ) (i : Instr) → IsSound n i → AllByRecursion (λ state. state < n) (states_of i)
-states_below n (Sense s m u c) sound = (sound.0, (sound.1, tt))
-states_below n (Mark i k) sound = (sound.1, tt)
-states_below n (Unmark i k) sound = (sound.1, tt)
-states_below n (PickUp m u) sound = (sound.0, (sound.1, tt))
-states_below n (Drop k) sound = (sound, tt)
-states_below n (Turn s k) sound = (sound, tt)
-states_below n (Move m u) sound = (sound.0, (sound.1, tt))
-states_below n (Flip b m u) sound = (sound.1, (sound.2, tt))
-
 all_below : (n : ℕ) (list : List Instr) → ArePrinted n list → StatesBelow n list
 all_below n [] all = tt
-all_below n (i ∷ list) all = (states_below n i all.0.sound, all_below n list all.1)
+all_below n (i ∷ list) all = (states_of-below n i all.0.sound, all_below n list all.1)
 
 range_of : (n : ℕ) (i : Instr) → IsSound n i → HasBound i → IsInRange i
 range_of n (Sense s m u c) sound bound = sound.2

@@ -62,28 +62,29 @@ sight_stands Ahead = refl
 sight_stands LeftAhead = refl
 sight_stands RightAhead = refl
 
-sight_back : (s : Sight) → sight_at (place_of_sight s) ≡ s
-sight_back Here = refl
-sight_back Ahead = refl
-sight_back LeftAhead = refl
-sight_back RightAhead = refl
+-- the sight at the place of a sight is that sight, and so is a side
+pub sight_at-place_of_sight : (s : Sight) → sight_at (place_of_sight s) ≡ s
+sight_at-place_of_sight Here = refl
+sight_at-place_of_sight Ahead = refl
+sight_at-place_of_sight LeftAhead = refl
+sight_at-place_of_sight RightAhead = refl
 
 pub side_stands : (s : Side) → slice_get side_words (place_of_side s) ≡ Some (word_of_side s)
 unfolding side_words
 side_stands Left = refl
 side_stands Right = refl
 
-side_back : (s : Side) → side_at (place_of_side s) ≡ s
-side_back Left = refl
-side_back Right = refl
+pub side_at-place_of_side : (s : Side) → side_at (place_of_side s) ≡ s
+side_at-place_of_side Left = refl
+side_at-place_of_side Right = refl
 
 pub sight_takes : Takes take_sight (λ s. IsSameWord (word_of_sight s))
 unfolding take_sight
-sight_takes = named_takes sight_words sight_at word_of_sight 4 sight_names place_of_sight sight_stands sight_back
+sight_takes = named_takes sight_words sight_at word_of_sight 4 sight_names place_of_sight sight_stands sight_at-place_of_sight
 
 pub side_takes : Takes take_side (λ s. IsSameWord (word_of_side s))
 unfolding take_side
-side_takes = named_takes side_words side_at word_of_side 2 side_names place_of_side side_stands side_back
+side_takes = named_takes side_words side_at word_of_side 2 side_names place_of_side side_stands side_at-place_of_side
 
 -- the end of the line, and then this instruction
 abbrev pub ending : (Cond → Instr) → Cond × List (List ℕ) → Read Instr

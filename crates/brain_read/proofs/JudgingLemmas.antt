@@ -22,8 +22,9 @@ use Rattle.line_tokens.specs.Judging.{nothing_more, judged}
 use Rattle.brain_read.specs.Judging.{Position, positions_of, positions_of_condition, accepted, fault_of, first_fault}
 use Rattle.brain_read.specs.Judging.Position.{FormToken, SightToken, SideToken, ConditionToken, MarkerToken, StateToken, BoundToken}
 use Rattle.line_tokens.proofs.PlacesLemmas.{Names, word-good, named-place, decimal_value-good, number_within-any}
+use Rattle.line_tokens.proofs.JudgingLemmas as judging
 use Rattle.line_tokens.proofs.LineFaults.{fault_of_read}
-use Rattle.line_tokens.proofs.StepsLemmas.{within-some, bind_assoc, as_named}
+use Rattle.line_tokens.proofs.StepsLemmas.{within-some, bind_assoc}
 use Rattle.brain_read.proofs.FormsLemmas.{form_names, sight_names, side_names, condition_names, ending}
 
 -- the fault of a line of this number that was read
@@ -31,8 +32,8 @@ abbrev pub fault_in : ℕ → Read Instr → Option BrainFault
 fault_in line read = fault_of_read refusal_at line read
 
 -- a step judges its position
-pub record Judges {A : Type 0} (position : Position) (take : List (List ℕ) → Step A) (brings : A → List Position) : Type 0 where
-  pub steps : (line : ℕ) (tokens : List (List ℕ)) (positions : List Position) (f : A × List (List ℕ) → Read Instr) → ((x : A) (rest : List (List ℕ)) → first_fault line rest (brings x ++ positions) ≡ fault_in line (f (x, rest))) → first_fault line tokens (position ∷ positions) ≡ fault_in line (take tokens >>= f)
+abbrev Judges : {A : Type 0} → Position → (List (List ℕ) → Step A) → (A → List Position) → Type 0
+Judges position take brings = judging.Judges Instr first_fault refusal_at position take brings
 
 -- one token at its position
 judge_token : (line : ℕ) (token : List ℕ) (rest : List (List ℕ)) (positions : List Position) (o : Option ℕ) (brings : ℕ → List Position) (fault : LineFault) (f : ℕ × List (List ℕ) → Read Instr)
@@ -69,25 +70,17 @@ number_judges least most position accepts faults = record { steps = steps }
         ∙ judge_token line token rest positions (number_within least most token) (λ n. []) LineFault.BadNumber f
         (λ n found. decimal_value-good token n (within-some least most n token (decimal_value token) refl found).value) (λ n. next n rest)
 
--- a step that names what its word stands for
-named_judges : {A : Type 0} (words : List (List ℕ)) (position : Position) → Judges position (take_word words) (λ i. []) → (at : ℕ → A) → Judges position (λ tokens. take_word words tokens >>= as_named at) (λ x. [])
-named_judges {A} words position judges at = record {
-  steps = λ line tokens positions f next.
-      judges.steps line tokens positions (λ w. f (at w.0, w.1)) (λ i rest. next (at i) rest)
-      ∙ ap (fault_in line) (sym (bind_assoc (take_word words tokens) (as_named at) f));
-}
-
 sight_judges : Judges SightToken take_sight (λ s. [])
 unfolding take_sight sight_words
 sight_judges =
-    named_judges sight_words SightToken
+    judging.named_judges sight_words SightToken
     (word_judges sight_names SightToken (λ i. []) (λ token. named-place word_of_sight sight_at nothing_more sights token (refl, (refl, (refl, (refl, tt))))) (λ line. refl))
     sight_at
 
 side_judges : Judges SideToken take_side (λ s. [])
 unfolding take_side side_words
 side_judges =
-    named_judges side_words SideToken
+    judging.named_judges side_words SideToken
     (word_judges side_names SideToken (λ i. []) (λ token. named-place word_of_side side_at nothing_more sides token (refl, (refl, tt))) (λ line. refl))
     side_at
 

@@ -1,12 +1,15 @@
-pub mod CanonicalLemmas
-pub mod FaultyLemmas
-mod FirstFaults
+-- Forms of lines: spelled, read, judged.
 pub mod FormsLemmas
-pub mod InstructionLemmas
 pub mod JudgingLemmas
+pub mod CanonicalLemmas
+pub mod InstructionLemmas
 pub mod SoundnessLemmas
+-- The fault of a text, and that it has one verdict.
+pub mod FirstFaults
+pub mod FaultyLemmas
 pub mod Unwanting
 pub mod VerdictLemmas
+-- Worked values.
 pub mod Worked
 pub mod WorkedInstructions
 pub mod WorkedTexts

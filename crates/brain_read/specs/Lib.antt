@@ -12,3 +12,8 @@ pub mod Reading
 pub mod Refusals
 pub mod Soundness
 pub mod Steps
+pub use Rattle.ant_base.specs.Shelf
+pub use Rattle.ant_base.specs.Sink
+pub use Rattle.line_tokens.specs.Fields
+pub use Rattle.line_tokens.specs.Steps as LineTokensSteps
+pub use Rattle.line_tokens.specs.TokenLines

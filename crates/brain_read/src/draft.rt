@@ -104,7 +104,7 @@ impl Draft {
 
     /// The instruction of a brain of so many states, at most 65,536; or, in place of it, the first state that it names, in the order of its
     /// line, which isn't below their number (the task's neurology).
-    pub fn settled(self, states: u64) -> Result<Instr, u64>
+    pub fn settle(self, states: u64) -> Result<Instr, u64>
         requires { states ≤ 65536 }
         ensures { result ≡ draft_settled states (drafted self) }
     {

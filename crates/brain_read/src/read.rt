@@ -123,7 +123,7 @@ fn settle_all(alloc: Global, drafts: &[DraftLine]) -> Result<Vec<Instr>, BrainFa
     let states = drafts.len() as u64;
     let mut list = Vec::with_capacity(alloc, drafts.len())?;
     for each in drafts {
-        match each.draft.settled(states) {
+        match each.draft.settle(states) {
             Ok(instruction) => list.push(instruction)?,
             Err(state) => {
                 return Err(BrainFault::NoSuchState {

@@ -23,8 +23,8 @@ fn a_copy_is_an_equal_brain(rt: HostRuntime) {
 fn an_instruction_is_read_and_printed(rt: HostRuntime) -> Result<(), Fail> {
     let mut tokens = Tokens::new("turn LEFT 007 ; note".as_bytes());
     let draft = read_instruction(&mut tokens).expect(&rt, "it is an instruction");
-    assert_eq!(rt; draft.settled(7), Err(7));
-    let instruction = draft.settled(8).expect(&rt, "its state is below 8");
+    assert_eq!(rt; draft.settle(7), Err(7));
+    let instruction = draft.settle(8).expect(&rt, "its state is below 8");
     let mut sink = MemSink::with_room(rt.alloc(), ROOM, Calls::new(rt.alloc()))?;
     assert!(rt; draft.push_to(&mut sink).is_ok());
     assert!(rt; instruction.push_to(&mut sink).is_ok());

@@ -166,7 +166,6 @@ fn push_marker<K: Sink>(mark: u8, sink: &mut K) -> Result<(), Failed>
     layout!(" ", ConditionText(ConditionWord::Marker), " ", mark, "\n").push_to(sink)
 }
 
-// The word of a form.
 #[derive(Clone, Copy)]
 struct FormText(Form);
 
@@ -185,7 +184,6 @@ fn form_place(form: Form) -> usize
     form as usize
 }
 
-// The word of a sight.
 #[derive(Clone, Copy)]
 struct SightText(Sight);
 
@@ -204,7 +202,6 @@ fn sight_place(sight: Sight) -> usize
     sight as usize
 }
 
-// The word of a side.
 #[derive(Clone, Copy)]
 struct SideText(Side);
 

@@ -1,7 +1,8 @@
 -- A turn without a kill changes the food on the hills by that of the ant's own cell alone.
-use Rattle.std.proofs.Common.{◌≡◌, ◌≢◌, inl, inr, ⊎_elim, ◌+◌, ◌-◌, ◌≤◌, ℕ, zero, suc, Bool, true, false, nat_eq, List, [], ◌∷◌, ◌++◌, length, Option, Some, None, cond, refl, sym, ap, ap₂, ◌∙◌, subst, arith, eqb-true, if◌then◌else◌}
+use Rattle.std.proofs.Common.{◌≡◌, ◌≢◌, inl, inr, ⊎_elim, ◌+◌, ◌-◌, ◌≤◌, ℕ, zero, suc, Bool, true, false, nat_eq, List, [], ◌∷◌, length, Option, Some, None, cond, refl, sym, ap, ap₂, ◌∙◌, subst, arith, eqb-true, if◌then◌else◌}
 use Rattle.std.specs.Option.{is_some}
 use Rattle.std.proofs.lemmas.Bool.{cond_both}
+use Rattle.list_lemmas.proofs.Elements.{append-empty}
 use Rattle.hex_geometry.specs.declared.position.Pos.{Pos}
 use Rattle.hex_geometry.specs.Position.{IsInside}
 use Rattle.hex_geometry.specs.Neighbourhood.{adjacent_pos}
@@ -65,16 +66,11 @@ step-counts sheet w p ant q next inside beyond apart colour =
     let own : hill_food_in colour (put_cell left q (with_ant (w.cells q) (arrived sheet ant next)) p) ≡ hill_food_in colour (w.cells p) = ap (hill_food_in colour) (stepped-left sheet w.cells p ant q next apart) in
     omega (arith, first, second, own)
 
--- two lists that are nothing together
-both_empty : (a b : List ℕ) → a ++ b ≡ [] → (a ≡ []) × (b ≡ [])
-both_empty [] b e = (refl, e)
-both_empty (x ∷ a) b e = (let never : x ∷ (a ++ b) ≡ [] = e in absurd (cc))
-
 -- checks that kill nobody change nothing
 pub spared : (sheet : Sheet) (places : List Pos) (cells : Cells) → killed_all sheet cells places ≡ [] → check_all sheet cells places ≡ cells
 spared sheet [] cells none = refl
 spared sheet (p ∷ places) cells none =
-    let parts = both_empty (killed_at sheet cells p) (killed_all sheet (check_at sheet cells p) places) none in
+    let parts = append-empty (killed_at sheet cells p) (killed_all sheet (check_at sheet cells p) places) none in
     let here : check_at sheet cells p ≡ cells = check_at-cases sheet cells p (λ now killed. killed ≡ [] → now ≡ cells) (λ _. refl) (λ it e. (let never : it.ant.id ∷ [] ≡ [] = e in absurd (cc))) parts.0 in
     spared sheet places (check_at sheet cells p) parts.1 ∙ here
 

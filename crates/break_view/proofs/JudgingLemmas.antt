@@ -1,14 +1,14 @@
 -- The reading of a line stops at the first position at fault.
-use Rattle.std.proofs.Common.{◌≡◌, ℕ, List, [], ◌∷◌, ◌++◌, Option, Some, None, Ok, option_map, refl, sym, ap, ◌∙◌}
+use Rattle.std.proofs.Common.{◌≡◌, ℕ, List, [], ◌∷◌, ◌++◌, Option, Some, None, Ok, option_map, refl, ap, ◌∙◌}
 use Rattle.ant_base.specs.Number.{number_within}
 use Rattle.cell_world.specs.declared.ant.Colour.{Colour}
 use Rattle.word_table.specs.Words.{word_place}
 use Rattle.line_tokens.specs.declared.refusal.LineFault.{LineFault}
 use Rattle.line_tokens.specs.Judging.{nothing_more, judged}
 use Rattle.line_tokens.specs.Steps.{Read, Step, ◌>>=◌, or_refused, take_word, take_number, take_end}
+use Rattle.line_tokens.proofs.JudgingLemmas as judging
 use Rattle.line_tokens.proofs.LineFaults.{fault_of_read}
 use Rattle.line_tokens.proofs.PlacesLemmas.{named-place}
-use Rattle.line_tokens.proofs.StepsLemmas.{bind_assoc, as_named}
 use Rattle.break_view.specs.declared.breaks.Break.{Break}
 use Rattle.break_view.specs.declared.breaks.Break.TheVariants.{Round, State, Stand, Food, Killed, Score}
 use Rattle.break_view.specs.declared.fault.BreakFault.{BreakFault}
@@ -26,8 +26,8 @@ abbrev pub fault_in : ℕ → Read Break → Option BreakFault
 fault_in line read = fault_of_read refusal_at line read
 
 -- a step judges its position
-record Judges {A : Type 0} (position : Position) (take : List (List ℕ) → Step A) (brings : A → List Position) : Type 0 where
-  steps : (line : ℕ) (tokens : List (List ℕ)) (positions : List Position) (f : A × List (List ℕ) → Read Break) → ((x : A) (rest : List (List ℕ)) → first_fault line rest (brings x ++ positions) ≡ fault_in line (f (x, rest))) → first_fault line tokens (position ∷ positions) ≡ fault_in line (take tokens >>= f)
+abbrev Judges : {A : Type 0} → Position → (List (List ℕ) → Step A) → (A → List Position) → Type 0
+Judges position take brings = judging.Judges Break first_fault refusal_at position take brings
 
 -- one token at its position
 judge_token : (line : ℕ) (token : List ℕ) (rest : List (List ℕ)) (positions : List Position) (o : Option ℕ) (brings : ℕ → List Position) (fault : LineFault) (f : ℕ × List (List ℕ) → Read Break)
@@ -47,18 +47,10 @@ word_judges words position brings accepts faults = record { steps = steps }
         ∙ ap (λ b. judged (option_map brings (word_place words token)) b (λ more. first_fault line rest (more ++ positions))) (faults line)
         ∙ judge_token line token rest positions (word_place words token) brings LineFault.UnknownWord f (λ i. next i rest)
 
--- a step that names what its word stands for
-named_judges : {A : Type 0} (words : List (List ℕ)) (position : Position) → Judges position (take_word words) (λ i. []) → (at : ℕ → A) → Judges position (λ tokens. take_word words tokens >>= as_named at) (λ x. [])
-named_judges {A} words position judges at = record {
-  steps = λ line tokens positions f next.
-      judges.steps line tokens positions (λ w. f (at w.0, w.1)) (λ i rest. next (at i) rest)
-      ∙ ap (fault_in line) (sym (bind_assoc (take_word words tokens) (as_named at) f));
-}
-
 colour_judges : Judges ColourToken take_colour (λ c. [])
 unfolding take_colour colour_words
 colour_judges =
-    named_judges colour_words ColourToken
+    judging.named_judges colour_words ColourToken
     (word_judges colour_words ColourToken (λ i. []) (λ token. named-place word_of_colour colour_at nothing_more colours token (refl, (refl, tt))) (λ line. refl))
     colour_at
 

@@ -8,3 +8,17 @@ pub mod Laws
 pub mod Met
 pub mod Stops
 pub mod Texts
+pub use Rattle.ant_base.specs.Layout
+pub use Rattle.ant_base.specs.Shelf
+pub use Rattle.ant_base.specs.Sink
+pub use Rattle.ant_turn.specs.Minds
+pub use Rattle.ant_turn.specs.Turn
+pub use Rattle.cell_world.specs.Cell
+pub use Rattle.cell_world.specs.Grid
+pub use Rattle.cell_world.specs.Limits
+pub use Rattle.cell_world.specs.Score
+pub use Rattle.cell_world.specs.World
+pub use Rattle.dump_print.specs.Texts as DumpPrintTexts
+pub use Rattle.hex_geometry.specs.Position
+pub use Rattle.line_tokens.specs.Steps
+pub use Rattle.match_run.specs.Run

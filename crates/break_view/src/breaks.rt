@@ -41,7 +41,6 @@ impl Model for Breaks {
 }
 
 impl Breaks {
-    // The breaks of this list.
     pub(crate) fn from_list(list: Vec<Break>) -> Breaks
         requires { length list.items ≤ most_breaks }
         ensures { result ≡ list.items }

@@ -40,7 +40,7 @@ pub(crate) fn take_counted(
     let before = score_at(world, place);
     let deed = take_turn(world, brains, stream, id);
     if deed.killed.is_empty() {
-        *score = recounted(*score, before, score_at(world, place));
+        *score = count_again(*score, before, score_at(world, place));
         true
     } else {
         *score = world.score();
@@ -94,7 +94,7 @@ fn score_in(cell: Cell) -> Score
 
 // The score where a cell gives this now, in place of what it gave before.
 #[inline]
-fn recounted(score: Score, before: Score, now: Score) -> Score
+fn count_again(score: Score, before: Score, now: Score) -> Score
     requires { counting.CanCount score before now }
     ensures red { result.red ≡ score.red + now.red - before.red }
     ensures black { result.black ≡ score.black + now.black - before.black }

@@ -21,7 +21,7 @@ pub(crate) fn break_of(tokens: &mut Tokens) -> Result<Break, Refusal>
         BreakWord::State => state(tokens),
         BreakWord::Stand => stand(tokens),
         BreakWord::Food => food(tokens),
-        BreakWord::Killed => killed(tokens),
+        BreakWord::Killed => killed_break(tokens),
         BreakWord::Score => score(tokens),
     }
 }
@@ -86,7 +86,7 @@ fn food(tokens: &mut Tokens) -> Result<Break, Refusal>
 }
 
 #[tactic(auto, unfolding(crate::specs::Inner::Reading::read_number))]
-fn killed(tokens: &mut Tokens) -> Result<Break, Refusal>
+fn killed_break(tokens: &mut Tokens) -> Result<Break, Refusal>
     ensures { reading.read_number Killed tokens.old ≡ result }
 {
     let id = number(tokens)?;

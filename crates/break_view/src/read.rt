@@ -17,7 +17,6 @@ use ant_base::Lines;
 use line_tokens::Tokens;
 use std::alloc::Global;
 
-// The most breaks of a text.
 const MOST_BREAKS: usize = 256;
 
 /// The breaks of a text of at most 4,194,304 bytes, or the text's fault, with its line from 1. `OutOfMemory` may be answered at any text;

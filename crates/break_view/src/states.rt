@@ -25,7 +25,6 @@ pub(crate) fn name_states(items: &[Break], red: &mut [bool], black: &mut [bool])
     }
 }
 
-// Names the state of one break.
 fn name_state(item: Break, red: &mut [bool], black: &mut [bool])
     ensures named { watching.IsNamed red.new black.new item }
     ensures kept { (other : breaks.Break) → watching.IsNamed red.old black.old other → watching.IsNamed red.new black.new other }

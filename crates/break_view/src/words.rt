@@ -24,7 +24,6 @@ pub(crate) fn break_table() -> WordTable<6>
     WordTable::new(["Round", "State", "Stand", "Food", "Killed", "Score"])
 }
 
-// The words of the colours.
 #[tactic(auto, unfolding(crate::specs::Inner::Places::colour_words))]
 pub(crate) fn colour_table() -> WordTable<2>
     ensures { result ≡ places.colour_words }

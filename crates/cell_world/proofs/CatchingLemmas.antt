@@ -3,7 +3,7 @@ use Rattle.std.proofs.Common.{◌≡◌, ◌≢◌, ◌⊎◌, inl, inr, ⊎_eli
 use Rattle.std.specs.List.{Contains}
 use Rattle.std.proofs.lemmas.Bool.{cases_eq, cond-false, cond-true, eqb-true, eq-eqb}
 use Rattle.std.proofs.lemmas.List.{at_drop_all, drop_more, ext_get_or, get_or_default, get_or-map, get_or-set_other, get_or-set_same, length-map, length-set}
-use Rattle.std.proofs.lemmas.List.Elements.{Contains-append_cases, Contains-push_cases}
+use Rattle.list_lemmas.proofs.Elements.{Contains-cases}
 use Rattle.hex_geometry.specs.declared.direction.Dir.{Dir}
 use Rattle.hex_geometry.specs.declared.position.Pos.{Pos}
 use Rattle.hex_geometry.specs.Position.{IsInside}
@@ -102,14 +102,9 @@ module _ (width : ℕ) (was tiles others : List Tile) (old bodies middle new oth
         (λ apart. caught_stays i (catching.done i within (λ q held. ⊎_elim
         (λ first_is. λ e. apart (sym e ∙ ap (index_of width) (sym first_is)))
         (λ later. none q later)
-        (Contains-head p rest q held))))
+        (Contains-cases p q rest held))))
         (cases_eq i (index_of width p));
-  } where
-    Contains-head : (y : Pos) (xs : List Pos) (x : Pos) → Contains (y ∷ xs) x → (y ≡ x) ⊎ Contains xs x
-    Contains-head y xs x held = ⊎_elim
-        (λ one. ⊎_elim (λ nowhere. absurd (let l : nowhere.0 < 0 = nowhere.1 in omega arith)) inl (Contains-push_cases [] y x one))
-        inr
-        (Contains-append_cases (y ∷ []) xs x held)
+  }
 
 -- two occupants of one id are one
 occupant-same : (a b : Occupant) → occupant_id a ≡ occupant_id b → a ≡ b
@@ -385,3 +380,24 @@ module _ (fields others : Inside) (pair : Pair fields others) where
 -- the last step is behind
 pub Catching-end : (width : ℕ) (was tiles others : List Tile) (old bodies other_bodies : List Body) (places : List Pos) (i : ℕ) → length places ≤ i → Catching width was tiles others old bodies other_bodies (drop i places) → Catching width was tiles others old bodies other_bodies []
 Catching-end width was tiles others old bodies other_bodies places i late catching = subst (Catching width was tiles others old bodies other_bodies) (at_drop_all (λ (ps : List Pos). ps) places i late) catching
+
+-- all bodies at once
+pub Catching-bodies : (width : ℕ) (was tiles others : List Tile) (old bodies other_bodies : List Body) (left : List Pos) → length other_bodies ≡ length old → Catching width was tiles others old bodies other_bodies left →
+    Catching width was tiles others old other_bodies other_bodies left
+Catching-bodies width was tiles others old bodies other_bodies left same catching = record {
+  all_tiles = catching.all_tiles;
+  all_ids = same;
+  either = λ t made. inr refl;
+  each = λ i within. ⊎_elim inl (λ caught. inr (record { tile = caught.tile; before = λ t made names. refl; after = λ t made names. refl })) (catching.each i within);
+  done = λ i within none. record { tile = (catching.done i within none).tile; before = λ t made names. refl; after = λ t made names. refl };
+}
+
+-- one step of the loop over tiles
+pub Catching-tile : (width : ℕ) (was tiles others : List Tile) (old bodies : List Body) (places : List Pos) (i k : ℕ) (d : Pos) (tile : Tile) →
+    i < length places → index_of width (get_or places i d) < length was → length others ≡ length was → Catching width was tiles others old bodies bodies (drop i places) →
+    k ≡ index_of width (get_or places i d) → tile ≡ get_or others k tile → Catching width was (set tiles k tile) others old bodies bodies (drop (i + 1) places)
+Catching-tile width was tiles others old bodies places i k d tile below early long catching at is_tile =
+    let here : Tile = get_or tiles k tile in
+    let in_tiles : k < length tiles = subst (λ n. k < n) (sym catching.all_tiles) (subst (λ n. n < length was) (sym at) early) in
+    let still : (id : Option ℕ) → Followed bodies bodies bodies id = λ id. record { all_ids = refl; either = λ t made. inl refl; own = λ t made is. refl } in
+    Catching-go width was tiles others old bodies bodies bodies bodies places i k d tile (occupant_id here.ant) here below early long catching at is_tile (get_or_default tiles k tile here in_tiles) refl (still (occupant_id here.ant)) (still (occupant_id tile.ant))

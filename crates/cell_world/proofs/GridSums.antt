@@ -43,7 +43,12 @@ pub weight-list : (g : Grid) → length g.cells ≡ g.width * g.height → weigh
 unfolding weight
 weight-list g full = total-list g cell_weight full
 
--- one or nothing, as a choice
+-- one or nothing is at most one
+pub one_if-le_one : (b : Bool) → one_if b ≤ 1
+one_if-le_one true = omega arith
+one_if-le_one false = omega arith
+
+-- and it is a choice
 pub one_if-cond : (b : Bool) → one_if b ≡ cond b 1 0
 one_if-cond true = refl
 one_if-cond false = refl

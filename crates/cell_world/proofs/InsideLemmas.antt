@@ -38,7 +38,7 @@ merged new old cell occupant kind hill ant =
     ap₂ (λ r h. with r h (ant_named new (occupant_id occupant))) kind hill ∙ ap (with cell.rocky cell.hill) ant
 
 -- a vector all of whose items were written anew holds the new ones
-refilled : {X : Type 0} (n : ℕ) (items new : List X) → n ≡ length items → length new ≡ length items → take n (new ++ drop (length new) items) ≡ new
+pub refilled : {X : Type 0} (n : ℕ) (items new : List X) → n ≡ length items → length new ≡ length items → take n (new ++ drop (length new) items) ≡ new
 refilled n items new long same =
     subst (λ k. take k (new ++ drop (length new) items) ≡ new) (same ∙ sym long) (take-append_seam new (drop (length new) items))
 

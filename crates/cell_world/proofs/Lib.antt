@@ -1,29 +1,37 @@
+-- A cell put into a world: places, numbers and weight.
+pub mod Puts
+pub mod Places
+pub mod Totals
 pub mod AliveArePlaced
-pub mod Bodies
-pub mod CatchingLemmas
+pub mod Weights
+pub mod Tallies
+-- What every world keeps.
+pub mod ValidLemmas
 pub mod GridLemmas
 pub mod GridSums
-pub mod GroundWorked
-pub mod Grounds
+pub mod MarksLemmas
+pub mod Sets
+-- Tiles and bodies, as they are stored.
+pub mod Bodies
+pub mod StoredLemmas
 pub mod InsideLemmas
 pub mod Living
-pub mod MarksLemmas
-pub mod OpeningLaws
-pub mod OpeningPlaces
-pub mod OpeningStores
-pub mod OpeningValid
-pub mod OpeningWeight
-pub mod OpeningWorked
-pub mod Openings
-pub mod PartAnswers
+-- Parts of cells, and a world brought up to date.
 pub mod Patches
-pub mod Places
+pub mod PartAnswers
+pub mod CatchingLemmas
+-- Those that rest, told apart.
+pub mod RestingLemmas
+-- Worlds that are made: at an opening, and of cells without ants.
 pub mod Plans
-pub mod Puts
+pub mod Openings
+pub mod OpeningWeight
+pub mod OpeningValid
+pub mod OpeningPlaces
+pub mod OpeningLaws
+pub mod OpeningStores
+pub mod Grounds
+-- Worked values.
+pub mod GroundWorked
+pub mod OpeningWorked
 pub mod ScoreWorked
-pub mod Sets
-pub mod StoredLemmas
-pub mod Tallies
-pub mod Totals
-pub mod ValidLemmas
-pub mod Weights

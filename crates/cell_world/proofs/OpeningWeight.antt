@@ -2,6 +2,7 @@
 use Rattle.std.proofs.Common.{◌≡◌, inl, inr, ℕ, suc, zero, ◌+◌, ◌-◌, ◌*◌, ◌<◌, ◌≤◌, true, false, ◌∙◌, ap, subst, arith}
 use Rattle.std.proofs.lemmas.Bool.{cases_Bool}
 use Rattle.std.proofs.lemmas.Nat.{mul-le}
+use Rattle.hex_geometry.proofs.Places.{at}
 use Rattle.hex_geometry.specs.declared.position.Pos.{Pos}
 use Rattle.hex_geometry.specs.Position.{IsInner}
 use Rattle.cell_world.specs.Cell.{rock, cell_weight}
@@ -23,10 +24,6 @@ rises F m (suc n) step =
 framed : (F : ℕ → ℕ) (m n : ℕ) → F 1 ≤ F 0 → ((k : ℕ) → k < n → F (k + 1 + 1) ≤ F (k + 1) + m) → F (n + 1 + 1) ≤ F (n + 1) → F (n + 1 + 1) ≤ F 0 + m * n
 framed F m n first step last =
     let middle : F (n + 1) ≤ F 1 + m * n = rises (λ k. F (k + 1)) m n step in omega arith
-
--- a position by its column and row
-abbrev at : ℕ → ℕ → Pos
-at x y = record { x = x; y = y }
 
 -- a sum in row order, one position on
 sum_over-next : (width : ℕ) (f : Pos → ℕ) (x y : ℕ) → x < width → sum_over width f (y * width + (x + 1)) ≡ sum_over width f (y * width + x) + f (at x y)

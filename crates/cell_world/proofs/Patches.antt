@@ -1,6 +1,7 @@
 -- Cells and their parts, and patches.
 use Rattle.std.proofs.Common.{◌≡◌, inl, inr, ℕ, Bool, true, false, ◌||◌, Option, Some, None, option_map, refl, sym, ◌∙◌, ap}
-use Rattle.std.proofs.lemmas.Bool.{both_ways, cases_Bool, cond-true, cond-false, false≢true}
+use Rattle.std.proofs.Math.Bool.{or-true}
+use Rattle.std.proofs.lemmas.Bool.{both_ways, cases_Bool, cond-true, cond-false, false≢true, or_cases}
 use Rattle.cell_world.specs.declared.ant.Ant.{Ant}
 use Rattle.cell_world.specs.declared.ant.Colour.{Colour}
 use Rattle.cell_world.specs.declared.cell.Cell.{Cell}
@@ -94,12 +95,8 @@ module _ (cell source : Cell) (parts : Parts) where
     mind_alone : parts.who ≡ false → parts.mind ≡ true → IsSameAnt cell.ant source.ant
     mind_alone other named = can.same_ant other (ap (λ b. b || parts.load) named)
 
-    or_true : (b : Bool) → (b || true) ≡ true
-    or_true true = refl
-    or_true false = refl
-
     load_alone : parts.who ≡ false → parts.load ≡ true → IsSameAnt cell.ant source.ant
-    load_alone other named = can.same_ant other (ap (λ b. parts.mind || b) named ∙ or_true parts.mind)
+    load_alone other named = can.same_ant other (ap (λ b. parts.mind || b) named ∙ or-true parts.mind)
 
     -- each named part is the source's
     pub patched-named : (k : Part) → has_part parts k ≡ true → Alike k (patched cell source parts) source
@@ -168,11 +165,6 @@ CanPatch-alike cell other source parts who can = record {
   same_ant = λ alone named. IsSameAnt-alike cell.ant other.ant source.ant who (can.same_ant alone named);
 }
 
--- where a test holds, or another does, one of them does
-or_one : {A : Type 0} (a b : Bool) → (a || b) ≡ true → (a ≡ true → A) → (b ≡ true → A) → A
-or_one {A} true b either first second = first refl
-or_one {A} false b either first second = second either
-
 -- patches that have no part in common
 module _ (cell one other : Cell) (a b : Parts) (apart : AreDisjoint a b) (can_one : CanPatch cell one a) (can_other : CanPatch cell other b) where
   -- the second can be made after the first
@@ -181,9 +173,10 @@ module _ (cell one other : Cell) (a b : Parts) (apart : AreDisjoint a b) (can_on
     mind = can_other.mind;
     load = can_other.load;
     same_ant = λ alone named. elim (cases_Bool a.who) [
-      | inl who ↦ absurd (or_one b.mind b.load named
-          (λ mind. both_ways b.mind (apart Mind (can_one.mind who)) mind)
-          (λ load. both_ways b.load (apart Load (can_one.load who)) load))
+      | inl who ↦ absurd (elim (or_cases b.mind b.load named) [
+        | inl mind ↦ both_ways b.mind (apart Mind (can_one.mind who)) mind
+        | inr load ↦ both_ways b.load (apart Load (can_one.load who)) load
+      ])
       | inr none ↦ IsSameAnt-alike cell.ant (patched cell one a).ant other.ant (sym (patched-others cell one a can_one Who none)) (can_other.same_ant alone named)
     ];
   }

@@ -11,6 +11,9 @@ pub mod Opening
 pub mod OpeningLaws
 pub mod PartLaws
 pub mod Parts
+pub mod Resting
 pub mod Score
 pub mod Valid
 pub mod World
+pub use Rattle.hex_geometry.specs.Position
+pub use Rattle.hex_geometry.specs.RowOrder

@@ -1,5 +1,5 @@
 -- The score, the food and the ants of a world (the task's game play and biology).
-use Rattle.std.specs.Prelude.{ℕ, cond}
+use Rattle.std.specs.Prelude.{ℕ, if◌then◌else◌}
 use Rattle.cell_world.specs.declared.ant.Colour.{Colour}
 use Rattle.cell_world.specs.declared.ant.Colour.TheVariants.{Red, Black}
 use Rattle.cell_world.specs.declared.cell.Cell.{Cell}
@@ -9,7 +9,7 @@ use Rattle.cell_world.specs.World.{World, total}
 
 -- the food on a cell, where it is of this colour's hill
 abbrev pub hill_food_in : Colour → Cell → ℕ
-hill_food_in colour cell = cond (is_hill_of colour cell.hill) cell.food 0
+hill_food_in colour cell = if is_hill_of colour cell.hill then cell.food else 0
 
 -- the food on the cells of this colour's hill
 unfoldable pub hill_food_of : World → Colour → ℕ

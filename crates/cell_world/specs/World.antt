@@ -1,5 +1,5 @@
 -- The world as a function from positions to cells (the task's geography).
-use Rattle.std.specs.Prelude.{ℕ, ◌+◌, ◌*◌, Bool, cond, Option, Some, None, suc, zero}
+use Rattle.std.specs.Prelude.{ℕ, ◌+◌, ◌*◌, Bool, if◌then◌else◌, Option, Some, None, suc, zero}
 use Rattle.hex_geometry.specs.declared.position.Pos.{Pos}
 use Rattle.hex_geometry.specs.Position.{same_pos}
 use Rattle.hex_geometry.specs.RowOrder.{pos_at}
@@ -19,7 +19,7 @@ pub record World : Type 0 where
 
 -- the cells, with this one at p
 unfoldable pub put_cell : Cells → Pos → Cell → Cells
-put_cell cells p cell q = cond (same_pos p q) cell (cells q)
+put_cell cells p cell q = if same_pos p q then cell else cells q
 
 -- the world with these cells
 abbrev pub with_cells : World → Cells → World
@@ -37,7 +37,7 @@ sum_over width f (suc n) = sum_over width f n + f (pos_at width n)
 -- this position where there is none yet and the test holds
 abbrev pub or_here : Option Pos → Bool → Pos → Option Pos
 or_here (Some found) here p = Some found
-or_here None here p = cond here (Some p) None
+or_here None here p = if here then Some p else None
 
 -- the first of the first n positions in row order at which the test holds
 abbrev pub first_of : ℕ → (Pos → Bool) → ℕ → Option Pos

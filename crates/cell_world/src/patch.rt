@@ -29,10 +29,10 @@ impl Cell {
         ensures { result ≡ patched self source parts }
     {
         Cell {
-            food: chosen(parts.has(Part::Food), source.food, self.food),
-            red: chosen(parts.has(Part::RedMarks), source.red, self.red),
-            black: chosen(parts.has(Part::BlackMarks), source.black, self.black),
-            ant: chosen(
+            food: choose(parts.has(Part::Food), source.food, self.food),
+            red: choose(parts.has(Part::RedMarks), source.red, self.red),
+            black: choose(parts.has(Part::BlackMarks), source.black, self.black),
+            ant: choose(
                 parts.has(Part::Who),
                 source.ant,
                 patched_ant(self.ant, source.ant, parts),
@@ -135,7 +135,7 @@ fn same_marks(one: &Marks, other: &Marks) -> bool
 
 // the one value where it is named, and else the other
 #[inline]
-fn chosen<T: Copy>(named: bool, source: T, own: T) -> T
+fn choose<T: Copy>(named: bool, source: T, own: T) -> T
     ensures { result ≡ if named then source else own }
 {
     if named { source } else { own }

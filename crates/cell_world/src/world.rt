@@ -17,6 +17,7 @@ use std::marker::Model;
 mod catch_up;
 mod counts;
 mod ground;
+mod resting;
 #[cfg(test)]
 mod tests;
 

@@ -18,7 +18,7 @@ use Rattle.command_words.specs.declared.slot.Place.TheVariants.{Word, Names}
 use Rattle.command_words.specs.declared.table.CommandKind.{CommandKind}
 use Rattle.command_words.specs.declared.table.CommandKind.TheVariants.{Show, Brain, Minimise, Run, Gen, Cup, View, Workload, Help, Version, Asm, Save, Resume}
 use Rattle.command_words.specs.declared.table.Choice.{Choice}
-use Rattle.command_words.specs.declared.table.Choice.TheVariants.{Seed, Rounds, Dump, Workers, Window, Surround, Corpse, Rest, Stats, Width, Height, Rocks, Blobs}
+use Rattle.command_words.specs.declared.table.Choice.TheVariants.{Seed, Rounds, Dump, Workers, Window, Surround, Corpse, Rest, Stats, Far, Width, Height, Rocks, Blobs}
 use Rattle.command_words.specs.Limits.{number_in}
 use Rattle.command_words.specs.Slots.{fits, is_dumps, dumps_of, AreNames, DumpChoice}
 use Rattle.command_words.specs.Slots.DumpChoice.{NoDump}
@@ -31,7 +31,8 @@ use Rattle.command_words.specs.Command.PlainCommand.{ShowCommand, BrainCommand, 
 use Rattle.command_words.specs.Inner.Walk.{is_among, has_needed, rest_after, word_after, names_front, names_of, show_with, setup_with}
 use Rattle.command_words.specs.Inner.Walk.{setup_in, run_with, shape_with, shape_in, gen_with, cup_with, view_with, workload_with, command_in}
 use Rattle.command_words.specs.Inner.Walk.{resume_setup_in, resume_setup_with, resume_with, save_with}
-use Rattle.command_words.proofs.ListLemmas.{Contains-none, Contains-cases, list_all-at, list_all-each}
+use Rattle.list_lemmas.proofs.Elements.{Contains-none, Contains-cases}
+use Rattle.command_words.proofs.ListLemmas.{list_all-at, list_all-each}
 use Rattle.command_words.proofs.TableLemmas.{option-not_first, same_option, bytes_eq-same, keyword-no_name}
 use Rattle.command_words.proofs.WalkLooking.{is_among-append, is_among-none, is_among-one, is_among-cons, rest_after-none, rest_after-cons, rest_after-first}
 use Rattle.command_words.proofs.WalkLooking.{rest_after-next, rest_after-unlike, names_front-run}
@@ -153,18 +154,18 @@ command-gives kind front given fit options = record {
 }
 
 -- the options of `run`, one after another
-setup-some : (setup : RunSetup) (seed rounds : Option ℕ) (dumps : Option DumpChoice) (workers window surround corpse rest : Option ℕ) (stats : Bool)
+setup-some : (setup : RunSetup) (seed rounds : Option ℕ) (dumps : Option DumpChoice) (workers window surround corpse rest : Option ℕ) (stats far : Bool)
     → seed ≡ Some setup.seed → rounds ≡ Some setup.rounds → dumps ≡ Some setup.dumps → workers ≡ Some setup.workers → window ≡ Some setup.window
-    → surround ≡ Some setup.surround → corpse ≡ Some setup.corpse → rest ≡ Some setup.rest → stats ≡ setup.stats
-    → setup_with seed rounds dumps workers window surround corpse rest stats ≡ Some setup
-setup-some setup seed rounds dumps workers window surround corpse rest stats a b c d e f g h i = rw (a, b, c, d, e, f, g, h, i) refl
+    → surround ≡ Some setup.surround → corpse ≡ Some setup.corpse → rest ≡ Some setup.rest → stats ≡ setup.stats → far ≡ setup.far
+    → setup_with seed rounds dumps workers window surround corpse rest stats far ≡ Some setup
+setup-some setup seed rounds dumps workers window surround corpse rest stats far a b c d e f g h i j = rw (a, b, c, d, e, f, g, h, i, j) refl
 
 setup-said : (words : List (List ℕ)) (given : List Given) (setup : RunSetup) → Gives words given → SaysSetup setup given → setup_in words ≡ Some setup
 setup-said words given setup gives says =
     setup-some setup (number_needed SeedNumber (word_after Seed words)) (number_needed RoundCount (word_after Rounds words)) (dumps_or_none (word_after Dump words))
     (number_or default_workers WorkerCount (word_after Workers words)) (number_or default_window WindowSize (word_after Window words))
     (number_or default_surround FoeCount (word_after Surround words)) (number_or default_corpse CorpseFood (word_after Corpse words))
-    (number_or default_rest RestRounds (word_after Rest words)) (is_among (option_of Stats) words)
+    (number_or default_rest RestRounds (word_after Rest words)) (is_among (option_of Stats) words) (is_among (option_of Far) words)
     (ap (number_needed SeedNumber) (gives.value Seed (Number SeedNumber) refl) ∙ says.seed)
     (ap (number_needed RoundCount) (gives.value Rounds (Number RoundCount) refl) ∙ says.rounds)
     (ap dumps_or_none (gives.value Dump Dumps refl) ∙ says.dumps)
@@ -174,6 +175,7 @@ setup-said words given setup gives says =
     (ap (number_or default_corpse CorpseFood) (gives.value Corpse (Number CorpseFood) refl) ∙ says.corpse)
     (ap (number_or default_rest RestRounds) (gives.value Rest (Number RestRounds) refl) ∙ says.rest)
     (gives.has Stats ∙ says.stats)
+    (gives.has Far ∙ says.far)
 
 -- the options of `gen`, one after another
 shape-some : (shape : GenShape) (width height rocks blobs : Option ℕ) → width ≡ Some shape.width → height ≡ Some shape.height → rocks ≡ Some shape.rocks
@@ -431,6 +433,7 @@ game-said kind given seed rounds options =
         corpse = corpse.0;
         rest = rest.0;
         stats = has_given Stats given;
+        far = has_given Far given;
       },
       record {
         seed = seed.1;
@@ -442,6 +445,7 @@ game-said kind given seed rounds options =
         corpse = corpse.1;
         rest = rest.1;
         stats = refl;
+        far = refl;
       },
     )
 

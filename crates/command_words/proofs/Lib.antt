@@ -10,6 +10,7 @@ pub mod WalkCompletions
 pub mod CommandLemmas
 pub mod ReadLemmas
 pub mod WordLaws
+pub mod FarWords
 pub mod WorkedFronts
 pub mod WorkedLines
 pub mod WorkedOptions

@@ -13,11 +13,12 @@ use Rattle.command_words.specs.declared.slot.Slot.TheVariants.{FileName, Number,
 use Rattle.command_words.specs.declared.table.CommandKind.{CommandKind}
 use Rattle.command_words.specs.declared.table.CommandKind.TheVariants.{Show, Brain, Minimise, Run, Gen, Cup, View, Workload, Help, Version, Asm, Save, Resume}
 use Rattle.command_words.specs.declared.table.Choice.{Choice}
-use Rattle.command_words.specs.declared.table.Choice.TheVariants.{Seed, Rounds, Dump, Workers, Window, Surround, Corpse, Rest, Stats, Width, Height, Rocks, Blobs}
+use Rattle.command_words.specs.declared.table.Choice.TheVariants.{Seed, Rounds, Dump, Workers, Window, Surround, Corpse, Rest, Stats, Far, Width, Height, Rocks, Blobs}
 use Rattle.command_words.specs.Slots.{fits, is_file_name, is_dumps, dumps_of}
 use Rattle.command_words.specs.Table.{kinds, word_of, choices_of, option_of, keyword_of}
 use Rattle.command_words.specs.Inner.Walk.{command_kind_of, choice_of}
-use Rattle.command_words.proofs.ListLemmas.{Contains-none, Contains-cases, list_all-at, find-passes, find-Contains}
+use Rattle.list_lemmas.proofs.Elements.{Contains-none, Contains-cases}
+use Rattle.command_words.proofs.ListLemmas.{list_all-at, find-passes, find-Contains}
 
 pub bytes_eq-same : (word : List ℕ) → bytes_eq word word ≡ true
 bytes_eq-same word = (bytes_eq-Decides word word).1 refl
@@ -38,7 +39,7 @@ find-word {X = X} word same (other ∷ list) x has =
 
 -- each option, whether it is known or not
 choices : List Choice
-choices = Seed ∷ Rounds ∷ Dump ∷ Workers ∷ Window ∷ Surround ∷ Corpse ∷ Rest ∷ Stats ∷ Width ∷ Height ∷ Rocks ∷ Blobs ∷ []
+choices = Seed ∷ Rounds ∷ Dump ∷ Workers ∷ Window ∷ Surround ∷ Corpse ∷ Rest ∷ Stats ∷ Far ∷ Width ∷ Height ∷ Rocks ∷ Blobs ∷ []
 
 choices-all : (choice : Choice) → Contains choices choice
 unfolding choices
@@ -51,10 +52,11 @@ choices-all Surround = (5, lit< tt, refl)
 choices-all Corpse = (6, lit< tt, refl)
 choices-all Rest = (7, lit< tt, refl)
 choices-all Stats = (8, lit< tt, refl)
-choices-all Width = (9, lit< tt, refl)
-choices-all Height = (10, lit< tt, refl)
-choices-all Rocks = (11, lit< tt, refl)
-choices-all Blobs = (12, lit< tt, refl)
+choices-all Far = (9, lit< tt, refl)
+choices-all Width = (10, lit< tt, refl)
+choices-all Height = (11, lit< tt, refl)
+choices-all Rocks = (12, lit< tt, refl)
+choices-all Blobs = (13, lit< tt, refl)
 
 -- the option of a word
 option_named : List ℕ → Option Choice
@@ -72,6 +74,7 @@ option_named-word Surround = refl
 option_named-word Corpse = refl
 option_named-word Rest = refl
 option_named-word Stats = refl
+option_named-word Far = refl
 option_named-word Width = refl
 option_named-word Height = refl
 option_named-word Rocks = refl

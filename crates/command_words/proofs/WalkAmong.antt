@@ -14,7 +14,8 @@ use Rattle.command_words.specs.Table.{option_of, values_of}
 use Rattle.command_words.specs.Command.{Given, given_words, joined, FitAll, IsOptionOf, IsGiven}
 use Rattle.command_words.specs.Inner.Walk.{is_among}
 use Rattle.command_words.proofs.WalkLooking.{is_among-append, is_among-none, is_among-one, is_among-cons, Unlike, is_among-unlike}
-use Rattle.command_words.proofs.ListLemmas.{Contains-none, Contains-first, Contains-later, Contains-cases, AllByRecursion-append, AllByRecursion-weaker}
+use Rattle.list_lemmas.proofs.AllElements.{AllByRecursion-append, AllByRecursion-weaker}
+use Rattle.list_lemmas.proofs.Elements.{Contains-none, Contains-first, Contains-later, Contains-cases}
 use Rattle.command_words.proofs.TableLemmas.{option-unfit, same_option, bytes_eq-same}
 
 -- a word that isn't among more isn't among fewer, nor is it the one more
@@ -34,7 +35,7 @@ name-unlike name text no_name is_name =
 
 pub names-unlike : (names : List (List ℕ)) (text : List ℕ) → is_file_name text ≡ false → AllByRecursion (λ name. is_file_name name ≡ true) names → Unlike text names
 names-unlike names text no_name each =
-    AllByRecursion-weaker (λ name. is_file_name name ≡ true) (λ name. bytes_eq name text ≡ false) names (λ name is_name. name-unlike name text no_name is_name) each
+    AllByRecursion-weaker (λ name. is_file_name name ≡ true) (λ name. bytes_eq name text ≡ false) names each (λ name is_name. name-unlike name text no_name is_name)
 
 -- an option's word is no word that fits a slot
 option-unlike : (slot : Slot) (word : List ℕ) (choice : Choice) → fits slot word ≡ true → bytes_eq word (option_of choice) ≡ false

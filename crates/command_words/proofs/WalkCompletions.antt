@@ -11,7 +11,8 @@ use Rattle.command_words.specs.declared.table.Choice.{Choice}
 use Rattle.command_words.specs.Table.{kinds, word_of, places_of, choices_of, option_of, values_of}
 use Rattle.command_words.specs.Command.{Given, given_words, joined, FitAll, IsOptionOf, NoneTwice, IsCommandOf}
 use Rattle.command_words.specs.Inner.Walk.{walk}
-use Rattle.command_words.proofs.ListLemmas.{Contains-none, Contains-first, Contains-later, Contains-cases, AllByRecursion-push}
+use Rattle.list_lemmas.proofs.AllElements.{AllByRecursion-push}
+use Rattle.list_lemmas.proofs.Elements.{Contains-none, Contains-first, Contains-later, Contains-cases}
 use Rattle.command_words.proofs.TableLemmas.{option-not_first, same_option, bytes_eq-same}
 use Rattle.command_words.proofs.WalkLooking.{is_among-one}
 use Rattle.command_words.proofs.WalkAmong.{is_among-neither, is_among-fit}

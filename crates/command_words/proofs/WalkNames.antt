@@ -13,13 +13,13 @@ use Rattle.command_words.specs.declared.slot.Place.TheVariants.{Word, Names}
 use Rattle.command_words.specs.declared.table.CommandKind.{CommandKind}
 use Rattle.command_words.specs.declared.table.CommandKind.TheVariants.{Show, Brain, Minimise, Run, Gen, Cup, View, Workload, Help, Version, Asm, Save, Resume}
 use Rattle.command_words.specs.declared.table.Choice.{Choice}
-use Rattle.command_words.specs.declared.table.Choice.TheVariants.{Seed, Rounds, Dump, Workers, Window, Surround, Corpse, Rest, Stats, Width, Height, Rocks, Blobs}
+use Rattle.command_words.specs.declared.table.Choice.TheVariants.{Seed, Rounds, Dump, Workers, Window, Surround, Corpse, Rest, Stats, Far, Width, Height, Rocks, Blobs}
 use Rattle.command_words.specs.Slots.{is_file_name, AllDiffer, AreNames, FitsPlace}
 use Rattle.command_words.specs.Table.{places_of, values_of, keyword_of, fewest_names, most_names, must_differ}
 use Rattle.command_words.specs.Command.{Given, given_words, joined, FitAll}
 use Rattle.command_words.specs.Inner.Walk.{is_among, has_enough, is_repeated, may_follow, closed, due_after, names_after, go_on, walk}
 use Rattle.command_words.proofs.WalkLooking.{is_among-none, is_among-cons, is_among-next, NoName}
-use Rattle.command_words.proofs.ListLemmas.{AllByRecursion-push}
+use Rattle.list_lemmas.proofs.AllElements.{AllByRecursion-push}
 use Rattle.command_words.proofs.TableLemmas.{option-unfit, keyword-no_name}
 
 -- some words may be the first names of a list
@@ -105,6 +105,7 @@ values-end Surround = tt
 values-end Corpse = tt
 values-end Rest = tt
 values-end Stats = tt
+values-end Far = tt
 values-end Width = tt
 values-end Height = tt
 values-end Rocks = tt

@@ -14,7 +14,7 @@ use Rattle.command_words.specs.Slots.{is_file_name, fits, AreNames}
 use Rattle.command_words.specs.Table.{choices_of, option_of, values_of}
 use Rattle.command_words.specs.Command.{Given, given_words, joined, FitAll, IsOptionOf, NoneTwice}
 use Rattle.command_words.specs.Inner.Walk.{choice_of, is_among, has_enough, may_follow, closed, reached, due_after_option, due_after, names_after, go_on, walk}
-use Rattle.command_words.proofs.ListLemmas.{AllByRecursion-weaker}
+use Rattle.list_lemmas.proofs.AllElements.{AllByRecursion-weaker}
 use Rattle.command_words.proofs.TableLemmas.{sample, sample-fits, choice_of-found, choice_of-known, choice_of-option, same_option-differs, bytes_eq-same}
 use Rattle.command_words.proofs.WalkLooking.{is_among-one, NoName}
 use Rattle.command_words.proofs.WalkAmong.{is_among-fewer, is_among-neither, is_among-fit}
@@ -73,12 +73,12 @@ samples-fit (Names list ∷ due) = ((lacking list [] (open-none (Names list ∷ 
 -- what is new after one more word was new before it
 IsNew-before : (before : List (List ℕ)) (word : List ℕ) (given : List Given) → AllByRecursion (IsNew (before ++ word ∷ [])) given → AllByRecursion (IsNew before) given
 IsNew-before before word given new =
-    AllByRecursion-weaker (IsNew (before ++ word ∷ [])) (IsNew before) given (λ g fresh. (is_among-fewer (option_of g.choice) word before fresh).0) new
+    AllByRecursion-weaker (IsNew (before ++ word ∷ [])) (IsNew before) given new (λ g fresh. (is_among-fewer (option_of g.choice) word before fresh).0)
 
 -- what is new after an option's word isn't that option
 IsNew-other : (before : List (List ℕ)) (choice : Choice) (given : List Given) → AllByRecursion (IsNew (before ++ option_of choice ∷ [])) given
     → AllByRecursion (λ other. other.choice ≢ choice) given
-IsNew-other before choice given new = AllByRecursion-weaker (IsNew (before ++ option_of choice ∷ [])) (λ other. other.choice ≢ choice) given differ new where
+IsNew-other before choice given new = AllByRecursion-weaker (IsNew (before ++ option_of choice ∷ [])) (λ other. other.choice ≢ choice) given new differ where
   differ : (g : Given) → IsNew (before ++ option_of choice ∷ []) g → g.choice ≢ choice
   differ g fresh same =
       false≢true (sym ((is_among-fewer (option_of g.choice) (option_of choice) before fresh).1) ∙ ap (λ o. bytes_eq (option_of choice) (option_of o)) same

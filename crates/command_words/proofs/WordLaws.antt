@@ -10,7 +10,7 @@ use Rattle.command_words.specs.declared.limits.NumberKind.{NumberKind}
 use Rattle.command_words.specs.declared.limits.NumberKind.TheVariants.{SeedNumber, RoundCount, WorkerCount, WindowSize, FoeCount, CorpseFood, RestRounds, SideLength}
 use Rattle.command_words.specs.declared.limits.NumberKind.TheVariants.{ElementCount}
 use Rattle.command_words.specs.declared.table.Choice.{Choice}
-use Rattle.command_words.specs.declared.table.Choice.TheVariants.{Seed, Rounds, Dump, Workers, Window, Surround, Corpse, Rest, Stats, Width, Height, Rocks, Blobs}
+use Rattle.command_words.specs.declared.table.Choice.TheVariants.{Seed, Rounds, Dump, Workers, Window, Surround, Corpse, Rest, Stats, Far, Width, Height, Rocks, Blobs}
 use Rattle.command_words.specs.Limits.{least_of, most_of, number_in}
 use Rattle.command_words.specs.Table.{places_of, option_of}
 use Rattle.command_words.specs.Table.{default_workers, default_window, default_surround, default_corpse, default_rest, default_side, default_rocks, default_blobs}
@@ -23,7 +23,7 @@ use Rattle.command_words.specs.Command.PlainCommand.{ShowCommand, BrainCommand, 
 use Rattle.command_words.specs.Inner.Walk.{read_of}
 use Rattle.command_words.specs.Laws.{OneCommand, OneRefusedWord, NeverBoth, OneOfBoth, FrontBegins, AnyOrder, IsWithin, AreWithin, ResumeWithin, SetupWithin, ShapeWithin}
 use Rattle.command_words.specs.Laws.{CommandWithin, WithinLimits}
-use Rattle.command_words.proofs.ListLemmas.{Contains-none, Contains-first, Contains-later, Contains-cases}
+use Rattle.list_lemmas.proofs.Elements.{Contains-none, Contains-first, Contains-later, Contains-cases}
 use Rattle.command_words.proofs.TableLemmas.{same_option, same_option-differs, bytes_eq-same}
 use Rattle.command_words.proofs.ReadLemmas.{read-command, read-accepts, read-refuses, IsBeginning-front, IsBeginning-take}
 
@@ -167,6 +167,7 @@ same-setup setup given others same says = record {
   corpse = ap (number_or default_corpse CorpseFood) (same.value Corpse) ∙ says.corpse;
   rest = ap (number_or default_rest RestRounds) (same.value Rest) ∙ says.rest;
   stats = same.has Stats ∙ says.stats;
+  far = same.has Far ∙ says.far;
 }
 
 same-shape : (shape : GenShape) (given others : List Given) → SaySame given others → SaysShape shape given → SaysShape shape others

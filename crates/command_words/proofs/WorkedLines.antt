@@ -6,6 +6,7 @@ use Rattle.command_words.specs.declared.command.GenShape.{GenShape}
 use Rattle.command_words.specs.Slots.{is_file_name, is_dumps, dumps_of, DumpChoice}
 use Rattle.command_words.specs.Slots.DumpChoice.{NoDump, EveryDump, ChosenDumps}
 use Rattle.command_words.specs.Command.{ResumeSetup, RunSetup, IsCommand, IsRefusedAt}
+use Rattle.command_words.specs.Far.{words_without_far}
 use Rattle.command_words.specs.Command.PlainCommand.{ShowCommand, BrainCommand, MinimiseCommand, RunCommand, GenCommand, CupCommand, ViewCommand, WorkloadCommand, HelpCommand, VersionCommand, AsmCommand, SaveCommand, ResumeCommand}
 use Rattle.command_words.specs.Inner.Walk.{command_kind_of, choice_of, is_among, rest_after}
 use Rattle.command_words.proofs.ReadLemmas.{read-accepts, read-refuses}
@@ -26,6 +27,7 @@ game seed rounds dumps workers window surround corpse rest stats = record {
   corpse = corpse;
   rest = rest;
   stats = stats;
+  far = false;
 }
 
 abbrev shape_of : ℕ → ℕ → ℕ → ℕ → GenShape
@@ -268,6 +270,28 @@ no_window = read-refuses (words_of (codes "run w r b --window 0")) 6 refl
 pub window_too_great : IsRefusedAt (words_of (codes "run w r b --window 16385")) 6
 unfolding command_kind_of choice_of is_among rest_after is_file_name is_dumps dumps_of decimal_value
 window_too_great = read-refuses (words_of (codes "run w r b --window 16385")) 6 refl
+
+-- `--far`, among the other options
+pub run_far : IsCommand (words_of (codes "run w r b --far --seed 1 --workers 3 --rounds 2"))
+    (RunCommand (codes "w") (codes "r") (codes "b") (record (game 1 2 NoDump 3 16384 5 3 14 false) { far = true }))
+unfolding command_kind_of choice_of is_among rest_after is_file_name is_dumps dumps_of decimal_value
+run_far = read-accepts (words_of (codes "run w r b --far --seed 1 --workers 3 --rounds 2"))
+    (RunCommand (codes "w") (codes "r") (codes "b") (record (game 1 2 NoDump 3 16384 5 3 14 false) { far = true })) refl
+
+-- `--far` takes no word
+pub far_with_a_value : IsRefusedAt (words_of (codes "run w r b --far 1")) 6
+unfolding command_kind_of choice_of is_among rest_after is_file_name is_dumps dumps_of decimal_value
+far_with_a_value = read-refuses (words_of (codes "run w r b --far 1")) 6 refl
+
+-- to a reader that doesn't know `--far` it is refused where it stands
+pub far_not_known : IsRefusedAt (words_without_far (words_of (codes "run w r b --seed 1 --far --rounds 2"))) 7
+unfolding command_kind_of choice_of is_among rest_after is_file_name is_dumps dumps_of decimal_value
+far_not_known = read-refuses (words_without_far (words_of (codes "run w r b --seed 1 --far --rounds 2"))) 7 refl
+
+-- and a word before it is refused first
+pub far_after_a_refused_word : IsRefusedAt (words_without_far (words_of (codes "run w r b --seed x --far"))) 6
+unfolding command_kind_of choice_of is_among rest_after is_file_name is_dumps dumps_of decimal_value
+far_after_a_refused_word = read-refuses (words_without_far (words_of (codes "run w r b --seed x --far"))) 6 refl
 
 -- `--stats` takes no word
 pub stats_with_a_value : IsRefusedAt (words_of (codes "run w r b --stats 1")) 6

@@ -26,7 +26,7 @@ refused_after line number (word ∷ words) read =
 
 -- the options of a game that only `run` has
 abbrev game_options : List (List ℕ)
-game_options = (codes "--dump") ∷ (codes "--window") ∷ (codes "--surround") ∷ (codes "--corpse") ∷ (codes "--rest") ∷ (codes "--stats") ∷ []
+game_options = (codes "--dump") ∷ (codes "--window") ∷ (codes "--surround") ∷ (codes "--corpse") ∷ (codes "--rest") ∷ (codes "--stats") ∷ (codes "--far") ∷ []
 
 -- the options of a world that only `gen` has
 abbrev shape_options : List (List ℕ)
@@ -44,31 +44,31 @@ all_options = game_options ++ shape_options ++ common_options
 pub show_takes_none : AreRefusedAfter (codes "show w 1") 4 all_options
 unfolding command_kind_of choice_of is_among rest_after is_file_name is_dumps dumps_of decimal_value
 show_takes_none = refused_after (codes "show w 1") 4 all_options
-    (refl, (refl, (refl, (refl, (refl, (refl, (refl, (refl, (refl, (refl, (refl, (refl, (refl, tt)))))))))))))
+    (refl, (refl, (refl, (refl, (refl, (refl, (refl, (refl, (refl, (refl, (refl, (refl, (refl, (refl, tt))))))))))))))
 
 -- `brain` takes no option
 pub brain_takes_none : AreRefusedAfter (codes "brain b") 3 all_options
 unfolding command_kind_of choice_of is_among rest_after is_file_name is_dumps dumps_of decimal_value
 brain_takes_none = refused_after (codes "brain b") 3 all_options
-    (refl, (refl, (refl, (refl, (refl, (refl, (refl, (refl, (refl, (refl, (refl, (refl, (refl, tt)))))))))))))
+    (refl, (refl, (refl, (refl, (refl, (refl, (refl, (refl, (refl, (refl, (refl, (refl, (refl, (refl, tt))))))))))))))
 
 -- `minimise` takes no option
 pub minimise_takes_none : AreRefusedAfter (codes "minimise b") 3 all_options
 unfolding command_kind_of choice_of is_among rest_after is_file_name is_dumps dumps_of decimal_value
 minimise_takes_none = refused_after (codes "minimise b") 3 all_options
-    (refl, (refl, (refl, (refl, (refl, (refl, (refl, (refl, (refl, (refl, (refl, (refl, (refl, tt)))))))))))))
+    (refl, (refl, (refl, (refl, (refl, (refl, (refl, (refl, (refl, (refl, (refl, (refl, (refl, (refl, tt))))))))))))))
 
 -- `asm` takes no option
 pub asm_takes_none : AreRefusedAfter (codes "asm p") 3 all_options
 unfolding command_kind_of choice_of is_among rest_after is_file_name is_dumps dumps_of decimal_value
 asm_takes_none = refused_after (codes "asm p") 3 all_options
-    (refl, (refl, (refl, (refl, (refl, (refl, (refl, (refl, (refl, (refl, (refl, (refl, (refl, tt)))))))))))))
+    (refl, (refl, (refl, (refl, (refl, (refl, (refl, (refl, (refl, (refl, (refl, (refl, (refl, (refl, tt))))))))))))))
 
 -- `workload` takes no option
 pub workload_takes_none : AreRefusedAfter (codes "workload 1 2 3") 5 all_options
 unfolding command_kind_of choice_of is_among rest_after is_file_name is_dumps dumps_of decimal_value
 workload_takes_none = refused_after (codes "workload 1 2 3") 5 all_options
-    (refl, (refl, (refl, (refl, (refl, (refl, (refl, (refl, (refl, (refl, (refl, (refl, (refl, tt)))))))))))))
+    (refl, (refl, (refl, (refl, (refl, (refl, (refl, (refl, (refl, (refl, (refl, (refl, (refl, (refl, tt))))))))))))))
 
 -- `run` takes no option of a world
 pub run_takes_no_shape : AreRefusedAfter (codes "run w r b") 5 shape_options
@@ -80,19 +80,19 @@ run_takes_no_shape = refused_after (codes "run w r b") 5 shape_options
 pub gen_takes_no_game : AreRefusedAfter (codes "gen 1") 3 (game_options ++ common_options)
 unfolding command_kind_of choice_of is_among rest_after is_file_name is_dumps dumps_of decimal_value
 gen_takes_no_game = refused_after (codes "gen 1") 3 (game_options ++ common_options)
-    (refl, (refl, (refl, (refl, (refl, (refl, (refl, (refl, (refl, tt)))))))))
+    (refl, (refl, (refl, (refl, (refl, (refl, (refl, (refl, (refl, (refl, tt))))))))))
 
 -- `cup` takes a seed, rounds and workers alone
 pub cup_takes_few : AreRefusedAfter (codes "cup --worlds w --brains a b") 7 (game_options ++ shape_options)
 unfolding command_kind_of choice_of is_among rest_after is_file_name is_dumps dumps_of decimal_value
 cup_takes_few = refused_after (codes "cup --worlds w --brains a b") 7 (game_options ++ shape_options)
-    (refl, (refl, (refl, (refl, (refl, (refl, (refl, (refl, (refl, (refl, tt))))))))))
+    (refl, (refl, (refl, (refl, (refl, (refl, (refl, (refl, (refl, (refl, (refl, tt)))))))))))
 
 -- `view` takes a seed and rounds alone
 pub view_takes_two : AreRefusedAfter (codes "view w r b k") 6 ((codes "--workers") ∷ (game_options ++ shape_options))
 unfolding command_kind_of choice_of is_among rest_after is_file_name is_dumps dumps_of decimal_value
 view_takes_two = refused_after (codes "view w r b k") 6 ((codes "--workers") ∷ (game_options ++ shape_options))
-    (refl, (refl, (refl, (refl, (refl, (refl, (refl, (refl, (refl, (refl, (refl, tt)))))))))))
+    (refl, (refl, (refl, (refl, (refl, (refl, (refl, (refl, (refl, (refl, (refl, (refl, tt))))))))))))
 
 -- a game of the greatest seed and the most rounds
 abbrev greatest : RunSetup
@@ -106,6 +106,7 @@ greatest = record {
   corpse = 3;
   rest = 14;
   stats = false;
+  far = false;
 }
 
 -- the greatest seed of a game

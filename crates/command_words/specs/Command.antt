@@ -12,7 +12,7 @@ use Rattle.command_words.specs.declared.slot.Place.{Place}
 use Rattle.command_words.specs.declared.table.CommandKind.{CommandKind}
 use Rattle.command_words.specs.declared.table.CommandKind.TheVariants.{Show, Brain, Minimise, Run, Gen, Cup, View, Workload, Help, Version, Asm, Save, Resume}
 use Rattle.command_words.specs.declared.table.Choice.{Choice}
-use Rattle.command_words.specs.declared.table.Choice.TheVariants.{Seed, Rounds, Dump, Workers, Window, Surround, Corpse, Rest, Stats, Width, Height, Rocks, Blobs}
+use Rattle.command_words.specs.declared.table.Choice.TheVariants.{Seed, Rounds, Dump, Workers, Window, Surround, Corpse, Rest, Stats, Far, Width, Height, Rocks, Blobs}
 use Rattle.command_words.specs.Limits.{number_in}
 use Rattle.command_words.specs.Slots.{FitsPlace, DumpChoice, dumps_of}
 use Rattle.command_words.specs.Slots.DumpChoice.{NoDump}
@@ -30,6 +30,7 @@ pub record RunSetup : Type 0 where
   pub corpse : ℕ
   pub rest : ℕ
   pub stats : Bool
+  pub far : Bool
 
 -- what the options of `resume` say
 pub record ResumeSetup : Type 0 where
@@ -151,6 +152,7 @@ pub record SaysSetup (setup : RunSetup) (given : List Given) : Type 0 where
   pub corpse : number_or default_corpse CorpseFood (value_given Corpse given) ≡ Some setup.corpse
   pub rest : number_or default_rest RestRounds (value_given Rest given) ≡ Some setup.rest
   pub stats : has_given Stats given ≡ setup.stats
+  pub far : has_given Far given ≡ setup.far
 
 -- what the options of `gen` say
 pub record SaysShape (shape : GenShape) (given : List Given) : Type 0 where

@@ -1,2 +1,3 @@
+pub mod Fronts
 pub mod Pieces
 pub mod Walk

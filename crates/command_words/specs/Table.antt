@@ -10,7 +10,7 @@ use Rattle.command_words.specs.declared.slot.Place.TheVariants.{Word, Names}
 use Rattle.command_words.specs.declared.table.CommandKind.{CommandKind}
 use Rattle.command_words.specs.declared.table.CommandKind.TheVariants.{Show, Brain, Minimise, Run, Gen, Cup, View, Workload, Help, Version, Asm, Save, Resume}
 use Rattle.command_words.specs.declared.table.Choice.{Choice}
-use Rattle.command_words.specs.declared.table.Choice.TheVariants.{Seed, Rounds, Dump, Workers, Window, Surround, Corpse, Rest, Stats, Width, Height, Rocks, Blobs}
+use Rattle.command_words.specs.declared.table.Choice.TheVariants.{Seed, Rounds, Dump, Workers, Window, Surround, Corpse, Rest, Stats, Far, Width, Height, Rocks, Blobs}
 
 -- all commands that are known
 abbrev pub kinds : List CommandKind
@@ -53,7 +53,7 @@ abbrev pub choices_of : CommandKind → List Choice
 choices_of Show = []
 choices_of Brain = []
 choices_of Minimise = []
-choices_of Run = Seed ∷ Rounds ∷ Dump ∷ Workers ∷ Window ∷ Surround ∷ Corpse ∷ Rest ∷ Stats ∷ []
+choices_of Run = Seed ∷ Rounds ∷ Dump ∷ Workers ∷ Window ∷ Surround ∷ Corpse ∷ Rest ∷ Stats ∷ Far ∷ []
 choices_of Gen = Width ∷ Height ∷ Rocks ∷ Blobs ∷ []
 choices_of Cup = Seed ∷ Rounds ∷ Workers ∷ []
 choices_of View = Seed ∷ Rounds ∷ []
@@ -75,6 +75,7 @@ option_of Surround = codes "--surround"
 option_of Corpse = codes "--corpse"
 option_of Rest = codes "--rest"
 option_of Stats = codes "--stats"
+option_of Far = codes "--far"
 option_of Width = codes "--width"
 option_of Height = codes "--height"
 option_of Rocks = codes "--rocks"
@@ -91,6 +92,7 @@ values_of Surround = Word (Number FoeCount) ∷ []
 values_of Corpse = Word (Number CorpseFood) ∷ []
 values_of Rest = Word (Number RestRounds) ∷ []
 values_of Stats = []
+values_of Far = []
 values_of Width = Word (Number SideLength) ∷ []
 values_of Height = Word (Number SideLength) ∷ []
 values_of Rocks = Word (Number ElementCount) ∷ []
@@ -107,6 +109,7 @@ is_needed Surround = false
 is_needed Corpse = false
 is_needed Rest = false
 is_needed Stats = false
+is_needed Far = false
 is_needed Width = false
 is_needed Height = false
 is_needed Rocks = false

@@ -34,6 +34,7 @@ plain_setup options = record {
   corpse = options.corpse;
   rest = options.rest;
   stats = options.stats;
+  far = options.far;
 }
 
 -- the options of `resume` that were read

@@ -126,6 +126,8 @@ pub struct RunOptions<'w> {
     pub rest: u8,
     /// whether the counts of turns are wanted
     pub stats: bool,
+    /// whether workers are to play that stand for the whole game, and get their jobs by messages
+    pub far: bool,
 }
 
 /// What the options of `resume` say, or what holds where they aren't given.

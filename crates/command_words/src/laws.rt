@@ -1,4 +1,5 @@
 // What holds of all words, as laws of their definitions. Each call does nothing: its clause is the law.
+ghost use Rattle.command_words.specs.Far.{RefusesFar};
 ghost use Rattle.command_words.specs.Laws.{AnyOrder, FrontBegins, NeverBoth, OneCommand, OneOfBoth, OneRefusedWord, WithinLimits};
 
 /// Some words are at most one command.
@@ -35,4 +36,9 @@ pub fn any_order()
 /// different brains.
 pub fn within_limits()
     ensures { WithinLimits }
+{}
+
+/// To a reader that doesn't know `--far`, a run among whose words it stands is no command, and all other words are as they are.
+pub fn refuses_far()
+    ensures { RefusesFar }
 {}

@@ -9,6 +9,7 @@
 
 mod command;
 mod dumps;
+mod far;
 mod laws;
 mod limits;
 mod numbers;
@@ -21,8 +22,10 @@ mod walk;
 
 pub use command::{Command, GenShape, Refused, ResumeOptions, RunOptions};
 pub use dumps::DumpWord;
+pub use far::{is_far_run, read_words_without_far};
 pub use laws::{
-    any_order, front_begins, never_both, one_command, one_of_both, one_refused_word, within_limits,
+    any_order, front_begins, never_both, one_command, one_of_both, one_refused_word, refuses_far,
+    within_limits,
 };
 pub use limits::NumberKind;
 pub use numbers::Numbers;

@@ -142,6 +142,7 @@ fn options_in<'w>(words: &'w [String]) -> Option<RunOptions<'w>>
     )?;
     let rest = small_or(DEFAULT_REST, NumberKind::RestRounds, Choice::Rest, words)?;
     let stats = is_among(Choice::Stats.word(), words);
+    let far = is_among(Choice::Far.word(), words);
     Some(RunOptions {
         seed,
         rounds,
@@ -152,6 +153,7 @@ fn options_in<'w>(words: &'w [String]) -> Option<RunOptions<'w>>
         corpse,
         rest,
         stats,
+        far,
     })
 }
 

@@ -56,6 +56,8 @@ pub enum Choice {
     Rest,
     /// `--stats`, whether the counts of turns are wanted
     Stats,
+    /// `--far`, whether workers play that stand for the whole game
+    Far,
     /// `--width N`, the cells of a row; without it 150
     Width,
     /// `--height N`, the rows; without it 150
@@ -200,6 +202,7 @@ impl CommandKind {
                 Choice::Corpse,
                 Choice::Rest,
                 Choice::Stats,
+                Choice::Far,
             ],
             CommandKind::Gen => &[Choice::Width, Choice::Height, Choice::Rocks, Choice::Blobs],
             CommandKind::Cup => &[Choice::Seed, Choice::Rounds, Choice::Workers],
@@ -236,6 +239,7 @@ impl Choice {
             Choice::Corpse => "--corpse",
             Choice::Rest => "--rest",
             Choice::Stats => "--stats",
+            Choice::Far => "--far",
             Choice::Width => "--width",
             Choice::Height => "--height",
             Choice::Rocks => "--rocks",
@@ -257,6 +261,7 @@ impl Choice {
             Choice::Corpse => &[Place::Word(Slot::Number(NumberKind::CorpseFood))],
             Choice::Rest => &[Place::Word(Slot::Number(NumberKind::RestRounds))],
             Choice::Stats => &[],
+            Choice::Far => &[],
             Choice::Width => &[Place::Word(Slot::Number(NumberKind::SideLength))],
             Choice::Height => &[Place::Word(Slot::Number(NumberKind::SideLength))],
             Choice::Rocks => &[Place::Word(Slot::Number(NumberKind::ElementCount))],
@@ -278,6 +283,7 @@ impl Choice {
             Choice::Corpse => false,
             Choice::Rest => false,
             Choice::Stats => false,
+            Choice::Far => false,
             Choice::Width => false,
             Choice::Height => false,
             Choice::Rocks => false,

@@ -1,2 +1,4 @@
+-- Where a line breaks.
 mod Breaks
+-- Worked values.
 pub mod Worked

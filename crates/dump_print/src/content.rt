@@ -7,7 +7,6 @@ use ant_base::{Each, Failed, Layout, Parts, Sink, layout};
 use cell_world::{Ant, Cell, Colour, Marks};
 use hex_geometry::Dir;
 
-// A colour's word.
 #[derive(Clone, Copy)]
 pub struct Word(pub Colour);
 
@@ -118,7 +117,6 @@ impl Layout for Facing {
     }
 }
 
-// An ant.
 #[derive(Clone, Copy)]
 pub struct StandingAnt(pub Ant);
 
@@ -145,7 +143,6 @@ impl Layout for StandingAnt {
     }
 }
 
-// The content of a cell.
 #[derive(Clone, Copy)]
 pub struct Content(pub Cell);
 

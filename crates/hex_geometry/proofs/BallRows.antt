@@ -1,12 +1,13 @@
 -- The rows of a ball list it.
 use Rattle.hex_geometry.proofs.Metric.{distance_some}
-use Rattle.hex_geometry.proofs.Places.{pos_same}
+use Rattle.hex_geometry.proofs.Places.{at, pos_same}
 use Rattle.hex_geometry.proofs.Walks.{Within, distance_tight, distance_within, half}
 use Rattle.hex_geometry.specs.Distance.{HasBall, IsInBall, ListsBall}
 use Rattle.hex_geometry.specs.RowOrder.{IsBefore}
 use Rattle.hex_geometry.specs.Inner.BallRows.{column_count, first_column, line, rows}
 use Rattle.hex_geometry.specs.Position.{Point, point_of}
 use Rattle.hex_geometry.specs.declared.position.Pos.{Pos}
+use Rattle.list_lemmas.proofs.Elements.{Contains-none, Contains-one}
 use Rattle.std.proofs.Common.{◌≡◌, ℕ, zero, suc, ◌+◌, ◌-◌, ◌*◌, ◌<◌, ◌≤◌, List, [], ◌∷◌, ◌++◌, refl, sym, ◌∙◌, ap, arith, subst, inl, inr, append_assoc}
 use Rattle.std.proofs.lemmas.Bool.{cases_lt}
 use Rattle.std.proofs.lemmas.Int.{ints}
@@ -14,17 +15,6 @@ use Rattle.std.proofs.lemmas.List.{append-nil}
 use Rattle.std.proofs.lemmas.List.Elements.{Contains-append_cases, Contains-append_left, Contains-append_right, Contains-get_or, Contains-push}
 use Rattle.std.proofs.lemmas.List.Quantifiers.{all_pairs_push}
 use Rattle.std.specs.Prelude.{ℤ, pos, negsuc, AllPairs, Contains}
-
-abbrev at : ℕ → ℕ → Pos
-at x y = record { x = x; y = y }
-
--- nothing is in an empty list, and one thing in a list of one
-no_member : {X : Type 0} (z : X) → Contains [] z → ⊥
-no_member z found = let h = found.1 in omega arith
-
-one_member : {X : Type 0} (a z : X) → Contains (a ∷ []) z → a ≡ z
-one_member a z (zero, h, e) = e
-one_member a z (suc k, h, e) = absurd (omega arith)
 
 -- the positions of a line
 pub record IsOnLine (x y n : ℕ) (p : Pos) : Type 0 where
@@ -34,12 +24,12 @@ pub record IsOnLine (x y n : ℕ) (p : Pos) : Type 0 where
 
 line_only : (x y n : ℕ) (p : Pos) → Contains (line x y n) p → IsOnLine x y n p
 unfolding line
-line_only x y zero p found = absurd (no_member p found)
+line_only x y zero p found = absurd (Contains-none p found)
 line_only x y (suc n) p found =
     elim (Contains-append_cases (line x y n) (record { x = x + n; y = y } ∷ []) p found) [
       | inl before ↦ let on = line_only x y n p before in record { row = on.row; from = on.from; to = omega arith }
       | inr last ↦
-          let e : record { x = x + n; y = y } ≡ p = one_member _ p last in
+          let e : record { x = x + n; y = y } ≡ p = Contains-one _ p last in
           record { row = sym (ap (λ (q : Pos). q.y) e); from = (let h = ap (λ (q : Pos). q.x) e in omega (arith, h)); to = (let h = ap (λ (q : Pos). q.x) e in omega (arith, h)) }
     ]
 
@@ -62,7 +52,7 @@ pub record IsInRows (centre : Pos) (radius n : ℕ) (p : Pos) : Type 0 where
 
 rows_only : (centre : Pos) (radius n : ℕ) (p : Pos) → radius ≤ centre.y → Contains (rows centre radius n) p → IsInRows centre radius n p
 unfolding rows
-rows_only centre radius zero p top found = absurd (no_member p found)
+rows_only centre radius zero p top found = absurd (Contains-none p found)
 rows_only centre radius (suc n) p top found =
     let y = centre.y - radius + n in
     elim (Contains-append_cases (rows centre radius n) (line (first_column centre radius y) y (column_count centre radius y)) p found) [

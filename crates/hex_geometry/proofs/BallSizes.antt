@@ -9,6 +9,7 @@ use Rattle.hex_geometry.specs.Position.{Point, point_of, same_pos}
 use Rattle.hex_geometry.specs.declared.position.Pos.{Pos}
 use Rattle.std.proofs.Common.{◌≡◌, ◌≢◌, ℕ, zero, suc, ◌+◌, ◌-◌, ◌*◌, ◌≤◌, List, [], ◌∷◌, length, refl, sym, ◌∙◌, ap, arith, subst, length-append, inl, inr}
 use Rattle.std.proofs.lemmas.Bool.{cases_Bool}
+use Rattle.std.proofs.lemmas.Map.Made.{Contains-tail}
 use Rattle.std.specs.Prelude.{pos, AllPairs, Contains}
 
 line_length : (x y n : ℕ) → length (line x y n) ≡ n
@@ -72,15 +73,11 @@ not_both p q there back =
     let g = back.column (sym row) in
     omega arith
 
-member_split : (y : Pos) (ys : List Pos) (p : Pos) → Contains (y ∷ ys) p → y ≢ p → Contains ys p
-member_split y ys p (zero, within, is) other = absurd (other is)
-member_split y ys p (suc k, within, is) other = (k, omega arith, is)
-
 -- lists with one head: the rest of the one is in the rest of the other
 sub_tail : (x y : Pos) (xs ys : List Pos) → AllPairs IsBefore (x ∷ xs) → ((p : Pos) → Contains (x ∷ xs) p → Contains (y ∷ ys) p) → x ≡ y → (p : Pos) → Contains xs p → Contains ys p
 sub_tail x y xs ys ox sub e p found =
     let later : Contains (x ∷ xs) p = (suc found.0, (let h = found.1 in omega arith), found.2) in
-    member_split y ys p (sub p later) (λ same. not_before_itself p (subst (λ q. IsBefore q p) (e ∙ same) (head_before x xs p ox found)))
+    Contains-tail y ys p (λ same. not_before_itself p (subst (λ q. IsBefore q p) (e ∙ same) (head_before x xs p ox found))) (sub p later)
 
 not_head : (x y : Pos) (xs : List Pos) (p : Pos) → AllPairs IsBefore (x ∷ xs) → x ≢ y → Contains (x ∷ xs) p → y ≡ p → IsBefore y x → ⊥
 not_head x y xs p ox apart (zero, within, is) same first = apart (is ∙ sym same)
@@ -89,9 +86,9 @@ not_head x y xs p ox apart (suc k, within, is) same first = not_both y x first (
 -- lists with two heads: the whole of the one is in the rest of the other
 sub_whole : (x y : Pos) (xs ys : List Pos) → AllPairs IsBefore (x ∷ xs) → AllPairs IsBefore (y ∷ ys) → ((p : Pos) → Contains (x ∷ xs) p → Contains (y ∷ ys) p) → x ≢ y → (p : Pos) → Contains (x ∷ xs) p → Contains ys p
 sub_whole x y xs ys ox oy sub apart p found =
-    let early : Contains ys x = member_split y ys x (sub x (0, omega arith, refl)) (λ e. apart (sym e)) in
+    let early : Contains ys x = Contains-tail y ys x (λ e. apart (sym e)) (sub x (0, omega arith, refl)) in
     let first : IsBefore y x = head_before y ys x oy early in
-    member_split y ys p (sub p found) (λ same. not_head x y xs p ox apart found same first)
+    Contains-tail y ys p (λ same. not_head x y xs p ox apart found same first) (sub p found)
 
 no_longer : (ys xs : List Pos) → AllPairs IsBefore xs → AllPairs IsBefore ys → ((p : Pos) → Contains xs p → Contains ys p) → length xs ≤ length ys
 no_longer ys [] ox oy sub = omega arith

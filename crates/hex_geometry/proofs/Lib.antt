@@ -1,11 +1,16 @@
+-- Steps, turns and what lies beside.
+pub mod Turns
+pub mod Places
+pub mod Beside
+-- Walks and the distance.
+pub mod Walks
+pub mod Reaches
+pub mod Metric
+-- Balls.
 pub mod BallRows
 pub mod BallSizes
-pub mod Beside
-pub mod Metric
-pub mod Places
-pub mod Reaches
-pub mod Rim
+-- Row order and the rim.
 pub mod RowLemmas
-pub mod Turns
-pub mod Walks
+pub mod Rim
+-- Worked values.
 pub mod Worked

@@ -4,11 +4,13 @@ use Rattle.hex_geometry.specs.declared.position.Pos.{Pos}
 use Rattle.std.proofs.Common.{◌≡◌, ◌≢◌, ℕ, ◌≤◌, ◌==◌, true, false, refl, sym, ◌∙◌, ap, arith, subst}
 use Rattle.std.proofs.lemmas.Bool.{and_parts, and_from, eqb-true, eq-eqb, false_from_ne_true, false≢true}
 
+-- a position by its column and row
+abbrev pub at : ℕ → ℕ → Pos
+at x y = record { x = x; y = y }
+
 -- positions with one column and one row are one
 pub pos_same : {p q : Pos} → p.x ≡ q.x → p.y ≡ q.y → p ≡ q
-pos_same {p} {q} columns rows =
-    let at : ℕ → ℕ → Pos = λ x y. record { x = x; y = y } in
-    ap (λ x. at x p.y) columns ∙ ap (at q.x) rows
+pos_same {p} {q} columns rows = ap (λ x. at x p.y) columns ∙ ap (at q.x) rows
 
 -- where the test holds, the positions are one
 pub same_pos_true : (p q : Pos) → same_pos p q ≡ true → p ≡ q

@@ -1,4 +1,5 @@
 -- The worked neighbours of two positions, one in an odd row and one in an even row.
+use Rattle.hex_geometry.proofs.Places.{at}
 use Rattle.hex_geometry.proofs.Reaches.{distance_is}
 use Rattle.hex_geometry.specs.Direction.{directions}
 use Rattle.hex_geometry.specs.Distance.{IsDistance, Walk}
@@ -7,12 +8,8 @@ use Rattle.hex_geometry.specs.Neighbourhood.{adjacent_point, adjacent_pos, neigh
 use Rattle.hex_geometry.specs.Position.{Point, is_on_rim, point_of}
 use Rattle.hex_geometry.specs.RowOrder.{index_of, pos_at}
 use Rattle.hex_geometry.specs.declared.direction.Dir.TheVariants.{SouthEast, SouthWest}
-use Rattle.hex_geometry.specs.declared.position.Pos.{Pos}
 use Rattle.std.proofs.Common.{◌≡◌, ℕ, ◌+◌, ◌*◌, [], ◌∷◌, length, map, refl, arith}
 use Rattle.std.specs.Prelude.{ℤ, pos, negsuc, true, false}
-
-abbrev at : ℕ → ℕ → Pos
-at x y = record { x = x; y = y }
 
 -- the neighbours of (3, 3)
 pub around_3_3 : neighbours_of (at 3 3) ≡ at 4 3 ∷ at 4 4 ∷ at 3 4 ∷ at 2 3 ∷ at 3 2 ∷ at 4 2 ∷ []

@@ -24,7 +24,6 @@ pub fn ball(alloc: Global, centre: Pos, radius: u16) -> Result<Vec<Pos>, OutOfMe
     Ok(found)
 }
 
-// Adds the ball's positions of one row.
 fn push_row(found: &mut Vec<Pos>, centre: Pos, radius: u16, y: u16) -> Result<(), OutOfMemory>
     requires ball { HasBall centre radius }
     requires row { IsBallRow centre radius y }
@@ -41,7 +40,6 @@ fn push_row(found: &mut Vec<Pos>, centre: Pos, radius: u16, y: u16) -> Result<()
     Ok(())
 }
 
-// The first column of the ball in a row.
 fn first_column(centre: Pos, radius: u16, y: u16) -> u32
     requires ball { HasBall centre radius }
     requires row { IsBallRow centre radius y }
@@ -51,7 +49,6 @@ fn first_column(centre: Pos, radius: u16, y: u16) -> u32
     (centre.x as u32 + y as u32 / 2 + above as u32) - (centre.y as u32 / 2 + radius as u32)
 }
 
-// How many columns the ball has in a row.
 fn column_count(centre: Pos, radius: u16, y: u16) -> u32
     requires ball { HasBall centre radius }
     requires row { IsBallRow centre radius y }

@@ -67,7 +67,7 @@ pub fn turned(d: Dir, side: Side) -> Dir
     ensures { result ≡ turned_by d side }
 {
     match side {
-        Side::Left => turned_left(d),
+        Side::Left => turn_left(d),
         Side::Right => turned_right(d),
     }
 }
@@ -75,7 +75,7 @@ pub fn turned(d: Dir, side: Side) -> Dir
 // Against the clock.
 #[inline]
 #[tactic(auto, unfolding(crate::specs::Direction::turned_by))]
-fn turned_left(d: Dir) -> Dir
+fn turn_left(d: Dir) -> Dir
     ensures { result ≡ turned_by d Side.Left }
 {
     match d {

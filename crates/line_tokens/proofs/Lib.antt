@@ -1,7 +1,12 @@
+-- Tokens, and what is printed read again.
+pub mod TokensLemmas
+pub mod PrintedLemmas
+-- Positions of a line.
+pub mod PlacesLemmas
+pub mod StepsLemmas
+pub mod JudgingLemmas
+-- Faults of lines and of texts.
 pub mod LineFaults
 pub mod LineLemmas
-pub mod PlacesLemmas
-pub mod PrintedLemmas
-pub mod StepsLemmas
-pub mod TokensLemmas
+-- Worked values.
 pub mod Worked

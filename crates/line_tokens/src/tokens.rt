@@ -61,7 +61,6 @@ impl<'t> Iterator for Tokens<'t> {
     }
 }
 
-// Whether a token stands at the front.
 fn begins_token(text: &[u8]) -> bool
     ensures { result ≡ begins_token text.now }
 {
@@ -79,7 +78,6 @@ fn token_length(text: &[u8]) -> usize
     text.iter().take_while(|byte| is_token_byte(**byte)).count()
 }
 
-// Whether a byte belongs to a token.
 fn is_token_byte(byte: u8) -> bool
     ensures { result ≡ is_token_byte byte }
 {

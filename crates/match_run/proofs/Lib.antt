@@ -1,15 +1,20 @@
-pub mod CountLaws
+-- Rounds that are played one after another.
+pub mod SequentialLemmas
+pub mod RisingRounds
+-- Windows and their counts.
 pub mod CountLemmas
-pub mod CountWorked
+pub mod WindowLemmas
+pub mod LoneWindows
+-- A game, round by round.
 pub mod GameLemmas
 pub mod GamesByRounds
-pub mod LoneWindows
+pub mod CountLaws
+-- The text of a run, and the rest of one.
 pub mod PlayLemmas
-pub mod RestLaws
-pub mod RestWorked
-pub mod RisingRounds
-pub mod RunLaws
 pub mod RunLemmas
+pub mod RunLaws
+pub mod RestLaws
+-- Worked values.
+pub mod CountWorked
 pub mod RunWorked
-pub mod SequentialLemmas
-pub mod WindowLemmas
+pub mod RestWorked

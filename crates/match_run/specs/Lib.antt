@@ -8,3 +8,14 @@ pub mod Play
 pub mod Rest
 pub mod Run
 pub mod RunLaws
+pub use Rattle.ant_base.specs.Layout
+pub use Rattle.ant_base.specs.NumberList
+pub use Rattle.ant_base.specs.Sink
+pub use Rattle.ant_turn.specs.Listed
+pub use Rattle.ant_turn.specs.Minds
+pub use Rattle.ant_turn.specs.Rounds
+pub use Rattle.cell_world.specs.Grid
+pub use Rattle.cell_world.specs.Limits
+pub use Rattle.cell_world.specs.Score
+pub use Rattle.dump_print.specs.Texts
+pub use Rattle.round_book.specs.Book

@@ -1,35 +1,42 @@
-pub mod AfterRounds
-pub mod AntReads
-pub mod BrainForms
-pub mod Bytes
-pub mod Cuts
-pub mod DraftReads
-pub mod Drafted
-pub mod Filling
-pub mod Floors
-pub mod FoodReads
-pub mod GameSaves
-pub mod HeadReads
-pub mod Judging
-pub mod MarkSets
-pub mod PlainLines
-pub mod ProgramReads
-pub mod Putting
+-- Readers that are put together.
+pub mod Strict
 pub mod Readers
-pub mod Resting
-pub mod Resuming
-pub mod RoundTrip
+pub mod Tokens
+pub mod Words
+-- Each form of line.
+pub mod HeadReads
+pub mod ProgramReads
 pub mod RowBytes
 pub mod RowReads
-pub mod SaveVerdicts
-pub mod SaveWorked
-pub mod SavedLaws
-pub mod Settling
-pub mod Standings
-pub mod Strict
-pub mod Tokens
+pub mod MarkSets
+pub mod FoodReads
+pub mod AntReads
+pub mod DraftReads
+-- Every text has one verdict, and every save one text.
+pub mod Cuts
+pub mod Bytes
+pub mod PlainLines
 pub mod Verdicts
-pub mod WholeTexts
-pub mod Words
+pub mod RoundTrip
+pub mod SavedLaws
+pub mod SaveVerdicts
+-- A world of its lines, judged and built.
 pub mod WorldAgain
+pub mod Standings
+pub mod Floors
+pub mod Filling
+pub mod Putting
+pub mod Judging
+pub mod Settling
+-- What is written, and how a game goes on.
+pub mod Drafted
 pub mod Writing
+pub mod WholeTexts
+pub mod Resuming
+-- A game that is saved.
+pub mod BrainForms
+pub mod Resting
+pub mod AfterRounds
+pub mod GameSaves
+-- Worked values.
+pub mod SaveWorked

@@ -187,17 +187,21 @@ verdict-counts : (window : Window) (t : ℕ) (verdict : Verdict) → IsVerdict w
 verdict-counts window t Taken said = sym ((is_taken-test window t).1 said)
 verdict-counts window t (Redone found) said = sym (false_from_ne_true (is_taken window t) (λ e. Redone-refutes window (moment_before window t) t found said ((is_taken-test window t).0 e)))
 
+-- one verdict more
+pub verdicts-more : (verdicts : List Verdict) (last : Verdict) → count_by is_taken_verdict (verdicts ++ last ∷ []) ≡ count_by is_taken_verdict verdicts + one_if (is_taken_verdict last)
+verdicts-more verdicts last = sum_by_push (λ verdict. cond (is_taken_verdict verdict) 1 0) verdicts last ∙ ap (λ n. count_by is_taken_verdict verdicts + n) (one (is_taken_verdict last))
+  where
+    one : (b : Bool) → cond b 1 0 ≡ one_if b
+    one true = refl
+    one false = refl
+
 -- the verdicts of turns count them
 pub verdicts-counts : (window : Window) (n : ℕ) (verdicts : List Verdict) → AreVerdicts window n verdicts → count_by is_taken_verdict verdicts ≡ taken_among window n
 verdicts-counts window zero verdicts are = ap (count_by is_taken_verdict) are
 verdicts-counts window (suc n) verdicts (before, last, is, rest, said) =
     ap (count_by is_taken_verdict) is
-    ∙ sum_by_push (λ verdict. cond (is_taken_verdict verdict) 1 0) before last
-    ∙ ap₂ (λ x y. x + y) (verdicts-counts window n before rest) (one (is_taken_verdict last) ∙ ap one_if (verdict-counts window (window.from + n) last said))
-  where
-    one : (b : Bool) → cond b 1 0 ≡ one_if b
-    one true = refl
-    one false = refl
+    ∙ verdicts-more before last
+    ∙ ap₂ (λ x y. x + y) (verdicts-counts window n before rest) (ap one_if (verdict-counts window (window.from + n) last said))
 
 pub verdicts-length : (window : Window) (n : ℕ) (verdicts : List Verdict) → AreVerdicts window n verdicts → length verdicts ≡ n
 verdicts-length window zero verdicts are = ap length are

@@ -1,16 +1,21 @@
-pub mod BookLemmas
-pub mod CountLemmas
-pub mod CountsWorked
-pub mod FieldLemmas
-pub mod GuessLemmas
-pub mod LedLemmas
-pub mod LoneTurns
+-- The machine of windows: draw, put, settle.
 pub mod MachineLemmas
-pub mod MachineWorked
+pub mod ReachedBooks
+-- A book: its marks, its world, its verdicts.
 pub mod MarkLemmas
 pub mod PassLemmas
-pub mod ReachedBooks
-pub mod SoloLemmas
-pub mod VerdictLemmas
 pub mod WindowLemmas
+pub mod BookLemmas
+pub mod VerdictLemmas
 pub mod WorkspaceLemmas
+-- Fields, guesses and counts.
+pub mod CountLemmas
+pub mod FieldLemmas
+pub mod SoloLemmas
+pub mod GuessLemmas
+-- Crews.
+pub mod LedLemmas
+pub mod LoneTurns
+-- Worked values.
+pub mod CountsWorked
+pub mod MachineWorked

@@ -15,7 +15,7 @@ use Rattle.spec_record.specs.Claims.{Sighting, seen_positions}
 use Rattle.round_book.specs.declared.verdict.Cause.{Cause}
 use Rattle.round_book.specs.declared.verdict.Cause.TheVariants as cause
 use Rattle.round_book.specs.Book.{Wrote}
-use Rattle.round_book.specs.Inner.Changes.{AgreesIfUnwritten, Changes}
+use Rattle.round_book.specs.Inner.Changes.{AgreesIfUnwritten, Changes, IsUnwritten}
 use Rattle.round_book.specs.Inner.Workspace.{AreMarked}
 
 -- nothing is in the empty list
@@ -142,3 +142,8 @@ Changes-among reads cells i d (cause.Part at k) early change = record {
   differs = change.differs;
 }
 Changes-among reads cells i d (cause.Place guessed actual) early change = change
+
+-- what was read is there still where nothing of it was written
+pub unwritten-agree : (written : List Pos) (cells : Cells) (reads : List Sighting) → AllByRecursion (AgreesIfUnwritten written cells) reads → AllByRecursion (IsUnwritten written) reads → Changes reads cells None
+unwritten-agree written cells [] agree none = tt
+unwritten-agree written cells (read ∷ reads) agree none = (agree.0 none.0, unwritten-agree written cells reads agree.1 none.1)

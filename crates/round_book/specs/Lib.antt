@@ -8,3 +8,12 @@ pub mod Led
 pub mod Machine
 pub mod MachineLaws
 pub mod Window
+pub use Rattle.ant_turn.specs.Minds
+pub use Rattle.cell_world.specs.Cell
+pub use Rattle.cell_world.specs.Grid
+pub use Rattle.cell_world.specs.Parts
+pub use Rattle.cell_world.specs.World
+pub use Rattle.hex_geometry.specs.Position
+pub use Rattle.hex_geometry.specs.RowOrder
+pub use Rattle.spec_record.specs.Claims
+pub use Rattle.spec_record.specs.Patching

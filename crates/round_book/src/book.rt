@@ -1,6 +1,6 @@
 // A book: a window of turns that is being settled.
 ghost use Rattle.std.specs.Prelude.{◌≡◌, ◌+◌, ◌-◌, ◌*◌, ◌<◌, ◌≤◌, ◌^◌, [], ◌∷◌, ◌++◌, map, Option, Some, None, MatchOption};
-ghost use Rattle.std.specs.List.{AllByRecursion};
+ghost use Rattle.std.specs.List.{AllByRecursion, count_by};
 ghost use Rattle.std.specs.Vec.{vec_capacity, vec_len};
 ghost use Rattle.cell_world.specs.Cell.{one_if};
 ghost use Rattle.cell_world.specs.Grid.{IsWorld, world_of};
@@ -9,6 +9,7 @@ ghost use Rattle.cell_world.specs.World.{with_cells};
 ghost use Rattle.ant_turn.specs.Minds.{AreSound, Fits, minds_of};
 ghost use Rattle.spec_record.specs.Patching.{patched_cells};
 ghost use Rattle.round_book.specs.Book.{AgreesUnwritten, BookValue, CanTake, HoldsInBook, IsCause, IsEnded, IsRedone, IsSameWindow, Settles, Wrote, moment_of};
+ghost use Rattle.round_book.specs.Counts.{is_taken_verdict};
 ghost use Rattle.round_book.specs.Inner.Kept.{IsWorkspaceReady};
 ghost use Rattle.round_book.specs.Inner.Workspace.{AreMarked};
 
@@ -29,6 +30,7 @@ pub struct Book {
     to: u32,
     next: u32,
     place: u64,
+    taken: u32,
     work: Workspace,
 }
 
@@ -49,7 +51,7 @@ impl Model for Book {
       verdicts = book.work.verdicts.items;
     } };
 
-    ghost invariant = { λ book. IsWorkspaceKept book.from book.to book.next book.place book.work };
+    ghost invariant = { λ book. IsWorkspaceKept book.from book.to book.next book.place book.taken book.work };
 }
 
 impl Book {
@@ -69,6 +71,7 @@ impl Book {
             to,
             next: from,
             place,
+            taken: 0,
             work,
         }
     }
@@ -92,12 +95,13 @@ impl Book {
         self.to - self.from
     }
 
-    // What came of the turns so far, in order.
+    // How many looks were taken so far.
     #[inline]
-    pub(crate) fn verdicts(&self) -> &[Verdict]
-        ensures { result.now ≡ self.now.verdicts }
+    pub(crate) fn taken(&self) -> u32
+        ensures count { result ≡ count_by is_taken_verdict self.now.verdicts }
+        ensures most { result ≤ self.now.to - self.now.from }
     {
-        &self.work.verdicts
+        self.taken
     }
 
     // Gives the workspace back, and the place to which the turns led.
@@ -203,6 +207,7 @@ impl Book {
     {
         self.work.write(look.writes().as_slice());
         self.work.verdicts.push_reserved(verdict);
+        self.taken += taken_by(&verdict);
         self.place += one_if(look.drew());
         self.next += 1;
     }
@@ -218,6 +223,17 @@ pub(crate) fn vouch(brains: Brains<'_>, world: &World)
     let _black = brains.black.len();
     let _corpse = brains.sheet.corpse();
     let _width = world.width();
+}
+
+// One look where it was taken, and none where its turn was executed anew.
+#[inline(always)]
+fn taken_by(verdict: &Verdict) -> u32
+    ensures { result ≡ one_if (is_taken_verdict verdict.now) }
+{
+    match verdict {
+        Verdict::Taken => 1,
+        Verdict::Redone(_) => 0,
+    }
 }
 
 // One where it is so, and nothing where it isn't.

@@ -1,12 +1,10 @@
 // How a window came out.
-ghost use Rattle.std.specs.Prelude.{◌≡◌, ◌-◌, ◌≤◌, ◌<◌, ◌^◌, length};
-ghost use Rattle.std.specs.List.{count_by};
+ghost use Rattle.std.specs.Prelude.{◌≡◌, ◌-◌};
 ghost use Rattle.round_book.specs.Book.{IsPlayed, StandsOn, window_of};
-ghost use Rattle.round_book.specs.Counts.{counts_of, is_taken_verdict};
+ghost use Rattle.round_book.specs.Counts.{counts_of};
 
 use crate::book::Book;
 use crate::field::Field;
-use crate::verdict::Verdict;
 use std::marker::Model;
 
 /// How many looks of a window were taken, and how many of its turns were executed anew. Only a field's `finish` makes one, and it has no
@@ -54,30 +52,12 @@ impl Field<'_> {
         ensures counts { result ≡ counts_of (window_of self.old book.from book.to) }
     {
         let turns = book.turns();
-        let taken = taken_in(book.verdicts());
+        let taken = book.taken();
         let (work, place) = book.close();
         self.take_back(work, place);
         Counts {
-            taken: taken as u32,
-            redone: turns - taken as u32,
+            taken,
+            redone: turns - taken,
         }
-    }
-}
-
-// How many of the verdicts are that a look was taken.
-fn taken_in(verdicts: &[Verdict]) -> usize
-    ensures count { result ≡ count_by is_taken_verdict verdicts.now }
-    ensures most { result ≤ length verdicts.now }
-{
-    verdicts.iter().filter(|verdict| is_taken(verdict)).count()
-}
-
-// Whether a look was taken.
-fn is_taken(verdict: &Verdict) -> bool
-    ensures { result ≡ is_taken_verdict verdict.now }
-{
-    match verdict {
-        Verdict::Taken => true,
-        Verdict::Redone(_) => false,
     }
 }

@@ -1,6 +1,8 @@
 // A crew that is a function.
-ghost use Rattle.std.specs.Prelude.{◌≡◌};
-ghost use Rattle.round_book.specs.Led.{CanPlay, PlaysWindows};
+ghost use Rattle.std.specs.Prelude.{◌≡◌, ◌+◌, ◌-◌, ◌^◌, min, IfOk, OnOk, OnErr};
+ghost use Rattle.round_book.specs.Book.{CanBegin, IsPlayed, window_of};
+ghost use Rattle.round_book.specs.Counts.{counts_of};
+ghost use Rattle.round_book.specs.Led.{CanPlay, Played, PlaysWindows};
 
 use crate::counts::Counts;
 use crate::crew::Crew;
@@ -43,13 +45,24 @@ impl<F: FnMut(&mut Field<'_>, u32, u32) -> Result<Counts, OutOfMemory> + Drop> C
         self.turns
     }
 
+    // A window that is played is played by a call of the function, which leaves the field and the function as they are then.
     fn window(
         &mut self,
         _alloc: Global,
         field: &mut Field<'_>,
         from: u32,
         to: u32,
-    ) -> Result<Counts, OutOfMemory> {
+    ) -> Result<Counts, OutOfMemory>
+        requires ready { CanPlay F.FnMut × PlaysWindows F.FnMut }
+        requires window { CanBegin field.old from to }
+        ensures ready { CanPlay F.FnMut × PlaysWindows F.FnMut }
+        ensures played { OnOk result (IsPlayed field.old from to field.new) }
+        ensures counts { IfOk result (λ counts. counts ≡ counts_of (window_of field.old from to)) }
+        ensures turns { OnOk result (self.new.turns ≡ min (self.old.turns + (to - from)) (2 ^ 64 - 1)) }
+        ensures unchanged { OnErr result (field.new ≡ field.old) }
+        ensures as_before { OnErr result (self.new.turns ≡ self.old.turns) }
+        ensures called { OnOk result (Played F.FnMut self.old.play field.old from to result self.new.play field.new) }
+    {
         let counts = (self.play)(field, from, to)?;
         self.turns = self.turns.saturating_add(u64::from(to - from));
         Ok(counts)

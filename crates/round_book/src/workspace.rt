@@ -9,7 +9,7 @@ ghost use Rattle.cell_world.specs.World.{with_cells};
 ghost use Rattle.spec_record.specs.Claims.{EachOnce, seen_positions};
 ghost use Rattle.spec_record.specs.Patching.{patched_cells};
 ghost use Rattle.round_book.specs.Book.{CanTake, Wrote};
-ghost use Rattle.round_book.specs.Inner.Changes.{AgreesIfUnwritten, Changes};
+ghost use Rattle.round_book.specs.Inner.Changes.{AgreesIfUnwritten, Changes, IsUnwritten};
 ghost use Rattle.round_book.specs.Inner.Kept.{IsWorkspaceReady};
 ghost use Rattle.round_book.specs.Inner.Workspace.{AreMarked};
 
@@ -98,9 +98,37 @@ impl Workspace {
         }
     }
 
-    // The first part, in the order of the reads, that was read and is another now. It compares the written cells alone.
+    // The first part, in the order of the reads, that was read and is another now. Most looks read no cell that was written, so the marks of
+    // all are asked first, and the others are a call.
     #[inline(always)]
     pub(crate) fn first_change(&self, reads: &[(Pos, Parts, Cell)]) -> Option<Cause>
+        requires marks { AreMarked self.now.world self.now.marked.items self.now.written.items }
+        requires unwritten { AllByRecursion (AgreesIfUnwritten self.now.written.items (world_of self.now.world).cells) reads.now }
+        ensures { Changes reads.now (world_of self.now.world).cells result }
+    {
+        if self.none_marked(reads) {
+            return None;
+        }
+        self.first_difference(reads)
+    }
+
+    // Whether none of the cells that were read was written.
+    #[inline(always)]
+    fn none_marked(&self, reads: &[(Pos, Parts, Cell)]) -> bool
+        requires { AreMarked self.now.world self.now.marked.items self.now.written.items }
+        ensures { result ≡ true → AllByRecursion (IsUnwritten self.now.written.items) reads.now }
+    {
+        for read in reads {
+            if self.is_marked(read.0) {
+                return false;
+            }
+        }
+        true
+    }
+
+    // The first part, in the order of the reads, that was read and is another now. It compares the written cells alone.
+    #[inline(never)]
+    fn first_difference(&self, reads: &[(Pos, Parts, Cell)]) -> Option<Cause>
         requires marks { AreMarked self.now.world self.now.marked.items self.now.written.items }
         requires unwritten { AllByRecursion (AgreesIfUnwritten self.now.written.items (world_of self.now.world).cells) reads.now }
         ensures { Changes reads.now (world_of self.now.world).cells result }

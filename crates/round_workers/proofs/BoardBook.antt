@@ -71,7 +71,7 @@ module _ (key : Basis) (slots id : ℕ) (v : View) (about : v.about ≡ Some key
               (inr record { same = about; own = is.own; makes = is.makes; late = is.late; drew = (λ x. let d = is.drew x in omega arith); within = is.within; opens = (omega arith) })
               1 (set s.homes 0 maybe.none) (length-set s.homes 0 maybe.none) (λ j ne. set_else s.homes 0 j maybe.none ne) (rest-stays v w rests (λ j. refl) (λ j. refl) refl refl)
               record { out = (omega arith); bit = (omega arith); once = (omega arith); unheld = (λ e. omega arith); unseen = (λ e. omega arith); bare = (λ e. absurd (omega arith)); stands = (λ e. absurd (omega arith)) },
-          (hit, refl),
+          ((refl, (refl, refl)), hit, refl),
         ))
         (λ miss. absurd (miss is_home))
 
@@ -79,7 +79,7 @@ module _ (key : Basis) (slots id : ℕ) (v : View) (about : v.about ≡ Some key
     back-here : (s : State BoardSlot View) → IsKept key s → HasHome (get_elem? (set s.homes 0 (maybe.some (TheBook (Some book)))) 0) (TheBook (Some book))
     back-here s r = let wide = r.homes in set_here s.homes 0 (maybe.some (TheBook (Some book))) (omega arith)
 
-    pub opened : v.number ≡ 0 → v.phase ≡ Opening → Allows (IsKept key) slots id (v, (0, TheBook (Some book)) ∷ xs) 1 (λ _. 0) (tells_opened (step slots 1 0 0 maybe.none) (v, (0, TheBook (Some book)) ∷ xs))
+    opened : v.number ≡ 0 → v.phase ≡ Opening → Allows (IsKept key) slots id (v, (0, TheBook (Some book)) ∷ xs) 1 (λ _. 0) (tells_opened (step slots 1 0 0 maybe.none) (v, (0, TheBook (Some book)) ∷ xs))
     opened zeroth midst s r _ at _ =
         let w : View = has_seen v in let k = r.book in let out = k.out in let bit = k.bit in let once = k.once in let is = seated key v about (r.seats id v at) in
         let here : phase_opening v.phase ≡ 1 = ap phase_opening midst in let more = total-at (λ (u : View). phase_opening u.phase) s.views id v at in let more' = total-at has_opened s.views id v at in
@@ -93,7 +93,7 @@ module _ (key : Basis) (slots id : ℕ) (v : View) (about : v.about ≡ Some key
               0 (set s.homes 0 (maybe.some (TheBook (Some book)))) (length-set s.homes 0 (maybe.some (TheBook (Some book)))) (λ j ne. set_else s.homes 0 j (maybe.some (TheBook (Some book))) ne)
               (λ j. record { put = refl; took = refl; puts = sym (ap (putting j) midst); takes = sym (ap (taking j) midst) })
               record { out = (omega arith); bit = (omega arith); once = (omega arith); unheld = (λ e. omega arith); unseen = (λ e. absurd (omega arith)); bare = (λ e. absurd (omega arith)); stands = (λ _ _. (book, back-here s r, stands)) },
-          refl,
+          ((refl, (refl, refl)), refl),
         )
 
     pub gives-book : v.holds ≡ true → Allows (IsKept key) slots id (v, (0, TheBook (Some book)) ∷ xs) 1 (λ _. 0) (tells_give_book (step slots 1 0 0 maybe.none) (v, (0, TheBook (Some book)) ∷ xs))
@@ -111,7 +111,7 @@ module _ (key : Basis) (slots id : ℕ) (v : View) (about : v.about ≡ Some key
               0 (set s.homes 0 (maybe.some (TheBook (Some book)))) (length-set s.homes 0 (maybe.some (TheBook (Some book)))) (λ j ne. set_else s.homes 0 j (maybe.some (TheBook (Some book))) ne)
               (λ j. record { put = refl; took = refl; puts = refl; takes = refl })
               record { out = (omega arith); bit = (omega arith); once = (omega arith); unheld = (λ e. absurd (omega arith)); unseen = (λ e. absurd (omega arith)); bare = (λ e. absurd (omega arith)); stands = (λ _ _. (book, back-here s r, stands)) },
-          refl,
+          ((refl, (refl, refl)), refl),
         )
 
   -- the same of a room that has the book
@@ -119,6 +119,11 @@ module _ (key : Basis) (slots id : ℕ) (v : View) (about : v.about ≡ Some key
       → Allows (IsKept key) slots id (v, (0, TheBook content) ∷ xs) 1 (λ _. 0) (tells_give_book (step slots 1 0 0 maybe.none) (v, (0, TheBook content) ∷ xs))
   gives-room xs None stands = absurd stands
   gives-room xs (Some book) stands = gives-book xs book stands
+
+  pub opened-room : (xs : List (ℕ × BoardSlot)) (content : Option BookValue) → IsSomeAnd content (StandsFor (window_for key)) → v.number ≡ 0 → v.phase ≡ Opening
+      → Allows (IsKept key) slots id (v, (0, TheBook content) ∷ xs) 1 (λ _. 0) (tells_opened (step slots 1 0 0 maybe.none) (v, (0, TheBook content) ∷ xs))
+  opened-room xs None stands zeroth midst = absurd stands
+  opened-room xs (Some book) stands zeroth midst = opened xs book stands zeroth midst
 
   module _ (c : List (ℕ × BoardSlot)) (seen : v.opened ≡ true) (free : v.holds ≡ false) where
     pub takes-book : Allows (IsKept key) slots id (v, c) 1 (λ n. either (eqb n 0) 1 n) (tells_take_book (step slots 1 0 1 maybe.none) (v, c))
@@ -136,7 +141,7 @@ module _ (key : Basis) (slots id : ℕ) (v : View) (about : v.about ≡ Some key
               (inr record { same = about; own = is.own; makes = is.makes; late = is.late; drew = is.drew; within = is.within; opens = is.opens })
               1 (set s.homes 0 maybe.none) (length-set s.homes 0 maybe.none) (λ j ne. set_else s.homes 0 j maybe.none ne) (λ j. record { put = refl; took = refl; puts = refl; takes = refl })
               record { out = (omega arith); bit = (omega arith); once = (omega arith); unheld = (λ e. absurd (omega arith)); unseen = (λ e. absurd (omega arith)); bare = (λ e. absurd (omega arith)); stands = (λ e d. absurd (omega arith)) },
-          record { home = λ _. (book, subst (λ z. StandsFor (window_about z) book) (sym about) it.2, refl); out = λ ne. absurd (ne hit) },
+          ((refl, (refl, refl)), record { home = λ _. (book, subst (λ z. StandsFor (window_about z) book) (sym about) it.2, refl); out = λ ne. absurd (ne hit) }),
         ))
         (λ miss. let w : View = after_try v (OfBook 1) in let is_one : word ≡ 1 = omega arith in (
           w,
@@ -146,5 +151,5 @@ module _ (key : Basis) (slots id : ℕ) (v : View) (about : v.about ≡ Some key
               (inr record { same = about; own = is.own; makes = is.makes; late = is.late; drew = is.drew; within = is.within; opens = is.opens })
               word s.homes refl (λ j ne. refl) (λ j. record { put = refl; took = refl; puts = refl; takes = refl })
               (book-stays s.views id v w at (window_for key) word _ refl refl refl refl k),
-          record { home = λ e. absurd (miss e); out = λ _. (is_one, refl) },
+          ((refl, (refl, refl)), record { home = λ e. absurd (miss e); out = λ _. (is_one, refl) }),
         ))

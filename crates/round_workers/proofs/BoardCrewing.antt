@@ -9,9 +9,9 @@ use Rattle.cell_world.specs.World.{World}
 use Rattle.ant_turn.specs.Minds.{Minds}
 use Rattle.spec_record.specs.Guess.{guesses_of}
 use Rattle.spec_record.specs.Look.{LookValue}
-use Rattle.round_book.specs.Book.{BookValue, FieldValue, IsLentFor, Stands, StandsFor, StandsOn, window_of}
+use Rattle.round_book.specs.Book.{BookValue, FieldValue, IsLentFor, StandsFor, StandsOn, window_of}
 use Rattle.round_book.specs.Machine.{times}
-use Rattle.round_book.specs.Window.{IsPlayable, Window, guesses_for, look_for}
+use Rattle.round_book.specs.Window.{Window, guesses_for, look_for}
 use Rattle.round_workers.specs.declared.board.seat.Board.{Board}
 use Rattle.round_workers.specs.declared.board.seat.Seat.{Seat}
 use Rattle.round_workers.specs.declared.board.view.Basis.{Basis}

@@ -65,7 +65,7 @@ module _ (key : Basis) (slots id : ℕ) (v : View) (about : v.about ≡ Some key
               record { holds = refl; opens = sym (ap phase_opening rests); opened = refl }
               (λ i ne. record { put = refl; took = refl; puts = other-none j i (λ e. ne (sym e)) ∙ sym (ap (putting i) rests); takes = sym (ap (taking i) rests) })
               record { sum = (omega arith); once = (omega arith); back = (omega arith); bare = (λ e d. absurd (omega arith)); full = (λ e. absurd (omega arith)) },
-          λ i e. (let same : j ≡ i = omega arith in (spare.0, ap (λ (m : ℕ). (puts_now v m, (m + 1, Spare spare.0) ∷ c)) same)),
+          ((refl, refl), λ i e. (let same : j ≡ i = omega arith in (spare.0, ap (λ (m : ℕ). (puts_now v m, (m + 1, Spare spare.0) ∷ c)) same))),
         ))
         (λ miss. absurd (miss is_empty))
       where
@@ -90,10 +90,13 @@ module _ (key : Basis) (slots id : ℕ) (v : View) (about : v.about ≡ Some key
               record { holds = refl; opens = sym (ap phase_opening rests); opened = refl }
               (λ i ne. record { put = refl; took = refl; puts = sym (ap (putting i) rests); takes = other-none j i (λ e. ne (sym e)) ∙ sym (ap (taking i) rests) })
               record { sum = (omega arith); once = (omega arith); back = (omega arith); bare = (λ e d. absurd (omega arith)); full = (λ e d. absurd (omega arith)) },
-          λ i e. (let same : j ≡ i = omega arith in record {
-            full = λ _. ap₂ (λ (m : ℕ) (z : Option Basis). (takes_now v m, (m + 1, OneLook (Some (look_for (window_about z) ((window_about z).from + m)))) ∷ c)) same (sym about);
-            other = λ ne. absurd (ne hit);
-          }),
+          (
+            (refl, refl),
+            λ i e. (let same : j ≡ i = omega arith in record {
+              full = λ _. ap₂ (λ (m : ℕ) (z : Option Basis). (takes_now v m, (m + 1, OneLook (Some (look_for (window_about z) ((window_about z).from + m)))) ∷ c)) same (sym about);
+              other = λ ne. absurd (ne hit);
+            }),
+          ),
         ))
         (λ miss. let w : View = after_try v (OfLook j word) in (
           w,
@@ -103,7 +106,7 @@ module _ (key : Basis) (slots id : ℕ) (v : View) (about : v.about ≡ Some key
               (inr record { same = about; own = is.own; makes = is.makes; late = is.late; drew = is.drew; within = is.within; opens = is.opens })
               j word s.homes inside refl (λ i ne. refl) record { holds = refl; opens = refl; opened = refl } (λ i ne. record { put = refl; took = refl; puts = refl; takes = refl })
               (look-stays s.views id v w at (window_for key) j word _ refl refl refl refl k),
-          λ i e. (let same : j ≡ i = omega arith in record { full = λ is_two. absurd (miss is_two); other = λ _. ap (λ (m : ℕ). (after_try v (OfLook m word), c)) same }),
+          ((refl, refl), λ i e. (let same : j ≡ i = omega arith in record { full = λ is_two. absurd (miss is_two); other = λ _. ap (λ (m : ℕ). (after_try v (OfLook m word), c)) same })),
         ))
 
   module _ (xs : List (ℕ × BoardSlot)) where
@@ -128,7 +131,7 @@ module _ (key : Basis) (slots id : ℕ) (v : View) (about : v.about ≡ Some key
                 bare = (λ e d. absurd (omega arith));
                 full = λ e d. set_here s.homes (j + 1) (maybe.some (OneLook look)) (let wide = r.homes in omega arith) ∙ ap (λ (l : Option LookValue). maybe.some (maybe.some (OneLook l))) its;
               },
-          λ i e. (let same : j ≡ i = omega arith in ap (λ (m : ℕ). (has_put v m, xs)) same),
+          ((refl, refl), λ i e. (let same : j ≡ i = omega arith in ap (λ (m : ℕ). (has_put v m, xs)) same)),
         )
 
     pub has-taken : (old : Option LookValue) → v.phase ≡ Taking j → Allows (IsKept key) slots id (v, (j + 1, Spare old) ∷ xs) (j + 2) (λ _. 3) (tells_has_taken (step slots (j + 2) 3 0 maybe.none) (v, (j + 1, Spare old) ∷ xs))
@@ -152,5 +155,5 @@ module _ (key : Basis) (slots id : ℕ) (v : View) (about : v.about ≡ Some key
                 bare = (λ e d. (old, set_here s.homes (j + 1) (maybe.some (Spare old)) (let wide = r.homes in omega arith)));
                 full = (λ e d. absurd (omega arith));
               },
-          λ i e. (let same : j ≡ i = omega arith in ap (λ (m : ℕ). (has_taken v m, xs)) same),
+          ((refl, refl), λ i e. (let same : j ≡ i = omega arith in ap (λ (m : ℕ). (has_taken v m, xs)) same)),
         )

@@ -193,6 +193,7 @@ module _ (key : Basis) (slots id : ℕ) (me : Me BoardSlot View) where
     tt,
     stays s r at,
     (
+      (refl, (refl, refl)),
       refl,
       λ k.
           let sum = r.tickets.each k in let few = once-le k (slice_index s.words 0) in let here = total-at (λ (u : View). times k u.drawn) s.views id me.0 at in omega arith,

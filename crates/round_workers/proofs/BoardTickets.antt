@@ -65,4 +65,4 @@ module _ (key : Basis) (slots id : ℕ) (me : Me BoardSlot View) (about : me.0.a
   draws s r _ at small =
       let word : ℕ = slice_index s.words 0 in let bound = word-bound key s r in let few = few-turns key s r in
       let whole : word + 1 ≡ (word + 1) % 18446744073709551616 = omega arith in
-      (drew me.0 word, keeps, tt, subst (λ (z : ℕ). IsKept key (stepped s 0 z id me.1 (drew me.0 word) keeps)) whole (drawn-at s r at small), (refl, below-word word (turns_of key) s.views id me.0 at r.tickets, omega arith))
+      (drew me.0 word, keeps, tt, subst (λ (z : ℕ). IsKept key (stepped s 0 z id me.1 (drew me.0 word) keeps)) whole (drawn-at s r at small), ((refl, (refl, refl)), refl, below-word word (turns_of key) s.views id me.0 at r.tickets, omega arith))

@@ -1,5 +1,5 @@
 -- What a worker does with a ticket.
-use Rattle.std.proofs.Common.{◌≡◌, ◌≢◌, ℕ, zero, suc, ◌+◌, ◌-◌, ◌<◌, ◌≤◌, Bool, true, false, ◌&&◌, cond, nat_eq, nat_le, nat_lt, List, [], ◌∷◌, ◌++◌, map, length, slice_index_or, Some, sym, refl, ap, ap₂, ◌∙◌, subst, arith, length-append, lt_of_not-le, Option}
+use Rattle.std.proofs.Common.{◌≡◌, ◌≢◌, ℕ, suc, ◌+◌, ◌-◌, ◌<◌, ◌≤◌, Bool, true, false, ◌&&◌, cond, nat_eq, nat_le, nat_lt, List, [], ◌∷◌, ◌++◌, map, length, Some, sym, refl, ap, ap₂, ◌∙◌, subst, arith, length-append, lt_of_not-le, Option}
 use native.Mathlib.Decide.{dec_le}
 use Rattle.std.specs.List.{AllByRecursion}
 use Rattle.std.proofs.lemmas.Bool.{false≢true, le-leb, leb-true, lt-ltb, le-ltb}
@@ -7,9 +7,9 @@ use Rattle.cell_world.specs.Cell.{one_if}
 use Rattle.cell_world.specs.World.{World}
 use Rattle.ant_turn.specs.Minds.{Minds}
 use Rattle.spec_record.specs.Look.{LookValue, look_of}
-use Rattle.round_book.specs.Book.{BookValue, FieldValue, IsLentFor, IsSameWindow, Stands, StandsFor, StandsOn, window_of}
+use Rattle.round_book.specs.Book.{BookValue, FieldValue, IsLentFor, IsSameWindow, StandsFor, StandsOn, window_of}
 use Rattle.round_book.specs.Machine.{times}
-use Rattle.round_book.specs.Window.{IsPlayable, Window, guess_for, look_for}
+use Rattle.round_book.specs.Window.{Window, guess_for, look_for}
 use Rattle.round_workers.specs.declared.board.view.View.{View}
 use Rattle.round_workers.specs.BoardPlays.{drew, has_put}
 use Rattle.round_workers.specs.BoardView.{window_about}

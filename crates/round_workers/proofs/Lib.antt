@@ -1,16 +1,21 @@
-pub mod BoardBook
-pub mod BoardClosing
-pub mod BoardCrewing
-pub mod BoardKeeps
-pub mod BoardLawLemmas
-pub mod BoardLooks
-pub mod BoardMoves
-pub mod BoardSeating
-pub mod BoardSteps
-pub mod BoardTickets
+-- Words and slots of a board: their sums.
 pub mod BoardTotalLemmas
-pub mod BoardWays
+pub mod BoardTickets
+-- What each step keeps.
+pub mod BoardKeeps
+pub mod BoardMoves
+pub mod BoardSteps
+pub mod BoardBook
+pub mod BoardLooks
+pub mod BoardSeating
+-- A board at work, and closed.
 pub mod BoardWorking
-pub mod PieceLemmas
+pub mod BoardCrewing
+pub mod BoardLawLemmas
+pub mod BoardWays
+pub mod BoardClosing
+-- Pieces.
 pub mod ShareLemmas
+pub mod PieceLemmas
+-- Worked values.
 pub mod WorkedBoard

@@ -1,4 +1,4 @@
--- What each step on a board tells the seat that makes it (this project's own).
+-- What each step on a board tells the seat that makes it, and which step that is (this project's own).
 use Rattle.std.specs.Prelude.{◌≡◌, ◌≢◌, ℕ, suc, ◌+◌, ◌<◌, ◌≤◌, ◌^◌, true, false, [], ◌∷◌, ◌++◌, Option, Some, None}
 use Rattle.std.specs.List.{AllByRecursion}
 use Rattle.atomic_table.specs.Table.{Me, Step, rest}
@@ -12,10 +12,18 @@ use Rattle.round_workers.specs.declared.board.view.Phase.TheVariants.{Resting, O
 use Rattle.round_workers.specs.declared.board.view.Try.{Try}
 use Rattle.round_workers.specs.declared.board.view.Try.TheVariants.{Never, OfBook, OfLook}
 use Rattle.round_workers.specs.declared.board.view.View.{View}
-use Rattle.round_workers.specs.BoardView.{book_home, book_out, look_full, window_about}
+use Rattle.round_workers.specs.BoardView.{book_home, book_out, look_emptied, look_empty, look_full, look_in_hand, window_about}
 
 abbrev At : Type 0
 At = Me BoardSlot View
+
+-- a step with these numbers, and one on this word with them. A load, and what writes one number, has 0 for the second; only a compare-exchange
+-- has another number there
+abbrev pub Carries : Step BoardSlot → (first second : ℕ) → Type 0
+Carries step first second = (step.first ≡ first) × (step.second ≡ second)
+
+abbrev pub IsStep : Step BoardSlot → (word first second : ℕ) → Type 0
+IsStep step word first second = (step.word ≡ word) × Carries step first second
 
 -- a seat after it drew a ticket
 abbrev pub drew : View → ℕ → View
@@ -23,7 +31,7 @@ drew v ticket = record v { drawn = v.drawn ++ ticket ∷ [] }
 
 -- the ticket is the seat's, above each that it drew, and small
 abbrev pub tells_draw : Step BoardSlot → At → ℕ → At → Type 0
-tells_draw step me found new = (new ≡ (drew me.0 found, me.1)) × AllByRecursion (λ k. k < found) me.0.drawn × (found < 2 ^ 32)
+tells_draw step me found new = IsStep step 0 1 0 × (new ≡ (drew me.0 found, me.1)) × AllByRecursion (λ k. k < found) me.0.drawn × (found < 2 ^ 32)
 
 -- the first seat after it made another
 abbrev pub made_one : View → View
@@ -52,7 +60,7 @@ views_joined v w = record v { parts = v.parts ++ w.parts; drawn = v.drawn ++ w.d
 
 -- the seat is as it was, and drew no ticket twice
 abbrev pub tells_each_once : Step BoardSlot → At → ℕ → At → Type 0
-tells_each_once step me found new = (new ≡ me) × ((k : ℕ) → times k me.0.drawn ≤ 1)
+tells_each_once step me found new = IsStep step 0 0 0 × (new ≡ me) × ((k : ℕ) → times k me.0.drawn ≤ 1)
 
 -- a seat after a try
 abbrev pub after_try : View → Try → View
@@ -90,10 +98,10 @@ has_taken v ticket = record v { phase = Resting; took = v.took ++ ticket ∷ [] 
 
 -- the book's slot was home, and is the seat's
 abbrev pub tells_open : Step BoardSlot → At → ℕ → At → Type 0
-tells_open step me found new = (found ≡ book_home) × (new ≡ (opens_now me.0, (0, TheBook None) ∷ me.1))
+tells_open step me found new = IsStep step 1 book_home book_out × (found ≡ book_home) × (new ≡ (opens_now me.0, (0, TheBook None) ∷ me.1))
 
 abbrev pub tells_opened : Step BoardSlot → At → ℕ → At → Type 0
-tells_opened step me found new = new ≡ (has_seen me.0, rest me.1)
+tells_opened step me found new = IsStep step 1 book_home 0 × (new ≡ (has_seen me.0, rest me.1))
 
 -- where the book was home it is the seat's, and stands for the window that the seat knows; else another seat has it
 pub record TellsTake (me : At) (found : ℕ) (new : At) : Type 0 where
@@ -101,17 +109,17 @@ pub record TellsTake (me : At) (found : ℕ) (new : At) : Type 0 where
   pub out : found ≢ book_home → (found ≡ book_out) × (new ≡ (after_try me.0 (OfBook book_out), me.1))
 
 abbrev pub tells_take_book : Step BoardSlot → At → ℕ → At → Type 0
-tells_take_book step = TellsTake
+tells_take_book step me found new = IsStep step 1 book_home book_out × TellsTake me found new
 
 abbrev pub tells_give_book : Step BoardSlot → At → ℕ → At → Type 0
-tells_give_book step me found new = new ≡ (without_book me.0, rest me.1)
+tells_give_book step me found new = IsStep step 1 book_home 0 × (new ≡ (without_book me.0, rest me.1))
 
 -- the look's slot was home, with no look waiting in it, and is the seat's
 abbrev pub tells_put : Step BoardSlot → At → ℕ → At → Type 0
-tells_put step me found new = (j : ℕ) → step.word ≡ j + 2 → (old : Option LookValue) × (new ≡ (puts_now me.0 j, (j + 1, Spare old) ∷ me.1))
+tells_put step me found new = Carries step look_empty look_in_hand × ((j : ℕ) → step.word ≡ j + 2 → (old : Option LookValue) × (new ≡ (puts_now me.0 j, (j + 1, Spare old) ∷ me.1)))
 
 abbrev pub tells_has_put : Step BoardSlot → At → ℕ → At → Type 0
-tells_has_put step me found new = (j : ℕ) → step.word ≡ j + 2 → new ≡ (has_put me.0 j, rest me.1)
+tells_has_put step me found new = Carries step look_full 0 × ((j : ℕ) → step.word ≡ j + 2 → new ≡ (has_put me.0 j, rest me.1))
 
 -- the look at a ticket's turn, in the window that the seat knows
 abbrev pub look_at_ticket : View → ℕ → LookValue
@@ -123,10 +131,10 @@ pub record TellsTakeLook (ticket : ℕ) (me : At) (found : ℕ) (new : At) : Typ
   pub other : found ≢ look_full → new ≡ (after_try me.0 (OfLook ticket found), me.1)
 
 abbrev pub tells_take_look : Step BoardSlot → At → ℕ → At → Type 0
-tells_take_look step me found new = (j : ℕ) → step.word ≡ j + 2 → TellsTakeLook j me found new
+tells_take_look step me found new = Carries step look_full look_in_hand × ((j : ℕ) → step.word ≡ j + 2 → TellsTakeLook j me found new)
 
 abbrev pub tells_has_taken : Step BoardSlot → At → ℕ → At → Type 0
-tells_has_taken step me found new = (j : ℕ) → step.word ≡ j + 2 → new ≡ (has_taken me.0 j, rest me.1)
+tells_has_taken step me found new = Carries step look_emptied 0 × ((j : ℕ) → step.word ≡ j + 2 → new ≡ (has_taken me.0 j, rest me.1))
 
 -- a seat that tried for the look of a ticket, found its word full and took it
 abbrev pub took_look : View → ℕ → View

@@ -7,3 +7,10 @@ pub mod BoardView
 pub mod BoardWorker
 pub mod Crews
 pub mod Inner
+pub use Rattle.cell_world.specs.Cell
+pub use Rattle.cell_world.specs.Grid
+pub use Rattle.round_book.specs.Book
+pub use Rattle.round_book.specs.Counts
+pub use Rattle.round_book.specs.Machine
+pub use Rattle.round_book.specs.Window
+pub use Rattle.spec_record.specs.Look

@@ -23,18 +23,14 @@ mod seat;
 mod view;
 mod worker;
 
-use atomic_table::Table;
 pub use closing::Closed;
 pub use crew::BoardCrew;
 use hex_geometry::OutOfMemory;
-use law::{Draws, Joins, SeesEachOnce, Splits};
-use places::keep;
 pub use room::Room;
 use round_book::Field;
 pub use seat::{Board, Seat};
 use spec_record::Look;
 use std::alloc::Global;
-use std::snapshot::Snapshot;
 pub use view::{Basis, BoardSlot, Phase, Try, View};
 pub use worker::Worker;
 
@@ -56,45 +52,6 @@ impl Board {
     {
         let mut kept = Vec::new(alloc);
         Board::over(alloc, field, from, to, &mut kept)
-    }
-
-    // The same, with the rooms for looks that were kept, and such as are wanted besides. Where it is refused, the rooms are kept still; else
-    // their list has room for those of the window.
-    pub(crate) fn over(
-        alloc: Global,
-        field: &Field<'_>,
-        from: u32,
-        to: u32,
-        kept: &mut Vec<Room<Look>>,
-    ) -> Result<(Board, Seat), OutOfMemory>
-        requires { CanBegin field.now from to }
-        ensures window { IfOk result (λ made. window_for (basis_of made.0) ≡ window_of field.now from to) }
-        ensures board { IfOk result (λ made. IsSeatOf made.0 made.1) }
-        ensures first { IfOk result (λ made. known made.1 ≡ first_seat (basis_of made.0)) }
-        ensures room { OnOk result (vec_len kept.new + (to - from) ≤ vec_capacity kept.new) }
-    {
-        let basis = basis(field, from, to);
-        let turns = (to - from) as usize;
-        kept.reserve(turns + 1)?;
-        let words = vec![in alloc; 0u64; turns + 2]?;
-        let places = Vec::with_capacity(alloc, turns)?;
-        let room = Vec::with_capacity(alloc, turns)?;
-        let slots = bare(alloc, turns, kept)?;
-        let (table, hand) = match Table::new(alloc, &words, slots, &basis) {
-            Ok(made) => made,
-            Err(refused) => {
-                keep(kept, refused.slots);
-                return Err(OutOfMemory);
-            }
-        };
-        let board = Board {
-            table,
-            places,
-            room,
-            from,
-            to,
-        };
-        Ok((board, Seat { hand }))
     }
 
     // How many turns the window has.
@@ -133,7 +90,7 @@ impl Board {
         ensures drew { known seat.new ≡ drew (known seat.old) result }
         ensures greater { AllByRecursion (λ k. k < result) (known seat.old).drawn }
     {
-        let ticket = self.table.shared.fetch_add::<Draws>(&mut seat.hand, 0, 1);
+        let ticket = self.draw_step(&mut seat.hand);
         ticket as u32
     }
 
@@ -148,7 +105,7 @@ impl Board {
         ensures new_board { IsSeatOf self.now result }
         ensures newcomer { known result ≡ newcomer (known seat.old) }
     {
-        let hand = self.table.shared.split_seat::<Splits>(&mut seat.hand);
+        let hand = self.split_step(&mut seat.hand);
         Seat { hand }
     }
 
@@ -164,69 +121,7 @@ impl Board {
         ensures apart { (k : ℕ) → times k (known seat.old).drawn + times k (known other).drawn ≤ 1 }
     {
         let Seat { hand } = other;
-        self.table.shared.join_seat::<Joins>(&mut seat.hand, hand);
-        self.table.shared.load::<SeesEachOnce>(&mut seat.hand, 0);
-    }
-}
-
-// The window of these turns of a field, as a board knows it.
-fn basis(field: &Field<'_>, from: u32, to: u32) -> Basis
-    requires { CanBegin field.now from to }
-    ensures window { window_for result ≡ window_of field.now from to }
-    ensures playable { IsPlayable (window_for result) }
-    ensures from { result.from ≡ from }
-    ensures to { result.to ≡ to }
-    ensures ids { to ≤ result.world.value.ids }
-    ensures lasting { result.place + (to - from) < 2 ^ 63 }
-{
-    let world = field.world();
-    let brains = field.brains();
-    let _width = world.width();
-    Basis {
-        red: Snapshot::of(brains.red),
-        black: Snapshot::of(brains.black),
-        sheet: brains.sheet,
-        seed: field.seed(),
-        world: Snapshot::of(world),
-        place: field.place(),
-        from,
-        to,
-    }
-}
-
-// The slots with which a board of so many turns begins, with the rooms that were kept, and such as are wanted besides. Where memory is
-// wanting, those that are there by then are kept.
-fn bare(
-    alloc: Global,
-    turns: usize,
-    kept: &mut Vec<Room<Look>>,
-) -> Result<Vec<BoardSlot>, OutOfMemory>
-    requires turns { turns < 2 ^ 32 }
-    requires room { vec_len kept.old + turns + 1 ≤ vec_capacity kept.old }
-    ensures bare { IfOk result (λ slots. AreBare turns slots.items) }
-    ensures room { OnOk result (vec_len kept.new + turns + 1 ≤ vec_capacity kept.new) }
-{
-    let mut slots = Vec::with_capacity(alloc, turns + 1)?;
-    let book = Room::new(alloc)?;
-    slots.push_reserved(BoardSlot::TheBook(book));
-    for _ in 0..turns {
-        let Ok(room) = spare(alloc, kept) else {
-            keep(kept, slots);
-            return Err(OutOfMemory);
-        };
-        slots.push_reserved(BoardSlot::Spare(room));
-    }
-    Ok(slots)
-}
-
-// A room for a look: one that was kept, or a new one.
-#[inline]
-fn spare(alloc: Global, kept: &mut Vec<Room<Look>>) -> Result<Room<Look>, OutOfMemory>
-    ensures fewer { vec_len kept.new ≤ vec_len kept.old }
-    ensures capacity { vec_capacity kept.new ≡ vec_capacity kept.old }
-{
-    match kept.pop() {
-        Some(room) => Ok(room),
-        None => Room::new(alloc),
+        self.join_step(&mut seat.hand, hand);
+        self.see_each_once_step(&mut seat.hand);
     }
 }

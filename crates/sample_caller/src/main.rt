@@ -11,7 +11,7 @@ use ant_turn::{Brains, Sheet};
 use brain_read::read_brain;
 use cell_world::Score;
 use dump_print::push_score;
-use match_run::play_score;
+use match_run::{MOST_ROUNDS, play_score};
 use std::alloc::{AllocError, Global};
 use std::env;
 use std::io::BufWriter;
@@ -19,8 +19,6 @@ use std::process::ExitCode;
 use world_read::read_world;
 
 const SEED: u32 = 12345;
-
-const MOST_ROUNDS: u64 = 1_000_000;
 
 /// The score after so many rounds, at most 1,000,000, of the game of two files' brains on the world of a third, by the random numbers of
 /// seed 12345; None where a file is not read, or is no world or no brain, or memory is wanting.
@@ -71,7 +69,7 @@ fn main(rt: HostRuntime) -> ExitCode {
     let [world, red, black, number] = words.as_slice() else {
         return ExitCode::FAILURE;
     };
-    let Some(rounds) = read_number_within(number.as_bytes(), 0, MOST_ROUNDS) else {
+    let Some(rounds) = read_number_within(number.as_bytes(), 0, u64::from(MOST_ROUNDS)) else {
         return ExitCode::FAILURE;
     };
     match play(

@@ -1,5 +1,6 @@
 -- The look at a turn, by where its ant is and what it does.
 use Rattle.std.proofs.Common.{◌≡◌, ◌≢◌, ◌≤◌, ℕ, suc, Bool, true, false, if◌then◌else◌, ◌||◌, List, [], ◌∷◌, ◌++◌, map, length, Option, Some, None, refl, sym, ◌∙◌, ap, ap₂, subst}
+use Rattle.std.specs.List.{AllByRecursion}
 use Rattle.std.proofs.lemmas.Bool.{cond-true, cond-false}
 use Rattle.hex_geometry.specs.declared.position.Pos.{Pos}
 use Rattle.hex_geometry.specs.Neighbourhood.{adjacent_pos, sensed_pos}
@@ -10,6 +11,7 @@ use Rattle.cell_world.specs.declared.ant.Ant.{Ant}
 use Rattle.cell_world.specs.declared.cell.Cell.{Cell}
 use Rattle.cell_world.specs.declared.part.Part.TheVariants as part
 use Rattle.cell_world.specs.declared.part.Parts.{Parts}
+use Rattle.cell_world.specs.Colour.{foe_of}
 use Rattle.cell_world.specs.Parts.{no_parts, only, union}
 use Rattle.cell_world.specs.World.{Cells, World, place_in}
 use Rattle.cell_world.specs.Valid.{Valid}
@@ -21,19 +23,22 @@ use Rattle.ant_turn.specs.InPlace.{StaysSeeing}
 use Rattle.ant_turn.specs.Kills.{check_all, places_around}
 use Rattle.ant_turn.specs.Minds.{Minds, mind_of}
 use Rattle.ant_turn.specs.Sheet.{Sheet}
-use Rattle.ant_turn.specs.Turn.{Outcome, acts, checked, execute, has_ant, instruction_at, is_blocked, stepped, turn, turn_from, turn_at, with_ant}
+use Rattle.ant_turn.specs.Turn.{Outcome, acts, arrived, checked, execute, has_ant, instruction_at, is_blocked, stepped, turn, turn_from, turn_at, with_ant}
 use Rattle.ant_turn.proofs.Turns.{turn-acts}
 use Rattle.spec_record.specs.Claims.{Claim, EachOnce, Sighting, claim, merged, seen_positions, with_cells_at}
 use Rattle.spec_record.specs.Look.{LookValue, look_of, look_with}
 use Rattle.spec_record.specs.Reads.{ant_and_food, asked, emptied, marks_part, load_and_food, reads, reads_acting, reads_besides, reads_from, reads_going, reads_of, seen_around, who_and_mind, whole_ant}
 use Rattle.spec_record.specs.Writes.{writes, writes_acting, writes_besides, writes_from, writes_going, writes_of}
-use Rattle.spec_record.specs.Inner.Going.{destination, fallen, going_reads, going_writes, seen_from}
+use Rattle.spec_record.specs.Inner.Going.{calm_reads, calm_writes, destination, fallen, going_reads, going_writes, seen_from, state_gone}
+use Rattle.spec_record.specs.Inner.Near.{AreNoneOf, IsWithin}
 use Rattle.spec_record.specs.Inner.Sightings.{all_sighted, sighted, sightings_of}
 use Rattle.spec_record.specs.Inner.Standing.{blank_look, read_at, rested_look, staying_reads, staying_writes}
 use Rattle.spec_record.proofs.Claiming.{EachOnce-sightings}
 use Rattle.spec_record.proofs.Bounds.{going_reads-fit, going_writes-fit}
 use Rattle.spec_record.proofs.Emptying.{emptied-fallen, emptied-none, seen_around-from}
-use Rattle.spec_record.proofs.Sighting.{all_sighted-append, claims-append, claims-sightings_of, with_cells_at-merged}
+use Rattle.spec_record.proofs.Near.{within-back, within-beside}
+use Rattle.spec_record.proofs.Stepping.{NoneAt, apart-once, seen-none, step-checks, step-kills, stepped-from, stepped-to}
+use Rattle.spec_record.proofs.Sighting.{all_sighted-apart, all_sighted-append, claims-append, claims-sightings_of, sightings_of-room, with_cells_at-merged}
 
 -- the look of an outcome with these claims
 abbrev look_claiming : Cells → ℕ → ℕ → Outcome → List Claim → List Claim → LookValue
@@ -180,6 +185,7 @@ pub record Goes (sheet : Sheet) (seed : ℕ) (cells : Cells) (guess : ℕ) (p : 
   pub reads : reads_besides sheet cells p ant instruction ≡ reads_going sheet cells p ant q next
   pub writes : writes_besides sheet cells p ant instruction ≡ writes_going sheet cells p ant q next
   pub outcome : execute sheet seed cells guess p ant instruction ≡ checked sheet (stepped sheet cells p ant q next) q
+  pub is_next : next ≡ state_gone instruction
 
 goes-ahead : (blocked : Bool) (sheet : Sheet) (seed : ℕ) (cells : Cells) (guess : ℕ) (p : Pos) (ant : Ant) (met unmet : ℕ) (q : Pos) → is_blocked (cells (adjacent_pos p ant.facing)) ≡ blocked → (if blocked then None else Some (adjacent_pos p ant.facing)) ≡ Some q → Goes sheet seed cells guess p ant (Move met unmet) q
 goes-ahead true sheet seed cells guess p ant met unmet q is goes = absurd (cc)
@@ -192,6 +198,7 @@ goes-ahead false sheet seed cells guess p ant met unmet q is goes =
       reads = cond-false _ _ _ is;
       writes = cond-false _ _ _ is;
       outcome = cond-false _ _ _ is;
+      is_next = refl;
     })
 
 pub goes_to : (sheet : Sheet) (seed : ℕ) (cells : Cells) (guess : ℕ) (p : Pos) (ant : Ant) (instruction : Instr) (q : Pos) → destination cells p ant instruction ≡ Some q → Goes sheet seed cells guess p ant instruction q
@@ -342,6 +349,56 @@ module _ {minds : Minds} {seed : ℕ} {w : World} {guess t : ℕ} {p : Pos} {ant
     spared-there last left none =
         sym (emptied-fallen minds.sheet w.cells last p ant q there.next inner-there.from_left inner-there.from_top (last-there last left))
         ∙ emptied-none minds.sheet (places_around q) (stepped minds.sheet w.cells p ant q there.next) (ap (λ (o : Outcome). o.killed) (sym checked-there) ∙ none)
+
+    -- what it reads but of the killed has room, and each position is there once
+    pub calm-room : length (calm_reads w.cells p q) ≤ 19
+    calm-room = sightings_of-room (calm_reads w.cells p q) (going_reads w.cells outcome.cells p q) w.cells load_and_food (fallen w.cells outcome.cells p q) 19 refl (reads-there outcome.cells)
+
+    pub calm-writes_once : (next : ℕ) → EachOnce (seen_positions (calm_writes minds.sheet w.cells p ant q next))
+    calm-writes_once next = (((λ e. other-there (sym e)), tt), (tt, tt))
+
+    -- the cell to which it goes is beside
+    pub within-there : IsWithin 1 q p
+    within-there = within-back 1 p q (subst (IsWithin 1 p) (sym there.ahead) (within-beside p ant.facing))
+
+    -- where no foe is near nobody is killed
+    module _ (some : 1 ≤ minds.sheet.surround) (none : AreNoneOf (foe_of ant.colour) (calm_reads w.cells p q)) where
+      none_around : AllByRecursion (NoneAt (foe_of ant.colour) w.cells) (seen_around (stepped minds.sheet w.cells p ant q there.next) q)
+      none_around =
+          subst (AllByRecursion (NoneAt (foe_of ant.colour) w.cells)) (sym (seen_around-from minds.sheet w.cells p ant q there.next inner-there.from_left inner-there.from_top))
+          (seen-none (foe_of ant.colour) w.cells p whole_ant (only part.Who) (seen_from w.cells p q) none)
+
+      calm-outcome : outcome ≡ record { cells = stepped minds.sheet w.cells p ant q there.next; drew = false; killed = [] }
+      calm-outcome =
+          let made : Cells → List ℕ → Outcome = λ cells killed. record { cells = cells; drew = false; killed = killed } in
+          checked-there ∙ ap₂ made
+          (step-checks minds.sheet w.cells p ant q there.next inner-there.from_left inner-there.from_top some none_around)
+          (step-kills minds.sheet w.cells p ant q there.next inner-there.from_left inner-there.from_top some none_around)
+
+      -- the look at it
+      pub look-calm : look_of minds seed w guess t ≡ record {
+        turn = t;
+        guess = guess;
+        drew = false;
+        reads = calm_reads w.cells p q;
+        writes = calm_writes minds.sheet w.cells p ant q (state_gone instruction);
+        killed = [];
+      }
+      look-calm =
+          let nobody : fallen w.cells outcome.cells p q ≡ [] = spared-there outcome.cells refl (ap (λ (o : Outcome). o.killed) calm-outcome) in
+          let sheet : Sheet = minds.sheet in
+          let made : Cell → Cell → LookValue = λ a b. record { turn = t; guess = guess; drew = false; reads = calm_reads w.cells p q; writes = (p, whole_ant, a) ∷ (q, whole_ant, b) ∷ []; killed = [] } in
+          look-goes outcome.cells refl
+          ∙ ap₂ (look_with t guess outcome)
+          (ap (λ (places : List Pos). all_sighted (calm_reads w.cells p q) (sightings_of w.cells load_and_food places)) nobody)
+          (ap (λ (places : List Pos). all_sighted ((p, whole_ant, outcome.cells p) ∷ (q, whole_ant, outcome.cells q) ∷ []) (sightings_of outcome.cells ant_and_food places)) nobody)
+          ∙ ap (λ (o : Outcome). look_with t guess o (calm_reads w.cells p q) ((p, whole_ant, o.cells p) ∷ (q, whole_ant, o.cells q) ∷ [])) calm-outcome
+          ∙ ap₂ made (stepped-from sheet w.cells p ant q there.next other-there) (stepped-to sheet w.cells p ant q there.next ∙ ap (λ n. with_ant (w.cells q) (arrived sheet ant n)) there.is_next)
+
+-- what an ant that goes reads but of the killed, each position once
+pub calm-once : (cells : Cells) (p q : Pos) → EachOnce (seen_positions (calm_reads cells p q))
+calm-once cells p q =
+    apart-once (calm_reads cells p q) (all_sighted-apart ((p, whole_ant, cells p) ∷ []) (sightings_of cells (only part.Who) (seen_from cells p q)) (tt, tt))
 
 -- the cell that an ant that stays reads is inside
 pub read_at-inside : {width height : ℕ} (p : Pos) (ant : Ant) (instruction : Instr) → IsInner width height p → IsInside width height (read_at p ant instruction)

@@ -1,4 +1,5 @@
 pub mod Going
 pub mod Laid
+pub mod Near
 pub mod Sightings
 pub mod Standing

@@ -10,3 +10,14 @@ pub mod Reads
 pub mod SameLooks
 pub mod Trail
 pub mod Writes
+pub use Rattle.ant_turn.specs.Minds
+pub use Rattle.ant_turn.specs.Sheet
+pub use Rattle.ant_turn.specs.Turn
+pub use Rattle.brain_read.specs.Soundness
+pub use Rattle.cell_world.specs.Cell
+pub use Rattle.cell_world.specs.Grid
+pub use Rattle.cell_world.specs.Parts
+pub use Rattle.cell_world.specs.Valid
+pub use Rattle.cell_world.specs.World
+pub use Rattle.hex_geometry.specs.Neighbourhood
+pub use Rattle.hex_geometry.specs.Position

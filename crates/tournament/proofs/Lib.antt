@@ -1,7 +1,10 @@
+-- Games in order, and how they are cut into pieces.
 pub mod GamesLemmas
-pub mod LawsLemmas
 pub mod PiecesLemmas
+-- Points, totals and the standing.
+pub mod TotalLemmas
+pub mod LawsLemmas
 pub mod Sorting
 pub mod StandingLemmas
-pub mod TotalLemmas
+-- Worked values.
 pub mod Worked

@@ -5,3 +5,5 @@ pub mod Laws
 pub mod Names
 pub mod Standing
 pub mod Text
+pub use Rattle.ant_base.specs.Layout
+pub use Rattle.ant_base.specs.Sink

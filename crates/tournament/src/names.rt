@@ -65,7 +65,6 @@ impl Names {
         self.names.len()
     }
 
-    // Whether the name is there.
     fn has(&self, name: &str) -> bool
         ensures { result ≡ has_name self.now name.now }
     {

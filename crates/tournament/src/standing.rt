@@ -34,7 +34,6 @@ impl Model for Standing {
 }
 
 impl Standing {
-    // The standing of these lines.
     pub(crate) fn from_list(lines: Vec<Line>) -> Standing
         ensures { result ≡ lines.items }
     {

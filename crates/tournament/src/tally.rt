@@ -62,7 +62,6 @@ fn line_of(player: u32, games: &[Played]) -> Line
     }
 }
 
-// Whether the player won the game.
 fn is_won(player: u32, it: &Played) -> bool
     ensures { result ≡ is_won player it.now }
 {
@@ -71,7 +70,6 @@ fn is_won(player: u32, it: &Played) -> bool
     (it.game.red == player && red > black) || (it.game.black == player && black > red)
 }
 
-// Whether the player lost the game.
 fn is_lost(player: u32, it: &Played) -> bool
     ensures { result ≡ is_lost player it.now }
 {
@@ -80,7 +78,6 @@ fn is_lost(player: u32, it: &Played) -> bool
     (it.game.red == player && red < black) || (it.game.black == player && black < red)
 }
 
-// Whether the player drew the game.
 fn is_drawn(player: u32, it: &Played) -> bool
     ensures { result ≡ is_drawn player it.now }
 {

@@ -32,7 +32,6 @@ impl Parts for TableLines<'_> {
     }
 }
 
-// Pushes one line.
 #[tactic(auto, unfolding(crate::specs::Text::table_line_text))]
 fn push_line<K: Sink>(names: &Names, line: Line, sink: &mut K) -> Result<(), Failed>
     requires { line.player < length names.now }

@@ -1,2 +1,4 @@
+-- Where a word stands.
 pub mod Places
+-- Worked values.
 pub mod Worked

@@ -1,2 +1,4 @@
+-- Borders of shares.
 pub mod BordersLemmas
+-- Worked values.
 pub mod Worked

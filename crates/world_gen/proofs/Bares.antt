@@ -1,4 +1,4 @@
--- A yard without elements.
+-- A draft without elements.
 use Rattle.cell_world.specs.Cell.{one_if}
 use Rattle.cell_world.specs.Limits.{most_size}
 use Rattle.hex_geometry.proofs.Rim.{inner-off_rim, off_rim-inner}
@@ -9,18 +9,16 @@ use Rattle.cell_world.specs.declared.kind.Kind.{Kind}
 use Rattle.cell_world.specs.declared.kind.Kind.TheVariants as kind
 use Rattle.hex_geometry.specs.Position.{IsInner, IsInside, is_on_rim}
 use Rattle.hex_geometry.specs.declared.position.Pos.{Pos}
+use Rattle.list_lemmas.proofs.Elements.{Contains-none}
 use Rattle.std.proofs.Common.{◌≡◌, ℕ, zero, suc, ◌+◌, ◌*◌, ◌<◌, ◌≤◌, List, [], ◌∷◌, ◌++◌, length, get_or, true, false, refl, sym, ◌∙◌, ap, arith, inl, inr, add-one}
-use Rattle.std.proofs.lemmas.Bool.{and_from, and_parts, cases_Bool, cases_lt, lt-ltb, ltb-true}
+use Rattle.std.proofs.lemmas.Bool.{and_from, and_parts, cases_Bool, cases_lt, lt-ltb, ltb-true, not-true}
 use Rattle.std.proofs.lemmas.List.{get_or_push, length_push}
 use Rattle.std.proofs.Math.ListN.{get_or-append}
 use Rattle.std.proofs.lemmas.List.Elements.{All-push}
 use Rattle.std.specs.List.{All}
-use Rattle.std.specs.Prelude.{Bool, Contains, not}
+use Rattle.std.specs.Prelude.{Bool, not}
 use Rattle.world_gen.specs.Inner.Open.{is_unblocked}
-use Rattle.world_gen.specs.Inner.Yards.{IsYard, bare_blocked, bare_kind, bare_kinds}
-
-no_member : {X : Type 0} (z : X) → Contains [] z → ⊥
-no_member z found = let h = found.1 in omega arith
+use Rattle.world_gen.specs.Inner.Drafts.{IsDraft, bare_blocked, bare_kind, bare_kinds}
 
 pub bare_blocked_length : (width height n : ℕ) → length (bare_blocked width height n) ≡ n
 unfolding bare_blocked
@@ -85,15 +83,11 @@ open_inside width height blocked p free =
     let b = and_parts _ _ a.1 in
     record { column = ltb-true p.x width a.0; row = ltb-true p.y height b.0 }
 
-true_not : (b : Bool) → not b ≡ true → b ≡ false
-true_not true e = absurd (cc)
-true_not false e = refl
-
 pub open_free : (width height : ℕ) (blocked : List Bool) (p : Pos) → is_unblocked width height blocked p ≡ true → get_or blocked (index_of width p) true ≡ false
 open_free width height blocked p free =
     let a = and_parts _ _ free in
     let b = and_parts _ _ a.1 in
-    true_not _ b.1
+    not-true _ b.1
 
 pub open_from : (width height : ℕ) (blocked : List Bool) (p : Pos) → IsInside width height p → get_or blocked (index_of width p) true ≡ false → is_unblocked width height blocked p ≡ true
 open_from width height blocked p inside free =
@@ -110,9 +104,9 @@ bare_kind_is width height p inside =
 inner_inside : (width height : ℕ) (p : Pos) → IsInner width height p → IsInside width height p
 inner_inside width height p inner = record { column = (let h = inner.to_right in omega arith); row = (let h = inner.to_bottom in omega arith) }
 
--- the yard without elements keeps what a yard keeps
-pub bare_yard : (width height : ℕ) → width ≤ most_size → height ≤ most_size → IsYard width height [] (bare_blocked width height (width * height)) (bare_kinds width height (width * height))
-bare_yard width height narrow low = record {
+-- the draft without elements keeps what a draft keeps
+pub bare_draft : (width height : ℕ) → width ≤ most_size → height ≤ most_size → IsDraft width height [] (bare_blocked width height (width * height)) (bare_kinds width height (width * height))
+bare_draft width height narrow low = record {
   fenced = record {
     full = bare_blocked_length width height (width * height);
     narrow = narrow;
@@ -121,11 +115,11 @@ bare_yard width height narrow low = record {
         let inside = open_inside width height _ p free in
         off_rim-inner width height p inside (sym (bare_blocked_is width height p inside) ∙ open_free width height _ p free);
   };
-  shut = λ p other inside among touched free. no_member other among;
+  shut = λ p other inside among touched free. Contains-none other among;
   free = λ p inner none.
       let inside = inner_inside width height p inner in
       open_from width height _ p inside (bare_blocked_is width height p inside ∙ inner-off_rim width height p inner);
-  off_rim = λ other q among cell. absurd (no_member other among);
+  off_rim = λ other q among cell. absurd (Contains-none other among);
   painted = record {
     full = bare_kinds_length width height (width * height);
     rim = λ p inside outer.
@@ -133,7 +127,7 @@ bare_yard width height narrow low = record {
           | inl on ↦ bare_kind_is width height p inside ∙ ap bare_kind on
           | inr off ↦ absurd (outer (off_rim-inner width height p inside off))
         ];
-    cell = λ p spot among cell. absurd (no_member spot among);
+    cell = λ p spot among cell. absurd (Contains-none spot among);
     floor = λ p inner none. bare_kind_is width height p (inner_inside width height p inner) ∙ ap bare_kind (inner-off_rim width height p inner);
   };
   fed = bare_kinds_fed width height (width * height);

@@ -11,12 +11,13 @@ use Rattle.hex_geometry.specs.RowOrder.{IsBefore}
 use Rattle.hex_geometry.specs.declared.direction.Dir.{Dir}
 use Rattle.hex_geometry.specs.declared.direction.Side.TheVariants.{Right}
 use Rattle.hex_geometry.specs.declared.position.Pos.{Pos}
-use Rattle.std.proofs.Common.{◌≡◌, ◌⊎◌, inl, inr, ℕ, zero, suc, ◌+◌, ◌*◌, ◌<◌, ◌≤◌, List, [], ◌∷◌, ◌++◌, length, refl, sym, ap, subst, arith}
+use Rattle.list_lemmas.proofs.Elements.{Contains-cases}
+use Rattle.std.proofs.Common.{◌≡◌, ◌⊎◌, inl, inr, ℕ, zero, suc, ◌+◌, ◌*◌, ◌<◌, ◌≤◌, List, [], ◌∷◌, refl, sym, ap, subst, arith}
 use Rattle.std.proofs.lemmas.Bool.{cases_lt}
-use Rattle.std.proofs.lemmas.List.Elements.{All-cons, All-contains, All-contains_itself, All-head, All-nil, All-tail, All-weaker, Contains-append_cases, Contains-append_right}
+use Rattle.std.proofs.lemmas.List.Elements.{All-cons, All-contains, All-contains_itself, All-head, All-nil, All-tail, All-weaker, Contains-append_right}
 use Rattle.std.specs.Prelude.{All, Contains, ℤ, pos, negsuc}
 use Rattle.world_gen.proofs.Balls.{ball_has}
-use Rattle.world_gen.proofs.Lines.{lines_each, lines_every}
+use Rattle.world_gen.proofs.Lines.{HasRound, lines_each, lines_every}
 use Rattle.world_gen.proofs.Steps.{point_one, round_touching, touching_round}
 use Rattle.world_gen.specs.Elements.{IsCell, IsInBlob, point_after}
 use Rattle.world_gen.specs.Fitting.{IsFreeSpot, IsOffRim, IsTouching}
@@ -150,11 +151,7 @@ told_ball centre radius =
     told_as (λ both. record { from_left = both.0; to_right = both.1.0; from_top = both.1.1.0; to_bottom = both.1.1.1 }) (λ is. (is.from_left, (is.to_right, (is.from_top, is.to_bottom))))
     (told_both (told_le radius centre.x) (told_both (told_le (centre.x + radius) 65535) (told_both (told_le radius centre.y) (told_le (centre.y + radius) 65535))))
 
--- a place that is a position with neighbours
-abbrev pub IsPlaced : Point → Type 0
-IsPlaced q = (p : Pos) × (point_of p ≡ q) × HasNeighbours p
-
-told_at : (x y : ℤ) → Told (IsPlaced (record { x = x; y = y }))
+told_at : (x y : ℤ) → Told (HasRound (record { x = x; y = y }))
 told_at (pos a) (pos b) =
     elim (told_neighbours (record { x = a; y = b })) [
       | inl has ↦ inl (record { x = a; y = b }, refl, has)
@@ -163,28 +160,28 @@ told_at (pos a) (pos b) =
 told_at (pos a) (negsuc b) = inr (λ placed. (let same : pos placed.0.y ≡ negsuc b = ap (λ (r : Point). r.y) placed.1 in cc))
 told_at (negsuc a) y = inr (λ placed. (let same : pos placed.0.x ≡ negsuc a = ap (λ (r : Point). r.x) placed.1 in cc))
 
-told_placed : (q : Point) → Told (IsPlaced q)
+told_placed : (q : Point) → Told (HasRound q)
 told_placed q = told_at q.x q.y
 
 -- a blob all of whose cells are such places
 blob_at : Pos → Dir → ℕ → ℕ → Point
 blob_at corner first along beside = point_after beside (turned_by first Right) (point_after along first (point_of corner))
 
-told_blob : (corner : Pos) (first : Dir) → Told ((q : Point) → IsInBlob (point_of corner) first q → IsPlaced q)
+told_blob : (corner : Pos) (first : Dir) → Told ((q : Point) → IsInBlob (point_of corner) first q → HasRound q)
 unfolding blob_at
 told_blob corner first =
     told_as
-    (λ every q cell. (let long = cell.is_long in let wide = cell.is_wide in subst IsPlaced cell.is (every cell.along (omega arith) cell.beside (omega arith))))
+    (λ every q cell. (let long = cell.is_long in let wide = cell.is_wide in subst HasRound cell.is (every cell.along (omega arith) cell.beside (omega arith))))
     (λ all along long beside wide. all (blob_at corner first along beside) (record { along = along; beside = beside; is_long = omega arith; is_wide = omega arith; is = refl }))
-    (told_below (λ along. (beside : ℕ) → beside < 5 → IsPlaced (blob_at corner first along beside))
-    (λ along. told_below (λ beside. IsPlaced (blob_at corner first along beside)) (λ beside. told_placed (blob_at corner first along beside)) 5) 5)
+    (told_below (λ along. (beside : ℕ) → beside < 5 → HasRound (blob_at corner first along beside))
+    (λ along. told_below (λ beside. HasRound (blob_at corner first along beside)) (λ beside. told_placed (blob_at corner first along beside)) 5) 5)
 
 -- the cells of an element, listed
 abbrev Listing : Spot → Type 0
 Listing spot = (cells : List Pos) × ListsCells spot cells
 
 abbrev pub AllPlaced : Spot → Type 0
-AllPlaced spot = (q : Point) → IsCell spot q → IsPlaced q
+AllPlaced spot = (q : Point) → IsCell spot q → HasRound q
 
 listing_at : (figure : Figure) (place : Pos) → Listing (record { figure = figure; place = place }) ⊎ (AllPlaced (record { figure = figure; place = place }) → ⊥)
 listing_at (Hill colour) place =
@@ -241,9 +238,6 @@ module _ (width height : ℕ) (narrow : width ≤ 512) (low : height ≤ 512) wh
         | inr never ↦ absurd (never (inner_placed spot off))
       ]
 
-  first_only : (x p : Pos) → Contains (x ∷ []) p → x ≡ p
-  first_only x p among = All-contains (λ (q : Pos). x ≡ q) (x ∷ []) p (All-cons (λ (q : Pos). x ≡ q) x [] refl (All-nil (λ (q : Pos). x ≡ q))) among
-
   told_among : (xs : List Pos) (p : Pos) → Told (Contains xs p)
   told_among [] p = inr (λ among. (let within = among.1 in omega arith))
   told_among (x ∷ xs) p =
@@ -251,7 +245,7 @@ module _ (width height : ℕ) (narrow : width ≤ 512) (low : height ≤ 512) wh
         | inl same ↦ inl (0, omega arith, same)
         | inr apart ↦ elim (told_among xs p) [
           | inl later ↦ inl (Contains-append_right (x ∷ []) xs p later)
-          | inr never ↦ inr (λ among. elim (Contains-append_cases (x ∷ []) xs p among) [ inl here ↦ apart (first_only x p here) | inr later ↦ never later ])
+          | inr never ↦ inr (λ among. elim (Contains-cases x p xs among) [ inl here ↦ apart here | inr later ↦ never later ])
         ]
       ]
 

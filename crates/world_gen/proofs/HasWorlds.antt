@@ -1,7 +1,7 @@
 -- Each seed and shape has a world, or an element without room: the elements are placed one after another, and their cells painted.
 use Rattle.cell_world.specs.Cell.{one_if}
 use Rattle.cell_world.specs.Grid.{Grid}
-use Rattle.cell_world.specs.Opening.{IsFed, hill_count, is_hill, is_rock, kind_at, opening}
+use Rattle.cell_world.specs.Opening.{is_hill, is_rock, opening}
 use Rattle.cell_world.specs.declared.ant.Colour.{Colour}
 use Rattle.cell_world.specs.declared.ant.Colour.TheVariants.{Red, Black}
 use Rattle.cell_world.specs.declared.kind.Kind.{Kind}
@@ -12,12 +12,12 @@ use Rattle.hex_geometry.proofs.Places.{inner_inside}
 use Rattle.hex_geometry.specs.Direction.{dir_of}
 use Rattle.hex_geometry.specs.Inner.BallRows.{rows}
 use Rattle.hex_geometry.specs.Neighbourhood.{adjacent_pos}
-use Rattle.hex_geometry.specs.Position.{IsInner, IsInside, Point, point_of}
+use Rattle.hex_geometry.specs.Position.{IsInner, point_of}
 use Rattle.hex_geometry.specs.RowOrder.{index_of}
 use Rattle.hex_geometry.specs.declared.position.Pos.{Pos}
 use Rattle.std.proofs.Common.{◌≡◌, ◌⊎◌, inl, inr, ℕ, zero, suc, ◌+◌, ◌*◌, ◌<◌, ◌≤◌, Bool, true, false, List, [], ◌∷◌, ◌++◌, length, set, refl, sym, ◌∙◌, ap, subst, append_assoc, append-nil, arith}
 use Rattle.std.proofs.lemmas.Bool.{false≢true}
-use Rattle.std.proofs.lemmas.List.Elements.{All-contains, All-contains_itself, All-head, All-tail, All-weaker}
+use Rattle.std.proofs.lemmas.List.Elements.{All-contains_itself, All-head, All-tail, All-weaker}
 use Rattle.std.specs.Prelude.{All, Contains}
 use Rattle.world_gen.proofs.Balls.{ball_has}
 use Rattle.world_gen.proofs.Bares.{bare_blocked_length}
@@ -27,16 +27,15 @@ use Rattle.world_gen.proofs.Lines.{lines_each, lines_every}
 use Rattle.world_gen.proofs.Makings.{begun_more, begun_none, begun_whole}
 use Rattle.world_gen.proofs.Stamps.{round_all, round_first, round_more, stamped_more, stamped_none}
 use Rattle.world_gen.proofs.Steps.{fits_open, open_fits, point_one}
-use Rattle.world_gen.specs.Elements.{IsCell, count_of, element_of}
+use Rattle.world_gen.specs.Elements.{count_of, element_of}
 use Rattle.world_gen.specs.Existence.{HasOutcome}
-use Rattle.world_gen.specs.Fitting.{IsFreeSpot, IsOffRim}
+use Rattle.world_gen.specs.Fitting.{IsFreeSpot}
 use Rattle.world_gen.specs.Inner.Answers.{IsElementPut, IsGeneratedGrid}
 use Rattle.world_gen.specs.Inner.Open.{AllOpen, ListsCells, lines_from}
-use Rattle.world_gen.specs.Inner.Sets.{IsRound, IsRoundBelow, SetsWhere}
-use Rattle.world_gen.specs.Inner.Yards.{IsBegun, IsStamped, bare_blocked, bare_kinds}
+use Rattle.world_gen.specs.Inner.Sets.{IsRoundBelow, SetsWhere}
+use Rattle.world_gen.specs.Inner.Drafts.{IsBegun, IsStamped, bare_blocked, bare_kinds}
 use Rattle.world_gen.specs.Painting.{IsGenerated, IsShape, hill_kind, paint_of}
 use Rattle.world_gen.specs.Placing.{Goes, HasNoRoom, after_begun, figure_begun}
-use Rattle.world_gen.specs.declared.element.Element.{Element}
 use Rattle.world_gen.specs.declared.shape.Shape.{Shape}
 use Rattle.world_gen.specs.declared.spot.Figure.{Figure}
 use Rattle.world_gen.specs.declared.spot.Figure.TheVariants.{Hill, Rock, Blob}
@@ -123,12 +122,12 @@ module _ (seed : ℕ) (shape : Shape) (narrow : shape.width ≤ 512) (low : shap
       let inner : All (IsInner shape.width shape.height) few.cells =
       All-weaker (Contains few.cells) (IsInner shape.width shape.height)
       (λ p among. (let at = fits.off_rim (point_of p) (few.lists.each p among) in subst (IsInner shape.width shape.height) (point_one at.0 p at.1) at.2)) few.cells (All-contains_itself few.cells) in
-      let stamp = stamped_by shape.width shape.height (paint_of spot.figure) it.blocked it.kinds it.long it.begun.yard.painted.full few.cells inner in
+      let stamp = stamped_by shape.width shape.height (paint_of spot.figure) it.blocked it.kinds it.long it.begun.draft.painted.full few.cells inner in
       let put : IsElementPut spot shape.width shape.height it.blocked stamp.now it.kinds stamp.paint = record { cells = few.cells; lists = few.lists; stamped = stamp.stamped; few = few.few } in
       let opens : Goes (AllOpen shape.width shape.height it.blocked) seed shape.width shape.height (element_of shape n) it.g spot after =
       goes_as (IsFreeSpot shape.width shape.height it.begun.placed) (AllOpen shape.width shape.height it.blocked)
-      (λ s fit. fits_open shape.width shape.height it.begun.placed it.blocked it.kinds s it.begun.yard fit)
-      (λ s open_all. open_fits shape.width shape.height it.begun.placed it.blocked it.kinds s it.begun.yard open_all)
+      (λ s fit. fits_open shape.width shape.height it.begun.placed it.blocked it.kinds s it.begun.draft fit)
+      (λ s open_all. open_fits shape.width shape.height it.begun.placed it.blocked it.kinds s it.begun.draft open_all)
       seed shape.width shape.height (element_of shape n) it.g spot after goes in
       record {
         blocked = stamp.now;
@@ -142,7 +141,7 @@ module _ (seed : ℕ) (shape : Shape) (narrow : shape.width ≤ 512) (low : shap
   made_next n below it =
       let placed = it.begun.placed in
       let listed : All (IsListed shape.width shape.height) placed =
-      All-weaker (Contains placed) (IsListed shape.width shape.height) (λ other among. listed_by shape.width shape.height narrow low other (λ q cell. it.begun.yard.off_rim other q among cell)) placed (All-contains_itself placed) in
+      All-weaker (Contains placed) (IsListed shape.width shape.height) (λ other among. listed_by shape.width shape.height narrow low other (λ q cell. it.begun.draft.off_rim other q among cell)) placed (All-contains_itself placed) in
       elim (goes_or_barred (IsFreeSpot shape.width shape.height placed) (told_fits shape.width shape.height narrow low placed listed) seed shape.width shape.height (figure_begun seed it.g (element_of shape n)) (after_begun it.g (element_of shape n))) [
         | inl goes ↦ inl (made_more n it goes.spot goes.after goes.goes)
         | inr none ↦ inr (record { placed = placed; after = it.g; follow = it.begun.follow; before = it.begun.count; low = below; none = none })

@@ -17,7 +17,7 @@ use Rattle.world_gen.specs.Elements.{IsInBlob, point_after}
 use Rattle.world_gen.specs.Inner.Open.{BlobHasNeighbours, BlobIsOpen, IsFenced, IsOpen, LineIsOpen, LinesAreOpen, is_unblocked, line_from, lines_from, walked}
 
 -- a place that is a position with neighbours
-abbrev HasRound : Point → Type 0
+abbrev pub HasRound : Point → Type 0
 HasRound q = (p : Pos) × (point_of p ≡ q) × HasNeighbours p
 
 -- an open position has neighbours

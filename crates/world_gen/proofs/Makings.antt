@@ -5,14 +5,14 @@ use Rattle.cell_world.specs.declared.kind.Kind.{Kind}
 use Rattle.std.proofs.Common.{◌≡◌, ℕ, ◌+◌, ◌*◌, ◌<◌, ◌≤◌, List, [], ◌∷◌, ◌++◌, length, refl, sym, ◌∙◌, ap, arith, subst}
 use Rattle.std.proofs.lemmas.List.{length_push}
 use Rattle.std.specs.Prelude.{Bool, Err}
-use Rattle.world_gen.proofs.Bares.{bare_hills, bare_yard}
+use Rattle.world_gen.proofs.Bares.{bare_hills, bare_draft}
 use Rattle.world_gen.proofs.Follows.{follow_more, goes_as, goes_fits, hills_step, none_as, paint_fed}
-use Rattle.world_gen.proofs.Steps.{fits_open, open_fits, yard_more}
+use Rattle.world_gen.proofs.Steps.{fits_open, open_fits, draft_more}
 use Rattle.world_gen.specs.Elements.{count_of, element_of}
 use Rattle.world_gen.specs.Fitting.{IsFreeSpot}
 use Rattle.world_gen.specs.Inner.Answers.{IsGeneratedGrid, IsElementPut, IsStep}
 use Rattle.world_gen.specs.Inner.Open.{AllOpen}
-use Rattle.world_gen.specs.Inner.Yards.{IsBegun, bare_blocked, bare_kinds}
+use Rattle.world_gen.specs.Inner.Drafts.{IsBegun, bare_blocked, bare_kinds}
 use Rattle.world_gen.specs.Placing.{Goes, HasNone, HasNoRoom}
 use Rattle.world_gen.specs.declared.element.Element.{Element}
 use Rattle.world_gen.specs.Painting.{IsRefusal}
@@ -26,20 +26,20 @@ pub begun_none : (seed : ℕ) (shape : Shape) (blocked : List Bool) (kinds : Lis
     → blocked ≡ bare_blocked shape.width shape.height (shape.width * shape.height) → kinds ≡ bare_kinds shape.width shape.height (shape.width * shape.height) → g ≡ 0 → IsBegun seed shape 0 blocked kinds g
 begun_none seed shape blocked kinds g narrow low is_blocked is_kinds zero =
     let area = shape.width * shape.height in
-    let bare = bare_yard shape.width shape.height narrow low in
+    let bare = bare_draft shape.width shape.height narrow low in
     record {
       placed = [];
       follow = sym zero;
       count = refl;
-      yard = rw (is_blocked, is_kinds) bare;
+      draft = rw (is_blocked, is_kinds) bare;
       few = let none : hill_count kinds ≡ 0 = ap hill_count is_kinds ∙ bare_hills shape.width shape.height area in omega arith;
     }
 
--- one element more, in a yard of the shape's sizes
+-- one element more, in a draft of the shape's sizes
 module _ (seed : ℕ) (shape : Shape) (n g after : ℕ) (blocked now : List Bool) (kinds paint : List Kind) (begun : IsBegun seed shape n blocked kinds g) where
   goes_there : (spot : Spot) → Goes (AllOpen shape.width shape.height blocked) seed shape.width shape.height (element_of shape n) g spot after → Goes (IsFreeSpot shape.width shape.height begun.placed) seed shape.width shape.height (element_of shape n) g spot after
   goes_there spot goes =
-      goes_as (AllOpen shape.width shape.height blocked) (IsFreeSpot shape.width shape.height begun.placed) (λ s open_all. open_fits shape.width shape.height begun.placed blocked kinds s begun.yard open_all) (λ s fits. fits_open shape.width shape.height begun.placed blocked kinds s begun.yard fits)
+      goes_as (AllOpen shape.width shape.height blocked) (IsFreeSpot shape.width shape.height begun.placed) (λ s open_all. open_fits shape.width shape.height begun.placed blocked kinds s begun.draft open_all) (λ s fits. fits_open shape.width shape.height begun.placed blocked kinds s begun.draft fits)
       seed shape.width shape.height (element_of shape n) g spot after goes
 
   step : (spot : Spot) → Goes (AllOpen shape.width shape.height blocked) seed shape.width shape.height (element_of shape n) g spot after → IsElementPut spot shape.width shape.height blocked now kinds paint → IsBegun seed shape (n + 1) now paint after
@@ -50,7 +50,7 @@ module _ (seed : ℕ) (shape : Shape) (n g after : ℕ) (blocked now : List Bool
         placed = begun.placed ++ spot ∷ [];
         follow = follow_more seed shape [] 0 begun.placed g spot after begun.follow (subst (λ m. Goes (IsFreeSpot shape.width shape.height begun.placed) seed shape.width shape.height (element_of shape m) g spot after) (sym begun.count) there);
         count = length_push begun.placed spot ∙ ap (λ m. m + 1) begun.count;
-        yard = yard_more shape.width shape.height begun.placed blocked now kinds paint spot put.cells begun.yard fits put.lists put.stamped (paint_fed spot.figure);
+        draft = draft_more shape.width shape.height begun.placed blocked now kinds paint spot put.cells begun.draft fits put.lists put.stamped (paint_fed spot.figure);
         few = hills_step (AllOpen shape.width shape.height blocked) seed shape n g spot after (hill_count kinds) (hill_count paint) (length put.cells) goes begun.few put.few put.stamped.hills;
       }
 
@@ -61,7 +61,7 @@ module _ (seed : ℕ) (shape : Shape) (n g after : ℕ) (blocked now : List Bool
     follow = begun.follow;
     before = begun.count;
     low = low;
-    none = none_as (AllOpen shape.width shape.height blocked) (IsFreeSpot shape.width shape.height begun.placed) (λ s fits. fits_open shape.width shape.height begun.placed blocked kinds s begun.yard fits) seed shape.width shape.height (element_of shape n) g none;
+    none = none_as (AllOpen shape.width shape.height blocked) (IsFreeSpot shape.width shape.height begun.placed) (λ s fits. fits_open shape.width shape.height begun.placed blocked kinds s begun.draft fits) seed shape.width shape.height (element_of shape n) g none;
   }
 
 -- where the sizes, the seed and the element are those of the shape
@@ -94,8 +94,8 @@ begun_whole seed shape n width height blocked kinds g wide high begun all = reco
   high = high;
   placed = begun.placed;
   placing = record { after = g; follow = begun.follow; all = begun.count ∙ all };
-  painted = begun.yard.painted;
-  fed = begun.yard.fed;
+  painted = begun.draft.painted;
+  fed = begun.draft.fed;
   few = let h = begun.few in omega arith;
 }
 

@@ -1,9 +1,9 @@
 -- Placed elements lie apart.
+use Rattle.list_lemmas.proofs.Elements.{Contains-none}
 use Rattle.std.proofs.Common.{ℕ, List, [], ◌∷◌, ◌++◌, length, get_or, sym, arith, subst, inl, inr, append_assoc}
 use Rattle.std.proofs.lemmas.List.{append-nil}
 use Rattle.std.proofs.lemmas.List.Elements.{Contains-get_or, Contains-push_cases}
 use Rattle.std.proofs.lemmas.List.Quantifiers.{all_pairs_push}
-use Rattle.std.specs.Prelude.{Contains}
 use Rattle.world_gen.proofs.Follows.{goes_fits}
 use Rattle.world_gen.specs.Elements.{IsCell, element_of}
 use Rattle.world_gen.specs.Fitting.{IsFreeSpot}
@@ -12,11 +12,8 @@ use Rattle.world_gen.specs.PlacingLaws.{AreApart, ElementsLieApart, IsSeparated}
 use Rattle.world_gen.specs.declared.shape.Shape.{Shape}
 use Rattle.world_gen.specs.declared.spot.Spot.{Spot}
 
-pub no_member : {X : Type 0} (z : X) → Contains [] z → ⊥
-no_member z found = let h = found.1 in omega arith
-
 apart_none : (width height : ℕ) → IsSeparated width height []
-apart_none width height = record { off_rim = λ spot q among cell. absurd (no_member spot among); apart = λ i j d before within. absurd (omega arith) }
+apart_none width height = record { off_rim = λ spot q among cell. absurd (Contains-none spot among); apart = λ i j d before within. absurd (omega arith) }
 
 -- one that fits is apart from all before it
 apart_more : (width height : ℕ) (placed : List Spot) (spot : Spot) → IsSeparated width height placed → IsFreeSpot width height placed spot → IsSeparated width height (placed ++ spot ∷ [])

@@ -9,18 +9,17 @@ use Rattle.hex_geometry.specs.Direction.{dir_of, number_of}
 use Rattle.hex_geometry.specs.Neighbourhood.{adjacent_pos, neighbours_of}
 use Rattle.hex_geometry.specs.Position.{IsInside}
 use Rattle.hex_geometry.specs.declared.position.Pos.{Pos}
+use Rattle.list_lemmas.proofs.Elements.{Contains-none}
 use Rattle.std.proofs.Common.{◌≡◌, ℕ, zero, suc, ◌+◌, ◌*◌, ◌<◌, ◌≤◌, List, [], ◌∷◌, ◌++◌, length, take, get_or, true, refl, sym, ◌∙◌, ap, arith, subst, inl, inr}
 use Rattle.std.proofs.Math.ListN.{length-set, set}
+use Rattle.std.proofs.Math.Seq.{take-append_seam}
 use Rattle.std.proofs.lemmas.Bool.{cases_lt}
 use Rattle.std.proofs.lemmas.List.{length_push, take_more}
 use Rattle.std.proofs.lemmas.List.Elements.{All-set, Contains-append_left, Contains-push, Contains-push_cases}
 use Rattle.std.specs.Prelude.{Bool, Contains, ◌⊎◌}
 use Rattle.world_gen.proofs.SetLists.{sets_as, sets_both, sets_none, sets_one}
 use Rattle.world_gen.specs.Inner.Sets.{IsRound, IsRoundAny, IsRoundBelow, SetsWhere}
-use Rattle.world_gen.specs.Inner.Yards.{IsStamped}
-
-no_member : {X : Type 0} (z : X) → Contains [] z → ⊥
-no_member z found = let h = found.1 in omega arith
+use Rattle.world_gen.specs.Inner.Drafts.{IsStamped}
 
 -- the cell alone is blocked
 pub round_first : (width height : ℕ) (p : Pos) (xs : List Bool) → length xs ≡ width * height → IsInside width height p → SetsWhere width height true (IsRoundBelow p 0) xs (set xs (index_of width p) true)
@@ -74,8 +73,8 @@ hills_set (k ∷ kinds) (suc i) kind = let h = hills_set kinds i kind in omega a
 -- no cell is stamped
 pub stamped_none : (width height : ℕ) (kind : Kind) (blocked : List Bool) (kinds : List Kind) → IsStamped width height [] kind blocked blocked kinds kinds
 stamped_none width height kind blocked kinds = record {
-  blocks = sets_none width height true (IsRoundAny []) blocked (λ p here. no_member here.0 here.1);
-  paints = sets_none width height kind (Contains []) kinds (λ p here. no_member p here);
+  blocks = sets_none width height true (IsRoundAny []) blocked (λ p here. Contains-none here.0 here.1);
+  paints = sets_none width height kind (Contains []) kinds (λ p here. Contains-none p here);
   hills = omega arith;
   fed = λ one all. all;
 }
@@ -106,12 +105,8 @@ stamped_more width height done cell kind blocked mid now kinds paint before roun
 }
 
 -- a list that is written back whole
-take_front : {X : Type 0} (xs ys : List X) → take (length xs) (xs ++ ys) ≡ xs
-take_front [] ys = refl
-take_front (x ∷ xs) ys = ap (λ l. x ∷ l) (take_front xs ys)
-
 pub written_back : {X : Type 0} (xs ys : List X) (n : ℕ) → n ≡ length xs → take n (xs ++ ys) ≡ xs
-written_back xs ys n is = ap (λ k. take k (xs ++ ys)) is ∙ take_front xs ys
+written_back xs ys n is = ap (λ k. take k (xs ++ ys)) is ∙ take-append_seam xs ys
 
 -- the next cell of a list is stamped, where the lists were lent and are written back
 pub stamped_on : (width height : ℕ) (cells : List Pos) (i : ℕ) (kind : Kind) (blocked mid lent now rest : List Bool) (n : ℕ) (kinds paint lent_kinds kinds_now rest_kinds : List Kind) (m : ℕ)

@@ -1,4 +1,4 @@
--- One element more is placed in a yard.
+-- One element more is placed in a draft.
 use Rattle.hex_geometry.specs.RowOrder.{index_of}
 use Rattle.cell_world.specs.Opening.{IsFed, kind_at}
 use Rattle.cell_world.specs.declared.kind.Kind.{Kind}
@@ -17,7 +17,7 @@ use Rattle.world_gen.specs.Elements.{IsCell}
 use Rattle.world_gen.specs.Fitting.{IsFreeSpot, IsOffRim, IsTouching}
 use Rattle.world_gen.specs.Inner.Open.{AllOpen, ListsCells, is_unblocked}
 use Rattle.world_gen.specs.Inner.Sets.{IsRound, IsRoundAny}
-use Rattle.world_gen.specs.Inner.Yards.{IsStamped, IsTouched, IsYard}
+use Rattle.world_gen.specs.Inner.Drafts.{IsStamped, IsTouched, IsDraft}
 use Rattle.world_gen.specs.Painting.{IsPainted, paint_of}
 use Rattle.world_gen.specs.declared.spot.Spot.{Spot}
 
@@ -48,25 +48,25 @@ round_touching width height c p inner round =
     ]
 
 -- a spot fits exactly where all its cells are open
-pub open_fits : (width height : ℕ) (placed : List Spot) (blocked : List Bool) (kinds : List Kind) (spot : Spot) → IsYard width height placed blocked kinds → AllOpen width height blocked spot → IsFreeSpot width height placed spot
-open_fits width height placed blocked kinds spot yard all = record {
-  off_rim = λ q cell. let place = all q cell in (place.0, place.1, yard.fenced.rim place.0 place.2);
+pub open_fits : (width height : ℕ) (placed : List Spot) (blocked : List Bool) (kinds : List Kind) (spot : Spot) → IsDraft width height placed blocked kinds → AllOpen width height blocked spot → IsFreeSpot width height placed spot
+open_fits width height placed blocked kinds spot draft all = record {
+  off_rim = λ q cell. let place = all q cell in (place.0, place.1, draft.fenced.rim place.0 place.2);
   apart = λ other q r among cell of touching.
       let place = all q cell in
-      yard.shut place.0 other (open_inside width height blocked place.0 place.2) among (record { cell = r; of = of; touching = subst (IsTouching r) (sym place.1) touching }) place.2;
+      draft.shut place.0 other (open_inside width height blocked place.0 place.2) among (record { cell = r; of = of; touching = subst (IsTouching r) (sym place.1) touching }) place.2;
 }
 
-pub fits_open : (width height : ℕ) (placed : List Spot) (blocked : List Bool) (kinds : List Kind) (spot : Spot) → IsYard width height placed blocked kinds → IsFreeSpot width height placed spot → AllOpen width height blocked spot
-fits_open width height placed blocked kinds spot yard fits q cell =
+pub fits_open : (width height : ℕ) (placed : List Spot) (blocked : List Bool) (kinds : List Kind) (spot : Spot) → IsDraft width height placed blocked kinds → IsFreeSpot width height placed spot → AllOpen width height blocked spot
+fits_open width height placed blocked kinds spot draft fits q cell =
     let place = fits.off_rim q cell in
-    (place.0, place.1, yard.free place.0 place.2 (λ other among touched. fits.apart other q touched.cell among cell touched.of (subst (IsTouching touched.cell) place.1 touched.touching)))
+    (place.0, place.1, draft.free place.0 place.2 (λ other among touched. fits.apart other q touched.cell among cell touched.of (subst (IsTouching touched.cell) place.1 touched.touching)))
 
 -- one of those before, or the last
 among_cases : (placed : List Spot) (spot other : Spot) → Contains (placed ++ spot ∷ []) other → Contains placed other ⊎ (spot ≡ other)
 among_cases placed spot other among = Contains-push_cases placed spot other among
 
 module _ (width height : ℕ) (placed : List Spot) (blocked now : List Bool) (kinds paint : List Kind) (spot : Spot) (cells : List Pos)
-    (yard : IsYard width height placed blocked kinds) (fits : IsFreeSpot width height placed spot) (lists : ListsCells spot cells) (stamped : IsStamped width height cells (paint_of spot.figure) blocked now kinds paint) where
+    (draft : IsDraft width height placed blocked kinds) (fits : IsFreeSpot width height placed spot) (lists : ListsCells spot cells) (stamped : IsStamped width height cells (paint_of spot.figure) blocked now kinds paint) where
   cell_inner : (p : Pos) → Contains cells p → IsInner width height p
   cell_inner p among =
       let place = fits.off_rim (point_of p) (lists.each p among) in
@@ -102,21 +102,21 @@ module _ (width height : ℕ) (placed : List Spot) (blocked now : List Bool) (ki
   now_shut : (p : Pos) (other : Spot) → IsInside width height p → Contains (placed ++ spot ∷ []) other → IsTouched other p → is_unblocked width height now p ≡ true → ⊥
   now_shut p other inside among touched free =
       elim (among_cases placed spot other among) [
-        | inl old ↦ yard.shut p other inside old touched (was_open p free)
+        | inl old ↦ draft.shut p other inside old touched (was_open p free)
         | inr same ↦ spot_shut p inside (subst (λ s. IsTouched s p) (sym same) touched) free
       ]
 
   now_free : (p : Pos) → IsInner width height p → ((other : Spot) → Contains (placed ++ spot ∷ []) other → IsTouched other p → ⊥) → is_unblocked width height now p ≡ true
   now_free p inner none =
       let inside = inner_inside inner in
-      let before : is_unblocked width height blocked p ≡ true = yard.free p inner (λ other among. none other (Contains-append_left placed (spot ∷ []) other among)) in
+      let before : is_unblocked width height blocked p ≡ true = draft.free p inner (λ other among. none other (Contains-append_left placed (spot ∷ []) other among)) in
       let same : get_or now (index_of width p) true ≡ get_or blocked (index_of width p) true = stamped.blocks.off p true inside (not_round p (none spot (Contains-push placed spot))) in
       open_from width height now p inside (same ∙ open_free width height blocked p before)
 
   now_off_rim : (other : Spot) (q : Point) → Contains (placed ++ spot ∷ []) other → IsCell other q → IsOffRim width height q
   now_off_rim other q among cell =
       elim (among_cases placed spot other among) [
-        | inl old ↦ yard.off_rim other q old cell
+        | inl old ↦ draft.off_rim other q old cell
         | inr same ↦ fits.off_rim q (subst (λ s. IsCell s q) (sym same) cell)
       ]
 
@@ -129,31 +129,31 @@ module _ (width height : ℕ) (placed : List Spot) (blocked now : List Bool) (ki
       let place = now_off_rim other (point_of p) among cell in
       let inner : IsInner width height p = subst (IsInner width height) (point_one place.0 p place.1) place.2 in
       elim (among_cases placed spot other among) [
-        | inl old ↦ stamped.paints.off p kind.Rock (inner_inside inner) (not_among p other old cell) ∙ yard.painted.cell p other old cell
+        | inl old ↦ stamped.paints.off p kind.Rock (inner_inside inner) (not_among p other old cell) ∙ draft.painted.cell p other old cell
         | inr same ↦ stamped.paints.on p kind.Rock (inner_inside inner) (cell_among p (subst (λ s. IsCell s (point_of p)) (sym same) cell)) ∙ ap (λ (s : Spot). paint_of s.figure) same
       ]
 
   now_painted : IsPainted width height (placed ++ spot ∷ []) paint
   now_painted = record {
-    full = stamped.paints.same_length ∙ yard.painted.full;
-    rim = λ p inside outer. stamped.paints.off p kind.Rock inside (λ among. outer (cell_inner p among)) ∙ yard.painted.rim p inside outer;
+    full = stamped.paints.same_length ∙ draft.painted.full;
+    rim = λ p inside outer. stamped.paints.off p kind.Rock inside (λ among. outer (cell_inner p among)) ∙ draft.painted.rim p inside outer;
     cell = now_cell;
     floor = λ p inner none.
         stamped.paints.off p kind.Rock (inner_inside inner) (λ among. none spot (Contains-push placed spot) (lists.each p among))
-        ∙ yard.painted.floor p inner (λ other among. none other (Contains-append_left placed (spot ∷ []) other among));
+        ∙ draft.painted.floor p inner (λ other among. none other (Contains-append_left placed (spot ∷ []) other among));
   }
 
-  pub yard_more : IsFed (paint_of spot.figure) → IsYard width height (placed ++ spot ∷ []) now paint
-  yard_more fed = record {
+  pub draft_more : IsFed (paint_of spot.figure) → IsDraft width height (placed ++ spot ∷ []) now paint
+  draft_more fed = record {
     fenced = record {
-      full = stamped.blocks.same_length ∙ yard.fenced.full;
-      narrow = yard.fenced.narrow;
-      low = yard.fenced.low;
-      rim = λ p free. yard.fenced.rim p (was_open p free);
+      full = stamped.blocks.same_length ∙ draft.fenced.full;
+      narrow = draft.fenced.narrow;
+      low = draft.fenced.low;
+      rim = λ p free. draft.fenced.rim p (was_open p free);
     };
     shut = now_shut;
     off_rim = now_off_rim;
     free = now_free;
     painted = now_painted;
-    fed = stamped.fed fed yard.fed;
+    fed = stamped.fed fed draft.fed;
   }

@@ -2,15 +2,14 @@
 use Rattle.cell_world.specs.Grid.{Grid}
 use Rattle.cell_world.specs.Opening.{kind_at, opening}
 use Rattle.hex_geometry.proofs.Rim.{inner-off_rim, off_rim-inner}
-use Rattle.hex_geometry.proofs.RowLemmas.{index_of-pos_at}
+use Rattle.hex_geometry.proofs.RowLemmas.{index_of-pos_at, pos_at-inside}
 use Rattle.cell_world.specs.declared.kind.Kind.{Kind}
 use Rattle.cell_world.specs.declared.kind.Kind.TheVariants as kind
 use Rattle.hex_geometry.proofs.Places.{pos_same}
 use Rattle.hex_geometry.specs.RowOrder.{IsBefore, pos_at}
 use Rattle.hex_geometry.specs.Position.{IsInner, IsInside, is_on_rim, point_of}
 use Rattle.hex_geometry.specs.declared.position.Pos.{Pos}
-use Rattle.std.proofs.Common.{◌≡◌, ◌≢◌, ℕ, zero, suc, ◌+◌, ◌*◌, ◌<◌, List, [], ◌∷◌, ◌++◌, length, get_or, refl, sym, ◌∙◌, ap, arith, subst, inl, inr, append_assoc}
-use Rattle.std.proofs.Math.Nat.{div-lt_iff_lt-mul, mul_comm}
+use Rattle.std.proofs.Common.{◌≡◌, ◌≢◌, ℕ, ◌+◌, ◌*◌, ◌<◌, List, [], ◌∷◌, ◌++◌, length, get_or, refl, sym, ◌∙◌, ap, arith, subst, inl, inr, append_assoc}
 use Rattle.std.proofs.lemmas.Bool.{cases_Bool, cases_lt, eqb-false, eqb-true, false≢true}
 use Rattle.std.proofs.lemmas.List.{append-nil, get_or_default, same_lists}
 use Rattle.std.specs.Prelude.{Contains, ◌⊎◌, ◌==◌}
@@ -170,20 +169,11 @@ painted_at width height placed xs ys x y p inside =
       ]
     ]
 
-positive : (w h k : ℕ) → k < w * h → 0 < w
-positive zero h k below = absurd (omega arith)
-positive (suc w) h k below = omega arith
-
-pos_at_inside : (width height k : ℕ) → k < width * height → IsInside width height (pos_at width k)
-pos_at_inside width height k below =
-    let some : 0 < width = positive width height k below in
-    record { column = omega arith; row = (div-lt_iff_lt-mul {k = width} {x = k} {y = height} some).1 (subst (λ n. k < n) (mul_comm width height) below) }
-
 painted_each : (width height : ℕ) (placed : List Spot) (xs ys : List Kind) → IsPainted width height placed xs → IsPainted width height placed ys → (k : ℕ) (d : Kind) → k < length xs → get_or xs k d ≡ get_or ys k d
 painted_each width height placed xs ys x y k d below =
     let low : k < width * height = let h = x.full in omega arith in
     let low_too : k < length ys = let h = y.full in omega arith in
-    let same = painted_at width height placed xs ys x y (pos_at width k) (pos_at_inside width height k low) in
+    let same = painted_at width height placed xs ys x y (pos_at width k) (pos_at-inside width height k low) in
     let here : get_or xs k kind.Rock ≡ get_or ys k kind.Rock = subst (λ i. get_or xs i kind.Rock ≡ get_or ys i kind.Rock) (index_of-pos_at width k) same in
     get_or_default xs k d kind.Rock below ∙ here ∙ get_or_default ys k kind.Rock d low_too
 

@@ -15,7 +15,7 @@ use Rattle.std.proofs.lemmas.Int.{ints}
 use Rattle.std.proofs.lemmas.List.Elements.{Contains-push_cases}
 use Rattle.std.specs.Prelude.{ℤ, pos, negsuc, ◌+ℤ◌, ◌-ℤ◌}
 use Rattle.world_gen.proofs.Balls.{off_rim_within}
-use Rattle.world_gen.proofs.Separate.{no_member}
+use Rattle.list_lemmas.proofs.Elements.{Contains-none}
 use Rattle.world_gen.proofs.Worked.{black_hill, blob, place, red_hill}
 use Rattle.world_gen.specs.Elements.{IsCell, point_after}
 use Rattle.world_gen.specs.Fitting.{IsFreeSpot, IsOffRim, IsTouching}
@@ -122,7 +122,7 @@ first_fits : IsFreeSpot 64 64 [] first
 unfolding half
 first_fits = record {
   off_rim = λ q cell. let w = first_within q cell in let h = halved q.y in off_rim_at q.x q.y (omega (arith, ints)) (omega (arith, ints)) (omega (arith, ints)) (omega (arith, ints));
-  apart = λ other q r among. absurd (no_member other among);
+  apart = λ other q r among. absurd (Contains-none other among);
 }
 
 second_fits : IsFreeSpot 64 64 (first ∷ []) second
@@ -130,7 +130,7 @@ unfolding half
 second_fits = record {
   off_rim = λ q cell. let w = second_within q cell in let h = halved q.y in off_rim_at q.x q.y (omega (arith, ints)) (omega (arith, ints)) (omega (arith, ints)) (omega (arith, ints));
   apart = λ other q r among cell of touching. elim (Contains-push_cases [] first other among) [
-    | inl none ↦ no_member other none
+    | inl none ↦ Contains-none other none
     | inr same ↦
         let near = second_within q cell in
         let far = first_within r (subst (λ s. IsCell s r) (sym same) of) in
@@ -148,7 +148,7 @@ third_fits = record {
       let step = touching_within r q touching in
       elim (Contains-push_cases (first ∷ []) second other among) [
         | inl before ↦ elim (Contains-push_cases [] first other before) [
-          | inl none ↦ no_member other none
+          | inl none ↦ Contains-none other none
           | inr same ↦ let far = first_within r (subst (λ s. IsCell s r) (sym same) of) in omega (arith, ints)
         ]
         | inr same ↦ let far = second_within r (subst (λ s. IsCell s r) (sym same) of) in omega (arith, ints)

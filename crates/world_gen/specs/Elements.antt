@@ -1,5 +1,5 @@
 -- The elements of a generated world, and their cells.
-use Rattle.std.specs.Prelude.{◌≡◌, ℕ, zero, suc, ◌+◌, ◌≤◌, cond, nat_lt}
+use Rattle.std.specs.Prelude.{◌≡◌, ℕ, zero, suc, ◌+◌, ◌≤◌, if◌then◌else◌, nat_lt}
 use Rattle.cell_world.specs.declared.ant.Colour.TheVariants.{Red, Black}
 use Rattle.hex_geometry.specs.Direction.{turned_by}
 use Rattle.hex_geometry.specs.Distance.{IsInBall}
@@ -22,7 +22,7 @@ count_of shape = 2 + shape.rocks + shape.blobs
 abbrev pub element_of : Shape → ℕ → Element
 element_of shape zero = element.Hill Red
 element_of shape (suc zero) = element.Hill Black
-element_of shape (suc (suc n)) = cond (nat_lt n shape.rocks) element.Rock element.Blob
+element_of shape (suc (suc n)) = if nat_lt n shape.rocks then element.Rock else element.Blob
 
 -- so many steps in one direction
 unfoldable pub point_after : ℕ → Dir → Point → Point

@@ -1,4 +1,4 @@
 pub mod Answers
 pub mod Open
 pub mod Sets
-pub mod Yards
+pub mod Drafts

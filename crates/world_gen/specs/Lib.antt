@@ -6,3 +6,9 @@ pub mod Inner
 pub mod Painting
 pub mod Placing
 pub mod PlacingLaws
+pub use Rattle.cell_world.specs.Cell
+pub use Rattle.cell_world.specs.Grid
+pub use Rattle.cell_world.specs.Limits
+pub use Rattle.cell_world.specs.Opening
+pub use Rattle.hex_geometry.specs.Position
+pub use Rattle.hex_geometry.specs.RowOrder

@@ -1,18 +1,17 @@
 // Whether an element's cells are open at a place. Nothing here takes memory.
 ghost use Rattle.hex_geometry.specs.Position.{point_of};
-ghost use Rattle.std.specs.Bool.{Decides};
-ghost use Rattle.std.specs.Prelude.{◌+◌, ◌*◌, ◌≤◌};
+ghost use Rattle.std.specs.Prelude.{◌+◌, ◌*◌, ◌≤◌, ◌↔◌, IsTrue};
 ghost use Rattle.world_gen.specs.Inner.Open.{AllOpen, BallIsOpen, BlobIsOpen, IsFenced, IsShut, IsBallWithin, LineIsOpen, RowIsOpen};
 
+use crate::draft::Draft;
 use crate::spot::{Figure, HILL_RADIUS, Spot};
-use crate::yard::Yard;
 use hex_geometry::{Dir, Pos, Side, adjacent, distance, turned};
 
-impl Yard {
+impl Draft {
     // Whether each cell of the spot is open.
     pub fn fits(&self, spot: Spot) -> bool
         requires { IsFenced self.now.width self.now.height self.now.blocked.items }
-        ensures { Decides result (AllOpen self.now.width self.now.height self.now.blocked.items spot) }
+        ensures { IsTrue result ↔ (AllOpen self.now.width self.now.height self.now.blocked.items spot) }
     {
         match spot.figure {
             Figure::Hill(_) => self.ball_is_open(spot.place, HILL_RADIUS),
@@ -25,7 +24,7 @@ impl Yard {
     fn ball_is_open(&self, centre: Pos, radius: u16) -> bool
         requires fence { IsFenced self.now.width self.now.height self.now.blocked.items }
         requires small { radius ≤ 255 }
-        ensures { Decides result (BallIsOpen self.now.width self.now.height self.now.blocked.items (point_of centre) radius) }
+        ensures { IsTrue result ↔ (BallIsOpen self.now.width self.now.height self.now.blocked.items (point_of centre) radius) }
     {
         if !self.is_within(centre, radius) {
             return false;
@@ -42,7 +41,7 @@ impl Yard {
     // Whether the ball ends before the rim on all sides.
     fn is_within(&self, centre: Pos, radius: u16) -> bool
         requires small { radius ≤ 255 }
-        ensures { Decides result (IsBallWithin self.now.width self.now.height centre radius) }
+        ensures { IsTrue result ↔ (IsBallWithin self.now.width self.now.height centre radius) }
     {
         let (x, y, reach) = (centre.x as u32, centre.y as u32, radius as u32);
         reach < x
@@ -55,7 +54,7 @@ impl Yard {
     fn row_is_open(&self, centre: Pos, radius: u16, y: u16) -> bool
         requires fence { IsFenced self.now.width self.now.height self.now.blocked.items }
         requires within { IsBallWithin self.now.width self.now.height centre radius }
-        ensures { Decides result (RowIsOpen self.now.width self.now.height self.now.blocked.items centre radius y (2 * radius + 1)) }
+        ensures { IsTrue result ↔ (RowIsOpen self.now.width self.now.height self.now.blocked.items centre radius y (2 * radius + 1)) }
     {
         for column in 0..2 * radius as u32 + 1 {
             let x = (centre.x - radius) as u32 + column;
@@ -69,7 +68,7 @@ impl Yard {
     // Whether a position is in the ball and not open.
     fn is_shut(&self, centre: Pos, radius: u16, p: Pos) -> bool
         requires { IsFenced self.now.width self.now.height self.now.blocked.items }
-        ensures { Decides result (IsShut self.now.width self.now.height self.now.blocked.items centre radius p) }
+        ensures { IsTrue result ↔ (IsShut self.now.width self.now.height self.now.blocked.items centre radius p) }
     {
         distance(centre, p) <= radius as u32 && !self.is_open(p)
     }
@@ -77,7 +76,7 @@ impl Yard {
     // Whether each cell of the blob is open.
     fn blob_is_open(&self, corner: Pos, first: Dir) -> bool
         requires { IsFenced self.now.width self.now.height self.now.blocked.items }
-        ensures { Decides result (BlobIsOpen self.now.width self.now.height self.now.blocked.items (point_of corner) first) }
+        ensures { IsTrue result ↔ (BlobIsOpen self.now.width self.now.height self.now.blocked.items (point_of corner) first) }
     {
         let second = turned(first, Side::Right);
         let mut start = corner;
@@ -93,7 +92,7 @@ impl Yard {
     // Whether a position and the next four in a direction are open.
     fn line_is_open(&self, start: Pos, way: Dir) -> bool
         requires { IsFenced self.now.width self.now.height self.now.blocked.items }
-        ensures { Decides result (LineIsOpen self.now.width self.now.height self.now.blocked.items (point_of start) way 5) }
+        ensures { IsTrue result ↔ (LineIsOpen self.now.width self.now.height self.now.blocked.items (point_of start) way 5) }
     {
         let mut p = start;
         for beside in 0..5u32 {

@@ -5,9 +5,9 @@ ghost use Rattle.world_gen.specs.Inner.Open.{IsFenced};
 ghost use Rattle.world_gen.specs.Painting.{IsAnswer, IsRefusal, IsShape};
 
 use crate::cells::cells_of;
+use crate::draft::Draft;
 use crate::element::Element;
 use crate::shape::Shape;
-use crate::yard::Yard;
 use ant_random::Stream;
 use cell_world::World;
 use hex_geometry::OutOfMemory;
@@ -43,24 +43,24 @@ pub fn generate(alloc: Global, seed: u32, shape: Shape) -> Result<World, GenFaul
     requires { IsShape shape }
     ensures { IsAnswer seed shape result }
 {
-    let yard = Yard::of_shape(alloc, seed, shape)?;
-    let world = World::build(alloc, shape.width, shape.height, &yard.kinds)?;
+    let draft = Draft::of_shape(alloc, seed, shape)?;
+    let world = World::build(alloc, shape.width, shape.height, &draft.kinds)?;
     Ok(world)
 }
 
-impl Yard {
-    // The yard in which all elements of the shape are placed.
-    fn of_shape(alloc: Global, seed: u32, shape: Shape) -> Result<Yard, GenFault>
+impl Draft {
+    // The draft in which all elements of the shape are placed.
+    fn of_shape(alloc: Global, seed: u32, shape: Shape) -> Result<Draft, GenFault>
         requires { IsShape shape }
-        ensures made { IfOk result (λ yard. IsGeneratedGrid seed shape yard.width yard.height yard.kinds.items) }
+        ensures made { IfOk result (λ draft. IsGeneratedGrid seed shape draft.width draft.height draft.kinds.items) }
         ensures refused { IfErr result (λ fault. IsRefusal seed shape fault) }
     {
-        let mut yard = Yard::bare(alloc, shape.width, shape.height)?;
+        let mut draft = Draft::bare(alloc, shape.width, shape.height)?;
         let mut stream = Stream::from_seed(seed);
         for number in 0..shape.count() {
-            yard.put(alloc, &mut stream, shape.element(number), number)?;
+            draft.put(alloc, &mut stream, shape.element(number), number)?;
         }
-        Ok(yard)
+        Ok(draft)
     }
 
     // Places the element of this number.

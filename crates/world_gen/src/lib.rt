@@ -8,6 +8,7 @@
 #![tactic(auto)]
 
 mod cells;
+mod draft;
 mod element;
 mod existence;
 mod fits;
@@ -17,7 +18,6 @@ mod laws;
 mod shape;
 mod spot;
 mod tries;
-mod yard;
 
 pub use cell_world::World;
 pub use existence::has_outcome;

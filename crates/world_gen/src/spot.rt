@@ -5,7 +5,6 @@ ghost use Rattle.world_gen.specs.Painting.{paint_of};
 use cell_world::{Colour, Kind};
 use hex_geometry::{Dir, Pos};
 
-// The radius of a hill.
 pub const HILL_RADIUS: u16 = 6;
 
 // An element with all that is drawn of it but its place.

@@ -5,16 +5,16 @@ ghost use Rattle.world_gen.specs.Inner.Answers.{IsChosen, IsInRow, IsSearched, I
 ghost use Rattle.world_gen.specs.Inner.Open.{AllOpen, IsFenced};
 ghost use Rattle.world_gen.specs.Placing.{after_begun, figure_begun, draws_of, tried_at, tried_figure};
 
+use crate::draft::Draft;
 use crate::element::Element;
 use crate::spot::{Figure, Spot};
-use crate::yard::Yard;
 use ant_random::Stream;
 use hex_geometry::{Dir, Pos};
 
 // How many random places an element is tried at.
 const TRIES: u32 = 50;
 
-impl Yard {
+impl Draft {
     // The first of 50 tries that fits, or else the first place of the grid.
     pub fn choose(&self, stream: &mut Stream, element: Element) -> Option<Spot>
         requires fence { IsFenced self.now.width self.now.height self.now.blocked.items }

@@ -1,13 +1,17 @@
-pub mod AnswersLemmas
+-- Bytes, rows and the plan of a text.
 pub mod BytesLemmas
-pub mod CanonicalLemmas
-pub mod FaultReads
-pub mod LeavingLemmas
-pub mod OpenedLemmas
-pub mod PlanReads
-pub mod RowReads
 pub mod ScanLemmas
+pub mod RowReads
+pub mod PlanReads
 pub mod TextReads
-pub mod VerdictLemmas
-pub mod Worked
+-- Its fault, and that it has one verdict.
+pub mod FaultReads
 pub mod WrongReads
+pub mod AnswersLemmas
+pub mod VerdictLemmas
+-- The world as a text again.
+pub mod OpenedLemmas
+pub mod CanonicalLemmas
+pub mod LeavingLemmas
+-- Worked values.
+pub mod Worked

@@ -6,3 +6,9 @@ pub mod Grammar
 pub mod Inner
 pub mod Laws
 pub mod Opened
+pub use Rattle.ant_base.specs.Lines
+pub use Rattle.ant_base.specs.Shelf
+pub use Rattle.ant_base.specs.Sink
+pub use Rattle.cell_world.specs.Grid
+pub use Rattle.cell_world.specs.Limits
+pub use Rattle.cell_world.specs.Opening

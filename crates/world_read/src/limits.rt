@@ -64,7 +64,6 @@ fn is_open(width: u16, height: u16, kind: Kind, p: Pos) -> bool
     is_on_rim(width, height, p) && !kind.is_rock()
 }
 
-// How many hill cells there are.
 fn hill_count(kinds: &[Kind]) -> u32
     requires { length kinds.now ≤ most_size * most_size }
     ensures { result ≡ hill_count kinds.now }

@@ -3,7 +3,7 @@ ghost use Rattle.std.specs.Prelude.{◌≡◌, ◌≤◌, drop, IfSome};
 ghost use Rattle.cell_world.specs.Limits.{least_size, most_size};
 ghost use Rattle.world_read.specs.Inner.Reading.{first_size, size_of};
 
-use ant_base::{Lines, read_number_within, trimmed};
+use ant_base::{Lines, read_number_within, trim_line};
 use cell_world::{LEAST_SIZE, MOST_SIZE};
 
 // Takes the next line, and gives its size.
@@ -20,6 +20,6 @@ fn size_of(line: &[u8]) -> Option<u16>
     ensures size { result ≡ size_of line.now }
     ensures bounds { IfSome result (λ size. (least_size ≤ size) × (size ≤ most_size)) }
 {
-    let size = read_number_within(trimmed(line), LEAST_SIZE as u64, MOST_SIZE as u64)?;
+    let size = read_number_within(trim_line(line), LEAST_SIZE as u64, MOST_SIZE as u64)?;
     Some(size as u16)
 }

@@ -98,7 +98,6 @@ fn each_text_has_its_world_or_its_first_fault(rt: HostRuntime) {
     }
 }
 
-// Whether two worlds are equal.
 fn are_equal(a: &World, b: &World) -> bool {
     if a.width() != b.width() || a.height() != b.height() || a.ant_count() != b.ant_count() {
         return false;

@@ -67,11 +67,11 @@ impl Writer for Slow {
 
     ghost sure = { λ _. false };
 
-    fn take(&mut self, piece: &[u8]) -> io::Result<usize> {
+    fn write_some(&mut self, piece: &[u8]) -> io::Result<usize> {
         self.write(piece)
     }
 
-    fn send(&mut self) -> io::Result<()> {
+    fn flush_waiting(&mut self) -> io::Result<()> {
         self.flush()
     }
 }
@@ -84,11 +84,11 @@ impl Writer for io::Sink {
 
     ghost sure = { λ _. true };
 
-    fn take(&mut self, piece: &[u8]) -> io::Result<usize> {
+    fn write_some(&mut self, piece: &[u8]) -> io::Result<usize> {
         self.write(piece)
     }
 
-    fn send(&mut self) -> io::Result<()> {
+    fn flush_waiting(&mut self) -> io::Result<()> {
         self.flush()
     }
 }

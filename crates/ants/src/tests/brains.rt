@@ -4,6 +4,7 @@ use crate::tests::{Ending, Given, Job, NO_JOB, check, check_over, check_rows, do
 use ant_base::{Files, NoGate};
 use std::alloc::Global;
 use std::process::Abort;
+use std::sync::Wait;
 use std::test::Fail;
 use std::thread::Threads;
 
@@ -134,13 +135,17 @@ fn a_brain_at_fault_is_named_with_its_first_fault(rt: HostRuntime) -> Result<(),
 }
 
 // Asserts that a brain of so many instructions is printed as it is.
-fn check_many<R: Threads + Sync + Abort>(rt: &R, alloc: Global, count: usize) -> Result<(), Fail> {
+fn check_many<R: Threads + Wait + Sync + Abort>(
+    rt: &R,
+    alloc: Global,
+    count: usize,
+) -> Result<(), Fail> {
     let brain = "Drop 9999\n".repeat(alloc, count)?;
     check(rt, alloc, &PRINT.with(Given::Black, &brain), done(&brain))
 }
 
 // Asserts with which line a brain of so many instructions is refused.
-fn check_too_many<R: Threads + Sync + Abort>(
+fn check_too_many<R: Threads + Wait + Sync + Abort>(
     rt: &R,
     alloc: Global,
     count: usize,
@@ -152,7 +157,7 @@ fn check_too_many<R: Threads + Sync + Abort>(
 }
 
 // Asserts what comes of a brain of one instruction and so many spaces.
-fn check_blank<R: Threads + Sync + Abort>(
+fn check_blank<R: Threads + Wait + Sync + Abort>(
     rt: &R,
     alloc: Global,
     spaces: usize,
@@ -185,7 +190,7 @@ const NO_TEXT: [(&[u8], &str); 3] = [
 ];
 
 // Asserts with which line each brain of these bytes is refused.
-fn check_bytes<R: Threads + Sync + Abort>(
+fn check_bytes<R: Threads + Wait + Sync + Abort>(
     rt: &R,
     alloc: Global,
     rows: &[(&[u8], &str)],

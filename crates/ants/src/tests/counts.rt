@@ -3,6 +3,7 @@ use crate::tests::runs::{EMPTY, KILLED, NEIGHBOURS};
 use crate::tests::{CLOSING, Job, NO_JOB, check, done};
 use std::alloc::Global;
 use std::process::Abort;
+use std::sync::Wait;
 use std::test::Fail;
 use std::thread::Threads;
 
@@ -133,7 +134,7 @@ const COUNTED: [Counted<'static>; 13] = [
 ];
 
 // Asserts that each game ends with its counts.
-fn check_counts<R: Threads + Sync + Abort>(
+fn check_counts<R: Threads + Wait + Sync + Abort>(
     rt: &R,
     alloc: Global,
     games: &[Counted<'_>],

@@ -3,6 +3,7 @@ use crate::status::Status;
 use crate::tests::{Given, Job, NO_JOB, Told, check, check_rows, check_text, cut};
 use std::alloc::Global;
 use std::process::Abort;
+use std::sync::Wait;
 use std::test::Fail;
 use std::thread::Threads;
 
@@ -35,7 +36,7 @@ fn a_world_is_generated_from_its_seed(rt: HostRuntime) -> Result<(), Fail> {
 const FRONTS: [(u64, &str); 4] = [(0, ""), (1, "6"), (6, "64\n64\n"), (9, "64\n64\n# #")];
 
 // Asserts of each row what output with this room holds.
-fn check_fronts<R: Threads + Sync + Abort>(
+fn check_fronts<R: Threads + Wait + Sync + Abort>(
     rt: &R,
     alloc: Global,
     rows: &[(u64, &str)],

@@ -8,6 +8,7 @@ use crate::tests::{
 };
 use std::alloc::Global;
 use std::process::Abort;
+use std::sync::Wait;
 use std::test::Fail;
 use std::thread::Threads;
 
@@ -110,7 +111,7 @@ const FETCHED: [Fetching<'static>; 6] = [
 ];
 
 // Asserts that the command fetches its files in this order and nothing more: of each the line where its fetch fails.
-fn check_fetches<R: Threads + Sync + Abort>(
+fn check_fetches<R: Threads + Wait + Sync + Abort>(
     rt: &R,
     alloc: Global,
     job: Job<'_>,
@@ -134,7 +135,7 @@ fn check_fetches<R: Threads + Sync + Abort>(
 }
 
 // Asserts of each row how its files are fetched.
-fn check_fetchings<R: Threads + Sync + Abort>(
+fn check_fetchings<R: Threads + Wait + Sync + Abort>(
     rt: &R,
     alloc: Global,
     rows: &[Fetching<'_>],
@@ -152,7 +153,7 @@ fn each_file_is_fetched_once_in_the_order_of_its_word(rt: HostRuntime) -> Result
 }
 
 // Asserts that output with room for so many bytes of the command's text gets these, and fails.
-fn check_room<R: Threads + Sync + Abort>(
+fn check_room<R: Threads + Wait + Sync + Abort>(
     rt: &R,
     alloc: Global,
     job: Job<'_>,
@@ -168,7 +169,7 @@ fn check_room<R: Threads + Sync + Abort>(
 }
 
 // Asserts the same of each room that is smaller than the text, and that the command is done where the room is as large as the text.
-fn check_rooms<R: Threads + Sync + Abort>(
+fn check_rooms<R: Threads + Wait + Sync + Abort>(
     rt: &R,
     alloc: Global,
     job: Job<'_>,
@@ -188,7 +189,7 @@ fn check_rooms<R: Threads + Sync + Abort>(
 const TOLD: [(u64, &str); 2] = [(0, ""), (8, "ants: ou")];
 
 // Asserts of each row what errors with this room hold, where the output has room for five bytes.
-fn check_err_rooms<R: Threads + Sync + Abort>(
+fn check_err_rooms<R: Threads + Wait + Sync + Abort>(
     rt: &R,
     alloc: Global,
     rows: &[(u64, &str)],
@@ -220,7 +221,7 @@ fn check_front<R: Abort>(rt: &R, ending: Ending<'_>, text: &str, failing_push: u
 }
 
 // Asserts that each push that fails ends the text of a command, which has fewer than 10,000 pushes: the output gets a front of it.
-fn check_pushes<R: Threads + Sync + Abort>(
+fn check_pushes<R: Threads + Wait + Sync + Abort>(
     rt: &R,
     alloc: Global,
     job: Job<'_>,
@@ -259,7 +260,7 @@ const WRITTEN: [(&str, &str); 6] = [
 ];
 
 // Asserts of each command what its output gets where a push fails, and where its room is nothing, one byte, or all but one.
-fn check_written<R: Threads + Sync + Abort>(
+fn check_written<R: Threads + Wait + Sync + Abort>(
     rt: &R,
     alloc: Global,
     rows: &[(&str, &str)],
@@ -275,7 +276,10 @@ fn check_written<R: Threads + Sync + Abort>(
 }
 
 // Asserts the same of the pushes of the game in which an ant dies, with its counts.
-fn check_killing_pushes<R: Threads + Sync + Abort>(rt: &R, alloc: Global) -> Result<(), Fail> {
+fn check_killing_pushes<R: Threads + Wait + Sync + Abort>(
+    rt: &R,
+    alloc: Global,
+) -> Result<(), Fail> {
     let line = "run w r b --seed 12345 --rounds 1 --dump 1 --stats";
     let text = format!(in alloc; "{KILLED}turns 7 taken 5 redone 2\n")?;
     check_pushes(rt, alloc, KILLING.with(Given::Line, line), &text)

@@ -5,6 +5,7 @@ use crate::tests::{
 };
 use std::alloc::Global;
 use std::process::Abort;
+use std::sync::Wait;
 use std::test::Fail;
 use std::thread::Threads;
 
@@ -165,7 +166,7 @@ fn clear(alloc: Global, cells: u16) -> Result<String, Fail> {
 }
 
 // Asserts what comes of five rounds on a world without a hill, with so many clear cells in each row.
-fn check_clear<R: Threads + Sync + Abort>(
+fn check_clear<R: Threads + Wait + Sync + Abort>(
     rt: &R,
     alloc: Global,
     cells: u16,
@@ -329,7 +330,7 @@ const GAMES: [Game<'static>; 13] = [
 ];
 
 // Asserts of each game that it is played, and how its text is told.
-fn check_games<R: Threads + Sync + Abort>(
+fn check_games<R: Threads + Wait + Sync + Abort>(
     rt: &R,
     alloc: Global,
     games: &[Game<'_>],

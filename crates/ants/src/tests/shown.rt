@@ -3,6 +3,7 @@ use crate::status::Status;
 use crate::tests::{CLOSED, Given, Job, NO_JOB, Told, check, check_rows, check_text, stopped};
 use std::alloc::Global;
 use std::process::Abort;
+use std::sync::Wait;
 use std::test::Fail;
 use std::thread::Threads;
 
@@ -87,7 +88,7 @@ fn hill(alloc: Global, cells: u8) -> Result<String, Fail> {
 }
 
 // Asserts that a world with a hill of so many cells in each row is shown, and how its text is told.
-fn check_hill<R: Threads + Sync + Abort>(
+fn check_hill<R: Threads + Wait + Sync + Abort>(
     rt: &R,
     alloc: Global,
     cells: u8,
@@ -98,7 +99,7 @@ fn check_hill<R: Threads + Sync + Abort>(
 }
 
 // Asserts with which line such a world is refused.
-fn check_no_hill<R: Threads + Sync + Abort>(
+fn check_no_hill<R: Threads + Wait + Sync + Abort>(
     rt: &R,
     alloc: Global,
     cells: u8,

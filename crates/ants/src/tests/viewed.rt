@@ -6,6 +6,7 @@ use crate::tests::{
 };
 use std::alloc::Global;
 use std::process::Abort;
+use std::sync::Wait;
 use std::test::Fail;
 use std::thread::Threads;
 
@@ -108,7 +109,7 @@ const EARLIER: [(Given, &str, &str); 6] = [
 ];
 
 // Asserts of each row the line with which the view stops.
-fn check_earlier<R: Threads + Sync + Abort>(
+fn check_earlier<R: Threads + Wait + Sync + Abort>(
     rt: &R,
     alloc: Global,
     rows: &[(Given, &str, &str)],
@@ -144,7 +145,7 @@ fn a_view_stops_after_the_first_turn_at_which_a_break_holds(rt: HostRuntime) -> 
 }
 
 // Asserts of each text of breaks the second line of its view.
-fn check_stops<R: Threads + Sync + Abort>(
+fn check_stops<R: Threads + Wait + Sync + Abort>(
     rt: &R,
     alloc: Global,
     rows: &[(&str, &str)],
@@ -195,7 +196,7 @@ fn breaks_at_fault_are_named_with_their_first_fault(rt: HostRuntime) -> Result<(
 }
 
 // Asserts what comes of so many breaks.
-fn check_many<R: Threads + Sync + Abort>(
+fn check_many<R: Threads + Wait + Sync + Abort>(
     rt: &R,
     alloc: Global,
     count: usize,

@@ -1,10 +1,17 @@
 // Words that are no command.
+use crate::program::run_here;
 use crate::status::Status;
-use crate::tests::{CLOSED, Given, Job, NO_JOB, check_rows};
+use crate::tests::{
+    CLOSED, Ending, Given, Job, NO_JOB, Outcome, ROOM, check_rows, ending_of, split, stopped,
+};
+use ant_base::{Calls, Files, MemShelf, MemSink, NoGate};
+use std::alloc::Global;
+use std::process::Abort;
 use std::test::Fail;
+use std::thread::Threads;
 
 // Words, and the line that names the first one with which no command begins.
-const REFUSED: [(&str, &str); 72] = [
+const REFUSED: [(&str, &str); 78] = [
     ("", "ants: word 1 refused\n"),
     ("jump", "ants: word 1 refused\n"),
     ("-h", "ants: word 1 refused\n"),
@@ -104,6 +111,15 @@ const REFUSED: [(&str, &str); 72] = [
     ("workload 1 2", "ants: word 4 refused\n"),
     ("workload 1 2 17", "ants: word 4 refused\n"),
     ("workload 1 2 3 --stats", "ants: word 5 refused\n"),
+    ("run --far", "ants: word 2 refused\n"),
+    ("run w r b --far", "ants: word 6 refused\n"),
+    ("run w r b --far 1", "ants: word 6 refused\n"),
+    ("run w r b --far --far", "ants: word 6 refused\n"),
+    ("show w 1 --far", "ants: word 4 refused\n"),
+    (
+        "cup --worlds w --brains r b --far",
+        "ants: word 7 refused\n",
+    ),
 ];
 
 #[test]
@@ -113,4 +129,55 @@ fn the_first_word_with_which_no_command_begins_is_refused(rt: HostRuntime) -> Re
         ..NO_JOB
     };
     check_rows(&rt, rt.alloc(), job, Given::Line, Status::Words, &REFUSED)
+}
+
+// Words with `--far`, and the line that names the refused one where nobody may wait for a worker.
+const REFUSED_HERE: [(&str, &str); 4] = [
+    (
+        "run w r b --seed 1 --rounds 1 --far",
+        "ants: word 9 refused\n",
+    ),
+    (
+        "run w r b --far --seed 1 --rounds 1 --far",
+        "ants: word 5 refused\n",
+    ),
+    (
+        "run w r b --seed x --rounds 1 --far",
+        "ants: word 6 refused\n",
+    ),
+    ("brain b --far", "ants: word 3 refused\n"),
+];
+
+// Asserts what comes of words where nobody may wait for a worker.
+fn check_here<R: Threads + Sync + Abort>(
+    rt: &R,
+    alloc: Global,
+    line: &str,
+    wanted: Ending<'_>,
+) -> Result<(), Fail> {
+    let words = split(alloc, line)?;
+    let mut shelf = MemShelf::new(Files::new(alloc), Calls::new(alloc));
+    let mut out = MemSink::with_room(alloc, ROOM, Calls::new(alloc))?;
+    let mut err = MemSink::with_room(alloc, ROOM, Calls::new(alloc))?;
+    let status = run_here(rt, alloc, &words, &mut shelf, &mut out, &mut err, &NoGate);
+    let outcome = Outcome { status, out, err };
+    assert_eq!(rt; ending_of(&outcome)?, wanted, "at {line:?}");
+    Ok(())
+}
+
+// Asserts which word of each row is refused where nobody may wait for a worker.
+fn check_rows_here<R: Threads + Sync + Abort>(
+    rt: &R,
+    alloc: Global,
+    rows: &[(&str, &str)],
+) -> Result<(), Fail> {
+    for (line, wanted) in rows {
+        check_here(rt, alloc, line, stopped(Status::Words, wanted))?;
+    }
+    Ok(())
+}
+
+#[test]
+fn far_is_no_option_where_nobody_may_wait(rt: HostRuntime) -> Result<(), Fail> {
+    check_rows_here(&rt, rt.alloc(), &REFUSED_HERE)
 }

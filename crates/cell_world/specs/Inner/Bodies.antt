@@ -1,5 +1,5 @@
 -- The bodies of all ants, by id, when the ant of one cell changes.
-use Rattle.std.specs.Prelude.{◌≡◌, ℕ, ◌<◌, cond, nat_eq, List, length, slice_index_or, Option, Some, None}
+use Rattle.std.specs.Prelude.{◌≡◌, ℕ, ◌<◌, if◌then◌else◌, ◌==◌, List, length, slice_index_or, Option, Some, None}
 use Rattle.hex_geometry.specs.declared.position.Pos.{Pos}
 use Rattle.cell_world.specs.declared.ant.Ant.{Ant}
 use Rattle.cell_world.specs.declared.body.Body.{Body}
@@ -18,12 +18,12 @@ IsMadeBody ids (Some t) = t < ids
 -- the body of id t when the ant that was on the cell is nowhere
 abbrev pub gone : ℕ → Option ℕ → Body → Body
 gone t None body = body
-gone t (Some before) body = cond (nat_eq before t) (record body { place = None }) body
+gone t (Some before) body = if before == t then record body { place = None } else body
 
 -- the body of id t when this ant is on the cell at p
 abbrev pub came : ℕ → Pos → Option Ant → Body → Body
 came t p None body = body
-came t p (Some after) body = cond (nat_eq after.id t) (body_at p after) body
+came t p (Some after) body = if after.id == t then body_at p after else body
 
 -- the new bodies have the ant of the one id nowhere, the other ant at p, and the rest as the old bodies have it
 pub record Moved (old new : List Body) (p : Pos) (before : Option ℕ) (after : Option Ant) : Type 0 where

@@ -1,5 +1,5 @@
 -- Where the ants of an opening world begin, by id.
-use Rattle.std.specs.Prelude.{ℕ, ◌+◌, cond, List, [], ◌∷◌, ◌++◌, Option, Some}
+use Rattle.std.specs.Prelude.{ℕ, ◌+◌, if◌then◌else◌, List, [], ◌∷◌, ◌++◌, Option, Some}
 use Rattle.hex_geometry.specs.declared.position.Pos.{Pos}
 use Rattle.cell_world.specs.declared.kind.Kind.{Kind}
 use Rattle.hex_geometry.specs.RowOrder.{pos_at}
@@ -7,7 +7,7 @@ use Rattle.cell_world.specs.Opening.{is_hill}
 
 -- the place of the ant that begins on a cell of this kind at p, if there is one
 abbrev pub hill_places : Kind → Pos → List (Option Pos)
-hill_places kind p = cond (is_hill kind) (Some p ∷ []) []
+hill_places kind p = if is_hill kind then Some p ∷ [] else []
 
 -- where the ants of these kinds begin, by id, where the first kind is that of the cell with number i in row order
 abbrev pub opening_places : ℕ → ℕ → List Kind → List (Option Pos)

@@ -1,5 +1,5 @@
 -- What a world keeps of cells and ants, and how it reads.
-use Rattle.std.specs.Prelude.{ℕ, ◌+◌, Bool, false, ◌&&◌, cond, nat_eq, List, [], ◌∷◌, ◌++◌, length, map, slice_index_or, Option, Some, None}
+use Rattle.std.specs.Prelude.{ℕ, ◌+◌, Bool, false, ◌&&◌, if◌then◌else◌, ◌==◌, List, [], ◌∷◌, ◌++◌, length, map, slice_index_or, Option, Some, None}
 use Rattle.std.specs.Option.{is_some, option_map}
 use Rattle.hex_geometry.specs.declared.direction.Dir.TheVariants.{East}
 use Rattle.hex_geometry.specs.declared.position.Pos.{Pos}
@@ -41,7 +41,7 @@ nobody = 65535
 
 -- the id of an occupant, where there is somebody
 abbrev pub occupant_id : Occupant → Option ℕ
-occupant_id occupant = cond (nat_eq occupant.number nobody) None (Some occupant.number)
+occupant_id occupant = if occupant.number == nobody then None else Some occupant.number
 
 -- who is on a cell with this ant, or without one
 abbrev pub occupant_of : Option Ant → Occupant
@@ -81,7 +81,7 @@ is_living colour body = is_some body.place && same_colour colour body.colour
 
 -- the food of a tile, where it is of this colour's hill
 abbrev pub tile_food : Colour → Tile → ℕ
-tile_food colour tile = cond (is_hill_of colour tile.hill) tile.food 0
+tile_food colour tile = if is_hill_of colour tile.hill then tile.food else 0
 
 -- the body of an ant that begins at p
 abbrev pub new_body : Colour → Pos → Body

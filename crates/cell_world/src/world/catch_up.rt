@@ -1,5 +1,5 @@
 // A world brought up to another.
-ghost use Rattle.std.specs.Prelude.{◌≡◌, ◌⊎◌, ◌*◌, ℕ, ◌<◌, [], length, slice_index_or};
+ghost use Rattle.std.specs.Prelude.{◌≡◌, ◌⊎◌, ◌*◌, ℕ, ◌<◌, List, [], length, slice_index_or};
 ghost use Rattle.std.specs.List.{Contains};
 ghost use Rattle.std.specs.Vec.{vec_len};
 ghost use Rattle.hex_geometry.specs.Position.{IsInside};
@@ -15,7 +15,8 @@ use hex_geometry::{Pos, index_of};
 
 impl World {
     /// Makes the world equal to `other`, from which it differs at none but these positions. The two are of one size and number of ids, and
-    /// the positions are inside. The work is that of these positions alone.
+    /// the positions are inside. The work is that of these positions alone; where they are many beside the ids, all bodies are copied as one
+    /// run, which is less.
     pub fn catch_up(&mut self, other: &World, places: &[Pos])
         requires width { self.old.width ≡ other.now.width }
         requires height { self.old.height ≡ other.now.height }
@@ -24,6 +25,17 @@ impl World {
         requires same { (p : Pos) → ¬ Contains places.now p → (world_of self.old).cells p ≡ (world_of other.now).cells p }
         ensures { self.new ≡ other.now }
     {
+        if places.len() >= self.bodies.len() / 4 {
+            self.bodies.copy_from_slice(&other.bodies);
+            follow_tiles(
+                &mut self.tiles,
+                &self.bodies,
+                &other.tiles,
+                self.width,
+                places,
+            );
+            return;
+        }
         follow(
             &mut self.tiles,
             &mut self.bodies,
@@ -68,6 +80,26 @@ fn follow(
         tiles[i] = tile;
         follow_body(bodies, other_bodies, before);
         follow_body(bodies, other_bodies, tile.ant.id());
+    }
+}
+
+// Brings the tiles of these positions up to those of another world, whose bodies are there already.
+fn follow_tiles(
+    tiles: &mut Vec<Tile>,
+    bodies: &Vec<Body>,
+    others: &Vec<Tile>,
+    width: u16,
+    places: &[Pos],
+)
+    requires all_tiles { length others.now.items ≡ length tiles.old.items }
+    requires inside { (p : Pos) → Contains places.now p → index_of width p < length tiles.old.items }
+    ensures { (old : List Body) → Catching width tiles.old.items tiles.old.items others.now.items old bodies.now.items bodies.now.items places.now →
+        Catching width tiles.old.items tiles.new.items others.now.items old bodies.now.items bodies.now.items [] }
+{
+    let _bodies = bodies.len();
+    for p in places {
+        let i = index_of(width, *p);
+        tiles[i] = others[i];
     }
 }
 

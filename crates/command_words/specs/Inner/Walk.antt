@@ -16,7 +16,7 @@ use Rattle.command_words.specs.declared.slot.Place.TheVariants.{Word, Names}
 use Rattle.command_words.specs.declared.table.CommandKind.{CommandKind}
 use Rattle.command_words.specs.declared.table.CommandKind.TheVariants.{Show, Brain, Minimise, Run, Gen, Cup, View, Workload, Help, Version, Asm, Save, Resume}
 use Rattle.command_words.specs.declared.table.Choice.{Choice}
-use Rattle.command_words.specs.declared.table.Choice.TheVariants.{Seed, Rounds, Dump, Workers, Window, Surround, Corpse, Rest, Stats, Width, Height, Rocks, Blobs}
+use Rattle.command_words.specs.declared.table.Choice.TheVariants.{Seed, Rounds, Dump, Workers, Window, Surround, Corpse, Rest, Stats, Far, Width, Height, Rocks, Blobs}
 use Rattle.command_words.specs.Slots.{is_file_name, fits, DumpChoice}
 use Rattle.command_words.specs.Table.{kinds, word_of, places_of, choices_of, option_of, values_of, is_needed, keyword_of, fewest_names, most_names, must_differ}
 use Rattle.command_words.specs.Table.{default_workers, default_window, default_surround, default_corpse, default_rest, default_side, default_rocks, default_blobs}
@@ -144,8 +144,8 @@ asm_with _ = None
 
 -- what the options of `run` say, one after another
 abbrev pub setup_with :
-    Option ℕ → Option ℕ → Option DumpChoice → Option ℕ → Option ℕ → Option ℕ → Option ℕ → Option ℕ → Bool → Option RunSetup
-setup_with (Some seed) (Some rounds) (Some dumps) (Some workers) (Some window) (Some surround) (Some corpse) (Some rest) stats =
+    Option ℕ → Option ℕ → Option DumpChoice → Option ℕ → Option ℕ → Option ℕ → Option ℕ → Option ℕ → Bool → Bool → Option RunSetup
+setup_with (Some seed) (Some rounds) (Some dumps) (Some workers) (Some window) (Some surround) (Some corpse) (Some rest) stats far =
     Some (record {
       seed = seed;
       rounds = rounds;
@@ -156,8 +156,9 @@ setup_with (Some seed) (Some rounds) (Some dumps) (Some workers) (Some window) (
       corpse = corpse;
       rest = rest;
       stats = stats;
+      far = far;
     })
-setup_with _ _ _ _ _ _ _ _ _ = None
+setup_with _ _ _ _ _ _ _ _ _ _ = None
 
 -- what the options of `run` say among the words
 abbrev pub setup_in : List (List ℕ) → Option RunSetup
@@ -165,7 +166,7 @@ setup_in words =
     setup_with (number_needed SeedNumber (word_after Seed words)) (number_needed RoundCount (word_after Rounds words)) (dumps_or_none (word_after Dump words))
     (number_or default_workers WorkerCount (word_after Workers words)) (number_or default_window WindowSize (word_after Window words))
     (number_or default_surround FoeCount (word_after Surround words)) (number_or default_corpse CorpseFood (word_after Corpse words))
-    (number_or default_rest RestRounds (word_after Rest words)) (is_among (option_of Stats) words)
+    (number_or default_rest RestRounds (word_after Rest words)) (is_among (option_of Stats) words) (is_among (option_of Far) words)
 
 -- `run`: what its places and its options say
 abbrev pub run_with : Option (List ℕ) → Option (List ℕ) → Option (List ℕ) → Option RunSetup → Option PlainCommand

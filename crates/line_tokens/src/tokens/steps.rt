@@ -16,11 +16,11 @@ impl<'t> Tokens<'t> {
         ensures passed { self.new ≡ drop 1 self.old }
     {
         let Some(token) = self.next() else {
-            return Err(missing());
+            return Err(missing_token());
         };
         match table.find(token) {
             Some(place) => Ok(place),
-            None => Err(refused(token, LineFault::UnknownWord)),
+            None => Err(refusal_of(token, LineFault::UnknownWord)),
         }
     }
 
@@ -32,11 +32,11 @@ impl<'t> Tokens<'t> {
         ensures bounds { IfOk result (λ number. (least ≤ number) × (number ≤ most)) }
     {
         let Some(token) = self.next() else {
-            return Err(missing());
+            return Err(missing_token());
         };
         match read_number_within(token, least, most) {
             Some(number) => Ok(number),
-            None => Err(refused(token, LineFault::BadNumber)),
+            None => Err(refusal_of(token, LineFault::BadNumber)),
         }
     }
 
@@ -47,14 +47,14 @@ impl<'t> Tokens<'t> {
         ensures ended { OnOk result (self.new ≡ []) }
     {
         match self.next() {
-            Some(token) => Err(refused(token, LineFault::ExtraToken)),
+            Some(token) => Err(refusal_of(token, LineFault::ExtraToken)),
             None => Ok(()),
         }
     }
 }
 
 // A position has no token.
-fn missing() -> Refusal
+fn missing_token() -> Refusal
     ensures { result ≡ missing }
 {
     Refusal {
@@ -64,7 +64,7 @@ fn missing() -> Refusal
 }
 
 // A position doesn't accept its token.
-fn refused(token: &[u8], fault: LineFault) -> Refusal
+fn refusal_of(token: &[u8], fault: LineFault) -> Refusal
     ensures { result ≡ refused token.now fault }
 {
     Refusal {

@@ -13,6 +13,10 @@ use Rattle.round_book.specs.Book.{IsChanged}
 abbrev pub AgreesIfUnwritten : List Pos → Cells → Sighting → Type 0
 AgreesIfUnwritten written cells read = ¬ Contains written read.0 → Agree read.1 read.2 (cells read.0)
 
+-- what was read is at a position that wasn't written
+abbrev pub IsUnwritten : List Pos → Sighting → Type 0
+IsUnwritten written read = ¬ Contains written read.0
+
 -- a change of what was read, or that all is as it was
 abbrev pub Changes : List Sighting → Cells → Option Cause → Type 0
 Changes reads cells None = AllByRecursion (λ read. Agree read.1 read.2 (cells read.0)) reads

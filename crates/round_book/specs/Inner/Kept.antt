@@ -1,10 +1,12 @@
 -- What the fields of a field and of a book keep.
 use Rattle.std.specs.Prelude.{◌≡◌, ℕ, ◌+◌, ◌-◌, ◌*◌, ◌<◌, ◌≤◌, ◌^◌, [], Option}
+use Rattle.std.specs.List.{count_by}
 use Rattle.std.specs.Option.{ForSome}
 use Rattle.std.specs.Vec.{vec_capacity, vec_len}
 use Rattle.cell_world.specs.Grid.{Grid, world_of}
 use Rattle.ant_turn.specs.Minds.{Minds, AreSound, Fits}
 use Rattle.round_book.specs.declared.workspace.Workspace.{Workspace}
+use Rattle.round_book.specs.Counts.{is_taken_verdict}
 use Rattle.round_book.specs.Inner.Workspace.{AreMarked}
 
 -- a workspace that has an equal world, and in which nothing is written yet
@@ -20,8 +22,9 @@ pub record IsFieldKept (world : Grid) (minds : Minds) (workspace : Option Worksp
   pub sound : AreSound minds
   pub ready : ForSome workspace (IsWorkspaceReady world)
 
--- a turn of the window or its end, a stream that lasts for the turns that are left, and room for what they write and for their verdicts
-pub record IsWorkspaceKept (from to next place : ℕ) (work : Workspace) : Type 0 where
+-- a turn of the window or its end, a stream that lasts for the turns that are left, room for what they write and for their verdicts, and the
+-- verdicts so far that a look was taken, counted
+pub record IsWorkspaceKept (from to next place taken : ℕ) (work : Workspace) : Type 0 where
   pub begun : from ≤ next
   pub left : next ≤ to
   pub ids : to ≤ work.world.ids
@@ -29,3 +32,5 @@ pub record IsWorkspaceKept (from to next place : ℕ) (work : Workspace) : Type 
   pub marks : AreMarked work.world work.marked.items work.written.items
   pub write_room : vec_len work.written + 7 * (to - next) ≤ vec_capacity work.written
   pub verdict_room : vec_len work.verdicts + (to - next) ≤ vec_capacity work.verdicts
+  pub counted : taken ≡ count_by is_taken_verdict work.verdicts.items
+  pub few : taken ≤ next - from

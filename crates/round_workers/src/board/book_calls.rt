@@ -9,19 +9,11 @@ ghost use Rattle.round_workers.specs.BoardSeats.{IsSeatOf, basis_of, known, boar
 ghost use Rattle.round_workers.specs.BoardView.{book_out};
 ghost use Rattle.round_workers.specs.BoardWorker.{IsSameButTook};
 
-use crate::board::law::{GivesBook, Opened, Opens, TakesBook};
 use crate::board::places::book_room;
 use crate::board::room::Room;
-use crate::board::seat::{Board, Seat};
-use crate::board::view::{BoardSlot, View};
+use crate::board::seat::{Board, HOME, Hand, Seat};
+use crate::board::view::BoardSlot;
 use round_book::{Book, Field};
-
-// The word of the book, and what it says (`book_home` and `book_out` of `BoardView`).
-const WORD: usize = 1;
-
-const HOME: u64 = 0;
-
-const OUT: u64 = 1;
 
 // The slot of the book.
 const SLOT: usize = 0;
@@ -38,13 +30,12 @@ impl Board {
         ensures board { IsSeatOf self.now seat.new }
         ensures opened { known seat.new ≡ has_seen (known seat.old) }
     {
-        let table = &self.table.shared;
-        table.compare_exchange::<Opens>(&mut seat.hand, WORD, HOME, OUT);
-        let place = table.exchange(&mut seat.hand, SLOT, BoardSlot::Nothing);
+        self.open_step(&mut seat.hand);
+        let place = self.exchange(&mut seat.hand, SLOT, BoardSlot::Nothing);
         let mut room = book_room(place);
         room.put(book);
-        table.exchange(&mut seat.hand, SLOT, BoardSlot::TheBook(room));
-        table.swap::<Opened>(&mut seat.hand, WORD, HOME);
+        self.exchange(&mut seat.hand, SLOT, BoardSlot::TheBook(room));
+        self.opened_step(&mut seat.hand);
     }
 
     /// Tries to take the book, once, without waiting. The seat has seen the book opened, and doesn't hold it. The book that it gets stands
@@ -63,9 +54,7 @@ impl Board {
             return None;
         };
         let book = room.take();
-        self.table
-            .shared
-            .exchange(&mut seat.hand, SLOT, BoardSlot::TheBook(room));
+        self.exchange(&mut seat.hand, SLOT, BoardSlot::TheBook(room));
         book
     }
 
@@ -77,10 +66,7 @@ impl Board {
         ensures board { IsSeatOf self.now seat.new }
         ensures given { known seat.new ≡ without_book (known seat.old) }
     {
-        let place = self
-            .table
-            .shared
-            .exchange(&mut seat.hand, SLOT, BoardSlot::Nothing);
+        let place = self.exchange(&mut seat.hand, SLOT, BoardSlot::Nothing);
         let mut room = book_room(place);
         room.put(book);
         self.end_book(&mut seat.hand, room);
@@ -107,7 +93,7 @@ impl Board {
 
     // Tries to get the room of the book, with the book.
     #[inline]
-    fn begin_book(&self, hand: &mut atomic_table::Seat<BoardSlot, View>) -> Option<Room<Book>>
+    fn begin_book(&self, hand: &mut Hand) -> Option<Room<Book>>
         requires table { hand.old.table_id ≡ self.now.table.shared.table_id }
         requires knows { hand.old.me.0.about ≡ Some (basis_of self.now) }
         requires opened { hand.old.me.0.opened ≡ true }
@@ -117,17 +103,16 @@ impl Board {
         ensures takes { OnSome result (hand.new.me ≡ (with_book hand.old.me.0, (0, Nothing) ∷ hand.old.me.1)) }
         ensures held_by_another { IfNone result (hand.new.me ≡ (after_try hand.old.me.0 (OfBook book_out), hand.old.me.1)) }
     {
-        let table = &self.table.shared;
-        let found = table.compare_exchange::<TakesBook>(hand, WORD, HOME, OUT);
+        let found = self.take_book_step(hand);
         if found != HOME {
             return None;
         }
-        Some(book_room(table.exchange(hand, SLOT, BoardSlot::Nothing)))
+        Some(book_room(self.exchange(hand, SLOT, BoardSlot::Nothing)))
     }
 
     // Gives the room back, with the book.
     #[inline]
-    fn end_book(&self, hand: &mut atomic_table::Seat<BoardSlot, View>, room: Room<Book>)
+    fn end_book(&self, hand: &mut Hand, room: Room<Book>)
         requires table { hand.old.table_id ≡ self.now.table.shared.table_id }
         requires knows { hand.old.me.0.about ≡ Some (basis_of self.now) }
         requires holds { hand.old.me.0.holds ≡ true }
@@ -136,8 +121,7 @@ impl Board {
         ensures table { hand.new.table_id ≡ hand.old.table_id }
         ensures gives { hand.new.me ≡ (without_book hand.old.me.0, rest hand.old.me.1) }
     {
-        let table = &self.table.shared;
-        table.exchange(hand, SLOT, BoardSlot::TheBook(room));
-        table.swap::<GivesBook>(hand, WORD, HOME);
+        self.exchange(hand, SLOT, BoardSlot::TheBook(room));
+        self.give_book_step(hand);
     }
 }

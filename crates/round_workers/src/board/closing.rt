@@ -59,47 +59,6 @@ impl Board {
             drawn,
         }
     }
-
-    // The same, where the looks lie in their places still.
-    pub(crate) fn take_apart(self, seat: Seat) -> Ended
-        requires board { IsSeatOf self seat }
-        requires first { (known seat).number ≡ 0 }
-        requires whole { (k : ℕ) → k ≤ (known seat).made → 1 ≤ times k (known seat).parts }
-        requires opened { (known seat).opened ≡ true }
-        requires free { (known seat).holds ≡ false }
-        ensures book { StandsFor (board_window self) result.book }
-        ensures drawn { (k : ℕ) → times k (known seat).drawn ≡ once_below k result.drawn }
-        ensures reached { Way (board_window self) (IsWhereClosed (board_window self) result.drawn (known seat).put) }
-        ensures turns { length result.places.items ≡ (basis_of self).to - (basis_of self).from }
-        ensures looks { (k : ℕ) → k < (basis_of self).to - (basis_of self).from
-            → look_in (slice_index_or result.places.items k Nothing) ≡ left_look (board_window self) (known seat) k }
-        ensures bare { result.room.items ≡ [] }
-        ensures roomy { (basis_of self).to - (basis_of self).from ≤ vec_capacity result.room }
-    {
-        let Board {
-            table,
-            mut places,
-            room,
-            from,
-            to,
-        } = self;
-        let Seat { hand } = seat;
-        let mut closed = table.close_with(hand);
-        let drawn = closed.word(0) as u32;
-        let Some(book) = book_in(take_slot(&mut closed, 0)) else {
-            unreachable!()
-        };
-        for ticket in 0..(to - from) as usize {
-            places.push_reserved(take_slot(&mut closed, ticket + 1));
-        }
-        closed.free();
-        Ended {
-            book,
-            places,
-            room,
-            drawn,
-        }
-    }
 }
 
 // What a board leaves: its book, the places of its looks, by ticket, a room for as many looks, and how many tickets were drawn.
@@ -125,7 +84,7 @@ fn looks_out_of(places: Vec<BoardSlot>, mut room: Vec<Option<Look>>) -> Vec<Opti
 }
 
 // Takes what lies in a slot, where those before it are taken.
-fn take_slot(closed: &mut atomic_table::Closed<BoardSlot, Global>, i: usize) -> BoardSlot
+pub(crate) fn take_slot(closed: &mut atomic_table::Closed<BoardSlot, Global>, i: usize) -> BoardSlot
     requires inside { i < slots_len closed.old.slots }
     requires taken { AreTaken i (slots_len closed.old.slots) (slots_filled closed.old.slots) }
     ensures value { get_elem? (slots_items closed.old.slots) i ≡ some result }

@@ -13,25 +13,13 @@ ghost use Rattle.round_workers.specs.BoardPlays.{has_put, has_taken, puts_now, t
 ghost use Rattle.round_workers.specs.BoardRule.{turns_of};
 ghost use Rattle.round_workers.specs.BoardSeats.{IsMiss, IsSeatOf, basis_of, known, board_window};
 
-use crate::board::law::{HasPut, HasTaken, Puts, TakesLook};
 use crate::board::places::look_room;
 use crate::board::room::Room;
-use crate::board::seat::{Board, Seat};
-use crate::board::view::{BoardSlot, View};
+use crate::board::seat::{Board, FULL, Hand, Seat};
+use crate::board::view::BoardSlot;
 use ant_random::Stream;
 use round_book::{Book, Field, advance};
 use spec_record::Look;
-
-// The word of the look of ticket 0, and what the word of a look says (`look_empty` to `look_emptied` of `BoardView`).
-const FIRST_WORD: usize = 2;
-
-const EMPTY: u64 = 0;
-
-const IN_HAND: u64 = 1;
-
-const FULL: u64 = 2;
-
-const EMPTIED: u64 = 3;
 
 // The slot of the look of ticket 0.
 const FIRST_SLOT: usize = 1;
@@ -97,7 +85,7 @@ impl Board {
 
     // Gets the room of the look of a ticket, which has no look.
     #[inline]
-    fn begin_put(&self, hand: &mut atomic_table::Seat<BoardSlot, View>, ticket: usize) -> Room<Look>
+    fn begin_put(&self, hand: &mut Hand, ticket: usize) -> Room<Look>
         requires table { hand.old.table_id ≡ self.now.table.shared.table_id }
         requires knows { hand.old.me.0.about ≡ Some (basis_of self.now) }
         requires ticket { ticket < turns_of (basis_of self.now) }
@@ -107,19 +95,13 @@ impl Board {
         ensures table { hand.new.table_id ≡ hand.old.table_id }
         ensures puts { hand.new.me ≡ (puts_now hand.old.me.0 ticket, (ticket + 1, Nothing) ∷ hand.old.me.1) }
     {
-        let table = &self.table.shared;
-        table.compare_exchange::<Puts>(hand, ticket + FIRST_WORD, EMPTY, IN_HAND);
-        look_room(table.exchange(hand, ticket + FIRST_SLOT, BoardSlot::Nothing))
+        self.put_step(hand, ticket);
+        look_room(self.exchange(hand, ticket + FIRST_SLOT, BoardSlot::Nothing))
     }
 
     // Gives the room back, with the look of the ticket.
     #[inline]
-    fn end_put(
-        &self,
-        hand: &mut atomic_table::Seat<BoardSlot, View>,
-        ticket: usize,
-        room: Room<Look>,
-    )
+    fn end_put(&self, hand: &mut Hand, ticket: usize, room: Room<Look>)
         requires table { hand.old.table_id ≡ self.now.table.shared.table_id }
         requires knows { hand.old.me.0.about ≡ Some (basis_of self.now) }
         requires ticket { ticket < turns_of (basis_of self.now) }
@@ -129,9 +111,8 @@ impl Board {
         ensures table { hand.new.table_id ≡ hand.old.table_id }
         ensures has_put { hand.new.me ≡ (has_put hand.old.me.0 ticket, rest hand.old.me.1) }
     {
-        let table = &self.table.shared;
-        table.exchange(hand, ticket + FIRST_SLOT, BoardSlot::OneLook(room));
-        table.swap::<HasPut>(hand, ticket + FIRST_WORD, FULL);
+        self.exchange(hand, ticket + FIRST_SLOT, BoardSlot::OneLook(room));
+        self.has_put_step(hand, ticket);
     }
 
     /// Tries to take the look at a turn, once, without waiting. The seat holds the book, and the turn is one of the window. The look that
@@ -170,12 +151,7 @@ impl Board {
 
     // Tries to settle the book's next turn by its look, once, without waiting. The look lies where it was put meanwhile.
     #[inline]
-    pub(crate) fn settle_look(
-        &self,
-        hand: &mut atomic_table::Seat<BoardSlot, View>,
-        field: &Field<'_>,
-        book: &mut Book,
-    ) -> bool
+    pub(crate) fn settle_look(&self, hand: &mut Hand, field: &Field<'_>, book: &mut Book) -> bool
         requires table { hand.old.table_id ≡ self.now.table.shared.table_id }
         requires knows { hand.old.me.0.about ≡ Some (basis_of self.now) }
         requires rests { hand.old.me.0.phase ≡ Resting }
@@ -201,11 +177,7 @@ impl Board {
 
     // Tries to get the room of the look of a ticket, with the look.
     #[inline]
-    fn begin_take(
-        &self,
-        hand: &mut atomic_table::Seat<BoardSlot, View>,
-        ticket: usize,
-    ) -> Option<Room<Look>>
+    fn begin_take(&self, hand: &mut Hand, ticket: usize) -> Option<Room<Look>>
         requires table { hand.old.table_id ≡ self.now.table.shared.table_id }
         requires knows { hand.old.me.0.about ≡ Some (basis_of self.now) }
         requires ticket { ticket < turns_of (basis_of self.now) }
@@ -216,22 +188,16 @@ impl Board {
         ensures not_full { IfNone result (IsMiss ticket hand.old.me.0 hand.new.me.0) }
         ensures nothing { IfNone result (hand.new.me.1 ≡ hand.old.me.1) }
     {
-        let table = &self.table.shared;
-        let found = table.compare_exchange::<TakesLook>(hand, ticket + FIRST_WORD, FULL, IN_HAND);
+        let found = self.take_look_step(hand, ticket);
         if found != FULL {
             return None;
         }
-        Some(look_room(table.exchange(hand, ticket + FIRST_SLOT, BoardSlot::Nothing)))
+        Some(look_room(self.exchange(hand, ticket + FIRST_SLOT, BoardSlot::Nothing)))
     }
 
     // Gives the room back, in which no look waits any more.
     #[inline]
-    fn end_take(
-        &self,
-        hand: &mut atomic_table::Seat<BoardSlot, View>,
-        ticket: usize,
-        room: Room<Look>,
-    )
+    fn end_take(&self, hand: &mut Hand, ticket: usize, room: Room<Look>)
         requires table { hand.old.table_id ≡ self.now.table.shared.table_id }
         requires knows { hand.old.me.0.about ≡ Some (basis_of self.now) }
         requires ticket { ticket < turns_of (basis_of self.now) }
@@ -240,9 +206,8 @@ impl Board {
         ensures table { hand.new.table_id ≡ hand.old.table_id }
         ensures has_taken { hand.new.me ≡ (has_taken hand.old.me.0 ticket, rest hand.old.me.1) }
     {
-        let table = &self.table.shared;
-        table.exchange(hand, ticket + FIRST_SLOT, BoardSlot::Spare(room));
-        table.swap::<HasTaken>(hand, ticket + FIRST_WORD, EMPTIED);
+        self.exchange(hand, ticket + FIRST_SLOT, BoardSlot::Spare(room));
+        self.has_taken_step(hand, ticket);
     }
 }
 

@@ -1,13 +1,21 @@
 // A board and its seats.
+//
+// This module and its `steps` alone see the table of a board.
 ghost use Rattle.std.specs.Prelude.{◌≡◌, [], ◌+◌, ◌-◌, ◌<◌, ◌≤◌, ◌^◌};
 ghost use Rattle.std.specs.Vec.{vec_capacity};
 ghost use Rattle.round_workers.specs.BoardView.{IsAtRest};
+
+mod steps;
 
 use crate::board::law::Law;
 use crate::board::view::{Basis, BoardSlot, View};
 use atomic_table::Table;
 use spec_record::Look;
 use std::alloc::Global;
+pub(crate) use steps::{FULL, HOME};
+
+// A seat of the table: what it knows, and the slots that are out with it.
+pub(crate) type Hand = atomic_table::Seat<BoardSlot, View>;
 
 /// What a thread steps with on a board, and what it knows.
 #[derive(Drop)]
@@ -19,9 +27,9 @@ pub struct Seat {
 /// The tickets, the book and the looks of one window of a field, passed between threads.
 #[derive(Drop)]
 pub struct Board {
-    pub(crate) table: Table<BoardSlot, View, Basis, Law, Global>,
-    pub(crate) places: Vec<BoardSlot>,
-    pub(crate) room: Vec<Option<Look>>,
+    table: Table<BoardSlot, View, Basis, Law, Global>,
+    places: Vec<BoardSlot>,
+    room: Vec<Option<Look>>,
     pub(crate) from: u32,
     pub(crate) to: u32,
     ghost words: { table.shared.table_id.words ≡ to - from + 2 },

@@ -12,8 +12,7 @@ ghost use Rattle.round_workers.specs.BoardWorker.{HasServed, IsSameButTook, IsWo
 
 use crate::board::looking::reach;
 use crate::board::room::Room;
-use crate::board::seat::{Board, Seat};
-use crate::board::view::{BoardSlot, View};
+use crate::board::seat::{Board, Hand, Seat};
 use ant_base::Gate;
 use ant_random::Stream;
 use round_book::{Book, Field};
@@ -106,12 +105,7 @@ fn serve<G: Gate>(
 impl Room<Book> {
     // Settles the next turns of the book in the room for as long as their looks are there. The seat has the room in hand.
     #[inline]
-    pub(crate) fn settle(
-        &mut self,
-        board: &Board,
-        hand: &mut atomic_table::Seat<BoardSlot, View>,
-        field: &Field<'_>,
-    )
+    pub(crate) fn settle(&mut self, board: &Board, hand: &mut Hand, field: &Field<'_>)
         requires table { hand.old.table_id ≡ board.now.table.shared.table_id }
         requires knows { hand.old.me.0.about ≡ Some (basis_of board.now) }
         requires rests { hand.old.me.0.phase ≡ Resting }
@@ -131,12 +125,7 @@ impl Room<Book> {
 
 // The same of the book, which is there.
 #[inline]
-fn settle_in(
-    content: &mut Option<Book>,
-    board: &Board,
-    hand: &mut atomic_table::Seat<BoardSlot, View>,
-    field: &Field<'_>,
-)
+fn settle_in(content: &mut Option<Book>, board: &Board, hand: &mut Hand, field: &Field<'_>)
     requires table { hand.old.table_id ≡ board.now.table.shared.table_id }
     requires knows { hand.old.me.0.about ≡ Some (basis_of board.now) }
     requires rests { hand.old.me.0.phase ≡ Resting }
@@ -158,12 +147,7 @@ fn settle_in(
 
 // Settles the next turns of the book for as long as their looks are there.
 #[inline]
-fn settle_looks(
-    board: &Board,
-    hand: &mut atomic_table::Seat<BoardSlot, View>,
-    field: &Field<'_>,
-    book: &mut Book,
-)
+fn settle_looks(board: &Board, hand: &mut Hand, field: &Field<'_>, book: &mut Book)
     requires table { hand.old.table_id ≡ board.now.table.shared.table_id }
     requires knows { hand.old.me.0.about ≡ Some (basis_of board.now) }
     requires rests { hand.old.me.0.phase ≡ Resting }

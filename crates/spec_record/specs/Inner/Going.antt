@@ -12,7 +12,8 @@ use Rattle.brain_read.specs.declared.instr.Instr.{Instr}
 use Rattle.brain_read.specs.declared.instr.Instr.TheVariants.{Sense, Mark, Unmark, PickUp, Drop, Turn, Move, Flip}
 use Rattle.ant_turn.specs.Kills.{places_around}
 use Rattle.ant_turn.specs.Minds.{Minds, mind_of}
-use Rattle.ant_turn.specs.Turn.{has_ant, instruction_at, is_blocked}
+use Rattle.ant_turn.specs.Sheet.{Sheet}
+use Rattle.ant_turn.specs.Turn.{arrived, has_ant, instruction_at, is_blocked, left_by_ant, with_ant}
 use Rattle.spec_record.specs.Claims.{Sighting}
 use Rattle.spec_record.specs.Reads.{ant_and_food, load_and_food, whole_ant}
 use Rattle.spec_record.specs.Inner.Sightings.{all_sighted, sightings_of}
@@ -71,3 +72,22 @@ pub record GoesTo (minds : Minds) (w : World) (t : ℕ) (p q : Pos) : Type 0 whe
   pub holds : (w.cells p).ant ≡ Some ant
   pub ready : ant.resting ≡ 0
   pub way : destination w.cells p ant (instruction_at (mind_of minds ant.colour) ant.state) ≡ Some q
+
+-- the state of an ant after a Move that goes; of another instruction 0
+abbrev pub state_gone : Instr → ℕ
+state_gone (Sense sight met unmet condition) = 0
+state_gone (Mark i next) = 0
+state_gone (Unmark i next) = 0
+state_gone (PickUp met unmet) = 0
+state_gone (Drop next) = 0
+state_gone (Turn side next) = 0
+state_gone (Move met unmet) = met
+state_gone (Flip bound met unmet) = 0
+
+-- the reads of an ant that goes to q where nobody is killed
+abbrev pub calm_reads : Cells → Pos → Pos → List Sighting
+calm_reads cells p q = all_sighted ((p, whole_ant, cells p) ∷ []) (sightings_of cells (only part.Who) (seen_from cells p q))
+
+-- and its writes, where its state becomes next
+abbrev pub calm_writes : Sheet → Cells → Pos → Ant → Pos → ℕ → List Sighting
+calm_writes sheet cells p ant q next = (p, whole_ant, left_by_ant (cells p)) ∷ (q, whole_ant, with_ant (cells q) (arrived sheet ant next)) ∷ []

@@ -10,14 +10,14 @@ ghost use Rattle.brain_read.specs.Soundness.{IsSound};
 ghost use Rattle.ant_turn.specs.Minds.{Fits, minds_of};
 ghost use Rattle.ant_turn.specs.Sheet.{Sheet};
 ghost use Rattle.ant_turn.specs.Turn as turn;
-ghost use Rattle.spec_record.specs.Inner.Going.{GoesTo, destination, fallen, going_reads, going_writes};
+ghost use Rattle.spec_record.specs.Inner.Going.{GoesTo, calm_reads, destination, fallen, going_reads, going_writes};
 ghost use Rattle.spec_record.specs.Inner.Standing.{blank_look, rested_look, staying_reads, staying_writes};
 ghost use Rattle.spec_record.specs.Claims.{EachOnce, seen_positions};
 ghost use Rattle.spec_record.specs.Look.{look_of, look_with};
 ghost use Rattle.spec_record.specs.Reads.{who_and_mind};
 ghost use Rattle.spec_record.specs.Trail.{trail_world};
 
-use crate::going::{note_checks, note_fallen, whole_ant};
+use crate::going::{are_none_of, note_checks, note_fallen, state_gone, whole_ant};
 use crate::guess::instruction;
 use crate::record::Look;
 use crate::sightings::{note_alone, note_two, union};
@@ -189,7 +189,7 @@ impl Look {
         note_alone(&mut self.writes, p, written, after.cell);
     }
 
-    // Records the ant of `p`, which goes to `q`, by a trail on which it takes its turn. Few turns go, and a trail is large: so it is a call.
+    // Records the ant of `p`, which goes to `q`. Few turns go, so it is a call; it reads the cell again, so that the caller's stays where it is.
     #[inline(never)]
     fn go(&mut self, base: &World, brains: Brains<'_>, stream: &mut Stream, id: u32, p: Pos, q: Pos)
         requires fit { Fits (world_of base.now) (minds_of brains) }
@@ -201,8 +201,57 @@ impl Look {
         ensures stream { stream.new ≡ record stream.old { place = stream.old.place + one_if self.new.drew } }
     {
         self.begin(id, stream.place());
+        let cell = base.cell(p);
+        let Some(ant) = cell.ant else { unreachable!() };
+        self.reads.push((p, whole_ant(), cell));
+        note_checks(&mut self.reads, base, p, q);
+        if !are_none_of(ant.colour.foe(), self.reads.as_slice()) {
+            self.fight(base, brains, stream, id, p, q);
+            return;
+        }
+        // nobody is near whom the ant that goes could help to kill, or who could kill one of its own
+        let state = state_gone(instruction(brains, &ant));
+        let resting = brains.sheet.rest();
+        let there = base.cell(q);
+        self.writes
+            .push((p, whole_ant(), Cell { ant: None, ..cell }));
+        self.writes.push((
+            q,
+            whole_ant(),
+            Cell {
+                ant: Some(Ant {
+                    state,
+                    resting,
+                    ..ant
+                }),
+                ..there
+            },
+        ));
+    }
+
+    // The same where foes are near, who may be killed or kill, by a trail on which the ant takes its turn; what it reads but of the killed is
+    // recorded. A trail is large: so it is a call.
+    #[inline(never)]
+    fn fight(
+        &mut self,
+        base: &World,
+        brains: Brains<'_>,
+        stream: &mut Stream,
+        id: u32,
+        p: Pos,
+        q: Pos,
+    )
+        requires fit { Fits (world_of base.now) (minds_of brains) }
+        requires id { id < base.now.ids }
+        requires place { stream.old.place + 1 < 2 ^ 63 }
+        requires valid { Valid (world_of base.now) }
+        requires goes { GoesTo (minds_of brains) (world_of base.now) id p q }
+        requires begun { self.old ≡ record (blank_look id stream.old.place) { reads = calm_reads (world_of base.now).cells p q } }
+        ensures look { self.new ≡ look_of (minds_of brains.entry) stream.old.seed (world_of base.now) stream.old.place id }
+        ensures stream { stream.new ≡ record stream.old { place = stream.old.place + one_if self.new.drew } }
+    {
         let trail = self.execute(base, brains, stream, id);
-        self.record_going(base, &trail, p, q);
+        self.record_fight(base, &trail, p, q);
     }
 
     // Executes the turn of this id on a trail, and records whether it draws and whom it kills.
@@ -234,10 +283,10 @@ impl Look {
         trail
     }
 
-    // Records what the ant of `p`, which goes to `q`, reads and, by a trail on which its turn was executed, writes.
+    // Records what the ant of `p`, which goes to `q`, by a trail on which its turn was executed, writes, and reads of the killed.
     #[inline]
-    fn record_going(&mut self, base: &World, trail: &Trail<'_>, p: Pos, q: Pos)
-        requires reads { self.old.reads ≡ [] }
+    fn record_fight(&mut self, base: &World, trail: &Trail<'_>, p: Pos, q: Pos)
+        requires reads { self.old.reads ≡ calm_reads (world_of base.now).cells p q }
         requires writes { self.old.writes ≡ [] }
         requires inside { IsInside base.now.width base.now.height p }
         requires inner { IsInner base.now.width base.now.height q }
@@ -254,8 +303,6 @@ impl Look {
           writes = going_writes (world_of base.now).cells (trail_world trail.now).cells p q;
         } }
     {
-        self.reads.push((p, whole_ant(), base.cell(p)));
-        note_checks(&mut self.reads, base, p, q);
         self.writes.push((p, whole_ant(), trail.cell(p)));
         self.writes.push((q, whole_ant(), trail.cell(q)));
         if !self.killed.is_empty() {

@@ -10,4 +10,4 @@ unfolding state_at
 loop-init c = sym (mod-eq_of_lt c.ranges.seed.fits)
 
 pub loop-preserved : goal.loop-preserved
-loop-preserved c = c.stepped-state.ensures ∙ ap next_state c.loop.invariant ∙ next_state-low c.args.seed c.loop.counter
+loop-preserved c = c.next_state-state.ensures ∙ ap next_state c.loop.invariant ∙ next_state-low c.args.seed c.loop.counter

@@ -13,41 +13,41 @@ cell_at-sensed_cell-requires g c = rw c.sensed.ensures (sensed_pos_inside c.args
 pub stay-requires-clause-replaces : goal.stay-requires-clause-replaces
 stay-requires-clause-replaces g c =
     rw c.cell_at-cell.ensures.world
-    (own_replaces (own_read c.requires.stands c.cell_at-cell.ensures.content) c.marked.result c.marked.ensures (mark_stays c.args.ant.colour c.cell_at-cell.result c.args.ant c.in-Mark.mark c.in-Mark.next refl))
+    (own_replaces (own_read c.requires.stands c.cell_at-cell.ensures.content) c.cell_after_mark.result c.cell_after_mark.ensures (mark_stays c.args.ant.colour c.cell_at-cell.result c.args.ant c.in-Mark.mark c.in-Mark.next refl))
 
 pub stay-requires-in-Unmark-clause-replaces : goal.stay-requires-in-Unmark-clause-replaces
 stay-requires-in-Unmark-clause-replaces g c =
     rw c.cell_at-cell-in-Unmark.ensures.world
-    (own_replaces (own_read c.requires.stands c.cell_at-cell-in-Unmark.ensures.content) c.unmarked.result c.unmarked.ensures (unmark_stays c.args.ant.colour c.cell_at-cell-in-Unmark.result c.args.ant c.in-Unmark.mark c.in-Unmark.next refl))
+    (own_replaces (own_read c.requires.stands c.cell_at-cell-in-Unmark.ensures.content) c.cell_after_unmark.result c.cell_after_unmark.ensures (unmark_stays c.args.ant.colour c.cell_at-cell-in-Unmark.result c.args.ant c.in-Unmark.mark c.in-Unmark.next refl))
 
 pub stay-requires-in-PickUp-clause-replaces : goal.stay-requires-in-PickUp-clause-replaces
 stay-requires-in-PickUp-clause-replaces g c =
     rw c.cell_at-cell-in-PickUp.ensures.world
-    (own_replaces (own_read c.requires.stands c.cell_at-cell-in-PickUp.ensures.content) c.picked_up.result c.picked_up.ensures (pick_up_stays c.cell_at-cell-in-PickUp.result c.args.ant c.in-PickUp.yes c.in-PickUp.no))
+    (own_replaces (own_read c.requires.stands c.cell_at-cell-in-PickUp.ensures.content) c.cell_after_pick_up.result c.cell_after_pick_up.ensures (pick_up_stays c.cell_at-cell-in-PickUp.result c.args.ant c.in-PickUp.yes c.in-PickUp.no))
 
 pub stay-requires-in-Drop-clause-replaces : goal.stay-requires-in-Drop-clause-replaces
 stay-requires-in-Drop-clause-replaces g c =
     rw c.cell_at-cell-in-Drop.ensures.world
-    (own_replaces (own_read c.requires.stands c.cell_at-cell-in-Drop.ensures.content) c.dropped.result c.dropped.ensures (drop_stays c.cell_at-cell-in-Drop.result c.args.ant c.in-Drop.next))
+    (own_replaces (own_read c.requires.stands c.cell_at-cell-in-Drop.ensures.content) c.cell_after_drop.result c.cell_after_drop.ensures (drop_stays c.cell_at-cell-in-Drop.result c.args.ant c.in-Drop.next))
 
 pub stay-requires-clause-six : goal.stay-requires-clause-six
 stay-requires-clause-six g c =
-    own_six (own_read c.requires.stands c.cell_at-cell.ensures.content) c.marked.result c.requires.sound.0 c.marked.ensures (subst (IsSound c.requires.sound.0) c.in-Mark.is c.requires.sound.1)
+    own_six (own_read c.requires.stands c.cell_at-cell.ensures.content) c.cell_after_mark.result c.requires.sound.0 c.cell_after_mark.ensures (subst (IsSound c.requires.sound.0) c.in-Mark.is c.requires.sound.1)
     (mark_stays c.args.ant.colour c.cell_at-cell.result c.args.ant c.in-Mark.mark c.in-Mark.next refl)
 
 pub stay-requires-in-Unmark-clause-six : goal.stay-requires-in-Unmark-clause-six
 stay-requires-in-Unmark-clause-six g c =
-    own_six (own_read c.requires.stands c.cell_at-cell-in-Unmark.ensures.content) c.unmarked.result c.requires.sound.0 c.unmarked.ensures (subst (IsSound c.requires.sound.0) c.in-Unmark.is c.requires.sound.1)
+    own_six (own_read c.requires.stands c.cell_at-cell-in-Unmark.ensures.content) c.cell_after_unmark.result c.requires.sound.0 c.cell_after_unmark.ensures (subst (IsSound c.requires.sound.0) c.in-Unmark.is c.requires.sound.1)
     (unmark_stays c.args.ant.colour c.cell_at-cell-in-Unmark.result c.args.ant c.in-Unmark.mark c.in-Unmark.next refl)
 
 pub stay-requires-in-PickUp-clause-six : goal.stay-requires-in-PickUp-clause-six
 stay-requires-in-PickUp-clause-six g c =
-    own_six (own_read c.requires.stands c.cell_at-cell-in-PickUp.ensures.content) c.picked_up.result c.requires.sound.0 c.picked_up.ensures (subst (IsSound c.requires.sound.0) c.in-PickUp.is c.requires.sound.1)
+    own_six (own_read c.requires.stands c.cell_at-cell-in-PickUp.ensures.content) c.cell_after_pick_up.result c.requires.sound.0 c.cell_after_pick_up.ensures (subst (IsSound c.requires.sound.0) c.in-PickUp.is c.requires.sound.1)
     (pick_up_stays c.cell_at-cell-in-PickUp.result c.args.ant c.in-PickUp.yes c.in-PickUp.no)
 
 pub stay-requires-in-Drop-clause-six : goal.stay-requires-in-Drop-clause-six
 stay-requires-in-Drop-clause-six g c =
-    own_six (own_read c.requires.stands c.cell_at-cell-in-Drop.ensures.content) c.dropped.result c.requires.sound.0 c.dropped.ensures (subst (IsSound c.requires.sound.0) c.in-Drop.is c.requires.sound.1)
+    own_six (own_read c.requires.stands c.cell_at-cell-in-Drop.ensures.content) c.cell_after_drop.result c.requires.sound.0 c.cell_after_drop.ensures (subst (IsSound c.requires.sound.0) c.in-Drop.is c.requires.sound.1)
     (drop_stays c.cell_at-cell-in-Drop.result c.args.ant c.in-Drop.next)
 
 pub returns-in-Move-clause-world : goal.returns-in-Move-clause-world

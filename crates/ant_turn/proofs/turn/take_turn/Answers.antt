@@ -47,7 +47,7 @@ pub think-requires : goal.think-requires
 think-requires g c =
     let w = g.G.Ground.world c.args.ground.now in
     let it = c.in-Some.standing in
-    rw (c.rested.ensures, c.ant_of.ensures.world)
+    rw (c.ant_after_rest.ensures, c.ant_of.ensures.world)
     (own_thinks (StandsAt-at w it.place it.ant (subst Valid c.ant_of.ensures.world c.ant_of.ensures.valid) (holds w c.ant_of.result it c.ant_of.ensures.ant c.in-Some.is)) _ (record it.ant { resting = it.ant.resting - 1 }) (omega (arith, c.ant_of.ensures.room, c.requires.room)) refl refl refl)
 
 pub returns-then-ant-gt0 : goal.returns-then-ant-gt0
@@ -61,7 +61,7 @@ returns-then-ant-gt0 g c =
     let less : ant.resting ≡ ant.resting - 1 + 1 = omega (arith, c.if-ant-gt0.true) in
     let tired = turn-rests (minds_of c.args.brains) s.seed w s.place c.args.id p ant (ant.resting - 1) (found (place_in w c.args.id) c.ant_of.result c.in-Some.standing c.ant_of.ensures.place c.in-Some.is) here less in
     let now : g.G.Ground.world c.think.new.ground ≡ with_cells w (ant_becomes w.cells p (record ant { resting = ant.resting - 1 })).cells =
-    rw (c.think.ensures.world, same, c.rested.ensures) refl in
+    rw (c.think.ensures.world, same, c.ant_after_rest.ensures) refl in
     let kept = Keeps-stays (minds_of c.args.brains) w p ant (Drop 0) (with_ant (w.cells p) (record ant { resting = ant.resting - 1 })) (subst Valid same c.ant_of.ensures.valid) c.requires.fit here
     (omega (arith, c.requires.fit.below p ant here)) (rest_stays (Drop 0) (w.cells p) ant (ant.resting - 1)) in
     record {

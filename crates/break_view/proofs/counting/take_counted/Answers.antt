@@ -26,16 +26,16 @@ score_at-requires c = λ p at.
     subst (λ (w : World). IsInside w.width w.height p) (sym c.take_turn-deed.ensures.world)
     (on_hill-inside (world_of c.args.world.now) c.args.id p (sym c.hill_place-place.ensures.place ∙ at))
 
-pub recounted-requires : goal.recounted-requires
+pub count_again-requires : goal.count_again-requires
 recounted-requires c =
     let none = sym c.take_turn-deed.ensures.killed ∙ nothing_in c.take_turn-deed.result.killed.items (sym c.is_empty.ensures ∙ c.if-is_empty.true) in
     counted-can c.args.score.now c.score_at-before.result (score_of (world_of c.take_turn-deed.new.ground)) c.score_at.result
-    (counted (goal.at.recounted-requires c).After-score_at none)
+    (counted (goal.at.count_again-requires c).After-score_at none)
     (subst IsLight (sym c.requires.score) (score_of-light c.args.world.now c.hill_place-place.ensures.world))
     (subst IsLight (sym c.score_at.ensures) (score_at-light (world_of c.take_turn-deed.new.ground) c.hill_place-place.result c.take_turn-deed.ensures.valid))
 
 pub returns-then-is_empty-clause-score : goal.returns-then-is_empty-clause-score
 returns-then-is_empty-clause-score c =
     let none = sym c.take_turn-deed.ensures.killed ∙ nothing_in c.take_turn-deed.result.killed.items (sym c.is_empty.ensures ∙ c.if-is_empty.true) in
-    counted-is c.args.score.now c.score_at-before.result (score_of (world_of c.take_turn-deed.new.ground)) c.score_at.result c.recounted.result
-    (counted (goal.at.returns-then-is_empty-clause-score c).After-score_at none) c.recounted.ensures.red c.recounted.ensures.black
+    counted-is c.args.score.now c.score_at-before.result (score_of (world_of c.take_turn-deed.new.ground)) c.score_at.result c.count_again.result
+    (counted (goal.at.returns-then-is_empty-clause-score c).After-score_at none) c.count_again.ensures.red c.count_again.ensures.black

@@ -8,7 +8,7 @@ pub invariant_of-self : goal.invariant_of-self
 invariant_of-self c =
     let s = c.self.inside in
     let e : s.place + 4 + 1 ≡ s.place + 1 + 4 = omega arith in
-    c.stepped-self-inside.ensures ∙ ap next_state c.self.invariant ∙ next_state-low s.seed (s.place + 4) ∙ ap (λ (i : ℕ). state_at s.seed i % 2 ^ 32) e
+    c.next_state-self-inside.ensures ∙ ap next_state c.self.invariant ∙ next_state-low s.seed (s.place + 4) ∙ ap (λ (i : ℕ). state_at s.seed i % 2 ^ 32) e
 
 pub returns-clause-number : goal.returns-clause-number
 unfolding drawn

@@ -1,4 +1,4 @@
-use Rattle.std.proofs.Common.{false, sym, subst}
+use Rattle.std.proofs.Common.{sym, subst}
 use Rattle.round_book.specs.Book.{BookValue, FieldValue, StandsOn, lent_for}
 use Rattle.round_book.proofs.FieldLemmas.{ok_both, on-begun}
 use Rattle.round_book.proofs.field.Field.begin.Goals as goal

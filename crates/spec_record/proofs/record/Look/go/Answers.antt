@@ -1,17 +1,26 @@
 -- the look at an ant that goes
-use Rattle.std.proofs.Common.{◌≡◌, [], refl, sym, ◌∙◌, ap}
+use Rattle.std.proofs.Common.{◌≡◌, ◌≤◌, ℕ, false, List, [], ◌∷◌, Some, refl, sym, ◌∙◌, ap, ap₂, subst, arith}
 use Rattle.hex_geometry.proofs.Places.{inner_inside}
+use Rattle.cell_world.specs.declared.ant.Ant.{Ant}
+use Rattle.cell_world.specs.declared.cell.Cell.{Cell}
+use Rattle.cell_world.specs.Colour.{foe_of}
+use Rattle.cell_world.specs.declared.part.Part.TheVariants as part
 use Rattle.cell_world.specs.Grid.{world_of}
-use Rattle.cell_world.specs.World.{Cells, World}
+use Rattle.cell_world.specs.Parts.{only}
+use Rattle.cell_world.proofs.Patches.{some_one}
+use Rattle.cell_world.specs.World.{Cells}
 use Rattle.ant_turn.specs.Minds.{minds_of, mind_of}
 use Rattle.ant_turn.specs.Turn.{Outcome, instruction_at, turn}
+use Rattle.spec_record.specs.Claims.{EachOnce, Sighting, seen_positions}
 use Rattle.spec_record.specs.Look.{LookValue}
-use Rattle.spec_record.specs.Trail.{trail_world}
-use Rattle.spec_record.specs.Inner.Going.{going_reads, going_writes}
+use Rattle.spec_record.specs.Reads.{whole_ant}
+use Rattle.spec_record.specs.Inner.Going.{calm_reads, calm_writes, seen_from, state_gone}
+use Rattle.spec_record.specs.Inner.Near.{AreNoneOf}
+use Rattle.spec_record.specs.Inner.Sightings.{all_sighted, sightings_of}
 use Rattle.spec_record.specs.Inner.Standing.{blank_look}
-use Rattle.spec_record.proofs.Looking.{Acting, goes-reads_once, goes-writes_once, look-goes, near-there, inner-there, acting-inner, reads-there, spared-there, writes-there}
+use Rattle.spec_record.proofs.Looking.{Acting, acting-inner, calm-once, calm-room, calm-writes_once, look-calm, within-there}
 use Rattle.spec_record.proofs.record.Look.go.Goals as goal
-use Rattle.spec_record.proofs.record.Look.go.Goals.{After-execute-trail, Start}
+use Rattle.spec_record.proofs.record.Look.go.Goals.{After-note_checks, After-push, After-push-3, Start}
 
 -- the outcome of the turn
 abbrev outcome : Start → Outcome
@@ -30,62 +39,91 @@ acting c = record {
   is = refl;
 }
 
--- the same once it was executed on the trail
-abbrev executed : After-execute-trail → Outcome
-executed c = turn (minds_of c.args.brains) c.args.stream.now.seed (world_of c.args.base.now) c.args.stream.now.place c.args.id
+-- the ant that is found there
+found : (c : After-push) → c.in-Some.ant ≡ c.requires.goes.ant
+found c = let same : Some c.in-Some.ant ≡ Some c.requires.goes.ant = sym c.in-Some.is ∙ ap (λ (cell : Cell). cell.ant) c.cell-cell.ensures.content ∙ c.requires.goes.holds in some_one same
 
--- the cells of the trail are those of the outcome
-left : (c : After-execute-trail) → (trail_world c.execute-trail.result).cells ≡ (executed c).cells
-left c = ap (λ (w : World). w.cells) c.execute-trail.ensures.world
+-- what is recorded of its own cell
+own : (c : After-push) → c.push.new.self.items ≡ (c.args.p, whole_ant, (world_of c.args.base.now).cells c.args.p) ∷ []
+own c =
+    let blank : c.self.inside.reads.items ≡ [] = ap (λ (l : LookValue). l.reads) (c.self.view_is ∙ c.begin.ensures) in
+    rw (c.push.ensures.items, blank, c.whole_ant.ensures, c.cell-cell.ensures.content) refl
 
--- what is recorded when the turn was executed
-recorded : (c : After-execute-trail) → c.execute-trail.new.self ≡ record {
-  turn = c.args.id;
-  guess = c.args.stream.now.place;
-  drew = (executed c).drew;
-  reads = [];
-  writes = [];
-  killed = (executed c).killed;
-}
-recorded c =
-    let o = executed c in
-    c.execute-trail.ensures.look ∙ ap (λ (l : LookValue). record l { drew = o.drew; killed = o.killed }) (c.begin.ensures ∙ ap (blank_look c.args.id) c.place.ensures)
+-- and of those whose ants decide the checks
+noted : (c : After-note_checks) → c.note_checks.new.list.items ≡ calm_reads (world_of c.args.base.now).cells c.args.p c.args.q
+noted c =
+    let cells : Cells = (world_of c.args.base.now).cells in
+    c.note_checks.ensures ∙ ap (λ list. all_sighted list (sightings_of cells (only part.Who) (seen_from cells c.args.p c.args.q))) (own (goal.at.After-note_checks c).After-push)
 
-pub record_going-requires-clause-inside : goal.record_going-requires-clause-inside
-record_going-requires-clause-inside c = inner_inside (acting-inner (acting (goal.at.record_going-requires-clause-inside c).Start))
+pub cell-cell-requires : goal.cell-cell-requires
+cell-cell-requires c = inner_inside (acting-inner (acting (goal.at.cell-cell-requires c).Start))
 
-pub record_going-requires-clause-inner : goal.record_going-requires-clause-inner
-record_going-requires-clause-inner c = inner-there (acting (goal.at.record_going-requires-clause-inner c).Start) c.requires.goes.way
+pub note_checks-requires-clause-beside : goal.note_checks-requires-clause-beside
+note_checks-requires-clause-beside c = within-there (acting (goal.at.note_checks-requires-clause-beside c).Start) c.requires.goes.way
 
-pub record_going-requires-clause-near : goal.record_going-requires-clause-near
-record_going-requires-clause-near c = near-there (acting (goal.at.record_going-requires-clause-near c).Start) c.requires.goes.way
+pub note_checks-requires-clause-room : goal.note_checks-requires-clause-room
+note_checks-requires-clause-room c =
+    rw (own (goal.at.note_checks-requires-clause-room c).After-push) (calm-room (acting (goal.at.note_checks-requires-clause-room c).Start) c.requires.goes.way)
 
-pub record_going-requires-clause-reads_once : goal.record_going-requires-clause-reads_once
-record_going-requires-clause-reads_once c =
-    let at = (goal.at.record_going-requires-clause-reads_once c).After-execute-trail in
-    goes-reads_once (acting (goal.at.record_going-requires-clause-reads_once c).Start) c.requires.goes.way (trail_world c.execute-trail.result).cells (left at)
+-- nothing was recorded of what it writes
+unwritten : (c : After-push) → c.self.inside.writes.items ≡ []
+unwritten c = ap (λ (l : LookValue). l.writes) (c.self.view_is ∙ c.begin.ensures)
 
-pub record_going-requires-clause-writes_once : goal.record_going-requires-clause-writes_once
-record_going-requires-clause-writes_once c =
-    let at = (goal.at.record_going-requires-clause-writes_once c).After-execute-trail in
-    goes-writes_once (acting (goal.at.record_going-requires-clause-writes_once c).Start) c.requires.goes.way (trail_world c.execute-trail.result).cells (left at)
+pub invariant_of-self : goal.invariant_of-self
+invariant_of-self c =
+    let at = (goal.at.invariant_of-self c).After-note_checks in
+    let before = (goal.at.invariant_of-self c).After-push in
+    record {
+      reads = subst (λ list. EachOnce (seen_positions list)) (sym (noted at)) (calm-once (world_of c.args.base.now).cells c.args.p c.args.q);
+      writes = subst (λ list. EachOnce (seen_positions list)) (sym (unwritten before)) tt;
+    }
 
-pub record_going-requires-clause-reads_room : goal.record_going-requires-clause-reads_room
-record_going-requires-clause-reads_room c = reads-there (acting (goal.at.record_going-requires-clause-reads_room c).Start) c.requires.goes.way (trail_world c.execute-trail.result).cells
+-- the instruction of the ant that was found
+abbrev state : (c : Start) → Ant → ℕ
+state c ant = state_gone (instruction_at (mind_of (minds_of c.args.brains) ant.colour) ant.state)
 
-pub record_going-requires-clause-writes_room : goal.record_going-requires-clause-writes_room
-record_going-requires-clause-writes_room c = writes-there (acting (goal.at.record_going-requires-clause-writes_room c).Start) c.requires.goes.way (trail_world c.execute-trail.result).cells
+-- what is recorded of what it writes
+written : (c : After-push-3) →
+    c.push-3.new.self.items ≡ calm_writes (minds_of c.args.brains).sheet (world_of c.args.base.now).cells c.args.p c.requires.goes.ant c.args.q (state (goal.at.After-push-3 c).Start c.requires.goes.ant)
+written c =
+    let before = (goal.at.After-push-3 c).After-push in
+    let begin = (goal.at.After-push-3 c).Start in
+    rw (
+      c.push-3.ensures.items,
+      c.push-2.ensures.items,
+      unwritten before,
+      c.whole_ant-2.ensures,
+      c.whole_ant-3.ensures,
+      c.state_gone-state.ensures,
+      c.instruction.ensures.instruction,
+      c.rest-resting.ensures,
+      c.cell-cell.ensures.content,
+      c.cell-there.ensures.content,
+    ) (ap (λ (ant : Ant). calm_writes (minds_of c.args.brains).sheet (world_of c.args.base.now).cells c.args.p ant c.args.q (state begin ant)) (found before))
 
-pub record_going-requires-clause-spared : goal.record_going-requires-clause-spared
-record_going-requires-clause-spared c none =
-    let at = (goal.at.record_going-requires-clause-spared c).After-execute-trail in
-    spared-there (acting (goal.at.record_going-requires-clause-spared c).Start) c.requires.goes.way (trail_world c.execute-trail.result).cells (left at) (ap (λ (l : LookValue). l.killed) (sym (recorded at)) ∙ none)
+pub invariant_of-self-2 : goal.invariant_of-self-2
+invariant_of-self-2 c =
+    let at = (goal.at.invariant_of-self-2 c).After-note_checks in
+    let after = (goal.at.invariant_of-self-2 c).After-push-3 in
+    let begin = (goal.at.invariant_of-self-2 c).Start in
+    record {
+      reads = subst (λ list. EachOnce (seen_positions list)) (sym (noted at)) (calm-once (world_of c.args.base.now).cells c.args.p c.args.q);
+      writes = subst (λ list. EachOnce (seen_positions list)) (sym (written after)) (calm-writes_once (acting begin) c.requires.goes.way (state begin c.requires.goes.ant));
+    }
 
 pub returns-clause-look : goal.returns-clause-look
 returns-clause-look c =
-    let at = (goal.at.returns-clause-look c).After-execute-trail in
+    let at = (goal.at.returns-clause-look c).After-note_checks in
+    let before = (goal.at.returns-clause-look c).After-push in
+    let after = (goal.at.returns-clause-look c).After-push-3 in
+    let begin = (goal.at.returns-clause-look c).Start in
     let cells : Cells = (world_of c.args.base.now).cells in
-    let last : Cells = (trail_world c.execute-trail.result).cells in
-    c.record_going.ensures
-    ∙ ap (λ (l : LookValue). record l { reads = going_reads cells last c.args.p c.args.q; writes = going_writes cells last c.args.p c.args.q }) (recorded at)
-    ∙ sym (look-goes (acting (goal.at.returns-clause-look c).Start) c.requires.goes.way last (left at))
+    let made : List Sighting → List Sighting → LookValue = λ reads writes. record { turn = c.args.id; guess = c.args.stream.now.place; drew = false; reads = reads; writes = writes; killed = [] } in
+    let foe : c.foe.result ≡ foe_of c.requires.goes.ant.colour = c.foe.ensures ∙ ap (λ (ant : Ant). foe_of ant.colour) (found before) in
+    let none : AreNoneOf (foe_of c.requires.goes.ant.colour) (calm_reads cells c.args.p c.args.q) =
+    subst (λ colour. AreNoneOf colour (calm_reads cells c.args.p c.args.q)) foe
+    (subst (AreNoneOf c.foe.result) (c.as_slice.ensures.value ∙ noted at) (c.are_none_of.ensures c.if-not-are_none_of.false)) in
+    let some : 4 ≤ c.args.brains.sheet.surround = c.args.brains.sheet.enough in
+    ap (λ (l : LookValue). record l { reads = c.note_checks.new.list.items; writes = c.push-3.new.self.items }) (c.self.view_is ∙ c.begin.ensures ∙ ap (blank_look c.args.id) c.place.ensures)
+    ∙ ap₂ made (noted at) (written after)
+    ∙ sym (look-calm (acting begin) c.requires.goes.way (omega (arith, some)) none)

@@ -1,28 +1,24 @@
-use Rattle.std.proofs.Common.{arith, sym, ap, ◌∙◌, subst}
-use mathlib.Core.Option as maybe
-use Rattle.atomic_table.specs.Table.{Allows, rest, step}
-use Rattle.round_workers.specs.declared.board.view.BoardSlot.TheVariants.{Nothing}
-use Rattle.round_workers.specs.BoardPlays.{tells_give_book, without_book}
-use Rattle.round_workers.specs.BoardRule.{IsKept}
-use Rattle.round_workers.specs.BoardSeats.{basis_of}
-use Rattle.round_workers.proofs.BoardBook.{gives-room}
-use Rattle.round_workers.proofs.BoardMoves.{At}
+use Rattle.std.proofs.Common.{ap, ◌∙◌}
+use Rattle.atomic_table.specs.Table.{rest}
+use Rattle.round_workers.specs.declared.board.view.BoardSlot.TheVariants.{Nothing, TheBook}
+use Rattle.round_workers.specs.BoardPlays.{without_book}
+use Rattle.round_workers.proofs.BoardMoves.{At, slot-held}
 use Rattle.round_workers.proofs.board.seat.Board.end_book.Goals as goal
 
-pub exchange-requires : goal.exchange-requires
-exchange-requires c = (c.requires.table, (Nothing, c.requires.out))
+pub exchange-requires-clause-out : goal.exchange-requires-clause-out
+exchange-requires-clause-out c = (Nothing, c.requires.out)
 
-pub swap-requires : goal.swap-requires
-swap-requires c =
-    let wide = c.args.self.now.words in let me = c.args.hand.now.me in let key = basis_of c.args.self.now in (
-      c.exchange.ensures.0 ∙ c.requires.table,
-      omega arith,
-      subst (λ (m : At). Allows (IsKept key) c.args.self.now.table.shared.table_id.slots c.exchange.new.seat.id m 1 (λ _. 0) (tells_give_book (step c.args.self.now.table.shared.table_id.slots 1 0 0 maybe.none) m)) (sym c.exchange.ensures.3)
-          (gives-room key c.args.self.now.table.shared.table_id.slots c.exchange.new.seat.id me.0 c.requires.knows (rest me.1) c.args.room c.requires.stands c.requires.holds),
-    )
+pub give_book_step-requires-clause-knows : goal.give_book_step-requires-clause-knows
+give_book_step-requires-clause-knows c = ap (λ (m : At). m.0.about) c.exchange.ensures.lies ∙ c.requires.knows
+
+pub give_book_step-requires-clause-holds : goal.give_book_step-requires-clause-holds
+give_book_step-requires-clause-holds c = ap (λ (m : At). m.0.holds) c.exchange.ensures.lies ∙ c.requires.holds
+
+pub give_book_step-requires-clause-book : goal.give_book_step-requires-clause-book
+give_book_step-requires-clause-book c = (c.args.room, slot-held _ _ 0 (TheBook c.args.room) _ c.exchange.ensures.lies, c.requires.stands)
 
 pub returns-clause-table : goal.returns-clause-table
-returns-clause-table c = c.swap.ensures.0 ∙ c.exchange.ensures.0
+returns-clause-table c = c.give_book_step.ensures.table ∙ c.exchange.ensures.table
 
 pub returns-clause-gives : goal.returns-clause-gives
-returns-clause-gives c = c.swap.ensures.2 ∙ ap (λ (m : At). (without_book m.0, rest m.1)) c.exchange.ensures.3
+returns-clause-gives c = c.give_book_step.ensures.given ∙ ap (λ (m : At). (without_book m.0, rest m.1)) c.exchange.ensures.lies

@@ -1,29 +1,24 @@
-use Rattle.std.proofs.Common.{ℕ, ◌+◌, arith, sym, ap, refl, ◌∙◌, subst}
-use mathlib.Core.Option as maybe
-use Rattle.atomic_table.specs.Table.{Allows, rest, step}
-use Rattle.round_workers.specs.declared.board.view.BoardSlot.TheVariants.{Nothing}
-use Rattle.round_workers.specs.BoardPlays.{has_taken, tells_has_taken}
-use Rattle.round_workers.specs.BoardRule.{IsKept}
-use Rattle.round_workers.specs.BoardSeats.{basis_of}
-use Rattle.round_workers.proofs.BoardLooks.{has-taken}
-use Rattle.round_workers.proofs.BoardMoves.{At}
+use Rattle.std.proofs.Common.{◌+◌, ap, ◌∙◌}
+use Rattle.atomic_table.specs.Table.{rest}
+use Rattle.round_workers.specs.declared.board.view.BoardSlot.TheVariants.{Nothing, Spare}
+use Rattle.round_workers.specs.BoardPlays.{has_taken}
+use Rattle.round_workers.proofs.BoardMoves.{At, slot-held}
 use Rattle.round_workers.proofs.board.seat.Board.end_take.Goals as goal
 
-pub exchange-requires : goal.exchange-requires
-exchange-requires c = (c.requires.table, (Nothing, c.requires.out))
+pub exchange-requires-clause-out : goal.exchange-requires-clause-out
+exchange-requires-clause-out c = (Nothing, c.requires.out)
 
-pub swap-requires : goal.swap-requires
-swap-requires c =
-    let wide = c.args.self.now.words in let a = c.args.self.now.first in let b = c.args.self.now.last in let inside = c.requires.ticket in let me = c.args.hand.now.me in let key = basis_of c.args.self.now in
-    let j : ℕ = c.args.ticket in (
-      c.exchange.ensures.0 ∙ c.requires.table,
-      omega arith,
-      subst (λ (m : At). Allows (IsKept key) c.args.self.now.table.shared.table_id.slots c.exchange.new.seat.id m (j + 2) (λ _. 3) (tells_has_taken (step c.args.self.now.table.shared.table_id.slots (j + 2) 3 0 maybe.none) m)) (sym c.exchange.ensures.3)
-          (has-taken key c.args.self.now.table.shared.table_id.slots c.exchange.new.seat.id me.0 c.requires.knows j inside (rest me.1) c.args.room c.requires.taking),
-    )
+pub has_taken_step-requires-clause-knows : goal.has_taken_step-requires-clause-knows
+has_taken_step-requires-clause-knows c = ap (λ (m : At). m.0.about) c.exchange.ensures.lies ∙ c.requires.knows
+
+pub has_taken_step-requires-clause-taking : goal.has_taken_step-requires-clause-taking
+has_taken_step-requires-clause-taking c = ap (λ (m : At). m.0.phase) c.exchange.ensures.lies ∙ c.requires.taking
+
+pub has_taken_step-requires-clause-spare : goal.has_taken_step-requires-clause-spare
+has_taken_step-requires-clause-spare c = (c.args.room, slot-held _ _ (c.args.ticket + 1) (Spare c.args.room) _ c.exchange.ensures.lies)
 
 pub returns-clause-table : goal.returns-clause-table
-returns-clause-table c = c.swap.ensures.0 ∙ c.exchange.ensures.0
+returns-clause-table c = c.has_taken_step.ensures.table ∙ c.exchange.ensures.table
 
 pub returns-clause-has_taken : goal.returns-clause-has_taken
-returns-clause-has_taken c = c.swap.ensures.2 c.args.ticket refl ∙ ap (λ (m : At). (has_taken m.0 c.args.ticket, rest m.1)) c.exchange.ensures.3
+returns-clause-has_taken c = c.has_taken_step.ensures.has_taken ∙ ap (λ (m : At). (has_taken m.0 c.args.ticket, rest m.1)) c.exchange.ensures.lies

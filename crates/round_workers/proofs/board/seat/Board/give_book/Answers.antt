@@ -8,28 +8,28 @@ use Rattle.round_workers.specs.BoardView.{out_with}
 use Rattle.round_workers.proofs.BoardMoves.{At, lay-in, slot-held, some-there, swapped}
 use Rattle.round_workers.proofs.board.seat.Board.give_book.Goals as goal
 
-pub exchange-place-requires : goal.exchange-place-requires
-exchange-place-requires c = let me = c.args.seat.now.hand.me in let out = c.args.seat.now.at_rest.out ∙ ap out_with c.requires.holds in
-    (c.requires.board.table, (TheBook None, slot-held _ me.0 0 (TheBook None) [] (λ i. (me.0, out i))))
+pub exchange-place-requires-clause-out : goal.exchange-place-requires-clause-out
+exchange-place-requires-clause-out c = let me = c.args.seat.now.hand.me in let out = c.args.seat.now.at_rest.out ∙ ap out_with c.requires.holds in
+    (TheBook None, slot-held _ me.0 0 (TheBook None) [] (λ i. (me.0, out i)))
 
 pub book_room-room-requires : goal.book_room-room-requires
 book_room-room-requires c = let me = c.args.seat.now.hand.me in let out = c.args.seat.now.at_rest.out ∙ ap out_with c.requires.holds in
-    some-there _ None (ap book_room (sym (lay-in _ me.0 0 (TheBook None) _ [] _ (λ i. (me.0, out i)) c.exchange-place.ensures.2)))
+    some-there _ None (ap book_room (sym (lay-in _ me.0 0 (TheBook None) _ [] _ (λ i. (me.0, out i)) c.exchange-place.ensures.lay)))
 
 pub end_book-requires-clause-table : goal.end_book-requires-clause-table
-end_book-requires-clause-table c = c.exchange-place.ensures.0 ∙ c.requires.board.table
+end_book-requires-clause-table c = c.exchange-place.ensures.table ∙ c.requires.board.table
 
 pub end_book-requires-clause-knows : goal.end_book-requires-clause-knows
 end_book-requires-clause-knows c = let me = c.args.seat.now.hand.me in let out = c.args.seat.now.at_rest.out ∙ ap out_with c.requires.holds in
-    ap (λ (m : At). m.0.about) (swapped _ _ me.0 0 (TheBook None) Nothing [] (λ i. (me.0, out i)) c.exchange-place.ensures.3) ∙ c.requires.board.knows
+    ap (λ (m : At). m.0.about) (swapped _ _ me.0 0 (TheBook None) Nothing [] (λ i. (me.0, out i)) c.exchange-place.ensures.lies) ∙ c.requires.board.knows
 
 pub end_book-requires-clause-holds : goal.end_book-requires-clause-holds
 end_book-requires-clause-holds c = let me = c.args.seat.now.hand.me in let out = c.args.seat.now.at_rest.out ∙ ap out_with c.requires.holds in
-    ap (λ (m : At). m.0.holds) (swapped _ _ me.0 0 (TheBook None) Nothing [] (λ i. (me.0, out i)) c.exchange-place.ensures.3) ∙ c.requires.holds
+    ap (λ (m : At). m.0.holds) (swapped _ _ me.0 0 (TheBook None) Nothing [] (λ i. (me.0, out i)) c.exchange-place.ensures.lies) ∙ c.requires.holds
 
 pub end_book-requires-clause-out : goal.end_book-requires-clause-out
 end_book-requires-clause-out c = let me = c.args.seat.now.hand.me in let out = c.args.seat.now.at_rest.out ∙ ap out_with c.requires.holds in
-    slot-held _ me.0 0 Nothing [] (swapped _ _ me.0 0 (TheBook None) Nothing [] (λ i. (me.0, out i)) c.exchange-place.ensures.3)
+    slot-held _ me.0 0 Nothing [] (swapped _ _ me.0 0 (TheBook None) Nothing [] (λ i. (me.0, out i)) c.exchange-place.ensures.lies)
 
 pub end_book-requires-clause-stands : goal.end_book-requires-clause-stands
 end_book-requires-clause-stands c = subst (λ content. IsSomeAnd content (StandsFor (board_window c.args.self.now))) (sym c.put.ensures) c.requires.stands

@@ -5,17 +5,17 @@ use Rattle.round_workers.specs.BoardView.{IsAtRest, out_with}
 use Rattle.round_workers.proofs.BoardMoves.{At, slot-held, swapped}
 use Rattle.round_workers.proofs.board.seat.Board.take_book.Goals as goal
 
-pub exchange-requires : goal.exchange-requires
-exchange-requires c = (c.begin_book.ensures.table ∙ c.requires.board.table, (Nothing, slot-held _ _ 0 Nothing _ c.in-Some.ensures.takes))
+pub exchange-requires-clause-out : goal.exchange-requires-clause-out
+exchange-requires-clause-out c = (Nothing, slot-held _ _ 0 Nothing _ c.in-Some.ensures.takes)
 
 pub invariant_of-seat-2 : goal.invariant_of-seat-2
 invariant_of-seat-2 c =
     let me = c.args.seat.now.hand.me in
-    let done = swapped _ _ _ 0 Nothing (TheBook c.take-book.new.self) me.1 c.in-Some.ensures.takes c.exchange.ensures.3 ∙ ap (λ content. (with_book me.0, (0, TheBook content) ∷ me.1)) c.take-book.ensures.room in
+    let done = swapped _ _ _ 0 Nothing (TheBook c.take-book.new.self) me.1 c.in-Some.ensures.takes c.exchange.ensures.lies ∙ ap (λ content. (with_book me.0, (0, TheBook content) ∷ me.1)) c.take-book.ensures.room in
     record { at_rest = subst IsAtRest (sym done) (record { live = c.args.seat.now.at_rest.live; resting = c.args.seat.now.at_rest.resting; out = ap (λ l. (0, TheBook None) ∷ l) (c.args.seat.now.at_rest.out ∙ ap out_with c.requires.free) }) }
 
 pub returns-clause-board : goal.returns-clause-board
 returns-clause-board c =
     let me = c.args.seat.now.hand.me in
-    let done = swapped _ _ _ 0 Nothing (TheBook c.take-book.new.self) me.1 c.in-Some.ensures.takes c.exchange.ensures.3 in
-    record { table = c.exchange.ensures.0 ∙ (c.begin_book.ensures.table ∙ c.requires.board.table); knows = ap (λ (m : At). m.0.about) done ∙ c.requires.board.knows }
+    let done = swapped _ _ _ 0 Nothing (TheBook c.take-book.new.self) me.1 c.in-Some.ensures.takes c.exchange.ensures.lies in
+    record { table = c.exchange.ensures.table ∙ (c.begin_book.ensures.table ∙ c.requires.board.table); knows = ap (λ (m : At). m.0.about) done ∙ c.requires.board.knows }

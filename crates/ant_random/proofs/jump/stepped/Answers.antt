@@ -1,5 +1,0 @@
-use Rattle.ant_random.proofs.JumpLemmas.{stepped_is}
-use Rattle.ant_random.proofs.jump.stepped.Goals as goal
-
-pub returns : goal.returns
-returns c = stepped_is c.args.state

@@ -1,0 +1,131 @@
+// The command `run` with `--far`: workers that stand by for the whole game.
+ghost use Rattle.std.specs.Prelude.{◌≡◌};
+ghost use Rattle.command_words.specs.Command.PlainCommand.{RunCommand};
+ghost use Rattle.command_words.specs.Laws.{SetupWithin};
+ghost use Rattle.command_words.specs.Words.{plain_setup};
+ghost use Rattle.ants.specs.Inner.Planning.{CanPlay};
+ghost use Rattle.ants.specs.Inner.Reading.{CarriesOut, ending_of};
+
+use crate::run::{FileNames, plan_of, run};
+use crate::stop::CommandStop;
+use ant_base::{Gate, Shelf, Sink};
+use ant_turn::Sheet;
+use command_words::RunOptions;
+use far_crew::{Errand, with_far};
+use match_run::Plan;
+use round_book::Crew;
+use std::alloc::Global;
+use std::sync::Wait;
+use std::thread::Threads;
+
+// A game to be played and written, with what it reads from and writes to; and how it went.
+#[derive(Drop)]
+struct RunErrand<'s, 'o, 'w, S: Shelf, K: Sink> {
+    alloc: Global,
+    names: FileNames<'w>,
+    sheet: Sheet,
+    plan: Plan,
+    shelf: &'s mut S,
+    out: &'o mut K,
+    went: Result<(), CommandStop<'w>>,
+    ghost planned: { CanPlay plan },
+}
+
+impl<'s, 'o, 'w, S: Shelf, K: Sink> Errand for RunErrand<'s, 'o, 'w, S, K> {
+    ghost use Rattle.std.specs.Prelude.{◌≡◌};
+    ghost use Rattle.ants.specs.Inner.Planning.{IsSheetOf, Plans};
+    ghost use Rattle.ants.specs.Inner.Reading.{CarriesOut, ending_of};
+    ghost use Rattle.command_words.specs.Command.{RunSetup};
+    ghost use Rattle.command_words.specs.Command.PlainCommand.{RunCommand};
+
+    ghost finished = { λ a b. (b.shelf.ghost_name ≡ a.shelf.ghost_name) × (b.out.ghost_name ≡ a.out.ghost_name)
+        × ((setup : RunSetup) → Plans setup a.plan → IsSheetOf setup a.sheet
+        → CarriesOut (RunCommand a.names.world.now a.names.red.now a.names.black.now setup) (S.state a.shelf.now) (S.state b.shelf.now)
+        (K.state a.out.now) (K.state b.out.now) (ending_of b.went)) };
+
+    fn run<C: Crew>(self, crew: &mut C) -> Self {
+        let RunErrand {
+            alloc,
+            names,
+            sheet,
+            plan,
+            shelf,
+            out,
+            went: _,
+        } = self;
+        let went = run(alloc, crew, names, sheet, &plan, shelf, out);
+        RunErrand {
+            alloc,
+            names,
+            sheet,
+            plan,
+            shelf,
+            out,
+            went,
+        }
+    }
+}
+
+// Does nothing: this use of a reference that came out of an errand ties it to the one that went in.
+fn take_back<T>(x: &mut T)
+    ensures { x.new ≡ x.old }
+{}
+
+/// Plays the game that the words ask for, by as many workers as they say, which stand by from before the first file is fetched to the last
+/// round. The call may wait for a worker.
+pub fn run_far<'w, R: Threads + Wait + Sync, S: Shelf, K: Sink, G: Gate>(
+    rt: &R,
+    alloc: Global,
+    names: FileNames<'w>,
+    options: RunOptions<'w>,
+    shelf: &mut S,
+    out: &mut K,
+    gate: &G,
+) -> Result<(), CommandStop<'w>>
+    requires within { SetupWithin (plain_setup options) }
+    ensures { CarriesOut (RunCommand names.entry.world.now names.entry.red.now names.entry.black.now (plain_setup options.entry))
+        (S.state shelf.old) (S.state shelf.new) (K.state out.old) (K.state out.new) (ending_of result) }
+{
+    let sheet = Sheet::new(options.surround, options.corpse, options.rest);
+    let workers = options.workers;
+    let plan = plan_of(alloc, options)?;
+    let errand = RunErrand {
+        alloc,
+        names,
+        sheet,
+        plan,
+        shelf,
+        out,
+        went: Ok(()),
+    };
+    match with_far(rt, alloc, workers, gate, errand) {
+        Ok(done) => {
+            let RunErrand {
+                alloc: _,
+                names: _names,
+                sheet: _,
+                plan: _plan,
+                shelf,
+                out,
+                went,
+            } = done;
+            take_back(shelf);
+            take_back(out);
+            went
+        }
+        Err(refused) => {
+            let RunErrand {
+                alloc: _,
+                names: _names,
+                sheet: _,
+                plan: _plan,
+                shelf,
+                out,
+                went: _went,
+            } = refused.value;
+            take_back(shelf);
+            take_back(out);
+            Err(CommandStop::Memory)
+        }
+    }
+}

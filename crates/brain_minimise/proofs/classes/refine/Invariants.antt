@@ -1,0 +1,5 @@
+use Rattle.brain_minimise.proofs.Refining.{IsRefining}
+use Rattle.brain_minimise.proofs.classes.refine.Given as goal
+
+abbrev pub invariant-loop-state : goal.invariant-loop-state
+invariant-loop-state l = IsRefining l.brain l.classes l.heirs.items l.finer.items l.parted l.state

@@ -1,5 +1,0 @@
-use Rattle.brain_minimise.proofs.Refining.{IsRefining}
-use Rattle.brain_minimise.proofs.classes.refined.Given as goal
-
-abbrev pub invariant-loop-state : goal.invariant-loop-state
-invariant-loop-state l = IsRefining l.brain l.classes l.heirs.items l.finer.items l.parted l.state

@@ -1,0 +1,8 @@
+-- the ids so far were told apart
+use Rattle.std.proofs.Common.{◌≡◌, ◌-◌, ◌≤◌, length, take}
+use Rattle.cell_world.specs.Inner.TellingApart.{ToldApart}
+use Rattle.cell_world.proofs.world.resting.rest_bodies.Given as goal
+
+abbrev pub invariant-loop-id : goal.invariant-loop-id
+invariant-loop-id l =
+    ToldApart l.fn.bodies.items l.bodies.items l.from l.id (take l.count l.acting) × (l.count ≤ l.id - l.from) × (length l.acting ≡ 64)

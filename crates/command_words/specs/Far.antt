@@ -1,0 +1,26 @@
+-- Words as a reader takes them that doesn't know the option `--far` of `run`.
+use Rattle.std.specs.Prelude.{◌≡◌, ℕ, Bool, true, false, ◌&&◌, if◌then◌else◌, List, [], ◌∷◌, map}
+use Rattle.std.specs.List.{list_any}
+use Rattle.std.specs.Str.{bytes_eq}
+use Rattle.command_words.specs.declared.table.CommandKind.TheVariants.{Run}
+use Rattle.command_words.specs.declared.table.Choice.TheVariants.{Far}
+use Rattle.command_words.specs.Command.{PlainCommand, IsCommand}
+use Rattle.command_words.specs.Table.{option_of, word_of}
+
+-- whether the first word is `run`, and `--far` stands among them, right or wrong
+abbrev pub is_far_run : List (List ℕ) → Bool
+is_far_run [] = false
+is_far_run (word ∷ words) = bytes_eq word (word_of Run) && list_any (λ other. bytes_eq other (option_of Far)) words
+
+-- a word, where `--far` is none that any command has: as the empty word, which no command has either
+abbrev pub word_without_far : List ℕ → List ℕ
+word_without_far word = if bytes_eq word (option_of Far) then [] else word
+
+-- the words, where `--far` among those of a `run` is no option of it; to other commands it is none anyway
+abbrev pub words_without_far : List (List ℕ) → List (List ℕ)
+words_without_far words = if is_far_run words then map word_without_far words else words
+
+-- such a reader takes no command that has the option, and all others as they are
+pub record RefusesFar : Type 0 where
+  pub refused : (words : List (List ℕ)) (command : PlainCommand) → is_far_run words ≡ true → ¬ IsCommand (words_without_far words) command
+  pub others : (words : List (List ℕ)) → is_far_run words ≡ false → words_without_far words ≡ words

@@ -1,0 +1,68 @@
+// The option `--far`, to a reader that doesn't know it.
+ghost use Rattle.std.specs.Prelude.{IfErr, IfOk, min, true, ◌≡◌};
+ghost use Rattle.command_words.specs.Command.{IsCommand, IsRefusedAt, PlainCommand};
+ghost use Rattle.command_words.specs.Inner.Fronts.{words_before};
+ghost use Rattle.command_words.specs.Far.{is_far_run, words_without_far};
+ghost use Rattle.command_words.specs.Words.{plain, texts};
+
+use crate::read::read_words;
+use crate::walk::is_among;
+use crate::{Choice, Command, CommandKind, Refused};
+
+/// Whether the first word is `run`, and `--far` stands among the others, right or wrong.
+#[tactic(auto, unfolding(crate::specs::Inner::Walk::is_among))]
+pub fn is_far_run(words: &[String]) -> bool
+    ensures { result ≡ is_far_run (texts words.now) }
+{
+    let [first, others @ ..] = words else {
+        return false;
+    };
+    first.as_str() == CommandKind::Run.word() && is_among(Choice::Far.word(), others)
+}
+
+/// The same as `read_words`, but that `--far` is no option: the first `--far` of a `run` is refused, unless a word before it is. It takes no
+/// memory.
+pub fn read_words_without_far<'w>(words: &'w [String]) -> Result<Command<'w>, Refused>
+    ensures command { IfOk result (λ command. IsCommand (words_without_far (texts words.now)) (plain command)) }
+    ensures refused { IfErr result (λ refused. IsRefusedAt (words_without_far (texts words.now)) refused.word) }
+    ensures none { IfErr result (λ _. (command : PlainCommand) → ¬ IsCommand (words_without_far (texts words.now)) command) }
+{
+    if is_far_run(words) {
+        Err(refused_far(words))
+    } else {
+        read_words(words)
+    }
+}
+
+// The refused word of a run among whose words `--far` stands, where that is no option.
+fn refused_far(words: &[String]) -> Refused
+    requires { is_far_run (texts words.now) ≡ true }
+    ensures { IsRefusedAt (words_without_far (texts words.now)) result.word }
+{
+    let front = words_before(Choice::Far.word(), words);
+    let next = Refused {
+        word: front.len() + 1,
+    };
+    match read_words(front) {
+        Ok(_) => next,
+        Err(refused) => earlier(refused, next),
+    }
+}
+
+fn earlier(one: Refused, other: Refused) -> Refused
+    ensures { result.word ≡ min one.word other.word }
+{
+    if one.word < other.word { one } else { other }
+}
+
+// The words before the first one that is this; all of them where none is.
+fn words_before<'w>(text: &str, words: &'w [String]) -> &'w [String]
+    ensures { texts result.now ≡ words_before text.now (texts words.now) }
+{
+    for at in 0..words.len() {
+        if words[at].as_str() == text {
+            return &words[..at];
+        }
+    }
+    words
+}

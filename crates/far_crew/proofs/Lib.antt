@@ -1,0 +1,8 @@
+-- Brains, cells and jobs that go to workers.
+pub mod BrainLemmas
+pub mod CellLemmas
+pub mod JobLemmas
+-- An answer that agrees, and what a window picks of all.
+pub mod AgreeingLemmas
+pub mod PickLemmas
+pub mod WindowLemmas

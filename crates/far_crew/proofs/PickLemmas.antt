@@ -1,0 +1,90 @@
+-- Picks: each names the look at its turn.
+use Rattle.std.proofs.Common.{◌≡◌, inl, inr, ℕ, zero, suc, ◌+◌, ◌<◌, ◌≤◌, true, List, [], ◌∷◌, ◌++◌, length, get_or, set, slice_get, Option, Some, None, refl, sym, ◌∙◌, ap, subst, arith}
+use Rattle.std.specs.Option.{is_some}
+use Rattle.std.proofs.lemmas.Bool.{cases_eq}
+use Rattle.std.proofs.lemmas.List.{get_or-set_other, get_or-set_same}
+use Rattle.cell_world.proofs.Patches.{some_one}
+use Rattle.round_book.specs.Window.{Window, look_for}
+use Rattle.spec_record.specs.Look.{LookValue}
+use Rattle.far_crew.specs.declared.line.Line.{Line}
+use Rattle.far_crew.specs.declared.picking.Pick.{Pick}
+use Rattle.far_crew.specs.declared.picking.Pick.TheVariants.{Theirs, Own}
+use Rattle.far_crew.specs.Inner.Picks.{AreFilled, AreNone, ArePicked, look_named, looks_in, looks_of_answer, looks_of_line}
+use Rattle.far_crew.specs.Jobs.{FoundValue}
+
+-- what a list has it has with more behind
+slice_get-append : {X : Type 0} (xs ys : List X) (i : ℕ) (x : X) → slice_get xs i ≡ Some x → slice_get (xs ++ ys) i ≡ Some x
+slice_get-append [] ys i x is = absurd (cc)
+slice_get-append (y ∷ xs) ys zero x is = is
+slice_get-append (y ∷ xs) ys (suc i) x is = slice_get-append xs ys i x is
+
+slice_get-last : {X : Type 0} (xs : List X) (x : X) → slice_get (xs ++ x ∷ []) (length xs) ≡ Some x
+slice_get-last [] x = refl
+slice_get-last (y ∷ xs) x = slice_get-last xs x
+
+-- a pick of one look more among the own ones
+look_named-grown : (lines : List Line) (own more : List LookValue) (pick : Pick) (look : LookValue) → look_named lines own pick ≡ Some look → look_named lines (own ++ more) pick ≡ Some look
+look_named-grown lines own more (Theirs line at) look is = is
+look_named-grown lines own more (Own at) look is = slice_get-append own more at look is
+
+module _ (lines : List Line) (own : List LookValue) (window : Window) where
+  -- no turn has a pick
+  pub none_picked : (picks : List (Option Pick)) → AreNone picks → ArePicked lines own picks window
+  none_picked picks none j pick is = let e : None ≡ Some pick = sym (none j) ∙ is in absurd (cc)
+
+  -- one pick more
+  pub ArePicked-set : (picks : List (Option Pick)) (turn : ℕ) (pick : Pick) → turn < length picks → ArePicked lines own picks window → look_named lines own pick ≡ Some (look_for window (window.from + turn)) → ArePicked lines own (set picks turn (Some pick)) window
+  ArePicked-set picks turn pick within picked named j other is =
+      elim (cases_eq j turn) [
+        | inl at ↦
+            let here : get_or (set picks turn (Some pick)) j None ≡ Some pick = ap (λ k. get_or (set picks turn (Some pick)) k None) at ∙ get_or-set_same picks turn (Some pick) None within in
+            let one : pick ≡ other = some_one (sym here ∙ is) in
+            subst (λ p. look_named lines own p ≡ Some (look_for window (window.from + j))) one (named ∙ ap (λ k. Some (look_for window (window.from + k))) (sym at))
+        | inr apart ↦ picked j other (sym (get_or-set_other picks turn j (Some pick) None apart) ∙ is)
+      ]
+
+-- the picks stay with one look more among the own ones
+pub ArePicked-grown : (lines : List Line) (own : List LookValue) (look : LookValue) (picks : List (Option Pick)) (window : Window) → ArePicked lines own picks window → ArePicked lines (own ++ look ∷ []) picks window
+ArePicked-grown lines own look picks window picked j pick is = look_named-grown lines own (look ∷ []) pick (look_for window (window.from + j)) (picked j pick is)
+
+-- a look of one's own is made and picked
+pub ArePicked-own : (lines : List Line) (own new : List LookValue) (look : LookValue) (picks : List (Option Pick)) (window : Window) (turn t at : ℕ) → turn < length picks → at ≡ length own → t ≡ window.from + turn → look ≡ look_for window t → new ≡ own ++ look ∷ [] →
+    ArePicked lines own picks window → ArePicked lines new (set picks turn (Some (Own at))) window
+ArePicked-own lines own new look picks window turn t at within last here is grown picked =
+    let named : slice_get new at ≡ Some (look_for window (window.from + turn)) =
+    ap (λ (l : List LookValue). slice_get l at) grown ∙ ap (λ i. slice_get (own ++ look ∷ []) i) last ∙ slice_get-last own look ∙ ap Some is ∙ ap (λ k. Some (look_for window k)) here in
+    ArePicked-set lines new window picks turn (Own at) within (subst (λ l. ArePicked lines l picks window) (sym grown) (ArePicked-grown lines own look picks window picked)) named
+
+pub AreFilled-more : (picks : List (Option Pick)) (n k : ℕ) → k ≡ n + 1 → AreFilled picks n → is_some (get_or picks n None) ≡ true → AreFilled picks k
+AreFilled-more picks n k next filled has j early =
+    elim (cases_eq j n) [
+      | inl at ↦ ap (λ i. is_some (get_or picks i None)) at ∙ has
+      | inr apart ↦ filled j (omega arith)
+    ]
+
+pub AreFilled-set : (picks : List (Option Pick)) (n k : ℕ) (pick : Pick) → k ≡ n + 1 → n < length picks → AreFilled picks n → AreFilled (set picks n (Some pick)) k
+AreFilled-set picks n k pick next within filled =
+    AreFilled-more (set picks n (Some pick)) n k next
+    (λ j early. ap is_some (get_or-set_other picks n j (Some pick) None (λ at. omega arith)) ∙ filled j early)
+    (ap is_some (get_or-set_same picks n (Some pick) None within))
+
+-- what a list has at an index
+slice_get-read : {X : Type 0} (xs : List X) (i : ℕ) (x : X) → i < length xs → x ≡ get_or xs i x → slice_get xs i ≡ Some x
+slice_get-read [] i x within is = absurd (omega arith)
+slice_get-read (y ∷ xs) zero x within is = ap Some (sym is)
+slice_get-read (y ∷ xs) (suc i) x within is = slice_get-read xs i x (omega arith) is
+
+slice_get-past : {X : Type 0} (xs : List X) (i : ℕ) → length xs ≤ i → slice_get xs i ≡ None
+slice_get-past [] i past = refl
+slice_get-past (y ∷ xs) zero past = absurd (omega arith)
+slice_get-past (y ∷ xs) (suc i) past = slice_get-past xs i (omega arith)
+
+-- the looks of a line that has an answer
+pub looks_in_some : (lines : List Line) (i : ℕ) (line : Line) (found : FoundValue) → i < length lines → line ≡ get_or lines i line → line.found ≡ Some found → looks_in lines i ≡ found.looks
+looks_in_some lines i line found within is answered = ap looks_of_line (slice_get-read lines i line within is) ∙ ap looks_of_answer answered
+
+pub looks_in_none : (lines : List Line) (i : ℕ) (line : Line) → i < length lines → line ≡ get_or lines i line → line.found ≡ None → looks_in lines i ≡ []
+looks_in_none lines i line within is none = ap looks_of_line (slice_get-read lines i line within is) ∙ ap looks_of_answer none
+
+pub looks_in_past : (lines : List Line) (i : ℕ) → length lines ≤ i → looks_in lines i ≡ []
+looks_in_past lines i past = ap looks_of_line (slice_get-past lines i past)

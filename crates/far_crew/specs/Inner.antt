@@ -1,0 +1,3 @@
+-- Stepping stones between the definitions and the code: no public clause cites them.
+pub mod Cells
+pub mod Picks

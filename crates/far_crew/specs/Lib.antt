@@ -1,0 +1,14 @@
+pub mod Agreeing
+pub mod Inner
+pub mod Jobs
+pub use Rattle.ant_turn.specs.Minds
+pub use Rattle.ant_turn.specs.Sheet
+pub use Rattle.ant_turn.specs.Turn
+pub use Rattle.cell_world.specs.Cell
+pub use Rattle.cell_world.specs.Grid
+pub use Rattle.cell_world.specs.World
+pub use Rattle.round_book.specs.Book
+pub use Rattle.round_book.specs.Counts
+pub use Rattle.round_book.specs.Led
+pub use Rattle.round_book.specs.Window
+pub use Rattle.spec_record.specs.Look

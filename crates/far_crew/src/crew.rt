@@ -1,0 +1,156 @@
+// The crew of workers that stand by.
+ghost use Rattle.std.specs.Prelude.{◌≡◌, ◌-◌, IfOk, OnOk, OnErr};
+ghost use Rattle.round_book.specs.Book.{CanBegin, IsPlayed, window_of};
+ghost use Rattle.round_book.specs.Counts.{counts_of};
+ghost use Rattle.round_book.specs.Window.{guesses_for};
+
+use crate::dealing::prepare_all;
+use crate::guessing::guesses_in;
+use crate::kept::{brains_in, world_in};
+use crate::line::Line;
+use crate::own_brains::OwnBrains;
+use crate::picking::{Pick, choose, take_room};
+use crate::settling::settle;
+use ant_base::Gate;
+use cell_world::World;
+use hex_geometry::OutOfMemory;
+use round_book::{Counts, Field};
+use spec_record::Look;
+use std::alloc::Global;
+use std::sync::{Arc, Wait};
+
+/// A crew whose workers stand by over all windows of a game: each gets jobs and gives answers by two channels of its own. Nothing is
+/// assumed of what a channel delivers, since each look of an answer is held against the field before it is used. The crew keeps its copies
+/// of the world and the brains, and the rooms of looks, from one window to the next.
+#[derive(Drop)]
+pub struct FarCrew<'c, R: Wait, G: Gate> {
+    rt: &'c R,
+    gate: &'c G,
+    workers: u32,
+    lines: Vec<Line>,
+    base: Option<Arc<World>>,
+    minds: Option<Arc<OwnBrains>>,
+    picks: Vec<Option<Pick>>,
+    own: Vec<Look>,
+}
+
+impl<'c, R: Wait, G: Gate> FarCrew<'c, R, G> {
+    // A crew of the workers of these lines, of so many that were asked for.
+    pub(crate) fn of(
+        rt: &'c R,
+        alloc: Global,
+        gate: &'c G,
+        workers: u32,
+        lines: Vec<Line>,
+    ) -> FarCrew<'c, R, G> {
+        FarCrew {
+            rt,
+            gate,
+            workers,
+            lines,
+            base: None,
+            minds: None,
+            picks: Vec::new(alloc),
+            own: Vec::new(alloc),
+        }
+    }
+
+    /// Plays the turns of the ids from `from` up to, and not including, `to`. The field is whole, `from` is at most `to`, `to` at most the
+    /// number of ids, and the place with the number of turns is below 2^63. The field is whole afterwards, its world and place are those to
+    /// which the turns lead in order, and the answer counts the looks that were taken and the turns that were executed anew. It is refused
+    /// for want of memory alone; the field is as before then. All memory but that of the book is taken before the first job is sent.
+    ///
+    /// Each worker that has started and whose channels are open gets a job, and one answer is awaited of it; so the call may wait. A turn of
+    /// which no look agrees with the field is looked at by the caller's thread, which calls the gate with the number of workers as its own.
+    pub fn window(
+        &mut self,
+        alloc: Global,
+        field: &mut Field<'_>,
+        from: u32,
+        to: u32,
+    ) -> Result<Counts, OutOfMemory>
+        requires window { CanBegin field.old from to }
+        ensures played { OnOk result (IsPlayed field.old from to field.new) }
+        ensures counts { IfOk result (λ counts. counts ≡ counts_of (window_of field.old from to)) }
+        ensures unchanged { OnErr result (field.new ≡ field.old) }
+    {
+        let guesses = guesses_in(alloc, field, from, to)?;
+        self.prepare(alloc, field, &guesses, from, to)?;
+        take_room(&mut self.picks, &mut self.own, (to - from) as usize)?;
+        ask_all(self.rt, &mut self.lines);
+        take_in_all(self.rt, &mut self.lines);
+        choose(
+            self.gate,
+            self.workers,
+            field,
+            &self.lines,
+            &guesses,
+            &mut self.picks,
+            &mut self.own,
+            from,
+            to,
+        );
+        let mut book = field.begin(alloc, from, to)?;
+        settle(
+            &mut book,
+            field,
+            &self.lines,
+            &self.own,
+            &self.picks,
+            from,
+            to,
+        );
+        Ok(field.finish(book))
+    }
+
+    // Has a job ready for each worker.
+    fn prepare(
+        &mut self,
+        alloc: Global,
+        field: &Field<'_>,
+        guesses: &[u64],
+        from: u32,
+        to: u32,
+    ) -> Result<(), OutOfMemory>
+        requires window { CanBegin field.now from to }
+        requires guesses { guesses.now ≡ guesses_for (window_of field.now from to) }
+    {
+        clear_all(&mut self.lines);
+        let base = world_in(alloc, self.base.take(), field.world())?;
+        let minds = brains_in(alloc, self.minds.take(), field.brains())?;
+        let prepared = prepare_all(
+            alloc,
+            &mut self.lines,
+            field,
+            &minds,
+            &base,
+            guesses,
+            from,
+            to,
+        );
+        self.base = Some(base);
+        self.minds = Some(minds);
+        prepared
+    }
+}
+
+// Gives back what the last window shared with each line.
+fn clear_all(lines: &mut [Line]) {
+    for line in lines {
+        line.clear();
+    }
+}
+
+// Sends each line its job.
+fn ask_all<R: Wait>(rt: &R, lines: &mut [Line]) {
+    for line in lines {
+        line.ask(rt);
+    }
+}
+
+// Takes in an answer of each line that was sent a job.
+fn take_in_all<R: Wait>(rt: &R, lines: &mut [Line]) {
+    for line in lines {
+        line.take_in(rt);
+    }
+}

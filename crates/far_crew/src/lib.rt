@@ -1,0 +1,29 @@
+//! A crew whose workers stand by over all windows of a game, and get jobs and give answers by channels.
+//!
+//! Nothing is assumed of what a channel delivers. A job owns what it needs, an answer carries its input, and each look of an answer is held
+//! against the field before it is used: a look that agrees is the field's own. So a window leads where its turns lead one after another,
+//! whatever answers come, in whatever order, or not at all. All of this is this project's own.
+#![tactic(auto)]
+
+mod agreeing;
+mod crew;
+mod dealing;
+mod far;
+mod found;
+mod guessing;
+mod job;
+mod kept;
+mod line;
+mod own_brains;
+mod picking;
+mod same_cells;
+mod settling;
+#[cfg(test)]
+mod tests;
+
+pub use agreeing::agrees;
+pub use crew::FarCrew;
+pub use far::{Errand, with_far};
+pub use found::Found;
+pub use job::Job;
+pub use own_brains::OwnBrains;

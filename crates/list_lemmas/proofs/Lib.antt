@@ -1,0 +1,3 @@
+-- Elements of lists, and what holds of all of them.
+pub mod Elements
+pub mod AllElements

@@ -1,0 +1,8 @@
+-- if the rest are unwritten all are
+use Rattle.std.proofs.Common.{drop}
+use Rattle.std.specs.List.{AllByRecursion}
+use Rattle.round_book.specs.Inner.Changes.{IsUnwritten}
+use Rattle.round_book.proofs.workspace.Workspace.none_marked.Given as goal
+
+abbrev pub invariant-loop-read : goal.invariant-loop-read
+invariant-loop-read l = AllByRecursion (IsUnwritten l.fn.self.written.items) (drop l.read-index l.reads) → AllByRecursion (IsUnwritten l.fn.self.written.items) l.reads

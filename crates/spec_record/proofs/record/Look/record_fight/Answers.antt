@@ -1,0 +1,1 @@
+-- there is room for what is read of the killed where there is for all

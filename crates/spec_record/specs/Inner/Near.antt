@@ -1,0 +1,36 @@
+-- The cells near one, each with a mark whether it was noted.
+use Rattle.std.specs.Prelude.{◌≡◌, ℕ, ◌+◌, ◌-◌, ◌*◌, ◌≤◌, Bool, false, ◌||◌, List, [], ◌∷◌, length, slice_index_or}
+use Rattle.std.specs.List.{AllByRecursion}
+use Rattle.hex_geometry.specs.declared.position.Pos.{Pos}
+use Rattle.hex_geometry.specs.Position.{same_pos}
+use Rattle.cell_world.specs.declared.ant.Colour.{Colour}
+use Rattle.cell_world.specs.declared.part.Part.TheVariants as part
+use Rattle.cell_world.specs.Cell.{is_ant_of}
+use Rattle.cell_world.specs.Parts.{only, union}
+use Rattle.spec_record.specs.Claims.{Sighting}
+
+-- at most n columns and n rows apart
+pub record IsWithin (n : ℕ) (q r : Pos) : Type 0 where
+  pub right : r.x ≤ q.x + n
+  pub left : q.x ≤ r.x + n
+  pub down : r.y ≤ q.y + n
+  pub up : q.y ≤ r.y + n
+
+-- the number of a position among the 25 that are at most two columns and rows from q, row by row
+abbrev pub number_near : Pos → Pos → ℕ
+number_near q r = (r.y + 2 - q.y) * 5 + (r.x + 2 - q.x)
+
+-- whether a position is in the list
+abbrev pub is_seen : Pos → List Sighting → Bool
+is_seen p [] = false
+is_seen p (old ∷ sightings) = same_pos old.0 p || is_seen p sightings
+
+-- the marks of the cells near q are those of the positions that were seen, and of each of these it is seen who is there
+pub record AreSeen (q : Pos) (seen : List Bool) (list : List Sighting) : Type 0 where
+  pub sized : length seen ≡ 25
+  pub marks : (r : Pos) → IsWithin 2 q r → slice_index_or seen (number_near q r) false ≡ is_seen r list
+  pub named : AllByRecursion (λ sighting. union sighting.1 (only part.Who) ≡ sighting.1) list
+
+-- no ant of a colour is on the cells that were seen
+abbrev pub AreNoneOf : Colour → List Sighting → Type 0
+AreNoneOf colour list = AllByRecursion (λ sighting. is_ant_of colour sighting.2.ant ≡ false) list
