@@ -1,9 +1,8 @@
 -- Games are saved and gone on with.
-use Rattle.std.proofs.Common.{◌≡◌, ℕ, suc, ◌+◌, ◌≤◌, List, [], ◌∷◌, ◌++◌, refl, sym, ◌∙◌, ap, subst, arith, append_assoc}
+use Rattle.std.proofs.Common.{◌≡◌, ℕ, ◌+◌, ◌≤◌, List, [], ◌∷◌, ◌++◌, refl, sym, ◌∙◌, ap, arith, append_assoc}
 use Rattle.std.specs.List.{AllByRecursion}
 use Rattle.ant_base.specs.Fetched.{Fetched}
 use Rattle.ant_base.specs.Layout.{◌+++◌}
-use Rattle.ant_turn.specs.Minds.{AreSound, Minds}
 use Rattle.brain_read.specs.declared.instr.Instr.{Instr}
 use Rattle.brain_read.specs.declared.instr.Instr.TheVariants.{Sense, Mark, Unmark, PickUp, Drop, Turn, Move, Flip}
 use Rattle.brain_read.specs.Forms.{HasBound, IsInRange}
@@ -11,7 +10,6 @@ use Rattle.brain_read.specs.Grammar.{AreLines, IsBrainText}
 use Rattle.brain_read.proofs.SoundnessLemmas.{brain_of}
 use Rattle.cell_world.specs.Grid.{Grid, world_of}
 use Rattle.command_words.specs.Command.{RunSetup}
-use Rattle.command_words.specs.Command.PlainCommand.{RunCommand}
 use Rattle.command_words.specs.Laws.{SetupWithin}
 use Rattle.dump_print.specs.Texts.{seed_text}
 use Rattle.line_tokens.specs.TokenLines.{TokenLine, lines_with_tokens}
@@ -21,7 +19,7 @@ use Rattle.match_save.proofs.AfterRounds.{games_are_saved}
 use Rattle.match_save.proofs.Resuming.{saves_go_on}
 use Rattle.match_save.proofs.SaveVerdicts.{every_verdict}
 use Rattle.match_save.specs.Resumed.{IsOfGame, rest_of}
-use Rattle.match_save.specs.Saved.{IsSaveText, IsSaved, SavedValue, save_text}
+use Rattle.match_save.specs.Saved.{IsSaveText, IsSaved, SavedValue}
 use Rattle.match_save.specs.Saving.{Starts, saved_after}
 use Rattle.world_read.specs.Opened.{OpensAs}
 use Rattle.ants.specs.Files.{AreAccepted, FileContent, IsAccepted, Reads}

@@ -1,5 +1,5 @@
 -- the file was accepted, and its game went on
-use Rattle.std.proofs.Common.{◌≡◌, ℕ, Bool, ◌∷◌, [], ap, refl, subst}
+use Rattle.std.proofs.Common.{ℕ, Bool, ◌∷◌, [], ap, refl, subst}
 use Rattle.ant_base.specs.Sink.{PushedAll}
 use Rattle.command_words.specs.Command.PlainCommand.{ResumeCommand}
 use Rattle.match_run.specs.Play.{StoppedBy}

@@ -1,11 +1,10 @@
 -- the files were accepted, and their game was saved
-use Rattle.std.proofs.Common.{◌≡◌, ℕ, List, ◌∙◌, ap, refl, subst}
+use Rattle.std.proofs.Common.{◌∙◌, ap, refl, subst}
 use Rattle.ant_base.specs.Sink.{PushedAll, PushedFront}
 use Rattle.ant_turn.specs.Sheet.{sheet_of}
-use Rattle.command_words.specs.Command.{RunSetup}
 use Rattle.command_words.specs.Command.PlainCommand.{SaveCommand}
 use Rattle.match_save.specs.Saved.{save_text}
-use Rattle.ants.specs.Inner.Planning.{IsSheetOf, Plans, setting_contents}
+use Rattle.ants.specs.Inner.Planning.{setting_contents}
 use Rattle.ants.specs.Files.FileContent.{BrainContent, WorldContent}
 use Rattle.ants.specs.Jobs.{save_output}
 use Rattle.ants.proofs.Accepted.{fits_accepted, opened_accepted}

@@ -1,10 +1,9 @@
 -- the game that was played is saved
-use Rattle.std.proofs.Common.{◌≡◌, ◌∙◌, subst, refl, true, None, IfOk}
+use Rattle.std.proofs.Common.{◌≡◌, subst, refl, true, None, IfOk}
 use Rattle.ant_turn.specs.Minds.{AreSound, minds_of}
-use Rattle.cell_world.specs.Grid.{IsWorld, world_of}
+use Rattle.cell_world.specs.Grid.{IsWorld}
 use Rattle.match_run.specs.GameLaws.{IsAtRound}
 use Rattle.match_save.specs.Saved.{SavedValue}
-use Rattle.match_save.specs.Saving.{saved_after}
 use Rattle.round_book.specs.Book.{FieldValue}
 use Rattle.ants.proofs.Saves.{can_be_saved, saved_at}
 use Rattle.ants.proofs.save.saved_game.Goals as goal
