@@ -2,6 +2,7 @@
 use Rattle.std.proofs.Common.{◌≡◌, ◌≢◌, inl, inr, ⊎_elim, ℕ, suc, ◌+◌, ◌-◌, ◌<◌, ◌≤◌, false, List, [], ◌∷◌, ◌++◌, map, refl, sym, ◌∙◌, ap, subst, arith}
 use Rattle.std.specs.List.{AllByRecursion, Contains}
 use Rattle.std.proofs.lemmas.List.Elements.{Contains-append_right}
+use Rattle.list_lemmas.proofs.Elements.{Contains-cases, Contains-none}
 use Rattle.hex_geometry.specs.declared.position.Pos.{Pos}
 use Rattle.cell_world.specs.Cell.{one_if}
 use Rattle.cell_world.specs.Grid.{world_of}
@@ -32,7 +33,6 @@ use Rattle.round_book.specs.Book.{AgreesUnwritten, BookValue, CanPatchIn, CanTak
 use Rattle.round_book.specs.Machine.{taken}
 use Rattle.round_book.specs.Window.{HoldsIn, IsPlayable, IsVerdict, AreVerdicts, Window, guess_for, look_for, moment_before}
 use Rattle.round_book.proofs.MachineLemmas.{IsSound-playable, Keeps-moment_before, moment_before-suc}
-use Rattle.round_book.proofs.MarkLemmas.{Contains-cons, none_contained}
 use Rattle.round_book.proofs.PassLemmas.{patched_cells-other}
 use Rattle.round_book.proofs.WindowLemmas.{GoesOn-Keeps, LookIsTurn-window}
 
@@ -130,13 +130,13 @@ record Claimed (cells : Cells) (claims : List Claim) (read : Sighting) : Type 0 
   pub seen : read ≡ (claim.at, claim.parts, cells claim.at)
 
 find_claim : (cells : Cells) (claims : List Claim) (read : Sighting) → Contains (with_cells_at cells claims) read → Claimed cells claims read
-find_claim cells [] read held = none_contained read held
+find_claim cells [] read held = absurd (Contains-none read held)
 find_claim cells (c ∷ claims) read held = ⊎_elim
     (λ same. record { claim = c; is_read = (0, omega arith, refl); seen = sym same })
     (λ later.
     let found = find_claim cells claims read later in
     record { claim = found.claim; is_read = Contains-append_right (c ∷ []) claims found.claim found.is_read; seen = found.seen })
-    (Contains-cons (c.at, c.parts, cells c.at) (with_cells_at cells claims) read held)
+    (Contains-cases (c.at, c.parts, cells c.at) read (with_cells_at cells claims) held)
 
 -- what agrees with all sightings agrees with all claims
 agree_claims : (v w : Cells) (claims : List Claim) → AllByRecursion (λ read. Agree read.1 read.2 (w read.0)) (with_cells_at v claims) → AllByRecursion (λ c. Agree c.parts (v c.at) (w c.at)) claims

@@ -1,13 +1,14 @@
 -- What is counted is what holds.
 use Rattle.std.proofs.Common.{◌≡◌, ⊎_elim, ◌↔◌, ℕ, zero, suc, ◌+◌, ◌-◌, ◌≤◌, Bool, true, false, not, cond, ◌&&◌, ◌||◌, nat_eq, List, [], ◌∷◌, ◌++◌, length, Option, Some, None, option_map, refl, sym, ◌∙◌, ap, ap₂, subst, arith}
 use Rattle.std.specs.List.{AllByRecursion, count_by}
-use Rattle.std.proofs.lemmas.Bool.{eqb-true, eq-eqb, false≢true, false_from_ne_true, or_cases, or_left, or_right}
+use Rattle.std.proofs.lemmas.Bool.{and_from, and_parts, eq-eqb, eqb-true, false_from_ne_true, false≢true, or_cases, or_left, or_right}
 use Rattle.std.proofs.lemmas.List.Elements.{All-contains, All-from_recursion}
 use Rattle.std.proofs.lemmas.List.Sums.{sum_by_push}
 use Rattle.std.proofs.lemmas.List.{length-append}
 use Rattle.hex_geometry.specs.declared.direction.Dir.{Dir}
 use Rattle.hex_geometry.specs.Direction.{dir_of, number_of}
 use Rattle.hex_geometry.proofs.Turns.{dir_of_number_of}
+use Rattle.cell_world.proofs.GridSums.{one_if-le_one}
 use Rattle.cell_world.specs.declared.ant.Ant.{Ant}
 use Rattle.cell_world.specs.declared.ant.Colour.{Colour}
 use Rattle.cell_world.specs.declared.ant.Colour.TheVariants.{Red, Black}
@@ -34,16 +35,6 @@ use Rattle.round_book.specs.declared.verdict.Verdict.TheVariants.{Taken, Redone}
 use Rattle.round_book.specs.Counts.{counts_of, do_agree, is_alike, is_alike_if, is_taken, is_taken_verdict, is_unchanged, look_holds, same_identity, same_if_any, same_load, same_posture, taken_among}
 use Rattle.round_book.specs.Window.{AreVerdicts, HoldsIn, IsVerdict, Window, guess_for, look_for, moment_before}
 
--- both of two tests
-and_both : (x y : Bool) → (x && y) ≡ true → (x ≡ true) × (y ≡ true)
-and_both true true both = (refl, refl)
-and_both true false both = absurd (false≢true both)
-and_both false true both = absurd (false≢true both)
-and_both false false both = absurd (false≢true both)
-
-and_from : (x y : Bool) → x ≡ true → y ≡ true → (x && y) ≡ true
-and_from x y one other = ap₂ (λ a b. a && b) one other
-
 same_colour-true : (a b : Colour) → same_colour a b ≡ true → a ≡ b
 same_colour-true Red Red same = refl
 same_colour-true Red Black same = absurd (false≢true same)
@@ -64,7 +55,7 @@ one_if-same false false same = refl
 identity-test : (a b : Ant) → (same_identity a b ≡ true) ↔ (identity_of a ≡ identity_of b)
 identity-test a b = (
   λ same.
-      let both = and_both (nat_eq a.id b.id) (same_colour a.colour b.colour) same in
+      let both = and_parts (nat_eq a.id b.id) (same_colour a.colour b.colour) same in
       let made : ℕ → Colour → Identity = λ t c. record { id = t; colour = c } in
       ap₂ made (eqb-true a.id b.id both.0) (same_colour-true a.colour b.colour both.1),
   λ same. and_from (nat_eq a.id b.id) (same_colour a.colour b.colour) (eq-eqb a.id b.id (ap (λ (i : Identity). i.id) same))
@@ -74,8 +65,8 @@ identity-test a b = (
 posture-test : (a b : Ant) → (same_posture a b ≡ true) ↔ (posture_of a ≡ posture_of b)
 posture-test a b = (
   λ same.
-      let one = and_both (nat_eq a.state b.state) (nat_eq a.resting b.resting && nat_eq (number_of a.facing) (number_of b.facing)) same in
-      let two = and_both (nat_eq a.resting b.resting) (nat_eq (number_of a.facing) (number_of b.facing)) one.1 in
+      let one = and_parts (nat_eq a.state b.state) (nat_eq a.resting b.resting && nat_eq (number_of a.facing) (number_of b.facing)) same in
+      let two = and_parts (nat_eq a.resting b.resting) (nat_eq (number_of a.facing) (number_of b.facing)) one.1 in
       let made : ℕ → ℕ → Dir → Posture = λ s r f. record { state = s; resting = r; facing = f } in
       let facing : a.facing ≡ b.facing = sym (dir_of_number_of a.facing) ∙ ap dir_of (eqb-true (number_of a.facing) (number_of b.facing) two.1) ∙ dir_of_number_of b.facing in
       ap (λ s. made s a.resting a.facing) (eqb-true a.state b.state one.0) ∙ ap (λ r. made b.state r a.facing) (eqb-true a.resting b.resting two.0) ∙ ap (λ f. made b.state b.resting f) facing,
@@ -128,11 +119,11 @@ parts-test parts c d = (
 ) where
   each : do_agree parts c d ≡ true → (k : Part) → has_part parts k ≡ true → Alike k c d
   each e k =
-      let a = and_both (is_alike_if parts.who Who c d) _ e in
-      let b = and_both (is_alike_if parts.mind Mind c d) _ a.1 in
-      let l = and_both (is_alike_if parts.load Load c d) _ b.1 in
-      let f = and_both (is_alike_if parts.food Food c d) _ l.1 in
-      let m = and_both (is_alike_if parts.red_marks RedMarks c d) _ f.1 in
+      let a = and_parts (is_alike_if parts.who Who c d) _ e in
+      let b = and_parts (is_alike_if parts.mind Mind c d) _ a.1 in
+      let l = and_parts (is_alike_if parts.load Load c d) _ b.1 in
+      let f = and_parts (is_alike_if parts.food Food c d) _ l.1 in
+      let m = and_parts (is_alike_if parts.red_marks RedMarks c d) _ f.1 in
       elim k as (λ j. has_part parts j ≡ true → Alike j c d) [
         | Who ↦ (part_if-test parts.who Who c d).0 a.0
         | Mind ↦ (part_if-test parts.mind Mind c d).0 b.0
@@ -146,7 +137,7 @@ parts-test parts c d = (
 pub reads-test : (list : List Sighting) (cells : Cells) → (is_unchanged list cells ≡ true) ↔ AllByRecursion (λ read. Agree read.1 read.2 (cells read.0)) list
 reads-test [] cells = (λ e. tt, λ all. refl)
 reads-test (read ∷ list) cells = (
-  λ e. let both = and_both (do_agree read.1 read.2 (cells read.0)) (is_unchanged list cells) e in
+  λ e. let both = and_parts (do_agree read.1 read.2 (cells read.0)) (is_unchanged list cells) e in
       ((parts-test read.1 read.2 (cells read.0)).0 both.0, (reads-test list cells).0 both.1),
   λ all. and_from (do_agree read.1 read.2 (cells read.0)) (is_unchanged list cells) ((parts-test read.1 read.2 (cells read.0)).1 all.0) ((reads-test list cells).1 all.1),
 )
@@ -154,7 +145,7 @@ reads-test (read ∷ list) cells = (
 -- the test of a look is true exactly where the look holds
 pub look_holds-test : (look : LookValue) (cells : Cells) (place : ℕ) → (look_holds look cells place ≡ true) ↔ LookHolds look cells place
 look_holds-test look cells place = (
-  λ e. let both = and_both (is_unchanged look.reads cells) (not look.drew || nat_eq place look.guess) e in record {
+  λ e. let both = and_parts (is_unchanged look.reads cells) (not look.drew || nat_eq place look.guess) e in record {
     unchanged = (reads-test look.reads cells).0 both.0;
     guessed = λ drew. ⊎_elim (λ undrawn. absurd (false≢true (sym (ap not drew) ∙ undrawn))) (λ same. eqb-true place look.guess same) (or_cases (not look.drew) (nat_eq place look.guess) both.1);
   },
@@ -213,12 +204,8 @@ taken_among-le : (window : Window) (n : ℕ) → taken_among window n ≤ n
 taken_among-le window zero = omega arith
 taken_among-le window (suc n) =
     let rest : taken_among window n ≤ n = taken_among-le window n in
-    let one : one_if (is_taken window (window.from + n)) ≤ 1 = at_most (is_taken window (window.from + n)) in
+    let one : one_if (is_taken window (window.from + n)) ≤ 1 = one_if-le_one (is_taken window (window.from + n)) in
     omega arith
-  where
-    at_most : (b : Bool) → one_if b ≤ 1
-    at_most true = omega arith
-    at_most false = omega arith
 
 -- those that are taken and those that aren't are all
 pub counts-add_up : (window : Window) → (counts_of window).taken + (counts_of window).redone ≡ window.to - window.from

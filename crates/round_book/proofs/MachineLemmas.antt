@@ -51,7 +51,7 @@ times-append x (z ∷ xs) y =
     let rest : times x (xs ++ y ∷ []) ≡ times x xs + one_if (nat_eq y x) = times-append x xs y in
     omega arith
 
-times-same : (x : ℕ) (xs : List ℕ) → times x (xs ++ x ∷ []) ≡ times x xs + 1
+pub times-same : (x : ℕ) (xs : List ℕ) → times x (xs ++ x ∷ []) ≡ times x xs + 1
 times-same x xs = times-append x xs x ∙ ap (λ b. times x xs + one_if b) (eq-eqb x x refl)
 
 times-other : (x : ℕ) (xs : List ℕ) (y : ℕ) → y ≢ x → times x (xs ++ y ∷ []) ≡ times x xs

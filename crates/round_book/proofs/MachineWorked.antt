@@ -2,6 +2,7 @@
 use Rattle.std.proofs.Common.{◌≡◌, ⊎_elim, ℕ, zero, suc, ◌+◌, ◌-◌, ◌<◌, Bool, true, false, ◌||◌, nat_eq, slice_get, List, [], ◌∷◌, ◌++◌, None, Some, refl, sym, ◌∙◌, ap, subst, arith}
 use Rattle.std.proofs.lemmas.Bool.{eq-eqb, false≢true, or_left, or_right}
 use Rattle.std.specs.List.{Contains}
+use Rattle.list_lemmas.proofs.Elements.{Contains-cases, Contains-none}
 use Rattle.hex_geometry.specs.declared.position.Pos.{Pos}
 use Rattle.hex_geometry.specs.Direction.{directions}
 use Rattle.hex_geometry.specs.Neighbourhood.{adjacent_pos, neighbours_of}
@@ -39,7 +40,6 @@ use Rattle.round_book.specs.Window.{IsSound, IsVerdict, Window, guess_for, look_
 use Rattle.round_book.proofs.CountLemmas.{Redone-refutes, parts-test}
 use Rattle.round_book.proofs.CountsWorked.{all_seven}
 use Rattle.round_book.proofs.MachineLemmas.{AreLawful-append, IsReached-every}
-use Rattle.round_book.proofs.MarkLemmas.{Contains-cons, none_contained}
 use Rattle.round_book.proofs.WindowLemmas.{LookIsTurn-window}
 use Rattle.round_book.proofs.VerdictLemmas.{held, not_held, unlike}
 
@@ -49,11 +49,11 @@ is_among [] ticket = false
 is_among (put ∷ puts) ticket = nat_eq put.ticket ticket || is_among puts ticket
 
 among : (puts : List Put) (ticket hand : ℕ) → Contains puts (record { hand = hand; ticket = ticket }) → is_among puts ticket ≡ true
-among [] ticket hand held = none_contained _ held
+among [] ticket hand held = absurd (Contains-none _ held)
 among (put ∷ puts) ticket hand held = ⊎_elim
     (λ same. or_left (nat_eq put.ticket ticket) (is_among puts ticket) (eq-eqb put.ticket ticket (ap (λ (one : Put). one.ticket) same)))
     (λ later. or_right (nat_eq put.ticket ticket) (is_among puts ticket) (among puts ticket hand later))
-    (Contains-cons put puts (record { hand = hand; ticket = ticket }) held)
+    (Contains-cases put (record { hand = hand; ticket = ticket }) puts held)
 
 -- a ticket that isn't among them wasn't put
 not_put : (state : State) (ticket : ℕ) → is_among state.put ticket ≡ false → ¬ IsPut state ticket
@@ -138,13 +138,13 @@ out-of-order verdict can = not_put (after one_put) 0 refl can.is_put
 
 -- no look is put by a hand that didn't draw its ticket, none twice, and none of a ticket that nobody drew
 other-hand : ¬ IsLawful all_seven (after two_drawn) (Puts 0 1)
-other-hand can = ⊎_elim (λ same. let e : 0 ≡ 1 = same in omega arith) (λ none. none_contained 1 none) (Contains-cons 0 [] 1 can.is_held)
+other-hand can = ⊎_elim (λ same. let e : 0 ≡ 1 = same in omega arith) (λ none. absurd (Contains-none 1 none)) (Contains-cases 0 1 [] can.is_held)
 
 put-twice : ¬ IsLawful all_seven (after one_put) (Puts 1 1)
 put-twice can = can.is_new (1, (0, omega arith, refl))
 
 not-drawn : ¬ IsLawful all_seven (first_state all_seven) (Puts 0 0)
-not-drawn can = none_contained 0 can.is_held
+not-drawn can = absurd (Contains-none 0 can.is_held)
 
 -- turn 0 isn't executed anew, for whatever cause: its look holds
 holds-first : (found : Cause) → ¬ IsLawful all_seven (after two_put) (Settles (Redone found))
@@ -238,7 +238,7 @@ not-taken can = not_held all_seven (after three_put).now 2 refl can.is_verdict
 -- all that turn 2 reads
 read-two : (read : Claim) → Contains (reads all_seven.minds all_seven.base 2) read → read ≡ record { at = at 3 3; parts = record { who = true; mind = true; load = false; food = false; red_marks = false; black_marks = false } }
 unfolding reads merged put_cell same_pos neighbours_of adjacent_pos directions opening cell_in rock floor place_in
-read-two read held = ⊎_elim (λ same. sym same) (λ none. none_contained read none) (Contains-cons _ [] read held)
+read-two read held = ⊎_elim (λ same. sym same) (λ none. absurd (Contains-none read none)) (Contains-cases _ read [] held)
 
 not-read : ¬ IsLawful all_seven (after three_put) (Settles (Redone (cause.Part (at 3 3) Load)))
 not-read can = false≢true (ap (λ (read : Claim). has_part read.parts Load) (sym (read-two can.is_verdict.read can.is_verdict.is_read)) ∙ can.is_verdict.named)

@@ -1,9 +1,10 @@
 -- Positions that are marked, or whose marks are taken off, one after another.
-use Rattle.std.proofs.Common.{◌≡◌, ◌⊎◌, inl, inr, ⊎_elim, ◌↔◌, ℕ, zero, suc, ◌+◌, ◌*◌, ◌<◌, ◌≤◌, Bool, true, false, List, [], ◌∷◌, length, drop, slice_index_or, slice_set, refl, sym, ◌∙◌, ap, subst, arith, Some, None}
+use Rattle.std.proofs.Common.{◌≡◌, ◌⊎◌, inl, inr, ⊎_elim, ◌↔◌, ℕ, zero, suc, ◌+◌, ◌*◌, ◌<◌, ◌≤◌, Bool, true, false, List, [], ◌∷◌, length, drop, slice_index_or, slice_set, sym, ◌∙◌, ap, subst, arith, Some, None}
 use Rattle.std.specs.List.{AllByRecursion, Contains}
 use Rattle.std.proofs.lemmas.Bool.{cases_eq, false≢true}
 use Rattle.std.proofs.lemmas.List.{at_drop_all, drop_more, get_or-set_other, get_or-set_same, length-set}
-use Rattle.std.proofs.lemmas.List.Elements.{Contains-append_cases, Contains-append_right, Contains-get_or, Contains-push_cases}
+use Rattle.std.proofs.lemmas.List.Elements.{Contains-get_or}
+use Rattle.list_lemmas.proofs.Elements.{Contains-cases, Contains-first, Contains-later, Contains-none}
 use Rattle.hex_geometry.specs.declared.position.Pos.{Pos}
 use Rattle.hex_geometry.specs.Position.{IsInside}
 use Rattle.cell_world.specs.Grid.{Grid}
@@ -18,27 +19,10 @@ use Rattle.round_book.specs.Book.{Wrote}
 use Rattle.round_book.specs.Inner.Changes.{AgreesIfUnwritten, Changes, IsUnwritten}
 use Rattle.round_book.specs.Inner.Workspace.{AreMarked}
 
--- nothing is in the empty list
-pub none_contained : {A : Type 0} {B : Type 0} (x : A) → Contains [] x → B
-none_contained x held = absurd (let l : held.0 < 0 = held.1 in omega arith)
-
--- what is in a list is its first, or in the rest
-pub Contains-cons : {A : Type 0} (y : A) (xs : List A) (x : A) → Contains (y ∷ xs) x → (y ≡ x) ⊎ Contains xs x
-Contains-cons y xs x held = ⊎_elim
-    (λ first. ⊎_elim (λ none. none_contained x none) inl (Contains-push_cases [] y x first))
-    inr
-    (Contains-append_cases (y ∷ []) xs x held)
-
-Contains-first : {A : Type 0} (y : A) (xs : List A) → Contains (y ∷ xs) y
-Contains-first y xs = (0, omega arith, refl)
-
-Contains-later : {A : Type 0} (y : A) (xs : List A) (x : A) → Contains xs x → Contains (y ∷ xs) x
-Contains-later y xs x held = Contains-append_right (y ∷ []) xs x held
-
 Contains-place : (writes : List Sighting) (i : ℕ) (d : Sighting) → i < length writes → Contains (seen_positions writes) (slice_index_or writes i d).0
 Contains-place [] i d early = absurd (omega arith)
 Contains-place (write ∷ writes) zero d early = Contains-first write.0 (seen_positions writes)
-Contains-place (write ∷ writes) (suc i) d early = Contains-later write.0 (seen_positions writes) (slice_index_or writes i d).0 (Contains-place writes i d (omega arith))
+Contains-place (write ∷ writes) (suc i) d early = Contains-later write.0 (slice_index_or writes i d).0 (seen_positions writes) (Contains-place writes i d (omega arith))
 
 -- some of the writes are marked: all that was is still, nothing else but their positions is, and each of them is or is among those that are left
 pub record Marking (start : List Pos) (all : List Sighting) (now : List Pos) (left : List Sighting) : Type 0 where
@@ -59,7 +43,7 @@ Marking-step start all now i d new early marks before = record {
       (λ left. ⊎_elim
       (λ same. inl ((marks p).1 (inr (sym same))))
       inr
-      (Contains-cons (slice_index_or all i d).0 (seen_positions (drop (i + 1) all)) p (subst (λ left. Contains (seen_positions left) p) (drop_more all i d early) left)))
+      (Contains-cases (slice_index_or all i d).0 p (seen_positions (drop (i + 1) all)) (subst (λ left. Contains (seen_positions left) p) (drop_more all i d early) left)))
       (before.done p held);
 }
 
@@ -67,7 +51,7 @@ pub Marking-end : (start : List Pos) (all : List Sighting) (now : List Pos) (i :
 Marking-end start all now i late marking = λ p. (
   λ held. marking.from p held,
   λ cases. ⊎_elim (λ old. marking.old p old)
-      (λ new. ⊎_elim (λ held. held) (λ left. none_contained p (subst (λ (ps : List Pos). Contains ps p) (at_drop_all seen_positions all i late) left)) (marking.done p new))
+      (λ new. ⊎_elim (λ held. held) (λ left. absurd (Contains-none p (subst (λ (ps : List Pos). Contains ps p) (at_drop_all seen_positions all i late) left))) (marking.done p new))
       cases,
 )
 
@@ -93,14 +77,14 @@ Unmarking-step grid marked places i d early before =
     let in_grid : IsInside grid.width grid.height here = Unmarking-here grid marked places i d early before in
     record {
       sized = length-set marked at false ∙ before.sized;
-      inside = λ p held. before.inside p (subst (λ ps. Contains ps p) (sym open_left) (Contains-later here (drop (i + 1) places) p held));
+      inside = λ p held. before.inside p (subst (λ ps. Contains ps p) (sym open_left) (Contains-later here p (drop (i + 1) places) held));
       listed = λ p within bit. ⊎_elim
           (λ same. absurd (false≢true (sym (get_or-set_same marked at false false (subst (λ n. at < n) (sym before.sized) (index_of-inside grid.width grid.height here in_grid)))
           ∙ ap (λ k. slice_index_or (slice_set marked at false) k false) (sym same) ∙ bit)))
           (λ apart. ⊎_elim
           (λ first. absurd (apart (ap (index_of grid.width) (sym first))))
           (λ later. later)
-          (Contains-cons here (drop (i + 1) places) p (subst (λ ps. Contains ps p) open_left
+          (Contains-cases here p (drop (i + 1) places) (subst (λ ps. Contains ps p) open_left
           (before.listed p within (sym (get_or-set_other marked at (index_of grid.width p) false false apart) ∙ bit)))))
           (cases_eq (index_of grid.width p) at);
     }
@@ -108,9 +92,9 @@ Unmarking-step grid marked places i d early before =
 pub Unmarking-end : (grid : Grid) (marked : List Bool) (places : List Pos) (i : ℕ) → length places ≤ i → Unmarking grid marked (drop i places) → AreMarked grid marked []
 Unmarking-end grid marked places i late left = record {
   sized = left.sized;
-  inside = λ p held. none_contained p held;
+  inside = λ p held. absurd (Contains-none p held);
   listed = λ p within bit. subst (λ (ps : List Pos). Contains ps p) (at_drop_all (λ (ps : List Pos). ps) places i late) (left.listed p within bit);
-  bear = λ p held. none_contained p held;
+  bear = λ p held. absurd (Contains-none p held);
 }
 
 -- what was read and is left to compare
@@ -136,7 +120,7 @@ Comparing-end written cells reads i late before =
 pub Changes-among : (reads : List Sighting) (cells : Cells) (i : ℕ) (d : Sighting) (found : Cause) → i < length reads → Changes (slice_index_or reads i d ∷ []) cells (Some found) → Changes reads cells (Some found)
 Changes-among reads cells i d (cause.Part at k) early change = record {
   read = change.read;
-  is_read = ⊎_elim (λ same. subst (Contains reads) same (Contains-get_or reads i d early)) (λ none. none_contained change.read none) (Contains-cons (slice_index_or reads i d) [] change.read change.is_read);
+  is_read = ⊎_elim (λ same. subst (Contains reads) same (Contains-get_or reads i d early)) (λ none. absurd (Contains-none change.read none)) (Contains-cases (slice_index_or reads i d) change.read [] change.is_read);
   here = change.here;
   named = change.named;
   differs = change.differs;

@@ -2,6 +2,7 @@
 use Rattle.std.proofs.Common.{◌≡◌, ℕ, zero, suc, ◌+◌, ◌-◌, ◌<◌, ◌≤◌, List, [], ◌∷◌, ◌++◌, Option, Some, None, ⊎_elim, refl, sym, ◌∙◌, ap, ap₂, subst, arith}
 use Rattle.std.specs.List.{Contains}
 use Rattle.std.proofs.lemmas.List.Elements.{Contains-append_right, Contains-push_cases}
+use Rattle.list_lemmas.proofs.Elements.{Contains-none}
 use Rattle.ant_turn.specs.Rounds.{Moment, after_turn}
 use Rattle.round_book.specs.declared.verdict.Cause.{Cause}
 use Rattle.round_book.specs.declared.verdict.Verdict.{Verdict}
@@ -14,7 +15,6 @@ use Rattle.round_book.specs.Window.{AreVerdicts, HoldsIn, IsPlayable, IsVerdict,
 use Rattle.round_book.proofs.BookLemmas.{IsVerdict-cause, look_for-holds}
 use Rattle.round_book.proofs.FieldLemmas.{for-keeps, for-redone, for-taken, for-turn, for-unwritten, for-writes}
 use Rattle.round_book.proofs.MachineLemmas.{AreLawful-append, IsReached-every, IsSound-playable}
-use Rattle.round_book.proofs.MarkLemmas.{none_contained}
 use Rattle.round_book.proofs.WindowLemmas.{LookIsTurn-window}
 
 pub standing_books_settle : StandingBooksSettle
@@ -58,7 +58,7 @@ module _ (window : Window) (playable : IsPlayable window) where
   way_none verdicts none = record {
     events = [];
     lawful = tt;
-    went = record { drawn = refl; next = omega arith; verdicts = sym none; below = λ put is_put. none_contained put is_put };
+    went = record { drawn = refl; next = omega arith; verdicts = sym none; below = λ put is_put. absurd (Contains-none put is_put) };
   }
 
   -- one turn more

@@ -1,12 +1,12 @@
 -- Guesses, one after another, and the looks that are made at them.
 use Rattle.std.proofs.Common.{◌≡◌, ℕ, zero, suc, ◌+◌, ◌-◌, ◌<◌, ◌≤◌, ◌^◌, sym, ◌∙◌, ap, ap₂, arith}
+use Rattle.cell_world.proofs.GridSums.{one_if-le_one}
 use Rattle.cell_world.specs.Cell.{one_if}
 use Rattle.cell_world.specs.Grid.{Grid, world_of}
 use Rattle.cell_world.specs.World.{World}
 use Rattle.ant_turn.specs.Minds.{Minds}
 use Rattle.spec_record.specs.Guess.{flips, flips_among, guess}
 use Rattle.spec_record.specs.Look.{LookValue, look_of}
-use Rattle.spec_record.proofs.Flipping.{one_if-small}
 use Rattle.spec_record.proofs.Flips.{look-drew}
 use Rattle.round_book.specs.Book.{BookValue, FieldValue, IsSameWindow, StandsOn, window_of}
 use Rattle.round_book.specs.Window.{Window, guess_for, look_for}
@@ -16,7 +16,7 @@ flips_among-le : (minds : Minds) (w : World) (from n : ℕ) → flips_among mind
 flips_among-le minds w from zero = omega arith
 flips_among-le minds w from (suc n) =
     let rest : flips_among minds w from n ≤ n = flips_among-le minds w from n in
-    let one : one_if (flips minds w (from + n)) ≤ 1 = one_if-small (flips minds w (from + n)) in
+    let one : one_if (flips minds w (from + n)) ≤ 1 = one_if-le_one (flips minds w (from + n)) in
     omega arith
 
 -- the first guess, and the next one

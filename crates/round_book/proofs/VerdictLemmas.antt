@@ -1,6 +1,6 @@
 -- There is always something that may be said of a turn.
 use Rattle.std.proofs.Common.{◌≡◌, ◌⊎◌, inl, inr, ⊎_elim, ℕ, Bool, true, false, not, ◌&&◌, ◌||◌, nat_eq, List, [], ◌∷◌, refl, sym, ◌∙◌, arith}
-use Rattle.std.proofs.lemmas.Bool.{eq-eqb, false≢true}
+use Rattle.std.proofs.lemmas.Bool.{eq-eqb, false≢true, or_parts}
 use Rattle.std.proofs.lemmas.List.Elements.{Contains-append_right}
 use Rattle.hex_geometry.specs.declared.position.Pos.{Pos}
 use Rattle.cell_world.specs.declared.cell.Cell.{Cell}
@@ -28,10 +28,6 @@ use Rattle.round_book.proofs.CountLemmas.{look_holds-test, part-test, reads-test
 and_fails : (x y : Bool) → (x && y) ≡ false → (x ≡ false) ⊎ (y ≡ false)
 and_fails true y fails = inr fails
 and_fails false y fails = inl refl
-
-or_fails : (x y : Bool) → (x || y) ≡ false → (x ≡ false) × (y ≡ false)
-or_fails true y fails = absurd (false≢true (sym fails))
-or_fails false y fails = (refl, fails)
 
 not_fails : (x : Bool) → not x ≡ false → x ≡ true
 not_fails true fails = refl
@@ -102,7 +98,7 @@ find_change (read ∷ reads) cells fails = ⊎_elim
 -- why a look doesn't hold
 find_move : (look : LookValue) (now : Moment) → is_unchanged look.reads now.world.cells ≡ true → (not look.drew || nat_eq now.place look.guess) ≡ false → (found : Cause) × IsCause look now found
 find_move look now same fails =
-    let both = or_fails (not look.drew) (nat_eq now.place look.guess) fails in (
+    let both = or_parts (not look.drew) (nat_eq now.place look.guess) fails in (
       cause.Place look.guess now.place,
       record {
         unchanged = (reads-test look.reads now.world.cells).0 same;

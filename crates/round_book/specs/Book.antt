@@ -10,7 +10,7 @@ use Rattle.cell_world.specs.Parts.{Agree, Alike, CanPatch, has_part}
 use Rattle.cell_world.specs.World.{Cells, World, with_cells}
 use Rattle.ant_turn.specs.Minds.{Minds}
 use Rattle.ant_turn.specs.Rounds.{Moment, after_turn}
-use Rattle.spec_record.specs.Claims.{Sighting}
+use Rattle.spec_record.specs.Claims.{Sighting, seen_cell, seen_parts, seen_place, seen_positions}
 use Rattle.spec_record.specs.Holds.{LookHolds}
 use Rattle.spec_record.specs.Look.{LookValue}
 use Rattle.spec_record.specs.Patching.{CanSetWrites, patched_cells}
@@ -83,13 +83,13 @@ HoldsInBook book look = LookHolds look (world_of book.world).cells book.place
 pub record IsChanged (reads : List Sighting) (cells : Cells) (at : Pos) (k : Part) : Type 0 where
   pub read : Sighting
   pub is_read : Contains reads read
-  pub here : read.0 ≡ at
-  pub named : has_part read.1 k ≡ true
-  pub differs : ¬ Alike k read.2 (cells at)
+  pub here : seen_place read ≡ at
+  pub named : has_part (seen_parts read) k ≡ true
+  pub differs : ¬ Alike k (seen_cell read) (cells at)
 
 -- all that the look read is as it was, and its random number is another
 pub record IsMoved (look : LookValue) (now : Moment) (guessed actual : ℕ) : Type 0 where
-  pub unchanged : AllByRecursion (λ read. Agree read.1 read.2 (now.world.cells read.0)) look.reads
+  pub unchanged : AllByRecursion (λ read. Agree (seen_parts read) (seen_cell read) (now.world.cells (seen_place read))) look.reads
   pub drew : look.drew ≡ true
   pub is_guess : guessed ≡ look.guess
   pub is_actual : actual ≡ now.place
@@ -102,11 +102,11 @@ IsCause look now (cause.Place guessed actual) = IsMoved look now guessed actual
 
 -- where a read position wasn't written, its cell agrees in the parts that were read
 abbrev pub AgreesUnwritten : BookValue → Sighting → Type 0
-AgreesUnwritten book read = ¬ Contains book.written read.0 → Agree read.1 read.2 ((world_of book.world).cells read.0)
+AgreesUnwritten book read = ¬ Contains book.written (seen_place read) → Agree (seen_parts read) (seen_cell read) ((world_of book.world).cells (seen_place read))
 
 -- a write can be patched into the cell of its position, which is inside
 abbrev pub CanPatchIn : World → Sighting → Type 0
-CanPatchIn w write = IsInside w.width w.height write.0 × CanPatch (w.cells write.0) write.2 write.1
+CanPatchIn w write = IsInside w.width w.height (seen_place write) × CanPatch (w.cells (seen_place write)) (seen_cell write) (seen_parts write)
 
 -- writes may be set in a world: each can be patched at its position; and the patched cells may be set one after another, first those that
 -- don't raise the weight of their cell, then the others
@@ -125,7 +125,7 @@ pub record IsEnded (look : LookValue) (verdict : Verdict) (book new : BookValue)
     world = with_cells (world_of book.world) (patched_cells (world_of book.world).cells look.writes);
     place = book.place + one_if look.drew;
   }
-  pub written : Wrote book.written (map (λ write. write.0) look.writes) new.written
+  pub written : Wrote book.written (seen_positions look.writes) new.written
   pub next : new.next ≡ book.next + 1
   pub verdicts : new.verdicts ≡ book.verdicts ++ verdict ∷ []
 

@@ -9,7 +9,7 @@ use Rattle.cell_world.specs.declared.part.Parts.{Parts}
 use Rattle.cell_world.specs.Cell.{one_if}
 use Rattle.cell_world.specs.Colour.{same_colour}
 use Rattle.cell_world.specs.World.{Cells}
-use Rattle.spec_record.specs.Claims.{Sighting}
+use Rattle.spec_record.specs.Claims.{Sighting, seen_cell, seen_parts, seen_place}
 use Rattle.spec_record.specs.Look.{LookValue}
 use Rattle.round_book.specs.declared.verdict.Verdict.{Verdict}
 use Rattle.round_book.specs.declared.verdict.Verdict.TheVariants.{Taken, Redone}
@@ -57,7 +57,7 @@ do_agree parts c d =
 -- whether all that was read is as it was
 abbrev pub is_unchanged : List Sighting → Cells → Bool
 is_unchanged [] cells = true
-is_unchanged (read ∷ reads) cells = do_agree read.1 read.2 (cells read.0) && is_unchanged reads cells
+is_unchanged (read ∷ reads) cells = do_agree (seen_parts read) (seen_cell read) (cells (seen_place read)) && is_unchanged reads cells
 
 -- whether a look holds among cells at a place, as a test that computes
 abbrev pub look_holds : LookValue → Cells → ℕ → Bool

@@ -2,6 +2,7 @@
 use Rattle.std.proofs.Common.{◌≡◌, ◌≢◌, ◌≤◌, if◌then◌else◌, Bool, true, false, List, [], ◌∷◌, ◌++◌, length, refl, ◌∙◌, ap, subst, arith}
 use Rattle.std.specs.List.{AllByRecursion, flat_map}
 use Rattle.std.proofs.lemmas.Bool.{cond-false}
+use Rattle.list_lemmas.proofs.AllElements.{AllByRecursion-append}
 use Rattle.hex_geometry.specs.declared.position.Pos.{Pos}
 use Rattle.hex_geometry.specs.Direction.{directions, opposite}
 use Rattle.hex_geometry.specs.Neighbourhood.{adjacent_pos, neighbours_of}
@@ -21,12 +22,12 @@ use Rattle.spec_record.specs.Inner.Going.{beyond, fallen, fallen_at, going_reads
 use Rattle.spec_record.specs.Inner.Sightings.{all_sighted, sightings_of}
 use Rattle.spec_record.proofs.Noting.{manned-inner}
 use Rattle.spec_record.proofs.Ring.{among-beside, among-self, around-length, ring, ring-around, ring-beyond, ring-length}
-use Rattle.spec_record.proofs.Sighting.{all-append, all_sighted-append, all_sighted-fits, among, sightings_of-all}
+use Rattle.spec_record.proofs.Sighting.{all_sighted-append, all_sighted-fits, among, sightings_of-all}
 
 -- what holds of all that each brings holds of all that they bring
 flat_map-all : (P : Pos → Type 0) (f : Pos → List Pos) (places : List Pos) → AllByRecursion (λ r. AllByRecursion P (f r)) places → AllByRecursion P (flat_map f places)
 flat_map-all P f [] all = tt
-flat_map-all P f (r ∷ places) all = all-append P (f r) (flat_map f places) all.0 (flat_map-all P f places all.1)
+flat_map-all P f (r ∷ places) all = AllByRecursion-append P (f r) (flat_map f places) all.0 (flat_map-all P f places all.1)
 
 -- what holds of some positions, where these are taken or none
 all-if : (P : Pos → Type 0) (b : Bool) (places : List Pos) → (b ≡ true → AllByRecursion P places) → AllByRecursion P (if b then places else [])
@@ -67,7 +68,7 @@ beyond-all w p q valid left top = (beyond-ring w p q East valid left top, (beyon
 pub seen-ring : (w : World) (p q : Pos) → Valid w → 1 ≤ q.x → 1 ≤ q.y → AllByRecursion (λ r. among r (ring q) ≡ true) (seen_from w.cells p q)
 seen-ring w p q valid left top =
     let In : Pos → Type 0 = λ r. among r (ring q) ≡ true in
-    all-append In (places_around q) (flat_map (beyond w.cells p) (neighbours_of q)) (around-ring q) (flat_map-all In (beyond w.cells p) (neighbours_of q) (beyond-all w p q valid left top))
+    AllByRecursion-append In (places_around q) (flat_map (beyond w.cells p) (neighbours_of q)) (around-ring q) (flat_map-all In (beyond w.cells p) (neighbours_of q) (beyond-all w p q valid left top))
 
 -- the killed are where the checks are
 fallen_at-all : (P : Pos → Type 0) (cells last : Cells) (p q : Pos) (places : List Pos) → AllByRecursion P places → AllByRecursion (λ r. AllByRecursion P (fallen_at cells last p q r)) places
@@ -91,7 +92,7 @@ going_reads-fit w last p q d valid p_left p_top left top ahead =
     let corpses : List Sighting = sightings_of w.cells load_and_food (fallen w.cells last p q) in
     let own : among p (ring q) ≡ true = ring-around q p (from-beside p q d p_left p_top ahead) in
     let all : AllByRecursion (λ (s : Sighting). among s.0 (ring q) ≡ true) ((p, whole_ant, w.cells p) ∷ (checks ++ corpses)) =
-    (own, all-append (λ (s : Sighting). In s.0) checks corpses (sightings_of-all In w.cells (only part.Who) (seen_from w.cells p q) (seen-ring w p q valid left top)) (sightings_of-all In w.cells load_and_food (fallen w.cells last p q) (fallen-all In w.cells last p q (around-ring q)))) in
+    (own, AllByRecursion-append (λ (s : Sighting). In s.0) checks corpses (sightings_of-all In w.cells (only part.Who) (seen_from w.cells p q) (seen-ring w p q valid left top)) (sightings_of-all In w.cells load_and_food (fallen w.cells last p q) (fallen-all In w.cells last p q (around-ring q)))) in
     let fits = all_sighted-fits ((p, whole_ant, w.cells p) ∷ (checks ++ corpses)) (ring q) all in
     let same = ap length (all_sighted-append ((p, whole_ant, w.cells p) ∷ []) checks corpses) in
     omega (arith, fits, same, ring-length q)

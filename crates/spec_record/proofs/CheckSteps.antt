@@ -1,7 +1,8 @@
 -- Checks of surrounded ants, in two worlds at once.
 use Rattle.std.proofs.Common.{◌≡◌, inl, inr, ℕ, Bool, true, false, if◌then◌else◌, nat_le, Option, Some, None, option_map, List, [], ◌∷◌, ◌++◌, map, length, filter, refl, sym, ◌∙◌, ap, ap₂, subst}
-use Rattle.std.specs.List.{AllByRecursion}
+use Rattle.std.specs.List.{AllByRecursion, flat_map}
 use Rattle.std.proofs.lemmas.Bool.{cases_Bool, cond-true, cond-false}
+use Rattle.list_lemmas.proofs.AllElements.{AllByRecursion-append_first, AllByRecursion-append_second, AllByRecursion-weaker}
 use Rattle.hex_geometry.specs.declared.position.Pos.{Pos}
 use Rattle.hex_geometry.specs.Neighbourhood.{neighbours_of}
 use Rattle.cell_world.specs.declared.ant.Ant.{Ant}
@@ -69,11 +70,6 @@ filter-alike : {A : Type 0} (f g : A → Bool) (xs : List A) → AllByRecursion 
 filter-alike {A} f g [] all = refl
 filter-alike {A} f g (x ∷ xs) all = ap₂ (λ (b : Bool) (rest : List A). if b then x ∷ rest else rest) all.0 (filter-alike f g xs all.1)
 
--- what holds of each of a list, by another thing that holds of each
-pub all_map : {A : Type 0} (P Q : A → Type 0) (xs : List A) → ((x : A) → P x → Q x) → AllByRecursion P xs → AllByRecursion Q xs
-all_map {A} P Q [] f all = tt
-all_map {A} P Q (x ∷ xs) f all = (f x all.0, all_map P Q xs f all.1)
-
 -- what a check of a cell depends on: whose ant is there, and where there is one, whose ants are around it
 pub record Sees (v w : Cells) (x : Pos) : Type 0 where
   pub here : Alike Who (v x) (w x)
@@ -83,7 +79,7 @@ pub record Sees (v w : Cells) (x : Pos) : Type 0 where
 ants_among-alike : (v w : Cells) (colour : Colour) (places : List Pos) → AllByRecursion (λ n. Alike Who (v n) (w n)) places → ants_among v colour places ≡ ants_among w colour places
 ants_among-alike v w colour places all =
     ap length (filter-alike (λ q. is_ant_of colour (v q).ant) (λ q. is_ant_of colour (w q).ant) places
-    (all_map (λ n. Alike Who (v n) (w n)) (λ q. is_ant_of colour (v q).ant ≡ is_ant_of colour (w q).ant) places (λ q who. is_ant_of-alike colour (v q).ant (w q).ant who) all))
+    (AllByRecursion-weaker (λ n. Alike Who (v n) (w n)) (λ q. is_ant_of colour (v q).ant ≡ is_ant_of colour (w q).ant) places all (λ q who. is_ant_of-alike colour (v q).ant (w q).ant who)))
 
 has_foes-alike : (sheet : Sheet) (v w : Cells) (places : List Pos) (a b : Option Ant) → option_map identity_of a ≡ option_map identity_of b → (has_ant a ≡ true → AllByRecursion (λ n. Alike Who (v n) (w n)) places) →
     has_foes sheet v places a ≡ has_foes sheet w places b
@@ -141,13 +137,17 @@ no_new sheet v x q has = go (check_at sheet v x q).ant refl has where
 Sees-kept : (sheet : Sheet) (claims : List Claim) (v w : Cells) (x q : Pos) → InStep claims v w (check_at sheet v x) (check_at sheet w x) → Sees v w q → Sees (check_at sheet v x) (check_at sheet w x) q
 Sees-kept sheet claims v w x q step sees = record {
   here = InStep-keeps step q Who sees.here;
-  around = λ has. all_map (λ n. Alike Who (v n) (w n)) (λ n. Alike Who (check_at sheet v x n) (check_at sheet w x n)) (neighbours_of q) (λ n who. InStep-keeps step n Who who) (sees.around (no_new sheet v x q has));
+  around = λ has. AllByRecursion-weaker (λ n. Alike Who (v n) (w n)) (λ n. Alike Who (check_at sheet v x n) (check_at sheet w x n)) (neighbours_of q) (sees.around (no_new sheet v x q has)) (λ n who. InStep-keeps step n Who who);
 }
 
 -- what holds of all of two lists
 pub all_split : {A : Type 0} (P : A → Type 0) (xs ys : List A) → AllByRecursion P (xs ++ ys) → AllByRecursion P xs × AllByRecursion P ys
-all_split {A} P [] ys all = (tt, all)
-all_split {A} P (x ∷ xs) ys all = let rest : AllByRecursion P xs × AllByRecursion P ys = all_split P xs ys all.1 in ((all.0, rest.0), rest.1)
+all_split P xs ys all = (AllByRecursion-append_first P xs ys all, AllByRecursion-append_second P xs ys all)
+
+-- what holds of all that each brings
+pub all_of_flat_map : {A B : Type 0} (P : B → Type 0) (f : A → List B) (xs : List A) → AllByRecursion P (flat_map f xs) → AllByRecursion (λ x. AllByRecursion P (f x)) xs
+all_of_flat_map {A} {B} P f [] all = tt
+all_of_flat_map {A} {B} P f (x ∷ xs) all = let both : AllByRecursion P (f x) × AllByRecursion P (flat_map f xs) = all_split P (f x) (flat_map f xs) all in (both.0, all_of_flat_map P f xs both.1)
 
 -- claims of two lists
 claims_emptied-append : (xs ys : List Pos) → claims_emptied (xs ++ ys) ≡ claims_emptied xs ++ claims_emptied ys
@@ -168,8 +168,8 @@ check_steps sheet (x ∷ places) v w sees leaves =
     let first : InStep (claims_emptied (emptied_at sheet v x)) v w (check_at sheet v x) (check_at sheet w x) = check_step sheet v w x sees.0 parts.0 in
     let rest : Checked sheet (check_at sheet v x) (check_at sheet w x) places =
     check_steps sheet places (check_at sheet v x) (check_at sheet w x)
-    (all_map (Sees v w) (Sees (check_at sheet v x) (check_at sheet w x)) places (λ q seen. Sees-kept sheet (claims_emptied (emptied_at sheet v x)) v w x q first seen) sees.1)
-    (all_map (LeavesAlike v w) (LeavesAlike (check_at sheet v x) (check_at sheet w x)) later (λ r left. (InStep-keeps first r Load left.0, InStep-keeps first r Food left.1)) parts.1) in
+    (AllByRecursion-weaker (Sees v w) (Sees (check_at sheet v x) (check_at sheet w x)) places sees.1 (λ q seen. Sees-kept sheet (claims_emptied (emptied_at sheet v x)) v w x q first seen))
+    (AllByRecursion-weaker (LeavesAlike v w) (LeavesAlike (check_at sheet v x) (check_at sheet w x)) later parts.1 (λ r left. (InStep-keeps first r Load left.0, InStep-keeps first r Food left.1))) in
     record {
       step = subst (λ claims. InStep claims v w (check_all sheet v (x ∷ places)) (check_all sheet w (x ∷ places))) (sym (claims_emptied-append (emptied_at sheet v x) later)) (InStep-then first rest.step);
       killed = ap₂ (λ (l m : List ℕ). l ++ m) (killed_at-alike sheet v w x sees.0) rest.killed;

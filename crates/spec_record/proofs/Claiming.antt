@@ -1,5 +1,6 @@
 -- What is claimed at a position, and what merging of claims keeps.
 use Rattle.std.proofs.Common.{◌≡◌, ◌≢◌, inl, inr, Bool, true, false, ◌||◌, if◌then◌else◌, List, [], ◌∷◌, ◌++◌, map, refl, sym, ◌∙◌, ap, subst, arith}
+use Rattle.std.proofs.Math.Bool.{or-false}
 use Rattle.std.specs.List.{All, AllByRecursion, AllPairs}
 use Rattle.std.proofs.lemmas.List.Elements.{All-cons}
 use Rattle.std.proofs.lemmas.List.Kept.{AllPairs-cons}
@@ -55,10 +56,6 @@ or_assoc : (x y z : Bool) → ((x || y) || z) ≡ (x || (y || z))
 or_assoc true y z = refl
 or_assoc false y z = refl
 
-or_false : (x : Bool) → (x || false) ≡ x
-or_false true = refl
-or_false false = refl
-
 -- a union doesn't depend on the order
 pub union-comm : (a b : Parts) → union a b ≡ union b a
 union-comm a b = parts_same (union a b) (union b a) (λ k. has_part-union a b k ∙ or_comm (has_part a k) (has_part b k) ∙ sym (has_part-union b a k))
@@ -69,7 +66,7 @@ union-assoc a b c = parts_same (union (union a b) c) (union a (union b c)) λ k.
     ∙ sym (has_part-union a (union b c) k ∙ ap (λ t. has_part a k || t) (has_part-union b c k))
 
 pub union-none : (a : Parts) → union a no_parts ≡ a
-union-none a = parts_same (union a no_parts) a λ k. has_part-union a no_parts k ∙ ap (λ t. has_part a k || t) (has_part-none k) ∙ or_false (has_part a k)
+union-none a = parts_same (union a no_parts) a λ k. has_part-union a no_parts k ∙ ap (λ t. has_part a k || t) (has_part-none k) ∙ or-false (has_part a k)
 
 -- the last of three may come second
 union-swap : (a b c : Parts) → union (union a b) c ≡ union (union a c) b

@@ -3,6 +3,7 @@ use Rattle.std.proofs.Common.{◌≡◌, ◌≢◌, ◌≤◌, inl, inr, ℕ, Bo
 use Rattle.std.specs.List.{AllByRecursion, flat_map}
 use Rattle.std.proofs.Math.Path.{fun_ext}
 use Rattle.std.proofs.lemmas.Bool.{cases_Bool, cond-true, cond-false}
+use Rattle.list_lemmas.proofs.Elements.{append-empty}
 use Rattle.hex_geometry.specs.declared.position.Pos.{Pos}
 use Rattle.hex_geometry.specs.Direction.{directions}
 use Rattle.hex_geometry.specs.Neighbourhood.{adjacent_pos, neighbours_of}
@@ -79,10 +80,6 @@ emptied-flat sheet (p ∷ places) cells last distinct is =
     ∙ ap (λ more. emptied_at cells last p ++ more) (emptied-flat sheet places (check_at sheet cells p) last distinct.1 is ∙ flat_map-alike (emptied_at (check_at sheet cells p) last) (emptied_at cells last) places (alike_later sheet cells last p places distinct.0))
 
 -- where checks kill nobody they empty no cell
-append-none : {X : Type 0} (xs ys : List X) → xs ++ ys ≡ [] → (xs ≡ []) × (ys ≡ [])
-append-none [] ys none = (refl, none)
-append-none (x ∷ xs) ys none = absurd (cc)
-
 spared-none : (sheet : Sheet) (cells : Cells) (p : Pos) → killed_at sheet cells p ≡ [] → is_surrounded sheet cells p ≡ false
 spared-none sheet cells p none =
     elim (cases_Bool (is_surrounded sheet cells p)) [
@@ -96,7 +93,7 @@ spared-none sheet cells p none =
 pub emptied-none : (sheet : Sheet) (places : List Pos) (cells : Cells) → killed_all sheet cells places ≡ [] → emptied sheet cells places ≡ []
 emptied-none sheet [] cells none = refl
 emptied-none sheet (p ∷ places) cells none =
-    let parts : (killed_at sheet cells p ≡ []) × (killed_all sheet (check_at sheet cells p) places ≡ []) = append-none (killed_at sheet cells p) (killed_all sheet (check_at sheet cells p) places) none in
+    let parts : (killed_at sheet cells p ≡ []) × (killed_all sheet (check_at sheet cells p) places ≡ []) = append-empty (killed_at sheet cells p) (killed_all sheet (check_at sheet cells p) places) none in
     ap (λ some. some ++ emptied sheet (check_at sheet cells p) places) (cond-false _ (p ∷ []) [] (spared-none sheet cells p parts.0)) ∙ emptied-none sheet places (check_at sheet cells p) parts.1
 
 -- two directions, two neighbours

@@ -14,10 +14,6 @@ pub one_if-byte : (b : Bool) → bool_byte b ≡ one_if b
 one_if-byte true = refl
 one_if-byte false = refl
 
-pub one_if-small : (b : Bool) → one_if b ≤ 1
-one_if-small true = omega arith
-one_if-small false = omega arith
-
 -- nobody flips that has no place
 pub flips-dead : (minds : Minds) (w : World) (t : ℕ) → place_in w t ≡ None → flips minds w t ≡ false
 unfolding flips

@@ -1,8 +1,10 @@
 -- The cells near one, marked as they are noted.
 use Rattle.std.proofs.Common.{◌≡◌, inl, inr, ⊎_elim, ℕ, ◌<◌, Bool, true, false, ◌||◌, List, [], ◌∷◌, ◌++◌, replicate, slice_index_or, slice_set, refl, sym, ◌∙◌, ap, subst, arith}
+use Rattle.std.proofs.Math.Bool.{or-false, or-true}
 use Rattle.std.specs.List.{AllByRecursion}
-use Rattle.std.proofs.lemmas.Bool.{cases_Bool, cases_eq, cond-true, cond-false}
+use Rattle.std.proofs.lemmas.Bool.{cases_Bool, cases_eq, cond-false, cond-true, or_parts}
 use Rattle.std.proofs.lemmas.List.{get_or-replicate, get_or-set_other, get_or-set_same, length-replicate, length-set}
+use Rattle.list_lemmas.proofs.AllElements.{AllByRecursion-append}
 use Rattle.hex_geometry.specs.declared.position.Pos.{Pos}
 use Rattle.hex_geometry.specs.declared.direction.Dir.{Dir}
 use Rattle.hex_geometry.specs.declared.direction.Dir.TheVariants.{East, SouthEast, SouthWest, West, NorthWest, NorthEast}
@@ -15,10 +17,10 @@ use Rattle.cell_world.specs.declared.cell.Cell.{Cell}
 use Rattle.cell_world.specs.declared.part.Part.TheVariants as part
 use Rattle.cell_world.specs.declared.part.Parts.{Parts}
 use Rattle.cell_world.specs.Parts.{only, union}
+use Rattle.spec_record.proofs.Sighting.{or_rest}
 use Rattle.spec_record.specs.Claims.{Sighting}
 use Rattle.spec_record.specs.Inner.Near.{AreSeen, IsWithin, is_seen, number_near}
 use Rattle.spec_record.specs.Inner.Sightings.{sighted}
-use Rattle.spec_record.proofs.Sighting.{all-append}
 
 -- a neighbour is at most one column and row away
 pub within-beside : (q : Pos) (d : Dir) → IsWithin 1 q (adjacent_pos q d)
@@ -74,22 +76,6 @@ number_near-one q r s first second same =
     let i = second.up in
     pos_same (omega (arith, a, b, d, e, f, g, h, i, same)) (omega (arith, a, b, d, e, f, g, h, i, same))
 
-or-false : (b : Bool) → (b || false) ≡ b
-or-false true = refl
-or-false false = refl
-
-or-true : (b : Bool) → (b || true) ≡ true
-or-true true = refl
-or-true false = refl
-
-or-neither : (b c : Bool) → (b || c) ≡ false → (b ≡ false) × (c ≡ false)
-or-neither true c none = absurd (cc)
-or-neither false c none = (refl, none)
-
-or-second : (b c : Bool) → b ≡ false → (b || c) ≡ true → c ≡ true
-or-second true c wrong either = absurd (cc)
-or-second false c none either = either
-
 -- a position is in a list with one more where it is that one's, or was in it
 is_seen-more : (list : List Sighting) (new : Sighting) (p : Pos) → is_seen p (list ++ new ∷ []) ≡ (is_seen p list || same_pos new.0 p)
 is_seen-more [] new p = or-false (same_pos new.0 p)
@@ -103,7 +89,7 @@ is_seen-more (old ∷ list) new p = ap (λ b. same_pos old.0 p || b) (is_seen-mo
 pub sighted-unseen : (list : List Sighting) (new : Sighting) → is_seen new.0 list ≡ false → sighted list new ≡ list ++ new ∷ []
 sighted-unseen [] new none = refl
 sighted-unseen (old ∷ list) new none =
-    let both = or-neither (same_pos old.0 new.0) (is_seen new.0 list) none in
+    let both = or_parts (same_pos old.0 new.0) (is_seen new.0 list) none in
     cond-false _ _ _ both.0 ∙ ap (λ more. old ∷ more) (sighted-unseen list new both.1)
 
 -- one that is in the list, where the parts were named before, changes nothing
@@ -112,7 +98,7 @@ sighted-seen [] p parts cell is named = absurd (cc)
 sighted-seen (old ∷ list) p parts cell is named =
     elim (cases_Bool (same_pos old.0 p)) [
       | inl same ↦ cond-true _ _ _ same ∙ ap (λ (both : Parts). (old.0, both, old.2) ∷ list) named.0
-      | inr apart ↦ cond-false _ _ _ apart ∙ ap (λ more. old ∷ more) (sighted-seen list p parts cell (or-second (same_pos old.0 p) (is_seen p list) apart is) named.1)
+      | inr apart ↦ cond-false _ _ _ apart ∙ ap (λ more. old ∷ more) (sighted-seen list p parts cell (or_rest (same_pos old.0 p) (is_seen p list) apart is) named.1)
     ]
 
 -- one more is marked and listed
@@ -131,7 +117,7 @@ AreSeen-more q seen list r parts cell near named before = record {
       ∙ before.marks s within
       ∙ sym (is_seen-more list (r, parts, cell) s ∙ ap (λ b. is_seen s list || b) (same_pos_apart r s (λ e. other (ap (number_near q) (sym e)))) ∙ or-false (is_seen s list)))
       (cases_eq (number_near q s) (number_near q r));
-  named = all-append (λ (s : Sighting). union s.1 (only part.Who) ≡ s.1) list ((r, parts, cell) ∷ []) before.named (named, tt);
+  named = AllByRecursion-append (λ (s : Sighting). union s.1 (only part.Who) ≡ s.1) list ((r, parts, cell) ∷ []) before.named (named, tt);
 }
 
 -- who is at a position is noted where it wasn't

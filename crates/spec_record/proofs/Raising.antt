@@ -1,6 +1,7 @@
 -- A turn raises the weight of one cell at most.
 use Rattle.std.proofs.Common.{◌≡◌, ◌≢◌, inl, inr, ℕ, ◌≤◌, Option, Some, None, refl, sym, ◌∙◌, ap, subst, arith}
 use Rattle.std.proofs.lemmas.Bool.{false≢true}
+use Rattle.spec_record.proofs.Stepping.{stepped-to}
 use Rattle.hex_geometry.specs.declared.position.Pos.{Pos}
 use Rattle.hex_geometry.specs.Neighbourhood.{adjacent_pos}
 use Rattle.cell_world.specs.declared.ant.Ant.{Ant}
@@ -8,7 +9,7 @@ use Rattle.cell_world.specs.declared.cell.Cell.{Cell}
 use Rattle.cell_world.specs.Cell.{ant_weight, cell_weight}
 use Rattle.cell_world.specs.Inner.Replaces.{Replaces}
 use Rattle.cell_world.specs.World.{Cells, World, put_cell}
-use Rattle.cell_world.proofs.Puts.{put_cell-other, put_cell-same}
+use Rattle.cell_world.proofs.Puts.{put_cell-other}
 use Rattle.cell_world.proofs.ValidLemmas.{put_cell-all}
 use Rattle.brain_read.specs.declared.instr.Instr.{Instr}
 use Rattle.ant_turn.specs.Kills.{after_kill, check_all, places_around}
@@ -81,10 +82,6 @@ stepped-others sheet w p ant ahead next r apart =
     subst (Replaces (w.cells r)) (sym (put_cell-other (put_cell w.cells p (left_by_ant (w.cells p))) ahead (with_ant (w.cells ahead) (arrived sheet ant next)) r (λ e. apart (sym e))))
     (put_cell-all w p (left_by_ant (w.cells p)) (λ s c. Replaces (w.cells s) c) (Replaces-left_by_ant (w.cells p)) (λ s _. Replaces-self (w.cells s)) r)
 
-stepped-ahead : (sheet : Sheet) (cells : Cells) (p : Pos) (ant : Ant) (ahead : Pos) (next : ℕ) → stepped sheet cells p ant ahead next ahead ≡ with_ant (cells ahead) (arrived sheet ant next)
-unfolding stepped
-stepped-ahead sheet cells p ant ahead next = put_cell-same (put_cell cells p (left_by_ant (cells p))) ahead (with_ant (cells ahead) (arrived sheet ant next))
-
 does-raises : (sheet : Sheet) (w : World) (p : Pos) (ant : Ant) (instruction : Instr) (outcome : Outcome) → sheet.corpse ≤ 9 → (w.cells p).ant ≡ Some ant → Does instruction sheet w.cells p ant outcome → RaisesOne w.cells outcome.cells
 does-raises sheet w p ant instruction outcome light is (inl stayed) =
     let all : (r : Pos) → Replaces (w.cells r) (put_cell w.cells p stayed.new r) = put_cell-all w p stayed.new (λ r c. Replaces (w.cells r) c) (stays_replaces stayed.stays is) (λ r _. Replaces-self (w.cells r)) in
@@ -97,9 +94,9 @@ does-raises sheet w p ant instruction outcome light is (inr went) =
       others = λ r apart. Replaces-checked sheet there r (w.cells r) light ahead (stepped-others sheet w p ant ahead went.next r apart);
       own = λ no_more. elim (check_all-cell sheet (places_around ahead) there ahead) [
         | inl same ↦ absurd (arrives-heavier sheet (w.cells ahead) ant went.next (free_empty (w.cells ahead) went.free)
-            (subst (λ c. cell_weight c ≤ cell_weight (w.cells ahead)) (same ∙ stepped-ahead sheet w.cells p ant ahead went.next) no_more))
+            (subst (λ c. cell_weight c ≤ cell_weight (w.cells ahead)) (same ∙ stepped-to sheet w.cells p ant ahead went.next) no_more))
         | inr killed ↦
-            let is_now : check_all sheet there (places_around ahead) ahead ≡ after_kill sheet (with_ant (w.cells ahead) (arrived sheet ant went.next)) = killed ∙ ap (after_kill sheet) (stepped-ahead sheet w.cells p ant ahead went.next) in
+            let is_now : check_all sheet there (places_around ahead) ahead ≡ after_kill sheet (with_ant (w.cells ahead) (arrived sheet ant went.next)) = killed ∙ ap (after_kill sheet) (stepped-to sheet w.cells p ant ahead went.next) in
             subst (Replaces (w.cells ahead)) (sym is_now) (Replaces-perished sheet (w.cells ahead) ant went.next (subst (λ c. cell_weight c ≤ cell_weight (w.cells ahead)) is_now no_more))
       ];
     })

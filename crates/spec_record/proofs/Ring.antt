@@ -1,5 +1,6 @@
 -- The ring of 19 cells: a position, its neighbours and theirs.
 use Rattle.std.proofs.Common.{◌≡◌, ◌≤◌, Bool, true, false, ◌||◌, List, [], ◌∷◌, ◌++◌, length, map, refl, sym, ◌∙◌, ap, subst, arith}
+use Rattle.std.proofs.Math.Bool.{or-true}
 use Rattle.hex_geometry.specs.declared.position.Pos.{Pos}
 use Rattle.hex_geometry.specs.Direction.{directions, opposite, turned_by}
 use Rattle.hex_geometry.specs.Neighbourhood.{adjacent_pos, neighbours_of}
@@ -35,10 +36,6 @@ around-length q = refl
 
 among-first : (p q : Pos) (places : List Pos) → q ≡ p → among p (q ∷ places) ≡ true
 among-first p q places e = ap (λ b. b || among p places) (same_pos_equal q p e)
-
-or-true : (b : Bool) → (b || true) ≡ true
-or-true true = refl
-or-true false = refl
 
 among-later : (p q : Pos) (places : List Pos) → among p places ≡ true → among p (q ∷ places) ≡ true
 among-later p q places is = ap (λ b. same_pos q p || b) is ∙ or-true (same_pos q p)

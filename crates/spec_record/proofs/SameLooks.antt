@@ -3,6 +3,7 @@ use Rattle.std.proofs.Common.{◌≡◌, inl, inr, ℕ, zero, suc, ◌+◌, ◌-
 use Rattle.std.specs.Prelude.{◌==◌}
 use Rattle.std.specs.List.{AllByRecursion, flat_map}
 use Rattle.std.proofs.lemmas.Bool.{cases_Bool, cond-true, cond-false}
+use Rattle.list_lemmas.proofs.AllElements.{AllByRecursion-weaker}
 use Rattle.hex_geometry.specs.declared.position.Pos.{Pos}
 use Rattle.hex_geometry.specs.Direction.{turned_by}
 use Rattle.hex_geometry.specs.Neighbourhood.{adjacent_pos, neighbours_of, sensed_pos}
@@ -30,11 +31,11 @@ use Rattle.spec_record.specs.Look.{LookValue, look_of, look_with}
 use Rattle.spec_record.specs.Reads.{ant_and_food, emptied, load_and_food, neighbours_if_manned, reads, reads_acting, reads_besides, reads_from, reads_going, seen_around, who_and_mind, whole_ant}
 use Rattle.spec_record.specs.Writes.{writes_besides, writes_going}
 use Rattle.spec_record.specs.Inner.Standing.{rested_look}
-use Rattle.spec_record.proofs.CheckSteps.{Sees, all_map, all_split, is_surrounded-alike, no_new}
+use Rattle.spec_record.proofs.CheckSteps.{Sees, all_of_flat_map, all_split, is_surrounded-alike, no_new}
 use Rattle.spec_record.proofs.Claiming.{positions, positions-merged}
 use Rattle.spec_record.proofs.Emptying.{flat_map-alike}
 use Rattle.spec_record.proofs.Looking.{look_by, look_of-dead, look_of-executes, look_of-rests}
-use Rattle.spec_record.proofs.TurnSteps.{all_both, all_of_flat_map}
+use Rattle.spec_record.proofs.TurnSteps.{all_both}
 use Rattle.spec_record.specs.SameLooks.{LooksAgree, SameAt, SameForLook}
 
 -- where two worlds hold the same they do so afterwards
@@ -99,7 +100,7 @@ record SeesSame (v w : Cells) (x : Pos) : Type 0 where
 Sees-SeesSame : (v w : Cells) (x : Pos) → SeesSame v w x → Sees v w x
 Sees-SeesSame v w x it = record {
   here = ap (part part.Who) it.here;
-  around = λ has. all_map (λ n. v n ≡ w n) (λ n. Alike part.Who (v n) (w n)) (neighbours_of x) (λ n same. ap (part part.Who) same) (it.around has);
+  around = λ has. AllByRecursion-weaker (λ n. v n ≡ w n) (λ n. Alike part.Who (v n) (w n)) (neighbours_of x) (it.around has) (λ n same. ap (part part.Who) same);
 }
 
 is_surrounded-same : (sheet : Sheet) (v w : Cells) (x : Pos) → SeesSame v w x → is_surrounded sheet v x ≡ is_surrounded sheet w x
@@ -120,7 +121,7 @@ killed_at-same sheet v w x it = ap₂ (λ (b : Bool) (ids : List ℕ). if b then
 SeesSame-kept : (sheet : Sheet) (v w : Cells) (x q : Pos) → KeepSame v w (check_at sheet v x) (check_at sheet w x) → SeesSame v w q → SeesSame (check_at sheet v x) (check_at sheet w x) q
 SeesSame-kept sheet v w x q keeps it = record {
   here = keeps q it.here;
-  around = λ has. all_map (λ n. v n ≡ w n) (λ n. check_at sheet v x n ≡ check_at sheet w x n) (neighbours_of q) (λ n same. keeps n same) (it.around (no_new sheet v x q has));
+  around = λ has. AllByRecursion-weaker (λ n. v n ≡ w n) (λ n. check_at sheet v x n ≡ check_at sheet w x n) (neighbours_of q) (it.around (no_new sheet v x q has)) (λ n same. keeps n same);
 }
 
 -- checks of places that see the same
@@ -135,7 +136,7 @@ check_all-same sheet (x ∷ places) v w all =
     let first : KeepSame v w (check_at sheet v x) (check_at sheet w x) = check_at-same sheet v w x all.0 in
     let rest : ChecksSame sheet (check_at sheet v x) (check_at sheet w x) places =
     check_all-same sheet places (check_at sheet v x) (check_at sheet w x)
-    (all_map (SeesSame v w) (SeesSame (check_at sheet v x) (check_at sheet w x)) places (λ q it. SeesSame-kept sheet v w x q first it) all.1) in
+    (AllByRecursion-weaker (SeesSame v w) (SeesSame (check_at sheet v x) (check_at sheet w x)) places all.1 (λ q it. SeesSame-kept sheet v w x q first it)) in
     record {
       keeps = λ r same. rest.keeps r (first r same);
       killed = ap₂ (λ (l m : List ℕ). l ++ m) (killed_at-same sheet v w x all.0) rest.killed;
@@ -181,7 +182,7 @@ module _ (sheet : Sheet) (v w : Cells) (p : Pos) (ant : Ant) (q : Pos) (next : �
   seen_around-same v1 w1 all =
       ap (λ (l : List Pos). places_around q ++ l)
       (flat_map-alike (neighbours_if_manned v1) (neighbours_if_manned w1) (neighbours_of q)
-      (all_map (λ n. v1 n ≡ w1 n) (λ n. neighbours_if_manned v1 n ≡ neighbours_if_manned w1 n) (neighbours_of q) (λ n same. ap (λ (c : Cell). if has_ant c.ant then neighbours_of n else []) same) all.1))
+      (AllByRecursion-weaker (λ n. v1 n ≡ w1 n) (λ n. neighbours_if_manned v1 n ≡ neighbours_if_manned w1 n) (neighbours_of q) all.1 (λ n same. ap (λ (c : Cell). if has_ant c.ant then neighbours_of n else []) same)))
 
   first-same : (l : List Pos) → AllByRecursion (λ r. v r ≡ w r) (places_around q ++ l) → v q ≡ w q
   unfolding places_around
@@ -200,7 +201,7 @@ module _ (sheet : Sheet) (v w : Cells) (p : Pos) (ant : Ant) (q : Pos) (next : �
       let gone : AllByRecursion (λ r. v r ≡ w r) (emptied sheet v1 (places_around q)) = places-SameAt v w load_and_food (emptied sheet v1 (places_around q)) both.1 in
       let there : v q ≡ w q = first-same (flat_map (neighbours_if_manned v1) (neighbours_of q)) seen in
       let steps : KeepSame v w v1 w1 = stepped-same there in
-      let after : AllByRecursion (λ r. v1 r ≡ w1 r) (seen_around v1 q) = all_map (λ r. v r ≡ w r) (λ r. v1 r ≡ w1 r) (seen_around v1 q) (λ r same. steps r same) seen in
+      let after : AllByRecursion (λ r. v1 r ≡ w1 r) (seen_around v1 q) = AllByRecursion-weaker (λ r. v r ≡ w r) (λ r. v1 r ≡ w1 r) (seen_around v1 q) seen (λ r same. steps r same) in
       let near : AllByRecursion (λ r. v1 r ≡ w1 r) (places_around q) = (all_split (λ r. v1 r ≡ w1 r) (places_around q) (flat_map (neighbours_if_manned v1) (neighbours_of q)) after).0 in
       let checks : ChecksSame sheet v1 w1 (places_around q) = check_all-same sheet (places_around q) v1 w1 (SeesSame-around v1 w1 after) in
       record {
@@ -282,7 +283,7 @@ look_with-same : (v w : Cells) (t guess : ℕ) (seen seen_other left left_other 
 look_with-same v w t guess seen seen_other left left_other one other all deed within =
     let made : Bool → List ℕ → List (Pos × _ × Cell) → List (Pos × _ × Cell) → LookValue = λ drew killed read written. record { turn = t; guess = guess; drew = drew; reads = read; writes = written; killed = killed } in
     let read : with_cells_at v (merged seen) ≡ with_cells_at w (merged seen_other) = with_cells_at-same v w (merged seen) all ∙ ap (λ l. with_cells_at w (merged l)) deed.seen in
-    let after : SameAt one.cells other.cells (merged left) = positions-merged (λ p. one.cells p ≡ other.cells p) left (all_map (λ p. v p ≡ w p) (λ p. one.cells p ≡ other.cells p) (positions left) deed.out.keeps within) in
+    let after : SameAt one.cells other.cells (merged left) = positions-merged (λ p. one.cells p ≡ other.cells p) left (AllByRecursion-weaker (λ p. v p ≡ w p) (λ p. one.cells p ≡ other.cells p) (positions left) within deed.out.keeps) in
     let written : with_cells_at one.cells (merged left) ≡ with_cells_at other.cells (merged left_other) = with_cells_at-same one.cells other.cells (merged left) after ∙ ap (λ l. with_cells_at other.cells (merged l)) deed.left in
     ap₂ (λ drew killed. made drew killed (with_cells_at v (merged seen)) (with_cells_at one.cells (merged left))) deed.out.drew deed.out.killed
     ∙ ap₂ (made other.drew other.killed) read written

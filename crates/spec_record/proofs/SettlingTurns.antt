@@ -1,6 +1,7 @@
 -- The writes of a look that holds may be set, one after another, and make the turn.
 use Rattle.std.proofs.Common.{◌≡◌, ◌≢◌, ℕ, ◌≤◌, false, List, [], ◌∷◌, sym, ◌∙◌, ap, subst, arith}
 use Rattle.std.specs.List.{AllByRecursion}
+use Rattle.list_lemmas.proofs.AllElements.{AllByRecursion-weaker}
 use Rattle.hex_geometry.specs.declared.position.Pos.{Pos}
 use Rattle.cell_world.specs.Parts.{no_parts}
 use Rattle.cell_world.specs.Valid.{Valid}
@@ -15,7 +16,6 @@ use Rattle.spec_record.specs.Locality.{GoesOn}
 use Rattle.spec_record.specs.Look.{look_of}
 use Rattle.spec_record.specs.Patching.{CanSetWrites, after_heavier, after_lighter, parts_at, patched_cells}
 use Rattle.spec_record.specs.Writes.{writes}
-use Rattle.spec_record.proofs.CheckSteps.{all_map}
 use Rattle.spec_record.proofs.Claiming.{own_parts, parts_at-fresh, seen_positions-claims, positions}
 use Rattle.spec_record.proofs.Patched.{look_step, patched-none, turn-patched, written_once}
 use Rattle.spec_record.proofs.Raising.{RaisesOne, turn-raises}
@@ -37,13 +37,12 @@ all_at_places P after (c ∷ claims) all = (all.0, all_at_places P after claims 
 step-makes : (claims : List Claim) (v w v' w' : Cells) → InStep claims v w v' w' → EachOnce (positions claims) → AllByRecursion (Makes w w') (with_cells_at v' claims)
 step-makes claims v w v' w' step once =
     all_with_cells (Makes w w') v' claims
-    (all_map (λ c. parts_at claims c.at ≡ c.parts) (λ c. Makes w w' (c.at, c.parts, v' c.at)) claims
-    (λ c own.
+    (AllByRecursion-weaker (λ c. parts_at claims c.at ≡ c.parts) (λ c. Makes w w' (c.at, c.parts, v' c.at)) claims (own_parts claims once) (λ c own.
     let at : CellStep c.parts (v c.at) (w c.at) (v' c.at) (w' c.at) = subst (λ parts. CellStep parts (v c.at) (w c.at) (v' c.at) (w' c.at)) own (step.each c.at) in
     record {
       can_patch = at.can;
       makes = sym (patched-only (w c.at) (v' c.at) c.parts at.can (w' c.at) (record { named = λ k named. sym (at.named k named); others = at.now_others; same_kind = at.same_kind; same_hill = at.same_hill }));
-    }) (own_parts claims once))
+    }))
 
 -- and leaves all others
 step-others : (claims : List Claim) (v w v' w' : Cells) → InStep claims v w v' w' → (p : Pos) → AllByRecursion (λ r. r ≢ p) (positions claims) → w' p ≡ w p
@@ -69,7 +68,7 @@ module _ (minds : Minds) (seed : ℕ) (base : World) (guess : ℕ) (now : World)
         still = (Keeps-turn minds seed now place t sound valid fits).valid;
         once = subst EachOnce (seen_positions-claims after claims) once;
         made = step-makes claims base.cells now.cells after (turn minds seed now place t).cells step once;
-        clear = all_at_places (λ q. (now.cells q).rocky ≡ false) after claims (all_map (λ q. (base.cells q).rocky ≡ false) (λ q. (now.cells q).rocky ≡ false) (positions claims) (λ q clear. goes.rocks q ∙ clear) (writes-clear minds base t valid_base));
+        clear = all_at_places (λ q. (now.cells q).rocky ≡ false) after claims (AllByRecursion-weaker (λ q. (base.cells q).rocky ≡ false) (λ q. (now.cells q).rocky ≡ false) (positions claims) (writes-clear minds base t valid_base) (λ q clear. goes.rocks q ∙ clear));
         rocks = λ p. (step.each p).same_kind;
         hills = λ p. (step.each p).same_hill;
         others = λ p fresh. step-others claims base.cells now.cells after (turn minds seed now place t).cells step p (subst (AllByRecursion (λ r. r ≢ p)) (sym (seen_positions-claims after claims)) fresh);

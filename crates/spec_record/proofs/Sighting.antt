@@ -3,7 +3,7 @@ use Rattle.std.proofs.Common.{◌≡◌, inl, inr, ℕ, zero, suc, ◌+◌, ◌�
 use Rattle.std.specs.List.{AllByRecursion, flat_map, refill}
 use Rattle.std.proofs.Math.Seq.{drop-cons, drop-length, take-length}
 use Rattle.std.proofs.lemmas.List.{append-nil, length-set}
-use Rattle.std.proofs.lemmas.Bool.{cases_Bool, cond-true, cond-false}
+use Rattle.std.proofs.lemmas.Bool.{cases_Bool, cond-false, cond-true, or_right}
 use Rattle.hex_geometry.specs.declared.position.Pos.{Pos}
 use Rattle.hex_geometry.specs.Position.{same_pos}
 use Rattle.hex_geometry.proofs.Places.{same_pos_true}
@@ -151,13 +151,10 @@ abbrev without : Pos → List Pos → List Pos
 without p [] = []
 without p (q ∷ places) = cond (same_pos q p) places (q ∷ without p places)
 
-or-false : (a b : Bool) → a ≡ false → (a || b) ≡ true → b ≡ true
-or-false true b wrong either = absurd (cc)
-or-false false b is either = either
-
-or-second : (a b : Bool) → b ≡ true → (a || b) ≡ true
-or-second true b second = refl
-or-second false b second = second
+-- one of two holds, and not the first
+pub or_rest : (a b : Bool) → a ≡ false → (a || b) ≡ true → b ≡ true
+or_rest true b wrong either = absurd (cc)
+or_rest false b is either = either
 
 or-first : (a b : Bool) → a ≡ true → (a || b) ≡ true
 or-first true b first = refl
@@ -168,17 +165,17 @@ without-length p [] is = absurd (cc)
 without-length p (q ∷ places) is =
     elim (cases_Bool (same_pos q p)) [
       | inl same ↦ ap (λ list. suc (length list)) (sym (cond-true _ places (q ∷ without p places) same))
-      | inr apart ↦ ap suc (without-length p places (or-false _ _ apart is)) ∙ ap (λ list. suc (length list)) (sym (cond-false _ places (q ∷ without p places) apart))
+      | inr apart ↦ ap suc (without-length p places (or_rest _ _ apart is)) ∙ ap (λ list. suc (length list)) (sym (cond-false _ places (q ∷ without p places) apart))
     ]
 
 without-among : (p r : Pos) (places : List Pos) → same_pos p r ≡ false → among r places ≡ true → among r (without p places) ≡ true
 without-among p r [] other is = is
 without-among p r (q ∷ places) other is =
     elim (cases_Bool (same_pos q p)) [
-      | inl same ↦ rw (cond-true _ _ _ same) (or-false (same_pos q r) _ (ap (λ s. same_pos s r) (same_pos_true q p same) ∙ other) is)
+      | inl same ↦ rw (cond-true _ _ _ same) (or_rest (same_pos q r) _ (ap (λ s. same_pos s r) (same_pos_true q p same) ∙ other) is)
       | inr apart ↦ rw (cond-false _ _ _ apart) (elim (cases_Bool (same_pos q r)) [
         | inl here ↦ or-first (same_pos q r) _ here
-        | inr there ↦ or-second (same_pos q r) _ (without-among p r places other (or-false _ _ there is))
+        | inr there ↦ or_right (same_pos q r) _ (without-among p r places other (or_rest _ _ there is))
       ])
     ]
 
@@ -231,11 +228,6 @@ sightings_of-room list whole cells parts more n is fits =
 pub sightings_of-all : (P : Pos → Type 0) (cells : Cells) (parts : Parts) (places : List Pos) → AllByRecursion P places → AllByRecursion (λ s. P s.0) (sightings_of cells parts places)
 sightings_of-all P cells parts [] all = tt
 sightings_of-all P cells parts (r ∷ places) all = (all.0, sightings_of-all P cells parts places all.1)
-
--- of two lists together
-pub all-append : {X : Type 0} (P : X → Type 0) (xs ys : List X) → AllByRecursion P xs → AllByRecursion P ys → AllByRecursion P (xs ++ ys)
-all-append P [] ys first second = second
-all-append P (x ∷ xs) ys first second = (first.0, all-append P xs ys first.1 second)
 
 -- claims of the same parts at some positions
 pub claims-sightings_of : (cells : Cells) (parts : Parts) (places : List Pos) → with_cells_at cells (map (λ r. claim r parts) places) ≡ sightings_of cells parts places

@@ -2,6 +2,7 @@
 use Rattle.std.proofs.Common.{◌≡◌, inl, inr, ℕ, zero, suc, ◌≤◌, Bool, true, false, if◌then◌else◌, Option, Some, None, List, [], ◌∷◌, ◌++◌, map, length, refl, sym, ap, subst, arith}
 use Rattle.std.specs.List.{AllByRecursion}
 use Rattle.std.proofs.lemmas.Bool.{cases_Bool, cond-true, cond-false, or_left, or_right}
+use Rattle.list_lemmas.proofs.AllElements.{AllByRecursion-append, AllByRecursion-weaker}
 use Rattle.hex_geometry.specs.declared.position.Pos.{Pos}
 use Rattle.hex_geometry.specs.Neighbourhood.{adjacent_pos}
 use Rattle.hex_geometry.specs.Position.{IsInner}
@@ -27,12 +28,11 @@ use Rattle.spec_record.specs.Inner.Sightings.{all_sighted}
 use Rattle.spec_record.specs.Reads.{ant_and_food, emptied, load_and_food, reads, reads_acting, reads_besides, reads_from, reads_going, reads_of, seen_around, who_and_mind}
 use Rattle.spec_record.specs.Writes.{writes, writes_acting, writes_besides, writes_from, writes_going, writes_of}
 use Rattle.spec_record.proofs.Bounds.{from-beside, seen-ring}
-use Rattle.spec_record.proofs.CheckSteps.{all_map}
 use Rattle.spec_record.proofs.Claiming.{positions}
 use Rattle.spec_record.proofs.Emptying.{seen_around-from}
 use Rattle.spec_record.proofs.Ring.{among-self, around-length, ring, ring-around, ring-length}
 use Rattle.spec_record.proofs.SettlingTurns.{all_at_places}
-use Rattle.spec_record.proofs.Sighting.{all-append, all_sighted-fits, among, with_cells_at-merged}
+use Rattle.spec_record.proofs.Sighting.{all_sighted-fits, among, with_cells_at-merged}
 
 -- whose ants decide the checks around the cell that an ant enters are in the ring around it
 near_seen : (sheet : Sheet) (w : World) (p : Pos) (ant : Ant) (q : Pos) (next : ℕ) → Valid w → 1 ≤ q.x → 1 ≤ q.y → AllByRecursion (λ r. among r (ring q) ≡ true) (seen_around (stepped sheet w.cells p ant q next) q)
@@ -44,17 +44,17 @@ emptied_in : (sheet : Sheet) (places : List Pos) (v : Cells) → AllByRecursion 
 emptied_in sheet [] v = tt
 emptied_in sheet (x ∷ places) v =
     let In : Pos → Type 0 = λ r. among r (x ∷ places) ≡ true in
-    all-append In (if is_surrounded sheet v x then x ∷ [] else []) (emptied sheet (check_at sheet v x) places)
+    AllByRecursion-append In (if is_surrounded sheet v x then x ∷ [] else []) (emptied sheet (check_at sheet v x) places)
     (elim (cases_Bool (is_surrounded sheet v x)) [
       | inl struck ↦ subst (AllByRecursion In) (sym (cond-true _ (x ∷ []) [] struck)) (or_left (same_pos x x) (among x places) (same_pos_self x), tt)
       | inr spared ↦ subst (AllByRecursion In) (sym (cond-false _ (x ∷ []) [] spared)) tt
     ])
-    (all_map (λ r. among r places ≡ true) In (emptied sheet (check_at sheet v x) places) (λ q found. or_right (same_pos x q) (among q places) found) (emptied_in sheet places (check_at sheet v x)))
+    (AllByRecursion-weaker (λ r. among r places ≡ true) In (emptied sheet (check_at sheet v x) places) (emptied_in sheet places (check_at sheet v x)) (λ q found. or_right (same_pos x q) (among q places) found))
 
 -- every position of a list is in it
 in_itself : (places : List Pos) → AllByRecursion (λ r. among r places ≡ true) places
 in_itself [] = tt
-in_itself (p ∷ places) = (or_left (same_pos p p) (among p places) (same_pos_self p), all_map (λ r. among r places ≡ true) (λ r. among r (p ∷ places) ≡ true) places (λ q found. or_right (same_pos p q) (among q places) found) (in_itself places))
+in_itself (p ∷ places) = (or_left (same_pos p p) (among p places) (same_pos_self p), AllByRecursion-weaker (λ r. among r places ≡ true) (λ r. among r (p ∷ places) ≡ true) places (in_itself places) (λ q found. or_right (same_pos p q) (among q places) found))
 
 -- as many positions as claims, and as many with cells
 length-positions : (claims : List Claim) → length (positions claims) ≡ length claims
@@ -114,10 +114,10 @@ module _ (minds : Minds) (w : World) (valid : Valid w) (p : Pos) (ant : Ant) (is
       let inner : IsInner w.width w.height q = valid.rim q (free_clear (w.cells q) free) in
       let gone : List Pos = emptied minds.sheet there (places_around q) in
       let seen : AllByRecursion (λ r. among r (ring q) ≡ true) (positions (map (λ r. claim r (only part.Who)) (seen_around there q))) = subst (AllByRecursion (λ r. among r (ring q) ≡ true)) (sym (positions-map (only part.Who) (seen_around there q))) (near_seen minds.sheet w p ant q next valid inner.from_left inner.from_top) in
-      let left : AllByRecursion (λ r. among r (ring q) ≡ true) (positions (map (λ r. claim r load_and_food) gone)) = subst (AllByRecursion (λ r. among r (ring q) ≡ true)) (sym (positions-map load_and_food gone)) (all_map (λ r. among r (places_around q) ≡ true) (λ r. among r (ring q) ≡ true) gone (λ r found. ring-around q r found) (emptied_in minds.sheet (places_around q) there)) in
+      let left : AllByRecursion (λ r. among r (ring q) ≡ true) (positions (map (λ r. claim r load_and_food) gone)) = subst (AllByRecursion (λ r. among r (ring q) ≡ true)) (sym (positions-map load_and_food gone)) (AllByRecursion-weaker (λ r. among r (places_around q) ≡ true) (λ r. among r (ring q) ≡ true) gone (emptied_in minds.sheet (places_around q) there) (λ r found. ring-around q r found)) in
       let more : AllByRecursion (λ r. among r (ring q) ≡ true) (positions (map (λ r. claim r (only part.Who)) (seen_around there q) ++ map (λ r. claim r load_and_food) gone)) =
       subst (AllByRecursion (λ r. among r (ring q) ≡ true)) (sym (positions-append (map (λ r. claim r (only part.Who)) (seen_around there q)) (map (λ r. claim r load_and_food) gone)))
-      (all-append (λ r. among r (ring q) ≡ true) (positions (map (λ r. claim r (only part.Who)) (seen_around there q))) (positions (map (λ r. claim r load_and_food) gone)) seen left) in
+      (AllByRecursion-append (λ r. among r (ring q) ≡ true) (positions (map (λ r. claim r (only part.Who)) (seen_around there q))) (positions (map (λ r. claim r load_and_food) gone)) seen left) in
       let own : among p (ring q) ≡ true = ring-around q p own_around in
       let less = merged-within (claim p who_and_mind ∷ reads_going minds.sheet w.cells p ant q next) (ring q) (own, (own, more)) in
       let nineteen : length (ring q) ≡ 19 = ring-length q in

@@ -20,6 +20,7 @@ use Rattle.ant_turn.specs.Sheet.{Sheet}
 use Rattle.ant_turn.specs.Turn.{arrived, has_ant, left_by_ant, stepped, with_ant}
 use Rattle.ant_turn.proofs.Checks.{check_at-spared, killed_at-spared}
 use Rattle.ant_turn.proofs.Foes.{ants_among-cons}
+use Rattle.spec_record.proofs.CheckSteps.{all_of_flat_map, all_split}
 use Rattle.spec_record.specs.Claims.{EachOnce, Sighting, seen_positions}
 use Rattle.spec_record.specs.Reads.{neighbours_if_manned, seen_around}
 use Rattle.spec_record.specs.Inner.Sightings.{all_sighted, sighted, sightings_of}
@@ -28,16 +29,6 @@ use Rattle.spec_record.proofs.Sighting.{Apart}
 -- no ant of this colour is at a position
 abbrev pub NoneAt : Colour → Cells → Pos → Type 0
 NoneAt colour cells p = is_ant_of colour (cells p).ant ≡ false
-
--- what holds of a list and of what follows it
-all-split : {X : Type 0} (P : X → Type 0) (xs ys : List X) → AllByRecursion P (xs ++ ys) → AllByRecursion P xs × AllByRecursion P ys
-all-split P [] ys all = (tt, all)
-all-split P (x ∷ xs) ys all = let rest = all-split P xs ys all.1 in ((all.0, rest.0), rest.1)
-
--- and of all that each brings
-all-flat : (P : Pos → Type 0) (f : Pos → List Pos) (places : List Pos) → AllByRecursion P (flat_map f places) → AllByRecursion (λ r. AllByRecursion P (f r)) places
-all-flat P f [] all = tt
-all-flat P f (r ∷ places) all = let both = all-split P (f r) (flat_map f places) all in (both.0, all-flat P f places both.1)
 
 all-then : (P Q : Pos → Type 0) → ((r : Pos) → P r → Q r) → (places : List Pos) → AllByRecursion P places → AllByRecursion Q places
 all-then P Q so [] all = tt
@@ -117,8 +108,8 @@ spared sheet cells colour r (Some ant) is some none beside =
 calm-around : (sheet : Sheet) (cells : Cells) (colour : Colour) (q : Pos) → 1 ≤ sheet.surround → AllByRecursion (NoneAt (foe_of colour) cells) (seen_around cells q) → AllByRecursion (λ r. is_surrounded sheet cells r ≡ false) (places_around q)
 unfolding places_around
 calm-around sheet cells colour q some all =
-    let both = all-split (NoneAt (foe_of colour) cells) (q ∷ neighbours_of q) (flat_map (neighbours_if_manned cells) (neighbours_of q)) all in
-    (spared sheet cells colour q (cells q).ant refl some both.0.0 (λ manned. both.0.1), go (neighbours_of q) both.0.1 (all-flat (NoneAt (foe_of colour) cells) (neighbours_if_manned cells) (neighbours_of q) both.1))
+    let both = all_split (NoneAt (foe_of colour) cells) (q ∷ neighbours_of q) (flat_map (neighbours_if_manned cells) (neighbours_of q)) all in
+    (spared sheet cells colour q (cells q).ant refl some both.0.0 (λ manned. both.0.1), go (neighbours_of q) both.0.1 (all_of_flat_map (NoneAt (foe_of colour) cells) (neighbours_if_manned cells) (neighbours_of q) both.1))
   where
     go : (places : List Pos) → AllByRecursion (NoneAt (foe_of colour) cells) places → AllByRecursion (λ r. AllByRecursion (NoneAt (foe_of colour) cells) (neighbours_if_manned cells r)) places → AllByRecursion (λ r. is_surrounded sheet cells r ≡ false) places
     go [] own beyond = tt

@@ -3,6 +3,7 @@ use Rattle.std.proofs.Common.{◌≡◌, ◌≢◌, ℕ, zero, suc, ◌+◌, ◌
 use Rattle.std.specs.Prelude.{◌==◌}
 use Rattle.std.specs.List.{AllByRecursion, flat_map}
 use Rattle.std.proofs.lemmas.Bool.{cond-true, eq-eqb}
+use Rattle.list_lemmas.proofs.AllElements.{AllByRecursion-weaker}
 use Rattle.hex_geometry.specs.declared.position.Pos.{Pos}
 use Rattle.hex_geometry.specs.Direction.{turned_by}
 use Rattle.hex_geometry.specs.Neighbourhood.{adjacent_pos, neighbours_of, sensed_pos}
@@ -37,7 +38,7 @@ use Rattle.spec_record.specs.Holds.{Holds}
 use Rattle.spec_record.specs.Locality.{GoesOn}
 use Rattle.spec_record.specs.Reads.{asked, emptied, load_and_food, marks_part, neighbours_if_manned, reads, reads_acting, reads_besides, reads_from, reads_going, reads_of, seen_around, whole_ant}
 use Rattle.spec_record.specs.Writes.{writes_acting, writes_besides, writes_from, writes_going, writes_of}
-use Rattle.spec_record.proofs.CheckSteps.{Checked, LeavesAlike, Sees, all_map, all_split, check_steps, claims_emptied, has_ant-alike, is_ant_of-alike}
+use Rattle.spec_record.proofs.CheckSteps.{Checked, LeavesAlike, Sees, all_of_flat_map, all_split, check_steps, claims_emptied, has_ant-alike, is_ant_of-alike}
 use Rattle.spec_record.proofs.Claiming.{AgreeInAll, AgreeInAll-merged, parts_at-both}
 use Rattle.spec_record.proofs.OwnSteps.{arrived_step, black_step, food_step, left_step, mind_step, red_step}
 use Rattle.spec_record.proofs.Steps.{CellStep, InStep, InStep-keeps, InStep-none, InStep-put, InStep-same, InStep-then}
@@ -86,10 +87,6 @@ all_of_map : {A B : Type 0} (P : B → Type 0) (f : A → B) (xs : List A) → A
 all_of_map {A} {B} P f [] all = tt
 all_of_map {A} {B} P f (x ∷ xs) all = (all.0, all_of_map P f xs all.1)
 
-pub all_of_flat_map : {A B : Type 0} (P : B → Type 0) (f : A → List B) (xs : List A) → AllByRecursion P (flat_map f xs) → AllByRecursion (λ x. AllByRecursion P (f x)) xs
-all_of_flat_map {A} {B} P f [] all = tt
-all_of_flat_map {A} {B} P f (x ∷ xs) all = let both : AllByRecursion P (f x) × AllByRecursion P (flat_map f xs) = all_split P (f x) (flat_map f xs) all in (both.0, all_of_flat_map P f xs both.1)
-
 pub all_both : {A : Type 0} (P Q R : A → Type 0) (xs : List A) → ((x : A) → P x → Q x → R x) → AllByRecursion P xs → AllByRecursion Q xs → AllByRecursion R xs
 all_both {A} P Q R [] f first second = tt
 all_both {A} P Q R (x ∷ xs) f first second = (f x first.0 second.0, all_both P Q R xs f first.1 second.1)
@@ -134,8 +131,8 @@ module _ (sheet : Sheet) (v w : Cells) (p : Pos) (ant : Ant) (q : Pos) (next : �
       let whos : AllByRecursion (λ r. Agree (only part.Who) (v r) (w r)) seen = all_of_map P (λ r. claim r (only part.Who)) seen both.0 in
       let loads : AllByRecursion (λ r. Agree load_and_food (v r) (w r)) gone = all_of_map P (λ r. claim r load_and_food) gone both.1 in
       let checks : Checked sheet v1 w1 (places_around q) = check_steps sheet (places_around q) v1 w1
-      (seen_alike v1 w1 (all_map (λ r. Agree (only part.Who) (v r) (w r)) (λ r. Alike part.Who (v1 r) (w1 r)) seen (λ r who. InStep-keeps step_step r part.Who (who part.Who refl)) whos))
-      (all_map (λ r. Agree load_and_food (v r) (w r)) (LeavesAlike v1 w1) gone (λ r left. (InStep-keeps step_step r part.Load (left part.Load refl), InStep-keeps step_step r part.Food (left part.Food refl))) loads) in
+      (seen_alike v1 w1 (AllByRecursion-weaker (λ r. Agree (only part.Who) (v r) (w r)) (λ r. Alike part.Who (v1 r) (w1 r)) seen whos (λ r who. InStep-keeps step_step r part.Who (who part.Who refl))))
+      (AllByRecursion-weaker (λ r. Agree load_and_food (v r) (w r)) (LeavesAlike v1 w1) gone loads (λ r left. (InStep-keeps step_step r part.Load (left part.Load refl), InStep-keeps step_step r part.Food (left part.Food refl)))) in
       record {
         step = InStep-same (λ r. sym (parts_at-both p (only part.Mind) whole_ant (claim q whole_ant ∷ claims_emptied gone) r)) (InStep-then step_step checks.step);
         drew = refl;

@@ -2,6 +2,7 @@
 use Rattle.std.proofs.Common.{◌≡◌, inl, inr, ℕ, zero, suc, Bool, true, false, if◌then◌else◌, Option, Some, None, List, [], ◌∷◌, map, refl, sym, ap, subst}
 use Rattle.std.specs.List.{AllByRecursion}
 use Rattle.std.proofs.lemmas.Bool.{cases_Bool, false≢true}
+use Rattle.list_lemmas.proofs.AllElements.{AllByRecursion-append, AllByRecursion-weaker}
 use Rattle.hex_geometry.specs.declared.position.Pos.{Pos}
 use Rattle.hex_geometry.specs.Neighbourhood.{adjacent_pos}
 use Rattle.cell_world.specs.declared.ant.Ant.{Ant}
@@ -20,20 +21,19 @@ use Rattle.ant_turn.proofs.KeptByTurns.{free_clear}
 use Rattle.spec_record.specs.Claims.{claim}
 use Rattle.spec_record.specs.Reads.{ant_and_food, emptied}
 use Rattle.spec_record.specs.Writes.{writes, writes_acting, writes_besides, writes_from, writes_going, writes_of}
-use Rattle.spec_record.proofs.CheckSteps.{all_map, no_new}
+use Rattle.spec_record.proofs.CheckSteps.{no_new}
 use Rattle.spec_record.proofs.Claiming.{positions, positions-merged}
-use Rattle.spec_record.proofs.Sighting.{all-append}
 
 -- the cells that checks empty held ants
 pub emptied-manned : (sheet : Sheet) (places : List Pos) (v : Cells) → AllByRecursion (λ r. has_ant (v r).ant ≡ true) (emptied sheet v places)
 emptied-manned sheet [] v = tt
 emptied-manned sheet (x ∷ places) v =
-    all-append (λ r. has_ant (v r).ant ≡ true) (if is_surrounded sheet v x then x ∷ [] else []) (emptied sheet (check_at sheet v x) places)
+    AllByRecursion-append (λ r. has_ant (v r).ant ≡ true) (if is_surrounded sheet v x then x ∷ [] else []) (emptied sheet (check_at sheet v x) places)
     (elim (cases_Bool (is_surrounded sheet v x)) [
       | inl struck ↦ let it : Struck sheet v x = is_surrounded-true sheet v x struck in rw struck (ap has_ant it.is, tt)
       | inr spared ↦ rw spared tt
     ])
-    (all_map (λ r. has_ant (check_at sheet v x r).ant ≡ true) (λ r. has_ant (v r).ant ≡ true) (emptied sheet (check_at sheet v x) places) (λ r. no_new sheet v x r) (emptied-manned sheet places (check_at sheet v x)))
+    (AllByRecursion-weaker (λ r. has_ant (check_at sheet v x r).ant ≡ true) (λ r. has_ant (v r).ant ≡ true) (emptied sheet (check_at sheet v x) places) (emptied-manned sheet places (check_at sheet v x)) (λ r. no_new sheet v x r))
 
 -- an ant that may be there
 manned-clear : (w : World) (valid : Valid w) (p : Pos) (o : Option Ant) → (w.cells p).ant ≡ o → has_ant o ≡ true → (w.cells p).rocky ≡ false
@@ -68,8 +68,7 @@ module _ (w : World) (valid : Valid w) (p : Pos) (ant : Ant) (is : (w.cells p).a
     (
       free_clear (w.cells q) free,
       subst AreClear (sym (positions-emptied (emptied sheet (stepped sheet w.cells p ant q next) (places_around q))))
-          (all_map (λ r. has_ant (stepped sheet w.cells p ant q next r).ant ≡ true) (λ r. (w.cells r).rocky ≡ false) (emptied sheet (stepped sheet w.cells p ant q next) (places_around q)) (stepped-clear sheet w p ant q next valid free)
-          (emptied-manned sheet (places_around q) (stepped sheet w.cells p ant q next))),
+          (AllByRecursion-weaker (λ r. has_ant (stepped sheet w.cells p ant q next r).ant ≡ true) (λ r. (w.cells r).rocky ≡ false) (emptied sheet (stepped sheet w.cells p ant q next) (places_around q)) (emptied-manned sheet (places_around q) (stepped sheet w.cells p ant q next)) (stepped-clear sheet w p ant q next valid free)),
     ),
   )
 

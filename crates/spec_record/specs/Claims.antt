@@ -34,9 +34,19 @@ merged claims = merged_onto [] claims
 abbrev pub Sighting : Type 0
 Sighting = Pos × Parts × Cell
 
+-- each of the three by its name
+abbrev pub seen_place : Sighting → Pos
+seen_place sighting = sighting.0
+
+abbrev pub seen_parts : Sighting → Parts
+seen_parts sighting = sighting.1
+
+abbrev pub seen_cell : Sighting → Cell
+seen_cell sighting = sighting.2
+
 -- the positions of sightings
 abbrev pub seen_positions : List Sighting → List Pos
-seen_positions sightings = map (λ sighting. sighting.0) sightings
+seen_positions sightings = map seen_place sightings
 
 -- each position is there once
 abbrev pub EachOnce : List Pos → Type 0

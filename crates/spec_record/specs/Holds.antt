@@ -4,6 +4,7 @@ use Rattle.std.specs.List.{AllByRecursion}
 use Rattle.cell_world.specs.Parts.{Agree}
 use Rattle.cell_world.specs.World.{Cells, World}
 use Rattle.ant_turn.specs.Minds.{Minds}
+use Rattle.spec_record.specs.Claims.{seen_cell, seen_parts, seen_place}
 use Rattle.spec_record.specs.Guess.{flips}
 use Rattle.spec_record.specs.Look.{LookValue}
 use Rattle.spec_record.specs.Reads.{reads}
@@ -16,5 +17,5 @@ pub record Holds (minds : Minds) (base : World) (guess : ℕ) (now : World) (pla
 
 -- the same, of what a look in hand has stored
 pub record LookHolds (look : LookValue) (cells : Cells) (place : ℕ) : Type 0 where
-  pub unchanged : AllByRecursion (λ read. Agree read.1 read.2 (cells read.0)) look.reads
+  pub unchanged : AllByRecursion (λ read. Agree (seen_parts read) (seen_cell read) (cells (seen_place read))) look.reads
   pub guessed : look.drew ≡ true → place ≡ look.guess

@@ -9,7 +9,7 @@ use Rattle.cell_world.specs.World.{Cells, World, place_in, with_cells}
 use Rattle.cell_world.specs.declared.part.Part.{Part}
 use Rattle.ant_turn.specs.Minds.{AreSound, Fits, Minds}
 use Rattle.ant_turn.specs.Turn.{Outcome, turn}
-use Rattle.spec_record.specs.Claims.{Claim, merged}
+use Rattle.spec_record.specs.Claims.{Claim, merged, seen_cell, seen_parts, seen_place}
 use Rattle.spec_record.specs.Guess.{flips}
 use Rattle.spec_record.specs.Holds.{Holds, LookHolds}
 use Rattle.spec_record.specs.Look.{LookValue, look_of}
@@ -50,9 +50,9 @@ pub record IsLookedAt (look : LookValue) (cells : Cells) (outcome : Outcome) : T
   pub drew : outcome.drew ≡ look.drew
   pub killed : outcome.killed ≡ look.killed
   -- each part that it writes is as in the look
-  pub written : AllByRecursion (λ write. Agree write.1 (outcome.cells write.0) write.2) look.writes
+  pub written : AllByRecursion (λ write. Agree (seen_parts write) (outcome.cells (seen_place write)) (seen_cell write)) look.writes
   -- every part that it doesn't write stays, with the ground and the hill of each cell
-  pub others : (p : Pos) (k : Part) → AllByRecursion (λ write. write.0 ≡ p → has_part write.1 k ≡ false) look.writes →
+  pub others : (p : Pos) (k : Part) → AllByRecursion (λ write. seen_place write ≡ p → has_part (seen_parts write) k ≡ false) look.writes →
       Alike k (outcome.cells p) (cells p)
   pub rocks : (p : Pos) → (outcome.cells p).rocky ≡ (cells p).rocky
   pub hills : (p : Pos) → (outcome.cells p).hill ≡ (cells p).hill

@@ -8,7 +8,7 @@ use Rattle.cell_world.specs.Cell.{cell_weight}
 use Rattle.cell_world.specs.Parts.{CanPatch, no_parts, patched, union}
 use Rattle.cell_world.specs.Valid.{CanSet}
 use Rattle.cell_world.specs.World.{Cells, World, put, put_cell}
-use Rattle.spec_record.specs.Claims.{Claim, Sighting}
+use Rattle.spec_record.specs.Claims.{Claim, Sighting, seen_cell, seen_parts, seen_place}
 
 -- the parts of a claim, at its position
 abbrev pub parts_there : Claim → Pos → Parts
@@ -21,11 +21,11 @@ parts_at (c ∷ claims) p = union (parts_there c p) (parts_at claims p)
 
 -- the cell that a write makes of the one at its position: that cell with the named parts of the write's
 abbrev pub patched_by_write : Cells → Sighting → Cell
-patched_by_write cells write = patched (cells write.0) write.2 write.1
+patched_by_write cells write = patched (cells (seen_place write)) (seen_cell write) (seen_parts write)
 
 -- the cells with a write's parts set
 abbrev pub with_write : Cells → Sighting → Cells
-with_write cells write = put_cell cells write.0 (patched_by_write cells write)
+with_write cells write = put_cell cells (seen_place write) (patched_by_write cells write)
 
 -- the cells with the parts of writes set, one write after another
 abbrev pub patched_cells : Cells → List Sighting → Cells
@@ -34,20 +34,20 @@ patched_cells cells (write ∷ writes) = patched_cells (with_write cells write) 
 
 -- whether a write raises the weight of its cell
 abbrev pub raises : Cells → Sighting → Bool
-raises cells write = nat_lt (cell_weight (cells write.0)) (cell_weight (patched_by_write cells write))
+raises cells write = nat_lt (cell_weight (cells (seen_place write))) (cell_weight (patched_by_write cells write))
 
 -- a write may be set in a world: its cell can be patched, and the patched cell may be set
 pub record CanWrite (w : World) (room : ℕ) (write : Sighting) : Type 0 where
-  pub can_patch : CanPatch (w.cells write.0) write.2 write.1
-  pub can_set : CanSet w room write.0 (patched_by_write w.cells write)
+  pub can_patch : CanPatch (w.cells (seen_place write)) (seen_cell write) (seen_parts write)
+  pub can_set : CanSet w room (seen_place write) (patched_by_write w.cells write)
 
 -- the world with a write set, if it doesn't raise its cell's weight
 abbrev pub with_lighter : World → Sighting → World
-with_lighter w write = if raises w.cells write then w else put w write.0 (patched_by_write w.cells write)
+with_lighter w write = if raises w.cells write then w else put w (seen_place write) (patched_by_write w.cells write)
 
 -- and if it does
 abbrev pub with_heavier : World → Sighting → World
-with_heavier w write = if raises w.cells write then put w write.0 (patched_by_write w.cells write) else w
+with_heavier w write = if raises w.cells write then put w (seen_place write) (patched_by_write w.cells write) else w
 
 -- the world with those writes set that don't raise their cell's weight
 abbrev pub after_lighter : World → List Sighting → World

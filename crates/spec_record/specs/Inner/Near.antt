@@ -7,7 +7,7 @@ use Rattle.cell_world.specs.declared.ant.Colour.{Colour}
 use Rattle.cell_world.specs.declared.part.Part.TheVariants as part
 use Rattle.cell_world.specs.Cell.{is_ant_of}
 use Rattle.cell_world.specs.Parts.{only, union}
-use Rattle.spec_record.specs.Claims.{Sighting}
+use Rattle.spec_record.specs.Claims.{Sighting, seen_cell, seen_parts}
 
 -- at most n columns and n rows apart
 pub record IsWithin (n : ℕ) (q r : Pos) : Type 0 where
@@ -29,8 +29,8 @@ is_seen p (old ∷ sightings) = same_pos old.0 p || is_seen p sightings
 pub record AreSeen (q : Pos) (seen : List Bool) (list : List Sighting) : Type 0 where
   pub sized : length seen ≡ 25
   pub marks : (r : Pos) → IsWithin 2 q r → slice_index_or seen (number_near q r) false ≡ is_seen r list
-  pub named : AllByRecursion (λ sighting. union sighting.1 (only part.Who) ≡ sighting.1) list
+  pub named : AllByRecursion (λ sighting. union (seen_parts sighting) (only part.Who) ≡ seen_parts sighting) list
 
 -- no ant of a colour is on the cells that were seen
 abbrev pub AreNoneOf : Colour → List Sighting → Type 0
-AreNoneOf colour list = AllByRecursion (λ sighting. is_ant_of colour sighting.2.ant ≡ false) list
+AreNoneOf colour list = AllByRecursion (λ sighting. is_ant_of colour (seen_cell sighting).ant ≡ false) list

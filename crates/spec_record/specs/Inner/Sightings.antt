@@ -5,12 +5,12 @@ use Rattle.hex_geometry.specs.Position.{same_pos}
 use Rattle.cell_world.specs.declared.part.Parts.{Parts}
 use Rattle.cell_world.specs.Parts.{union}
 use Rattle.cell_world.specs.World.{Cells}
-use Rattle.spec_record.specs.Claims.{Sighting}
+use Rattle.spec_record.specs.Claims.{Sighting, seen_cell, seen_parts, seen_place}
 
 -- one sighting more: where the position is in the list the parts go there, else it comes last
 abbrev pub sighted : List Sighting → Sighting → List Sighting
 sighted [] new = new ∷ []
-sighted (old ∷ sightings) new = if same_pos old.0 new.0 then (old.0, union old.1 new.1, old.2) ∷ sightings else old ∷ sighted sightings new
+sighted (old ∷ sightings) new = if same_pos (seen_place old) (seen_place new) then (seen_place old, union (seen_parts old) (seen_parts new), seen_cell old) ∷ sightings else old ∷ sighted sightings new
 
 -- these sightings, and then more
 abbrev pub all_sighted : List Sighting → List Sighting → List Sighting
@@ -24,4 +24,4 @@ sightings_of cells parts places = map (λ r. (r, parts, cells r)) places
 -- at which number a position is in the list, or how long the list is
 abbrev pub seen_number : Pos → List Sighting → ℕ
 seen_number p [] = zero
-seen_number p (old ∷ sightings) = if same_pos old.0 p then zero else suc (seen_number p sightings)
+seen_number p (old ∷ sightings) = if same_pos (seen_place old) p then zero else suc (seen_number p sightings)

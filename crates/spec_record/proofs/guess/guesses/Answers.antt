@@ -1,10 +1,11 @@
 -- one guess more
 use Rattle.std.proofs.Common.{◌≡◌, ℕ, append_assoc, add-one, ◌+◌, ◌-◌, ◌≤◌, List, [], ◌∷◌, ◌++◌, sym, ◌∙◌, ap, arith}
+use Rattle.cell_world.proofs.GridSums.{one_if-le_one}
 use Rattle.cell_world.specs.Grid.{world_of}
 use Rattle.cell_world.specs.Cell.{one_if}
 use Rattle.ant_turn.specs.Minds.{minds_of}
 use Rattle.spec_record.specs.Guess.{flips, guess, guesses_of}
-use Rattle.spec_record.proofs.Flipping.{guess-first, guess-next, guesses_of-next, one_if-byte, one_if-small}
+use Rattle.spec_record.proofs.Flipping.{guess-first, guess-next, guesses_of-next, one_if-byte}
 use Rattle.spec_record.proofs.guess.guesses.Goals as goal
 
 pub loop-id-init : goal.loop-id-init
@@ -24,7 +25,7 @@ loop-id-preserved c =
     let id = c.loop-id.id in
     let rest = guesses_of minds w c.args.place c.args.from (id + 1) (c.args.to - (id + 1)) in
     let drew : c.from-next.result ≡ one_if (flips minds w id) = c.from-next.ensures ∙ one_if-byte c.at_flip.result ∙ ap one_if c.at_flip.ensures in
-    let few : one_if (flips minds w id) ≤ 1 = one_if-small (flips minds w id) in
+    let few : one_if (flips minds w id) ≤ 1 = one_if-le_one (flips minds w id) in
     record {
       listed =
           ap (λ (all : List ℕ). all ++ rest) (c.in_ok-push.ensures.items ∙ ap (λ n. c.loop-id.all.items ++ n ∷ []) c.loop-id.invariant.guessed)
