@@ -15,7 +15,7 @@ use Rattle.command_words.specs.declared.slot.Place.{Place}
 use Rattle.command_words.specs.declared.slot.Place.TheVariants.{Word, Names}
 use Rattle.command_words.specs.declared.table.NameList.TheVariants.{Worlds, Brains}
 use Rattle.command_words.specs.declared.table.CommandKind.{CommandKind}
-use Rattle.command_words.specs.declared.table.CommandKind.TheVariants.{Show, Brain, Minimise, Run, Gen, Cup, View, Workload, Help, Version, Asm}
+use Rattle.command_words.specs.declared.table.CommandKind.TheVariants.{Show, Brain, Minimise, Run, Gen, Cup, View, Workload, Help, Version, Asm, Save, Resume}
 use Rattle.command_words.specs.declared.table.Choice.{Choice}
 use Rattle.command_words.specs.declared.table.Choice.TheVariants.{Seed, Rounds, Dump, Workers, Window, Surround, Corpse, Rest, Stats, Far, Width, Height, Rocks, Blobs}
 use Rattle.command_words.specs.Command.{FitAll, Given, IsBeginning, IsCommand, IsOptionOf, IsRefusedAt, PlainCommand, given_words, joined, kind_in}
@@ -24,7 +24,7 @@ use Rattle.command_words.specs.Slots.{FitsPlace, dumps_of, fits, is_dumps, is_fi
 use Rattle.command_words.specs.Table.{option_of, places_of, values_of, word_of}
 use Rattle.command_words.specs.Words.{texts}
 use Rattle.command_words.specs.Inner.Fronts.{words_before}
-use Rattle.command_words.proofs.ListLemmas.{AllByRecursion-append}
+use Rattle.list_lemmas.proofs.AllElements.{AllByRecursion-append}
 use Rattle.command_words.proofs.ReadLemmas.{IsBeginning-take}
 use Rattle.command_words.proofs.WalkSteps.{texts-front, texts-past, texts-rest}
 
@@ -92,6 +92,8 @@ first-some Workload = tt
 first-some Help = tt
 first-some Version = tt
 first-some Asm = tt
+first-some Save = tt
+first-some Resume = tt
 
 given-some : (kind : CommandKind) (given : List Given) → AllByRecursion (IsOptionOf kind) given → AllByRecursion IsSome (flat_map given_words given)
 given-some kind [] options = tt
