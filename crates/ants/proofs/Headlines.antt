@@ -1,5 +1,5 @@
 -- What a status says follows from the record that each run meets.
-use Rattle.std.proofs.Common.{◌≡◌, ◌⊎◌, inl, inr, ℕ, List, [], ◌∷◌, Ok, Option, refl, sym, ◌∙◌, ap, subst, arith}
+use Rattle.std.proofs.Common.{◌≡◌, inl, inr, ℕ, List, [], ◌∷◌, Ok, sym, ◌∙◌, ap, subst, arith}
 use Rattle.ant_base.specs.Fetched.{Fetched}
 use Rattle.ant_base.specs.Shelf.{FetchesEach}
 use Rattle.ant_base.specs.Sink.{NothingWaits, PushedAll}
@@ -8,14 +8,13 @@ use Rattle.command_words.specs.Command.{IsCommand, PlainCommand, RunSetup}
 use Rattle.command_words.specs.Command.PlainCommand.{RunCommand}
 use Rattle.match_run.specs.Counts.{whole_text}
 use Rattle.match_run.specs.Run.{run_text}
-use Rattle.ants.specs.declared.stop.FileFault.{FileFault}
 use Rattle.ants.specs.Files.{AreAccepted, FileContent, IsAccepted}
 use Rattle.ants.specs.Files.FileContent.{BrainContent, BreakContent, WorldContent, LabelledContent}
 use Rattle.ants.specs.Headline.{Headline, NamesTheReason, NamesTheWord, PrintsItsOutput, PrintsTheGame, KeepsPromise}
 use Rattle.ants.specs.Jobs.{IsJobText, brain_file, game_files, match_output, world_file}
 use Rattle.ants.specs.Outside.{Outside}
 use Rattle.ants.specs.Performing.{IsDone}
-use Rattle.ants.specs.Running.{Ends, IsRunTo, IsStopped, Reports}
+use Rattle.ants.specs.Running.{Ends, Reports}
 use Rattle.ants.specs.Status.{status_number}
 use Rattle.ants.specs.Stopping.{Ending, Reason, ending_status}
 use Rattle.ants.specs.Stopping.Ending.{Done, RefusedWord, Stopped}

@@ -1,5 +1,5 @@
 -- Each text that a command writes ends in LF.
-use Rattle.std.proofs.Common.{◌≡◌, ◌⊎◌, inl, inr, ℕ, zero, suc, ◌≤◌, Bool, true, false, List, [], ◌∷◌, ◌++◌, length, map, get_or, Option, Some, None, ◌+◌, refl, sym, ◌∙◌, ap, subst, append-nil, arith}
+use Rattle.std.proofs.Common.{◌≡◌, ◌⊎◌, inl, inr, ℕ, zero, suc, ◌≤◌, Bool, true, false, List, [], ◌∷◌, ◌++◌, length, map, get_or, Option, Some, None, ◌+◌, refl, sym, ◌∙◌, subst, append-nil, arith}
 use Rattle.std.proofs.lemmas.Bool.{false≢true}
 use Rattle.std.proofs.lemmas.List.{length-map}
 use Rattle.std.proofs.lemmas.List.Sorted.{length_permutation}
@@ -26,9 +26,9 @@ use Rattle.cell_world.specs.declared.cell.Cell.{Cell}
 use Rattle.cell_world.specs.declared.kind.Kind.{Kind}
 use Rattle.cell_world.specs.declared.kind.Kind.TheVariants.{Rock}
 use Rattle.cell_world.specs.declared.score.Score.{Score}
-use Rattle.command_words.specs.Command.{PlainCommand, RunSetup}
+use Rattle.command_words.specs.Command.{RunSetup}
 use Rattle.command_words.specs.Command.PlainCommand.{ShowCommand, BrainCommand, MinimiseCommand, RunCommand, GenCommand, CupCommand, ViewCommand, WorkloadCommand, HelpCommand, VersionCommand, AsmCommand}
-use Rattle.command_words.specs.Laws.{CommandWithin, CupWithin}
+use Rattle.command_words.specs.Laws.{CupWithin}
 use Rattle.dump_print.specs.Content.{content_text}
 use Rattle.dump_print.specs.Texts.{cell_line, cells_text, dump_text, row_text, score_text, seed_text, stats_text}
 use Rattle.dump_print.specs.declared.totals.Totals.{Totals}
@@ -48,7 +48,7 @@ use Rattle.ants.specs.declared.workload.Summary.{Summary}
 use Rattle.ants.specs.Files.{AreAccepted, FileContent, IsAccepted}
 use Rattle.ants.specs.Help.{file_lines, game_lines, game_option_lines, head_lines, help_text, status_lines, version_text, world_option_lines}
 use Rattle.ants.specs.Files.FileContent.{BrainContent, BreakContent, WorldContent, LabelledContent}
-use Rattle.ants.specs.Jobs.{IsCupOutput, IsJobText, IsMinimisedOutput, IsViewOutput, asm_output, brain_file, brain_output, chosen_rounds, cup_files, match_output, minds_named, labelled_file, score_between, show_output, summary_lines, summary_of, workload_text, world_file}
+use Rattle.ants.specs.Jobs.{IsCupOutput, IsMinimisedOutput, IsViewOutput, asm_output, brain_file, brain_output, chosen_rounds, cup_files, match_output, minds_named, labelled_file, score_between, show_output, summary_lines, summary_of, workload_text, world_file}
 use Rattle.ants.specs.Laws.{TextsEndInLf}
 use Rattle.ants.proofs.Cups.{players_counted}
 

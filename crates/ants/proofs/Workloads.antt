@@ -1,5 +1,5 @@
 -- What came of a game of a workload.
-use Rattle.std.proofs.Common.{◌≡◌, ℕ, List, refl, sym, ◌∙◌, ap, ap₂, subst}
+use Rattle.std.proofs.Common.{◌≡◌, ℕ, List, ◌∙◌, ap, ap₂}
 use Rattle.ant_turn.specs.Minds.{Minds}
 use Rattle.ant_turn.specs.Sheet.{Sheet, contest}
 use Rattle.brain_read.specs.declared.instr.Instr.{Instr}
