@@ -1,20 +1,19 @@
 -- Every labelled program is assembled, to one brain with one list of places.
-use Rattle.std.proofs.Common.{◌≡◌, ◌⊎◌, inl, inr, ℕ, zero, suc, ◌+◌, ◌<◌, ◌≤◌, Bool, true, false, cond, List, [], ◌∷◌, ◌++◌, length, Option, Some, None, refl, sym, ap, ◌∙◌, subst, arith}
+use Rattle.std.proofs.Common.{◌≡◌, ◌⊎◌, inl, inr, ℕ, suc, ◌<◌, ◌≤◌, List, [], ◌∷◌, ◌++◌, length, Option, Some, None, refl, sym, ◌∙◌, subst, arith}
 use Rattle.std.specs.Prelude.{slice_get, bytes_eq, ◌==◌, option_map}
 use Rattle.std.proofs.lemmas.Bool.{cases_Bool, cond-true, cond-false, eq-eqb}
 use Rattle.std.proofs.lemmas.Option.{same_Some}
 use Rattle.brain_read.specs.declared.instr.Instr.{Instr}
 use Rattle.line_tokens.specs.TokenLines.{TokenLine, lines_with_tokens}
-use Rattle.ant_asm.specs.declared.action.Action.{Action}
 use Rattle.ant_asm.specs.declared.action.Label.{Label}
 use Rattle.ant_asm.specs.declared.fault.AsmFault.{AsmFault}
 use Rattle.ant_asm.specs.declared.fault.AsmFault.TheVariants.{Empty, EmptyBlock, NoLabel}
 use Rattle.ant_asm.specs.Program.{Items, size_of}
 use Rattle.ant_asm.specs.Places.{Address, places}
 use Rattle.ant_asm.specs.Names.{Named}
-use Rattle.ant_asm.specs.Lines.{Line, Says}
+use Rattle.ant_asm.specs.Lines.{Line}
 use Rattle.ant_asm.specs.Lines.Line.{Marks, Begins, Ends, Uses, Instructs}
-use Rattle.ant_asm.specs.Standing.{Begun, Block, Draft, Item, ItemLine, Standing, below, block_of, current_of, earlier, end_fault, ended, item_size, items_by, items_of, new_draft, nothing_yet, place_fault, unknown_of, used, way_or_next, with_current_of, with_item, with_line, with_mark, with_name}
+use Rattle.ant_asm.specs.Standing.{Begun, Block, Draft, Item, ItemLine, Standing, below, block_of, current_of, earlier, end_fault, ended, item_size, items_by, nothing_yet, place_fault, unknown_of, used, way_or_next, with_current_of, with_item, with_line, with_mark}
 use Rattle.ant_asm.specs.Standing.Item.{Instruction, Call}
 use Rattle.ant_asm.specs.Assembled.{IsAssembled}
 use Rattle.ant_asm.specs.Answers.{IsAssembledText, OneBrain}

@@ -15,8 +15,8 @@ use Rattle.ant_random.specs.Stream.{drawn}
 use Rattle.ant_turn.specs.Conditions.{meets}
 use Rattle.ant_turn.specs.Minds.{Minds, mind_of}
 use Rattle.ant_turn.specs.Renumber.{redirected, renumbered_ant, renumbered_cells, renumbered_world, with_mind}
-use Rattle.ant_turn.specs.Turn.{acts, execute, has_ant, instruction_at, is_blocked, turn, turn_at, turn_from, with_ant}
-use Rattle.ant_turn.proofs.RenumberLemmas.{after, becomes-renumbered, execute-renumbered, meets-renumbered, place_in-renumbered}
+use Rattle.ant_turn.specs.Turn.{has_ant, instruction_at, is_blocked, turn}
+use Rattle.ant_turn.proofs.RenumberLemmas.{after, meets-renumbered}
 use Rattle.ant_turn.proofs.RenumberedTurns.{redirected-self, turn-alike, with_mind-sheet}
 use Rattle.ant_asm.specs.declared.action.Action.{Action}
 use Rattle.ant_asm.specs.declared.action.Label.{Label}

@@ -1,4 +1,4 @@
-use Rattle.std.proofs.Common.{◌≡◌, ℕ, List, IfErr, sym, ◌∙◌, subst}
+use Rattle.std.proofs.Common.{ℕ, List, IfErr, sym, ◌∙◌, subst}
 use Rattle.command_words.specs.Command.{IsCommand, PlainCommand}
 use Rattle.command_words.specs.Words.{texts}
 use Rattle.command_words.proofs.FarWords.{far-none, refuses_far}
