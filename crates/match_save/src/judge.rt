@@ -35,7 +35,7 @@ fn settle(alloc: Global, drafts: &[Draft]) -> Result<Vec<Instr>, SaveFault>
     let states = drafts.len() as u64;
     let mut list = Vec::with_capacity(alloc, drafts.len())?;
     for draft in drafts {
-        let Ok(instruction) = draft.settled(states) else {
+        let Ok(instruction) = draft.settle(states) else {
             return Err(SaveFault::BadState);
         };
         list.push(instruction)?;

@@ -3,6 +3,7 @@ use crate::status::Status;
 use crate::tests::{CLOSED, Given, Job, NO_JOB, check, check_rows, stopped};
 use std::alloc::Global;
 use std::process::Abort;
+use std::sync::Wait;
 use std::test::Fail;
 use std::thread::Threads;
 
@@ -54,7 +55,11 @@ const REFUSED: [(&str, &str); 3] = [
 ];
 
 // Asserts that a file of so many spaces is too long.
-fn check_long<R: Threads + Sync + Abort>(rt: &R, alloc: Global, job: &Job<'_>) -> Result<(), Fail> {
+fn check_long<R: Threads + Wait + Sync + Abort>(
+    rt: &R,
+    alloc: Global,
+    job: &Job<'_>,
+) -> Result<(), Fail> {
     let long = " ".repeat(alloc, 4194305)?;
     let wanted = stopped(Status::Input, "ants: k: too long\n");
     check(rt, alloc, &job.with(Given::Breaks, &long), wanted)
