@@ -1,7 +1,7 @@
 -- Seats that are made for workers and joined again, and the looks that a board leaves.
-use Rattle.std.proofs.Common.{◌≡◌, ◌≢◌, ℕ, zero, suc, ◌+◌, ◌-◌, ◌<◌, ◌≤◌, false, nat_eq, List, [], ◌∷◌, ◌++◌, map, length, slice_index_or, All, length-append, take, drop, Option, Some, refl, sym, ap, ap₂, ◌∙◌, subst, arith}
+use Rattle.std.proofs.Common.{◌≡◌, ◌≢◌, ℕ, zero, suc, ◌+◌, ◌-◌, ◌<◌, ◌≤◌, false, nat_eq, List, [], ◌∷◌, ◌++◌, map, length, slice_index_or, All, length-append, Option, Some, refl, sym, ap, ap₂, ◌∙◌, subst, arith}
 use Rattle.std.proofs.Math.ListN.{get_or-append}
-use Rattle.std.proofs.Math.Seq.{get_or-append_seam, take-append_seam}
+use Rattle.std.proofs.Math.Seq.{get_or-append_seam}
 use Rattle.std.specs.Prelude.{IfSome}
 use Rattle.std.proofs.lemmas.List.Elements.{All-append, All-cons, All-nil, All-same}
 use Rattle.cell_world.specs.Cell.{one_if}
@@ -158,10 +158,6 @@ module _ (field : FieldValue) (from to : ℕ) (book : BookValue) (begins : book.
 pub guesses-so : (window : Window) (minds : Minds) (base : World) (place : ℕ) → minds ≡ window.minds → base ≡ window.base → place ≡ window.place
     → guesses_of minds base place window.from window.from (turns_in window) ≡ guesses_for window
 guesses-so window minds base place em eb ep = λ k. guesses_of (em k) (eb k) (ep k) window.from window.from (turns_in window)
-
--- a list whose elements were all lent and changed
-pub refilled : {X : Type 0} (n : ℕ) (items new : List X) → n ≡ length items → length new ≡ length items → take n (new ++ drop (length new) items) ≡ new
-refilled n items new same long = subst (λ k. take k (new ++ drop (length new) items) ≡ new) (long ∙ sym same) (take-append_seam new (drop (length new) items))
 
 -- what workers did that were lent as a slice
 pub worked-so : (board : Board) (slice items new : List Worker) → slice ≡ items → ((i : ℕ) (d : Worker) → i < length slice → HasWorked board (slice_index_or slice i d) (slice_index_or new i d))

@@ -8,6 +8,7 @@ use Rattle.std.specs.Prelude.{slice_index}
 use Rattle.atomic_table.specs.Table.{Allows, State, gives, keeps, step, takes}
 use Rattle.atomic_table.proofs.Lists.{exchanged, set_else, set_here}
 use Rattle.spec_record.specs.Look.{LookValue}
+use Rattle.round_book.proofs.MachineLemmas.{times-same}
 use Rattle.round_book.specs.Machine.{times}
 use Rattle.round_book.specs.Window.{look_for}
 use Rattle.round_workers.specs.declared.board.view.Basis.{Basis}
@@ -24,10 +25,6 @@ use Rattle.round_workers.proofs.BoardTotalLemmas.{once-le, other-none, same-one,
 use Rattle.round_workers.proofs.BoardKeeps.{look-stays, seated}
 use Rattle.round_workers.proofs.BoardSteps.{look-kept}
 use Rattle.round_workers.proofs.BoardBook.{Goes}
-
--- one more in a list
-times-one : (x : ℕ) (xs : List ℕ) → times x (xs ++ x ∷ []) ≡ times x xs + 1
-times-one x xs = let a = times-append x xs (x ∷ []) in let b = same-one x x refl in omega arith
 
 times-other : (x y : ℕ) (xs : List ℕ) → y ≢ x → times x (xs ++ y ∷ []) ≡ times x xs
 times-other x y xs ne = let a = times-append x xs (y ∷ []) in let b = other-none y x ne in omega arith
@@ -114,7 +111,7 @@ module _ (key : Basis) (slots id : ℕ) (v : View) (about : v.about ≡ Some key
     has-put look its midst s r _ at _ =
         let w : View = has_put v j in let k = r.looks j inside in let sum = k.sum in let back = k.back in let once = k.once in let is = seated key v about (r.seats id v at) in
         let here : putting j v.phase ≡ 1 = ap (putting j) midst ∙ same-one j j refl in let here' : taking j v.phase ≡ 0 = ap (taking j) midst in let more = total-at (λ (u : View). putting j u.phase) s.views id v at in
-        let one = times-one j v.put in let put = total-set (λ (u : View). times j u.put) s.views id v w at in let took = total-same (λ (u : View). times j u.took) s.views id v w at refl in
+        let one = times-same j v.put in let put = total-set (λ (u : View). times j u.put) s.views id v w at in let took = total-same (λ (u : View). times j u.took) s.views id v w at refl in
         let puts_then = total-set (λ (u : View). putting j u.phase) s.views id v w at in let takes_then = total-set (λ (u : View). taking j u.phase) s.views id v w at in (
           w,
           gives,
@@ -138,7 +135,7 @@ module _ (key : Basis) (slots id : ℕ) (v : View) (about : v.about ≡ Some key
     has-taken old midst s r _ at _ =
         let w : View = has_taken v j in let k = r.looks j inside in let sum = k.sum in let back = k.back in let once = k.once in let is = seated key v about (r.seats id v at) in
         let here : putting j v.phase ≡ 0 = ap (putting j) midst in let here' : taking j v.phase ≡ 1 = ap (taking j) midst ∙ same-one j j refl in let more = total-at (λ (u : View). taking j u.phase) s.views id v at in
-        let one = times-one j v.took in let took = total-set (λ (u : View). times j u.took) s.views id v w at in let put = total-same (λ (u : View). times j u.put) s.views id v w at refl in
+        let one = times-same j v.took in let took = total-set (λ (u : View). times j u.took) s.views id v w at in let put = total-same (λ (u : View). times j u.put) s.views id v w at refl in
         let puts_then = total-set (λ (u : View). putting j u.phase) s.views id v w at in let takes_then = total-set (λ (u : View). taking j u.phase) s.views id v w at in (
           w,
           gives,

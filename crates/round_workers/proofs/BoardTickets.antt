@@ -5,6 +5,7 @@ use native.Mathlib.Decide.{dec_le}
 use lib.ListN.{get_elem?}
 use Rattle.std.specs.Prelude.{slice_index, nat_le}
 use Rattle.std.specs.List.{AllByRecursion}
+use Rattle.cell_world.proofs.GridSums.{one_if-le_one}
 use Rattle.atomic_table.specs.Table.{State, Me, step, keeps, stepped, Allows}
 use Rattle.round_book.specs.Machine.{times}
 use Rattle.round_workers.specs.declared.board.view.Basis.{Basis}
@@ -14,7 +15,7 @@ use Rattle.round_workers.specs.BoardTotals.{late_among, summed}
 use Rattle.round_workers.specs.BoardView.{window_for}
 use Rattle.round_workers.specs.BoardPlays.{drew, tells_draw}
 use Rattle.round_workers.specs.BoardRule.{AreDealt, IsBookKeptBy, IsKept, IsLookKeptBy, turns_of}
-use Rattle.round_workers.proofs.BoardTotalLemmas.{all-below, below-where, late-append, late-one, once-suc, one_if-le, times-append, times-length, total-at, total-le, total-set}
+use Rattle.round_workers.proofs.BoardTotalLemmas.{all-below, below-where, late-append, late-one, once-suc, times-append, times-length, total-at, total-le, total-set}
 use Rattle.round_workers.proofs.BoardKeeps.{book-stays, look-stays, parts-stay, seated, seats-set}
 
 -- each number that a seat drew is below the ticket word
@@ -42,7 +43,7 @@ module _ (key : Basis) (slots id : ℕ) (me : Me BoardSlot View) (about : me.0.a
         playable = r.playable;
         words = length-set s.words 0 (word + 1) ∙ r.words;
         homes = r.homes;
-        seats = seats-set key s.views id w r.seats (inr record { same = about; own = is.own; makes = is.makes; late = (let b = one_if-le (nat_le n word) in omega arith); drew = (λ x. let more = times-append x v.drawn (word ∷ []) in let d = is.drew x in omega arith); within = is.within; opens = is.opens });
+        seats = seats-set key s.views id w r.seats (inr record { same = about; own = is.own; makes = is.makes; late = (let b = one_if-le_one (nat_le n word) in omega arith); drew = (λ x. let more = times-append x v.drawn (word ∷ []) in let d = is.drew x in omega arith); within = is.within; opens = is.opens });
         parts = parts-stay s.views id v w at refl refl refl r.parts;
         tickets = subst (λ (z : ℕ). AreDealt n z (set s.views id w)) (sym (get_or-set_same s.words 0 (word + 1) 0 (omega arith))) record {
           each = λ x. let more = times-append x v.drawn (word ∷ []) in let one = total-set (λ u. times x u.drawn) s.views id v w at in let old = r.tickets.each x in let step = once-suc x word in omega arith;

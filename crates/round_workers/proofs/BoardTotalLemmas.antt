@@ -1,11 +1,12 @@
 -- Totals over lists: what a change of one element, or one more, makes of them.
-use Rattle.std.proofs.Common.{◌≡◌, ℕ, Bool, true, false, eq-eqb, ne_eqb, lt_of_not-le, zero, suc, ◌+◌, ◌<◌, ◌≤◌, ◌≢◌, List, [], ◌∷◌, ◌++◌, length, set, sym, refl, ap, arith}
+use Rattle.std.proofs.Common.{◌≡◌, ℕ, eq-eqb, ne_eqb, lt_of_not-le, zero, suc, ◌+◌, ◌<◌, ◌≤◌, ◌≢◌, List, [], ◌∷◌, ◌++◌, length, set, sym, refl, ap, arith}
 use mathlib.Core.Option.{some, some-injective, some-ne-none}
 use lib.ListN.{get_elem?}
 use native.Mathlib.Decide.{dec_le, ℕ_discrete}
 use Rattle.std.proofs.lemmas.Bool.{le-leb, le-ltb, lt-leb, lt-ltb}
 use Rattle.std.specs.List.{AllByRecursion}
 use Rattle.std.specs.Prelude.{nat_eq, nat_le, nat_lt}
+use Rattle.cell_world.proofs.GridSums.{one_if-le_one}
 use Rattle.cell_world.specs.Cell.{one_if}
 use Rattle.round_book.specs.Machine.{times}
 use Rattle.round_workers.specs.BoardTotals.{late_among, once_below, summed}
@@ -64,10 +65,6 @@ pub late-append : (n : ℕ) (l m : List ℕ) → late_among n (l ++ m) ≡ late_
 late-append n [] m = omega arith
 late-append n (y ∷ ys) m = let r = late-append n ys m in omega arith
 
-pub one_if-le : (b : Bool) → one_if b ≤ 1
-one_if-le true = omega arith
-one_if-le false = omega arith
-
 -- a test of two numbers counts one where they are equal, and else none
 pub same-one : (a b : ℕ) → a ≡ b → one_if (nat_eq a b) ≡ 1
 same-one a b e = ap one_if (eq-eqb a b e)
@@ -82,7 +79,7 @@ pub above-none : (x n : ℕ) → n ≤ x → once_below x n ≡ 0
 above-none x n h = ap one_if (le-ltb x n h)
 
 pub once-le : (x n : ℕ) → once_below x n ≤ 1
-once-le x n = one_if-le (nat_lt x n)
+once-le x n = one_if-le_one (nat_lt x n)
 
 pub below-where : (x n : ℕ) → 1 ≤ once_below x n → x < n
 below-where x n h = by_cases (dec_le n x) where
@@ -105,7 +102,7 @@ all-below n (y ∷ ys) below = (below y (let one = same-one y y refl in omega ar
 
 pub times-length : (x : ℕ) (xs : List ℕ) → times x xs ≤ length xs
 times-length x [] = omega arith
-times-length x (y ∷ ys) = let rest = times-length x ys in let one = one_if-le (nat_eq y x) in omega arith
+times-length x (y ∷ ys) = let rest = times-length x ys in let one = one_if-le_one (nat_eq y x) in omega arith
 
 -- of numbers that are all below n none is n or above
 pub none-late : (n : ℕ) (xs : List ℕ) → AllByRecursion (λ k. k < n) xs → late_among n xs ≡ 0

@@ -2,7 +2,7 @@
 use Rattle.std.proofs.Common.{◌≡◌, ◌≢◌, ℕ, suc, ◌+◌, ◌-◌, ◌<◌, ◌≤◌, Bool, true, false, ◌&&◌, cond, nat_eq, nat_le, nat_lt, List, [], ◌∷◌, ◌++◌, map, length, Some, sym, refl, ap, ap₂, ◌∙◌, subst, arith, length-append, lt_of_not-le, Option}
 use native.Mathlib.Decide.{dec_le}
 use Rattle.std.specs.List.{AllByRecursion}
-use Rattle.std.proofs.lemmas.Bool.{false≢true, le-leb, leb-true, lt-ltb, le-ltb}
+use Rattle.std.proofs.lemmas.Bool.{and_from, and_parts, false≢true, le-leb, le-ltb, leb-true, lt-ltb}
 use Rattle.cell_world.specs.Cell.{one_if}
 use Rattle.cell_world.specs.World.{World}
 use Rattle.ant_turn.specs.Minds.{Minds}
@@ -16,25 +16,17 @@ use Rattle.round_workers.specs.BoardView.{window_about}
 use Rattle.round_workers.specs.BoardWorker.{HasServed, IsSameButTook, IsWorker, ascends, those_below, turns_in}
 use Rattle.round_workers.proofs.BoardTotalLemmas.{late-append, late-one, other-none, same-one, times-append}
 
-and_both : (x y : Bool) → (x && y) ≡ true → (x ≡ true) × (y ≡ true)
-and_both true true both = (refl, refl)
-and_both true false both = absurd (false≢true both)
-and_both false y both = absurd (false≢true both)
-
-and_from : (x y : Bool) → x ≡ true → y ≡ true → (x && y) ≡ true
-and_from x y a b = ap₂ (λ (p q : Bool). p && q) a b
-
 -- numbers in order, and one more above them
 ascends-snoc : (least t : ℕ) (xs : List ℕ) → least ≤ t → ascends least xs ≡ true → AllByRecursion (λ k. k < t) xs → ascends least (xs ++ t ∷ []) ≡ true
 ascends-snoc least t [] le up all = and_from (nat_le least t) true (le-leb least t le) refl
 ascends-snoc least t (x ∷ xs) le up all =
-    let both = and_both (nat_le least x) (ascends (x + 1) xs) up in and_from (nat_le least x) (ascends (x + 1) (xs ++ t ∷ [])) both.0 (ascends-snoc (x + 1) t xs (let l : x < t = all.0 in omega arith) both.1 all.1)
+    let both = and_parts (nat_le least x) (ascends (x + 1) xs) up in and_from (nat_le least x) (ascends (x + 1) (xs ++ t ∷ [])) both.0 (ascends-snoc (x + 1) t xs (let l : x < t = all.0 in omega arith) both.1 all.1)
 
 -- numbers in order that are below t are no more than t
 ascends-length : (least t : ℕ) (xs : List ℕ) → least ≤ t → ascends least xs ≡ true → AllByRecursion (λ k. k < t) xs → length xs + least ≤ t
 ascends-length least t [] le up all = omega arith
 ascends-length least t (x ∷ xs) le up all =
-    let both = and_both (nat_le least x) (ascends (x + 1) xs) up in let l : x < t = all.0 in let rest = ascends-length (x + 1) t xs (omega arith) both.1 all.1 in let from = leb-true least x both.0 in omega arith
+    let both = and_parts (nat_le least x) (ascends (x + 1) xs) up in let l : x < t = all.0 in let rest = ascends-length (x + 1) t xs (omega arith) both.1 all.1 in let from = leb-true least x both.0 in omega arith
 
 -- one more element, or none
 keep-snoc : (b : Bool) (x t : ℕ) (l m : List ℕ) → l ≡ m ++ t ∷ [] → cond b (x ∷ l) l ≡ cond b (x ∷ m) m ++ t ∷ []

@@ -1,5 +1,6 @@
 use Rattle.std.proofs.Common.{All, List, [], length, sym, ap, ◌∙◌, subst}
 use Rattle.std.proofs.lemmas.List.Elements.{All-nil, All-same}
+use Rattle.cell_world.proofs.InsideLemmas.{refilled}
 use Rattle.round_book.specs.Window.{Window, guesses_for}
 use Rattle.round_workers.specs.declared.board.view.View.{View}
 use Rattle.round_workers.specs.declared.board.worker.Worker.{Worker}
@@ -7,7 +8,7 @@ use Rattle.round_workers.specs.Inner.BoardCrew.{AreLooks, IsHired, IsManned, IsR
 use Rattle.round_workers.specs.BoardPlays.{has_seen}
 use Rattle.round_workers.specs.BoardSeats.{IsSeatOf, basis_of, known, board_window}
 use Rattle.round_workers.specs.BoardWorker.{turns_in}
-use Rattle.round_workers.proofs.BoardCrewing.{book-for, lent-for, looks-left, manned-first, manned-worked, refilled, seats-worked, worked-so}
+use Rattle.round_workers.proofs.BoardCrewing.{book-for, lent-for, looks-left, manned-first, manned-worked, seats-worked, worked-so}
 use Rattle.round_workers.proofs.BoardWorking.{on-for}
 use Rattle.round_workers.proofs.board.crew.settle.Goals as goal
 
