@@ -35,3 +35,6 @@ install: build
 
 bench: build
 	bench/run
+	bench/saves
+	bench/programs
+	bench/workers
