@@ -3,7 +3,7 @@ use Rattle.brain_minimise.proofs.Merging.{IsBrain-kept, IsMinimised-from}
 use Rattle.brain_minimise.proofs.merge.minimise.Goals as goal
 
 pub number_states-requires-clause-few : goal.number_states-requires-clause-few
-numbered-requires-clause-few c = omega (arith, c.in_ok-seen.ensures.seen.each, c.in_ok-seen.ensures.brain.few)
+number_states-requires-clause-few c = omega (arith, c.in_ok-seen.ensures.seen.each, c.in_ok-seen.ensures.brain.few)
 
 pub table_of-requires : goal.table_of-requires
 table_of-requires c = omega (arith, c.in_ok-seen.ensures.seen.each, c.in_ok-seen.ensures.brain.few, c.in_ok-numbers.ensures.each)

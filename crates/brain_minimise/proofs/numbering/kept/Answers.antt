@@ -14,7 +14,7 @@ loop-state-preserved c =
       | then-has_number+in_ok-push w ↦
           rw (w.list-is, w.in_ok-push.ensures.items)
           (IsKeeping-more c.args.brain.now c.args.numbers.now c.args.table.now _ _ _ c.loop-state.invariant (c.has_number.ensures.0 w.if-has_number.true ∙ ap Some size)
-          (w.redirected.ensures ∙ ap (redirected (slice_index c.args.table.now)) (sym (get_or_from_slice_get c.args.brain.now c.loop-state.state w.at.result (Drop 0) w.at.ensures.instruction))))
+          (w.redirect.ensures ∙ ap (redirected (slice_index c.args.table.now)) (sym (get_or_from_slice_get c.args.brain.now c.loop-state.state w.at.result (Drop 0) w.at.ensures.instruction))))
       | else-has_number w ↦
           rw w.list-is
           (IsKeeping-skip c.args.brain.now c.args.numbers.now c.args.table.now _ _ c.requires.rising c.loop-state.invariant

@@ -27,7 +27,7 @@ score_at-requires c = λ p at.
     (on_hill-inside (world_of c.args.world.now) c.args.id p (sym c.hill_place-place.ensures.place ∙ at))
 
 pub count_again-requires : goal.count_again-requires
-recounted-requires c =
+count_again-requires c =
     let none = sym c.take_turn-deed.ensures.killed ∙ nothing_in c.take_turn-deed.result.killed.items (sym c.is_empty.ensures ∙ c.if-is_empty.true) in
     counted-can c.args.score.now c.score_at-before.result (score_of (world_of c.take_turn-deed.new.ground)) c.score_at.result
     (counted (goal.at.count_again-requires c).After-score_at none)
