@@ -32,32 +32,42 @@ pub fn play_window<G: Gate>(
     ensures counts { IfOk result (λ counts. counts ≡ counts_of (window_of field.old from to)) }
     ensures unchanged { OnErr result (field.new ≡ field.old) }
 {
+    let mut stream = field.take_stream();
     let mut book = field.begin(alloc, from, to)?;
-    settle_alone(&mut book, field, gate, from, to);
-    Ok(field.finish(book))
+    settle_alone(&mut book, field, &mut stream, gate, from, to);
+    let counts = field.finish(book);
+    field.keep_stream(stream);
+    Ok(counts)
 }
 
 // Settles the turns of a window by looks that are made one after another, in one room and off one stream.
-fn settle_alone<G: Gate>(book: &mut Book, field: &Field<'_>, gate: &G, from: u32, to: u32)
+fn settle_alone<G: Gate>(
+    book: &mut Book,
+    field: &Field<'_>,
+    stream: &mut Stream,
+    gate: &G,
+    from: u32,
+    to: u32,
+)
     requires stands { StandsOn field.now book.old }
     requires from { book.old.from ≡ from }
     requires next { book.old.next ≡ from }
     requires to { book.old.to ≡ to }
+    requires seed { stream.old.seed ≡ field.now.seed }
+    requires place { stream.old.place ≡ field.now.place }
     ensures stands { StandsOn field.now book.new }
     ensures next { book.new.next ≡ to }
     ensures same { IsSameWindow book.old book.new }
 {
-    let place = field.place();
     if from >= to {
         return;
     }
-    let mut stream = Stream::at_place_uncounted(field.seed(), place);
     gate.before_look(ALONE, from);
-    let mut look = look_by(field.world(), field.brains(), &mut stream, from);
+    let mut look = look_by(field.world(), field.brains(), stream, from);
     advance(book, field, &look);
     for id in from + 1..to {
         gate.before_look(ALONE, id);
-        look.renew(field.world(), field.brains(), &mut stream, id);
+        look.renew(field.world(), field.brains(), stream, id);
         advance(book, field, &look);
     }
 }

@@ -8,6 +8,7 @@ ghost use Rattle.round_book.specs.Inner.Workspace.{AreMarked};
 
 use crate::book::{Book, vouch};
 use crate::workspace::Workspace;
+use ant_random::Stream;
 use ant_turn::Brains;
 use cell_world::World;
 use hex_geometry::{OutOfMemory, Pos};
@@ -24,6 +25,8 @@ pub struct Field<'b> {
     brains: Brains<'b>,
     seed: u32,
     place: u64,
+    // the stream that the last window left, so that the next one makes no jump
+    stream: Option<Stream>,
 }
 
 impl<'b> Model for Field<'b> {
@@ -69,6 +72,7 @@ impl<'b> Field<'b> {
             brains,
             seed,
             place,
+            stream: None,
         })
     }
 
@@ -118,6 +122,30 @@ impl<'b> Field<'b> {
         ensures unchanged { OnErr result (self.new ≡ self.old) }
     {
         self.lend(from, to)
+    }
+
+    // Gives out a stream that stands at the field's seed and place: the kept one, where it stands there, and else a new one.
+    #[inline]
+    pub(crate) fn take_stream(&mut self) -> Stream
+        requires { self.old.place < 2 ^ 63 }
+        ensures seed { result.seed ≡ self.old.seed }
+        ensures place { result.place ≡ self.old.place }
+        ensures field { self.new ≡ self.old }
+    {
+        if let Some(stream) = self.stream.take() {
+            if stream.seed() == self.seed && stream.place() == self.place {
+                return stream;
+            }
+        }
+        Stream::at_place_uncounted(self.seed, self.place)
+    }
+
+    // Keeps a stream for the next window.
+    #[inline]
+    pub(crate) fn keep_stream(&mut self, stream: Stream)
+        ensures { self.new ≡ self.old }
+    {
+        self.stream = Some(stream);
     }
 
     // Lends the workspace, once it has room for the window.

@@ -6,22 +6,22 @@ use Rattle.round_book.proofs.alone.settle_alone.Goals as goal
 
 pub look_by-look-requires-clause-place : goal.look_by-look-requires-clause-place
 look_by-look-requires-clause-place g c =
-    let going = Going-none c.args.field.now c.args.from c.args.to c.args.book.now c.at_place_uncounted-stream.result.place c.requires.stands c.requires.from c.requires.to c.requires.next (c.at_place_uncounted-stream.ensures.place ∙ c.place-place.ensures) in
-    going-guess c.args.field.now c.args.from c.args.to c.args.from c.args.book.now c.at_place_uncounted-stream.result.place going (omega arith)
+    let going = Going-none c.args.field.now c.args.from c.args.to c.args.book.now c.args.stream.now.place c.requires.stands c.requires.from c.requires.to c.requires.next c.requires.place in
+    going-guess c.args.field.now c.args.from c.args.to c.args.from c.args.book.now c.args.stream.now.place going (omega arith)
 
 pub advance-requires-clause-look : goal.advance-requires-clause-look
 advance-requires-clause-look g c =
-    let going = Going-none c.args.field.now c.args.from c.args.to c.args.book.now c.at_place_uncounted-stream.result.place c.requires.stands c.requires.from c.requires.to c.requires.next (c.at_place_uncounted-stream.ensures.place ∙ c.place-place.ensures) in
-    going-look c.args.field.now c.args.from c.args.to c.args.from c.args.book.now c.at_place_uncounted-stream.result.place going
-    c.look_by-look.result (minds_of c.brains.result) c.at_place_uncounted-stream.result.seed c.world.result.now c.brains.ensures.brains (c.at_place_uncounted-stream.ensures.seed ∙ c.seed.ensures) c.world.ensures.world c.look_by-look.ensures.look
+    let going = Going-none c.args.field.now c.args.from c.args.to c.args.book.now c.args.stream.now.place c.requires.stands c.requires.from c.requires.to c.requires.next c.requires.place in
+    going-look c.args.field.now c.args.from c.args.to c.args.from c.args.book.now c.args.stream.now.place going
+    c.look_by-look.result (minds_of c.brains.result) c.args.stream.now.seed c.world.result.now c.brains.ensures.brains c.requires.seed c.world.ensures.world c.look_by-look.ensures.look
 
 pub loop-id-init : goal.loop-id-init
 loop-id-init g c =
-    let going = Going-none c.args.field.now c.args.from c.args.to c.args.book.now c.at_place_uncounted-stream.result.place c.requires.stands c.requires.from c.requires.to c.requires.next (c.at_place_uncounted-stream.ensures.place ∙ c.place-place.ensures) in
-    let seed = c.at_place_uncounted-stream.ensures.seed ∙ c.seed.ensures in
+    let going = Going-none c.args.field.now c.args.from c.args.to c.args.book.now c.args.stream.now.place c.requires.stands c.requires.from c.requires.to c.requires.next c.requires.place in
+    let seed = c.requires.seed in
     record {
-      going = Going-next c.args.field.now c.args.from c.args.to c.args.from c.args.book.now c.at_place_uncounted-stream.result.place going
-          c.look_by-look.result (minds_of c.brains.result) c.at_place_uncounted-stream.result.seed c.world.result.now c.brains.ensures.brains seed c.world.ensures.world c.look_by-look.ensures.look
+      going = Going-next c.args.field.now c.args.from c.args.to c.args.from c.args.book.now c.args.stream.now.place going
+          c.look_by-look.result (minds_of c.brains.result) c.args.stream.now.seed c.world.result.now c.brains.ensures.brains seed c.world.ensures.world c.look_by-look.ensures.look
           c.advance.new.book c.look_by-look.new.stream.place c.advance.ensures.stands c.advance.ensures.same c.advance.ensures.next
           (ap (λ (s : SeedAndPlace). s.place) c.look_by-look.ensures.stream);
       seed = ap (λ (s : SeedAndPlace). s.seed) c.look_by-look.ensures.stream ∙ seed;
