@@ -11,3 +11,4 @@ pub mod NumberList
 pub mod Shelf
 pub mod Sink
 pub mod Streams
+pub mod System

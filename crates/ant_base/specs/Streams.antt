@@ -45,11 +45,12 @@ abbrev pub Takes : List ℕ → List ℕ → Option (List ℕ) → Option (List 
 Takes taken new_taken written new_written piece (Ok _) = TookUpTo taken new_taken written new_written piece []
 Takes taken new_taken written new_written piece (Err _) = (rest : List ℕ) × TookUpTo taken new_taken written new_written piece rest
 
--- the count of faults of a shelf of files, and its log
-pub record FileShelfState : Type 0 where
+-- the system of a shelf of files, its count of faults, and its log
+pub record FileShelfState (R : Type 0) : Type 0 where
+  pub system : R
   pub faults : ℕ
   pub log : List Fetched
 
 -- a shelf of files tells no content and is sure of no name
-abbrev pub shelf_of_files : FileShelfState → ShelfState
+abbrev pub shelf_of_files : {R : Type 0} → FileShelfState R → ShelfState
 shelf_of_files s = record { files = None; sure = λ _. false; faults = s.faults; log = s.log }

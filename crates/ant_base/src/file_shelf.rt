@@ -1,18 +1,19 @@
 // A shelf of files.
-ghost use Rattle.std.specs.Prelude.{◌≡◌, ◌≢◌, ◌<◌, ◌≤◌, ◌+◌, [], ℕ, List, Option, IfOk, IfErr, OnOk, OnErr, Ok, Err, true, length, vec_len, if◌then◌else◌};
+ghost use Rattle.std.specs.Prelude.{◌≡◌, ◌≢◌, ◌<◌, ◌≤◌, ◌+◌, [], ℕ, List, Option, Result, IfOk, OnOk, OnErr, Ok, Err, true, length, vec_len, if◌then◌else◌};
 ghost use Rattle.std.specs.Io.KnownBytes.{Consumes, IsAtEnd};
 ghost use Rattle.std.specs.IoError.{error_kind};
+ghost use Rattle.std.specs.declared.io.Error.{Error};
 ghost use Rattle.ant_base.specs.Faults.{one_more};
-ghost use Rattle.ant_base.specs.Inner.Answered.{IsReadOf, TakesAtMost, fetch_fault_at, given_of};
+ghost use Rattle.ant_base.specs.Inner.Answered.{ReadsOn, TakesAtMost, given_of};
 ghost use Rattle.ant_base.specs.Shelf.{Fetches, is_failed, longest};
 ghost use Rattle.ant_base.specs.Streams.{shelf_of_files};
+ghost use Rattle.ant_base.specs.System.{IsMadeOf, IsMadeOfOpen, dash, fetch_fault_at};
 
 use crate::shelf::LONGEST;
 use crate::system_log::SystemLog;
-use crate::{FetchFault, Shelf};
+use crate::{FetchFault, Shelf, Source, System};
 use std::alloc::Global;
-use std::fs::{self, Files};
-use std::io::{self, ErrorKind, Input, Read};
+use std::io::{self, ErrorKind};
 use std::marker::Model;
 
 // How many bytes one read asks for at most.
@@ -23,24 +24,24 @@ const CHUNK: usize = 8192;
 /// It tells no content, and is sure of no name. A second fetch of `-` gets what is left there, commonly nothing. It reads no further than
 /// 4,194,305 bytes. The count of faults rises by one at each fetch that is `Failed` and at no other, and stays at the last value of a u64.
 #[derive(Drop)]
-pub struct FileShelf<'r, R> {
+pub struct FileShelf<'r, R: System> {
     rt: &'r R,
     faults: u64,
     system_log: SystemLog,
 }
 
-impl<'r, R> Model for FileShelf<'r, R> {
+impl<'r, R: System> Model for FileShelf<'r, R> {
     ghost use Rattle.ant_base.specs.Streams.{FileShelfState};
 
-    ghost Value = { FileShelfState };
+    ghost Value = { FileShelfState R };
 
-    ghost view = { λ s. record { faults = s.faults; log = s.system_log.fetches } };
+    ghost view = { λ s. record { system = s.rt.now; faults = s.faults; log = s.system_log.fetches } };
 }
 
-impl<'r, R: Files + Input> FileShelf<'r, R> {
+impl<'r, R: System> FileShelf<'r, R> {
     /// The files and the standard input of this runtime, without a fault.
     pub fn new(rt: &'r R) -> Self
-        ensures { result ≡ record { faults = 0; log = [] } }
+        ensures { result ≡ record { system = rt.now; faults = 0; log = [] } }
     {
         FileShelf {
             rt,
@@ -57,17 +58,22 @@ impl<'r, R: Files + Input> FileShelf<'r, R> {
     }
 }
 
-impl<R: Files + Input> Shelf for FileShelf<'_, R> {
+impl<R: System> Shelf for FileShelf<'_, R> {
     ghost state = { shelf_of_files };
 
     fn fetch(&mut self, alloc: Global, name: &str) -> Result<Vec<u8>, FetchFault>
         ensures shelf { Fetches (shelf_of_files self.old) (shelf_of_files self.new) name.now result }
         ensures count { self.new.faults ≡ (if is_failed result then one_more self.old.faults else self.old.faults) }
+        ensures system { self.new.system ≡ self.old.system }
+        // Under each other name the file of that very name was opened, and the answer is made of it.
+        ensures named { name.now ≢ dash → (answer : Result R.File Error) × R.opened self.old.system name.now answer × IsMadeOfOpen R.File.sure R.File.remaining answer result }
+        // Under `-` the answer is made of standard input.
+        ensures input { name.now ≡ dash → (input : R.Input) × R.standard self.old.system input × IsMadeOf (R.Input.sure input) (R.Input.remaining input) result }
     {
         let content = if name == "-" {
-            read_content(alloc, &mut self.rt.reader())
+            fetch_input(self.rt, alloc)
         } else {
-            read_opened(alloc, fs::open(self.rt, name))
+            fetch_named(self.rt, alloc, name)
         };
         if matches!(content, Err(FetchFault::Failed)) {
             self.faults = self.faults.saturating_add(1);
@@ -77,11 +83,29 @@ impl<R: Files + Input> Shelf for FileShelf<'_, R> {
     }
 }
 
-// The content of a file that was opened, or why it has none.
-fn read_opened<R: Read + Drop>(alloc: Global, opened: io::Result<R>) -> Result<Vec<u8>, FetchFault>
+// What is left of standard input.
+fn fetch_input<S: System>(system: &S, alloc: Global) -> Result<Vec<u8>, FetchFault>
     ensures short { IfOk result (λ content. length content.items ≤ longest) }
-    ensures refused { IfErr opened (λ error. result ≡ Err (fetch_fault_at (error_kind error))) }
-    ensures read { IfOk opened (λ file. IsReadOf (R.remaining file) result) }
+    ensures made { (input : S.Input) × S.standard system.now input × IsMadeOf (S.Input.sure input) (S.Input.remaining input) result }
+{
+    read_content(alloc, &mut system.standard_input())
+}
+
+// The content of the file of this name.
+fn fetch_named<S: System>(system: &S, alloc: Global, name: &str) -> Result<Vec<u8>, FetchFault>
+    ensures short { IfOk result (λ content. length content.items ≤ longest) }
+    ensures made { (answer : Result S.File Error) × S.opened system.now name.now answer × IsMadeOfOpen S.File.sure S.File.remaining answer result }
+{
+    read_opened(alloc, system.open(name))
+}
+
+// The content of a file that was opened, or why it has none.
+fn read_opened<R: Source + Drop>(
+    alloc: Global,
+    opened: io::Result<R>,
+) -> Result<Vec<u8>, FetchFault>
+    ensures short { IfOk result (λ content. length content.items ≤ longest) }
+    ensures made { IsMadeOfOpen R.sure R.remaining opened result }
 {
     match opened {
         Ok(mut file) => read_content(alloc, &mut file),
@@ -90,9 +114,9 @@ fn read_opened<R: Read + Drop>(alloc: Global, opened: io::Result<R>) -> Result<V
 }
 
 // What a reader has left, if it isn't too long. One byte more than the longest content is taken from it at most.
-fn read_content<R: Read>(alloc: Global, reader: &mut R) -> Result<Vec<u8>, FetchFault>
+fn read_content<R: Source>(alloc: Global, reader: &mut R) -> Result<Vec<u8>, FetchFault>
     ensures short { IfOk result (λ content. length content.items ≤ longest) }
-    ensures read { IsReadOf (R.remaining reader.old) result }
+    ensures made { IsMadeOf (R.sure reader.old) (R.remaining reader.old) result }
     ensures taken { TakesAtMost (longest + 1) (R.remaining reader.old) (R.remaining reader.new) }
 {
     let mut content = Vec::new(alloc);
@@ -111,7 +135,7 @@ fn read_content<R: Read>(alloc: Global, reader: &mut R) -> Result<Vec<u8>, Fetch
 }
 
 // Reads once, by way of the chunk to the end of the content, and answers whether the reader has nothing left.
-fn read_more<R: Read>(
+fn read_more<R: Source>(
     reader: &mut R,
     content: &mut Vec<u8>,
     chunk: &mut [u8],
@@ -125,8 +149,9 @@ fn read_more<R: Read>(
         OnErr result (TakesAtMost (longest + 1) start (R.remaining reader.new)) }
     ensures end { result ≡ Ok true → IsAtEnd (R.remaining reader.new) × (vec_len content.new ≡ vec_len content.old) }
     ensures no_length { result ≢ Err FetchFault.TooLong }
+    ensures sure { length chunk.old ≤ R.sure reader.old → ReadsOn (R.sure reader.old) (R.sure reader.new) (vec_len content.old) (vec_len content.new) result }
 {
-    let Some(given) = given_by(reader.read(chunk))? else {
+    let Some(given) = given_by(reader.read_some(chunk))? else {
         return Ok(false);
     };
     content.extend_from_slice(&chunk[..given])?;

@@ -23,6 +23,7 @@ mod parts;
 mod shelf;
 mod sink;
 mod stream_sink;
+mod system;
 mod system_log;
 #[cfg(test)]
 mod tests;
@@ -42,4 +43,5 @@ pub use parts::{Each, Parts};
 pub use shelf::{FetchFault, LONGEST, Shelf};
 pub use sink::{Failed, Sink};
 pub use stream_sink::{ErrSink, OutSink, StreamSink};
+pub use system::{Source, System};
 pub use writer::Writer;

@@ -1,11 +1,11 @@
 -- What the system's answers are to a sink and a shelf.
-use Rattle.std.specs.Prelude.{◌≡◌, ℕ, zero, suc, ◌<◌, ◌≤◌, ⊤, List, length, Option, Some, None, IfSome, Result, Ok, Err, Vec}
+use Rattle.std.specs.Prelude.{ℕ, ◌+◌, ◌<◌, ⊤, Bool, true, false, zero, suc, ◌≤◌, List, length, Option, Some, None, Result, Ok, Err}
 use Rattle.std.specs.Io.KnownBytes.{Consumes}
 use Rattle.std.specs.IoError.{error_kind}
 use Rattle.std.specs.declared.io.Error.{Error}
 use Rattle.std.specs.declared.io.ErrorKind.{ErrorKind}
-use Rattle.std.specs.declared.io.ErrorKind.TheVariants.{Interrupted, OutOfMemory}
-use Rattle.ant_base.specs.Shelf.{longest}
+use Rattle.std.specs.declared.io.ErrorKind.TheVariants.{Interrupted}
+use Rattle.ant_base.specs.System.{fetch_fault_at}
 use Rattle.ant_base.specs.declared.sink.Failed.{Failed}
 use Rattle.ant_base.specs.declared.shelf.FetchFault.{FetchFault}
 use Rattle.ant_base.specs.declared.shelf.FetchFault.TheVariants as fault
@@ -21,11 +21,6 @@ taken_of (Ok zero) = Err (record {})
 taken_of (Ok (suc n)) = Ok (suc n)
 taken_of (Err error) = taken_at (error_kind error)
 
--- why a failed open or read gives no content
-abbrev pub fetch_fault_at : ErrorKind → FetchFault
-fetch_fault_at OutOfMemory = fault.OutOfMemory
-fetch_fault_at _ = fault.Failed
-
 -- how many bytes a failed read gave: none where it was interrupted, which is no fault
 abbrev pub given_at : ErrorKind → Result (Option ℕ) FetchFault
 given_at Interrupted = Ok None
@@ -36,15 +31,16 @@ abbrev pub given_of : Result ℕ Error → Result (Option ℕ) FetchFault
 given_of (Ok given) = Ok (Some given)
 given_of (Err error) = given_at (error_kind error)
 
--- the content of a reader: all that it had left, or that was longer than the longest
-abbrev pub IsReadOf : {A : Type 0} → Option (List ℕ) → Result (Vec ℕ A) FetchFault → Type 0
-IsReadOf remaining (Ok content) = IfSome remaining (λ bytes. content.items ≡ bytes)
-IsReadOf remaining (Err fault.Failed) = ⊤
-IsReadOf remaining (Err fault.TooLong) = IfSome remaining (λ bytes. longest < length bytes)
-IsReadOf remaining (Err fault.OutOfMemory) = ⊤
-
 -- at most so many bytes were taken from a reader
 pub record TakesAtMost (most : ℕ) (remaining new_remaining : Option (List ℕ)) : Type 0 where
   pub bytes : List ℕ
   pub taken : Consumes remaining new_remaining bytes
   pub few : length bytes ≤ most
+
+-- a read of a reader that is sure: it is done or wants memory, and where there is more, one byte at least was taken; as many less are sure as were taken
+abbrev pub ReadsOn : (sure new_sure taken new_taken : ℕ) → Result Bool FetchFault → Type 0
+ReadsOn sure new_sure taken new_taken (Ok true) = ⊤
+ReadsOn sure new_sure taken new_taken (Ok false) = (taken < new_taken) × (sure + taken ≤ new_sure + new_taken)
+ReadsOn sure new_sure taken new_taken (Err fault.Failed) = ⊥
+ReadsOn sure new_sure taken new_taken (Err fault.TooLong) = ⊥
+ReadsOn sure new_sure taken new_taken (Err fault.OutOfMemory) = ⊤

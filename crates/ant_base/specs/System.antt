@@ -1,0 +1,41 @@
+-- What the system answers to a shelf of files, and what the shelf makes of it (this project's own).
+use Rattle.std.specs.Prelude.{◌≡◌, ℕ, ◌+◌, ◌<◌, ◌≤◌, ⊤, Bool, false, List, [], ◌∷◌, length, Option, IfSome, Result, Ok, Err, Vec}
+use Rattle.std.specs.Io.KnownBytes.{Consumes}
+use Rattle.std.specs.IoError.{error_kind}
+use Rattle.std.specs.declared.io.Error.{Error}
+use Rattle.std.specs.declared.io.ErrorKind.{ErrorKind}
+use Rattle.std.specs.declared.io.ErrorKind.TheVariants.{OutOfMemory}
+use Rattle.ant_base.specs.Shelf.{is_failed, longest}
+use Rattle.ant_base.specs.declared.shelf.FetchFault.{FetchFault}
+use Rattle.ant_base.specs.declared.shelf.FetchFault.TheVariants as fault
+
+-- the name of standard input: `-` alone
+abbrev pub dash : List ℕ
+dash = 45 ∷ []
+
+-- why a failed open or read gives no content
+abbrev pub fetch_fault_at : ErrorKind → FetchFault
+fetch_fault_at OutOfMemory = fault.OutOfMemory
+fetch_fault_at _ = fault.Failed
+
+-- a read that wasn't asked for more than so many bytes is done, and as many less are left as it gave
+abbrev pub GivesWithin : (sure new_sure : ℕ) → Result ℕ Error → Type 0
+GivesWithin sure new_sure (Ok given) = sure ≤ new_sure + given
+GivesWithin sure new_sure (Err _) = ⊥
+
+-- the content of a reader: all that it had left, or that was longer than the longest
+abbrev pub IsReadOf : {A : Type 0} → Option (List ℕ) → Result (Vec ℕ A) FetchFault → Type 0
+IsReadOf remaining (Ok content) = IfSome remaining (λ bytes. content.items ≡ bytes)
+IsReadOf remaining (Err fault.Failed) = ⊤
+IsReadOf remaining (Err fault.TooLong) = IfSome remaining (λ bytes. longest < length bytes)
+IsReadOf remaining (Err fault.OutOfMemory) = ⊤
+
+-- what is made of a reader: it is all that it had left, and it is Failed only where the reader wasn't sure of one byte more than the longest
+pub record IsMadeOf {A : Type 0} (sure : ℕ) (remaining : Option (List ℕ)) (result : Result (Vec ℕ A) FetchFault) : Type 0 where
+  pub read : IsReadOf remaining result
+  pub failed : longest + 1 ≤ sure → is_failed result ≡ false
+
+-- what is made of the answer of an open: the file that was opened is read, and the fault of one that wasn't is exact
+abbrev pub IsMadeOfOpen : {File A : Type 0} → (File → ℕ) → (File → Option (List ℕ)) → Result File Error → Result (Vec ℕ A) FetchFault → Type 0
+IsMadeOfOpen sure remaining (Ok file) result = IsMadeOf (sure file) (remaining file) result
+IsMadeOfOpen sure remaining (Err error) result = result ≡ Err (fetch_fault_at (error_kind error))

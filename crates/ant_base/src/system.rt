@@ -1,0 +1,80 @@
+// The system's side of a shelf of files.
+ghost use Rattle.std.specs.Prelude.{◌<◌, ◌≤◌, ℕ, List, Result, length, ⊤};
+ghost use Rattle.std.specs.Io.{ReadsAtMost};
+ghost use Rattle.std.specs.Io.KnownBytes.{ReadConsumes};
+ghost use Rattle.std.specs.declared.io.Error.{Error};
+ghost use Rattle.ant_base.specs.System.{GivesWithin};
+
+use std::fs::{self, File};
+use std::io::{self, Input, Read, StdinLock};
+
+/// A reader that may be sure of its next bytes.
+pub trait Source: Read {
+    /// For how many bytes from here on no read fails that asks for no more. It is none for each file and stream of the system.
+    ghost sure: { Self → ℕ };
+
+    /// Reads once: `Read::read`, and what a reader that is sure answers to it.
+    fn read_some(&mut self, chunk: &mut [u8]) -> io::Result<usize>
+        ensures bound { ReadsAtMost result chunk.new }
+        ensures bytes { ReadConsumes (Self.remaining self.old) (Self.remaining self.new) result chunk.new }
+        ensures sure { 0 < length chunk.old → length chunk.old ≤ sure self.old → GivesWithin (sure self.old) (sure self.new) result };
+}
+
+/// What a shelf of files asks of the system: files by their names, and standard input.
+///
+/// The answers are known by these calls alone, so a caller that has the answer to a name asked for that very name.
+pub trait System {
+    /// A file that was opened.
+    type File: Source + Drop;
+
+    /// Standard input.
+    type Input: Source + Drop;
+
+    /// Holds of a system, a name and each answer that an open of this name may have.
+    ghost opened: { Self → List ℕ → Result Self.File Error → Type 0 };
+
+    /// Holds of a system and its standard input.
+    ghost standard: { Self → Self.Input → Type 0 };
+
+    /// Opens the file of this name to read it.
+    fn open(&self, name: &str) -> io::Result<Self::File>
+        ensures { opened self.now name.now result };
+
+    /// Standard input, at what is left of it.
+    fn standard_input(&self) -> Self::Input
+        ensures { standard self.now result };
+}
+
+impl Source for File {
+    ghost sure = { λ _. 0 };
+
+    fn read_some(&mut self, chunk: &mut [u8]) -> io::Result<usize> {
+        self.read(chunk)
+    }
+}
+
+impl Source for StdinLock<'_> {
+    ghost sure = { λ _. 0 };
+
+    fn read_some(&mut self, chunk: &mut [u8]) -> io::Result<usize> {
+        self.read(chunk)
+    }
+}
+
+impl System for HostRuntime {
+    type File = File;
+
+    type Input = StdinLock<'static>;
+
+    ghost opened = { λ _ _ _. ⊤ };
+
+    ghost standard = { λ _ _. ⊤ };
+
+    fn open(&self, name: &str) -> io::Result<File> {
+        fs::open(self, name)
+    }
+
+    fn standard_input(&self) -> StdinLock<'static> {
+        self.reader()
+    }
+}
