@@ -1,8 +1,9 @@
 -- The bodies of a text, expanded, are its program assembled.
-use Rattle.std.proofs.Common.{◌≡◌, ◌⊎◌, inl, inr, ℕ, zero, suc, ◌<◌, ◌≤◌, List, [], ◌∷◌, length, Some, refl, sym, ap, ◌∙◌, subst, arith}
+use Rattle.std.proofs.Common.{◌≡◌, ◌⊎◌, inl, inr, ℕ, ◌<◌, ◌≤◌, List, [], ◌∷◌, length, Some, sym, ap, ◌∙◌, subst, arith}
 use Rattle.std.specs.Prelude.{slice_get}
 use Rattle.brain_read.specs.declared.instr.Instr.{Instr}
 use Rattle.brain_read.specs.Soundness.{IsBrain}
+use Rattle.ant_asm.proofs.FlatLemmas.{the_body}
 use Rattle.ant_asm.specs.declared.body.Body.{Body}
 use Rattle.ant_asm.specs.declared.fault.AsmFault.{AsmFault}
 use Rattle.ant_asm.specs.declared.fault.AsmFault.TheVariants.{BadByte, UnknownWord, MissingToken, BadNumber, ExtraToken, BadName, Misplaced, Twice, NoBlock, WrongCount, TooMany, EmptyBlock, Empty, NoLabel, OutOfMemory}
@@ -19,12 +20,6 @@ use Rattle.ant_asm.proofs.Brains.{assembled-brain}
 use Rattle.ant_asm.proofs.Emission.{emitted-assembled, places_of-size}
 use Rattle.ant_asm.proofs.LineLemmas.{lines_decide}
 use Rattle.ant_asm.proofs.TextLemmas.{never_both, one_fault, one_program}
-
--- there is a body of a number that is known
-the_body : (bodies : List Body) (number : ℕ) → number < length bodies → (body : Body) × (slice_get bodies number ≡ Some body)
-the_body [] number known = absurd (omega arith)
-the_body (body ∷ bodies) zero known = (body, refl)
-the_body (body ∷ bodies) (suc number) known = the_body bodies number (omega (arith, known))
 
 module _ (text : List ℕ) (bodies : List Body) (are : AreBodiesOf text bodies) where
   abbrev main : Items

@@ -150,7 +150,7 @@ module _ (bodies : List Body) (number : ℕ) (body : Body) (good : AreGood bodie
       ∙ offset-all (tree_at bodies number)
 
 -- there is a body of a number that is known
-the_body : (bodies : List Body) (number : ℕ) → number < length bodies → (body : Body) × (slice_get bodies number ≡ Some body)
+pub the_body : (bodies : List Body) (number : ℕ) → number < length bodies → (body : Body) × (slice_get bodies number ≡ Some body)
 the_body [] number known = absurd (omega arith)
 the_body (body ∷ bodies) zero known = (body, refl)
 the_body (body ∷ bodies) (suc number) known = the_body bodies number (omega arith)

@@ -28,7 +28,7 @@ use Rattle.line_tokens.specs.Judging.{nothing_more}
 use Rattle.ant_asm.specs.LineFaults.{Position, labelled_position, positions_of_keyword}
 use Rattle.ant_asm.specs.LineFaults.Position.{LabelToken, MayLabel, MayName, NameToken, Of}
 use Rattle.ant_asm.specs.Inner.Reading.{Read, Step, ◌>>=◌, all_read, ending, lifted, read_branches, read_drop, read_flip, read_form, read_keyword, read_label, read_marked, read_name, read_named, read_sense, read_turn, take_all, take_token}
-use Rattle.ant_asm.proofs.LineSteps.{Decides, TakesToken, Decides-same, SpelledAllBy, SpelledBy, SpelledEnd, all_decides, end_decides, then_taken}
+use Rattle.ant_asm.proofs.LineSteps.{Decides, Decides-same, SpelledAllBy, SpelledBy, SpelledEnd, TakesToken, all_decides, bind_assoc, end_decides, then_taken}
 use Rattle.ant_asm.proofs.LineTokens.{then_brain, label_token, lifted-number, lifted-word, may_label_token, may_name_token, name_token, number_token, word_token}
 
 -- what is read of the word of a table, and what it stands for
@@ -55,10 +55,6 @@ lifted-condition tokens = lifted-bind (take_word condition_words tokens) (λ wor
 
 lifted-condition_marker : (tokens : List (List ℕ)) → lifted (condition_from ConditionWord.Marker tokens) ≡ (lifted (take_marker tokens) >>= (λ marker. Ok (Marker marker.0, marker.1)))
 lifted-condition_marker tokens = lifted-bind (take_marker tokens) (λ marker. Ok (Marker marker.0, marker.1))
-
-bind_assoc : {A B C : Type 0} (m : Read A) (f : A → Read B) (g : B → Read C) → ((m >>= f) >>= g) ≡ (m >>= (λ x. f x >>= g))
-bind_assoc (Ok x) f g = refl
-bind_assoc (Err fault) f g = refl
 
 -- the sight, and the positions after it
 sight_token : TakesToken (Of SightToken) (word_place sight_words) UnknownWord (λ i. [])

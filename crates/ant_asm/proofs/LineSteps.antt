@@ -157,7 +157,8 @@ put_before-then : {A : Type 0} (x : A) (made : Step (List A)) (make : List A →
 put_before-then x (Ok taken) make = refl
 put_before-then x (Err fault) make = refl
 
-bind_assoc : {A B C : Type 0} (m : Read A) (f : A → Read B) (g : B → Read C) → ((m >>= f) >>= g) ≡ (m >>= (λ x. f x >>= g))
+-- steps in a row may be put together in either order
+pub bind_assoc : {A B C : Type 0} (m : Read A) (f : A → Read B) (g : B → Read C) → ((m >>= f) >>= g) ≡ (m >>= (λ x. f x >>= g))
 bind_assoc (Ok x) f g = refl
 bind_assoc (Err fault) f g = refl
 

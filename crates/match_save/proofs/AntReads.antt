@@ -4,9 +4,11 @@ use Rattle.std.specs.List.{AllByRecursion}
 use Rattle.std.specs.Str.{bytes_eq}
 use Rattle.std.proofs.lemmas.Bool.{le-leb, leb-true, leb-false}
 use Rattle.std.proofs.lemmas.Slice.Eq.{bytes_eq-Decides}
+use Rattle.hex_geometry.proofs.Turns.{dir_of_number_of}
 use Rattle.hex_geometry.specs.declared.direction.Dir.{Dir}
 use Rattle.hex_geometry.specs.declared.direction.Dir.TheVariants.{East, SouthEast, SouthWest, West, NorthWest, NorthEast}
 use Rattle.hex_geometry.specs.Direction.{dir_of, number_of}
+use Rattle.cell_world.proofs.GridSums.{one_if-le_one}
 use Rattle.cell_world.specs.declared.ant.Colour.{Colour}
 use Rattle.cell_world.specs.declared.ant.Colour.TheVariants.{Red, Black}
 use Rattle.cell_world.specs.declared.ant.PlacedAnt.{PlacedAnt}
@@ -68,17 +70,9 @@ one_if-is zero low = refl
 one_if-is (suc zero) low = refl
 one_if-is (suc (suc n)) low = absurd (let wrong : ⊥ = omega arith in wrong)
 
-dir_of-number_of : (d : Dir) → dir_of (number_of d) ≡ d
-dir_of-number_of East = refl
-dir_of-number_of SouthEast = refl
-dir_of-number_of SouthWest = refl
-dir_of-number_of West = refl
-dir_of-number_of NorthWest = refl
-dir_of-number_of NorthEast = refl
-
 -- a direction is that of its number
 pub dir_of_number : (d : Dir) (n : ℕ) → number_of d ≡ n → d ≡ dir_of n
-dir_of_number d n e = sym (dir_of-number_of d) ∙ ap dir_of e
+dir_of_number d n e = sym (dir_of_number_of d) ∙ ap dir_of e
 
 pub low_dir : (d : Dir) → number_of d ≤ 5
 low_dir East = omega arith
@@ -87,10 +81,6 @@ low_dir SouthWest = omega arith
 low_dir West = omega arith
 low_dir NorthWest = omega arith
 low_dir NorthEast = omega arith
-
-pub low_load : (b : Bool) → one_if b ≤ 1
-low_load true = omega arith
-low_load false = omega arith
 
 is_load : (b : Bool) → eqb (one_if b) 1 ≡ b
 is_load true = refl
@@ -122,12 +112,12 @@ ant-casts width height wide tall = record {
           (omega arith, (let l = ok.column in omega (arith, l))),
           (
             (omega arith, (let l = ok.row in omega (arith, l))),
-            ((omega arith, low_dir it.ant.facing), ((omega arith, low_load it.ant.laden), ((omega arith, (let l = ok.state in omega (arith, l))), (omega arith, ok.resting)))),
+            ((omega arith, low_dir it.ant.facing), ((omega arith, one_if-le_one it.ant.laden), ((omega arith, (let l = ok.state in omega (arith, l))), (omega arith, ok.resting)))),
           ),
         ),
       ),
     ),
-    ap (λ d. record it { ant = record (it.ant) { facing = d; laden = eqb (one_if it.ant.laden) 1 } }) (dir_of-number_of it.ant.facing) ∙ ap (λ l. record it { ant = record (it.ant) { laden = l } }) (is_load it.ant.laden),
+    ap (λ d. record it { ant = record (it.ant) { facing = d; laden = eqb (one_if it.ant.laden) 1 } }) (dir_of_number_of it.ant.facing) ∙ ap (λ l. record it { ant = record (it.ant) { laden = l } }) (is_load it.ant.laden),
   )
 
 plain_colour : (colour : Colour) → has_no_space (colour_word colour) ≡ true
@@ -169,7 +159,7 @@ module _ (width height : ℕ) (some : 1 ≤ width) (narrow : width ≤ 512) (som
             (
               plain-decimal (number_of it.ant.facing) (let l = low_dir it.ant.facing in omega (arith, l)),
               (
-                plain-decimal (one_if it.ant.laden) (let l = low_load it.ant.laden in omega (arith, l)),
+                plain-decimal (one_if it.ant.laden) (let l = one_if-le_one it.ant.laden in omega (arith, l)),
                 (plain-decimal it.ant.state (let l = ok.state in omega (arith, l)), plain-decimal it.ant.resting (let l = ok.resting in omega (arith, l))),
               ),
             ),

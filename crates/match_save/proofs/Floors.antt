@@ -7,6 +7,7 @@ use Rattle.std.proofs.lemmas.Nat.{mul-le}
 use Rattle.hex_geometry.specs.declared.position.Pos.{Pos}
 use Rattle.hex_geometry.specs.Position.{IsInner, IsInside, is_on_rim}
 use Rattle.hex_geometry.proofs.Rim.{inner-off_rim, off_rim-inner}
+use Rattle.cell_world.proofs.Openings.{HasMarksOfSix-rock}
 use Rattle.cell_world.specs.declared.ant.Ant.{Ant}
 use Rattle.cell_world.specs.declared.ant.PlacedAnt.{PlacedAnt}
 use Rattle.cell_world.specs.declared.cell.Cell.{Cell}
@@ -25,8 +26,8 @@ use Rattle.match_save.specs.Draft.{Draft, IsAnt, IsInForm}
 use Rattle.match_save.specs.State.{IsState, ground_cell, ground_cells, grid_of_draft, hill_count, with_ants}
 use Rattle.match_save.specs.Inner.Floor.{are_sound_cells, floor_of, is_empty_cell, is_sound_cell}
 use Rattle.match_save.specs.Inner.Standing.{CanAllStand, CanStand, weight_of_ants}
-use Rattle.match_save.proofs.RoundTrip.{In, IsOn, ant-there, bare-none, map-with_ants}
-use Rattle.match_save.proofs.SavedLaws.{each, on_all}
+use Rattle.match_save.proofs.RoundTrip.{In, IsOn, ant-there, bare-none, each, map-with_ants}
+use Rattle.match_save.proofs.SavedLaws.{on_all}
 use Rattle.match_save.proofs.Standings.{StandsInside, can-all, weight-all}
 
 -- lists of one length each
@@ -112,20 +113,16 @@ get_or-mapped f [] (suc i) d = refl
 get_or-mapped f (it ∷ list) zero d = refl
 get_or-mapped f (it ∷ list) (suc i) d = get_or-mapped f list i d
 
-six-rock : HasMarksOfSix rock
-unfolding rock
-six-rock = record { red = omega arith; black = omega arith }
-
 -- sets below 64 are of the six markers
 six-ground : (soils : List Soil) (reds blacks foods : List ℕ) → AllByRecursion (λ set. set < 64) reds → AllByRecursion (λ set. set < 64) blacks → (i : ℕ) → HasMarksOfSix (get_or (ground_cells soils reds blacks foods) i rock)
-six-ground [] reds blacks foods r b zero = six-rock
-six-ground [] reds blacks foods r b (suc i) = six-rock
-six-ground (soil ∷ soils) [] blacks foods r b zero = six-rock
-six-ground (soil ∷ soils) [] blacks foods r b (suc i) = six-rock
-six-ground (soil ∷ soils) (red ∷ reds) [] foods r b zero = six-rock
-six-ground (soil ∷ soils) (red ∷ reds) [] foods r b (suc i) = six-rock
-six-ground (soil ∷ soils) (red ∷ reds) (black ∷ blacks) [] r b zero = six-rock
-six-ground (soil ∷ soils) (red ∷ reds) (black ∷ blacks) [] r b (suc i) = six-rock
+six-ground [] reds blacks foods r b zero = HasMarksOfSix-rock
+six-ground [] reds blacks foods r b (suc i) = HasMarksOfSix-rock
+six-ground (soil ∷ soils) [] blacks foods r b zero = HasMarksOfSix-rock
+six-ground (soil ∷ soils) [] blacks foods r b (suc i) = HasMarksOfSix-rock
+six-ground (soil ∷ soils) (red ∷ reds) [] foods r b zero = HasMarksOfSix-rock
+six-ground (soil ∷ soils) (red ∷ reds) [] foods r b (suc i) = HasMarksOfSix-rock
+six-ground (soil ∷ soils) (red ∷ reds) (black ∷ blacks) [] r b zero = HasMarksOfSix-rock
+six-ground (soil ∷ soils) (red ∷ reds) (black ∷ blacks) [] r b (suc i) = HasMarksOfSix-rock
 six-ground (soil ∷ soils) (red ∷ reds) (black ∷ blacks) (food ∷ foods) r b zero = record { red = r.0; black = b.0 }
 six-ground (soil ∷ soils) (red ∷ reds) (black ∷ blacks) (food ∷ foods) r b (suc i) = six-ground soils reds blacks foods r.1 b.1 i
 
@@ -193,7 +190,7 @@ module _ (d : Draft) (ok : IsInForm d) where
     six : (p : Pos) → HasMarksOfSix (cell_in (floor_of d) p)
     six p = elim (cases_lt p.x d.head.width) [
       | inl column ↦ subst HasMarksOfSix (sym (cell_in-column (floor_of d) p column)) (six-ground d.soils d.red_marks d.black_marks d.foods ok.red_sets ok.black_sets (index_of d.head.width p))
-      | inr beyond ↦ subst HasMarksOfSix (sym (cell_in-beyond (floor_of d) p beyond)) six-rock
+      | inr beyond ↦ subst HasMarksOfSix (sym (cell_in-beyond (floor_of d) p beyond)) HasMarksOfSix-rock
     ]
 
     -- a cell that is inside is sound

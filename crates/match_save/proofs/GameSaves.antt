@@ -35,8 +35,7 @@ use Rattle.match_save.specs.Saving.{CanBeSaved, save_of}
 use Rattle.match_save.specs.State.{IsState, grid_of_draft, hill_count, is_hill, is_rocky, program_of, turns_of, with_ants}
 use Rattle.match_save.proofs.BrainForms.{IsProgram-brain, StatesBelow-brain}
 use Rattle.match_save.proofs.Resting.{AllRest}
-use Rattle.match_save.proofs.RoundTrip.{In}
-use Rattle.match_save.proofs.SavedLaws.{each}
+use Rattle.match_save.proofs.RoundTrip.{In, each}
 use Rattle.match_save.proofs.WorldAgain.{IsPlain, cells-again, clear_rocky, floors, floors-at, lives, living-apart, plain_at, read_at}
 
 -- what holds of each element holds of all

@@ -3,6 +3,7 @@ use Rattle.std.proofs.Common.{◌≡◌, ◌⊎◌, ℕ, suc, ◌+◌, ◌*◌, 
 use Rattle.std.specs.List.{AllByRecursion}
 use Rattle.std.proofs.lemmas.Bool.{cases_eq, cases_lt}
 use Rattle.std.proofs.lemmas.Nat.{mul-le}
+use Rattle.cell_world.proofs.GridSums.{one_if-le_one}
 use Rattle.cell_world.specs.declared.ant.Ant.{Ant}
 use Rattle.cell_world.specs.declared.ant.PlacedAnt.{PlacedAnt}
 use Rattle.cell_world.specs.declared.cell.Cell.{Cell}
@@ -20,7 +21,6 @@ use Rattle.match_save.specs.Draft.{Draft, IdsRise, IsAnt, IsInForm}
 use Rattle.match_save.specs.State.{IsState, grid_of_draft, ground_cells, hill_count, program_of, turns_of}
 use Rattle.match_save.specs.Inner.Floor.{are_sound_cells, floor_of}
 use Rattle.std.proofs.lemmas.List.Sums.{sum_by-cons}
-use Rattle.cell_world.specs.Cell.{one_if}
 use Rattle.match_save.specs.Inner.Made.{made_saved}
 use Rattle.match_save.specs.Saved.{saved_of}
 use Rattle.match_save.specs.Inner.State.{HasRest, HasWorld}
@@ -162,13 +162,9 @@ sum-bound (food ∷ foods) all = (let here = sum_by-cons (λ (n : ℕ). n) food 
 pub few-food : (d : Draft) → IsInForm d → sum d.foods ≤ 613652889600
 few-food d ok = (let s = sum-bound d.foods ok.amounts in let f = few-cells d ok in omega (arith, s, f))
 
-load-bound : (laden : Bool) → one_if laden ≤ 1
-load-bound true = omega arith
-load-bound false = omega arith
-
 ants-bound : (ants : List PlacedAnt) → weight_of_ants ants ≤ 10 * length ants
 ants-bound [] = omega arith
-ants-bound (it ∷ ants) = (let r = ants-bound ants in let l = load-bound it.ant.laden in omega (arith, r, l))
+ants-bound (it ∷ ants) = (let r = ants-bound ants in let l = one_if-le_one it.ant.laden in omega (arith, r, l))
 
 pub light-ants : (d : Draft) → IsInForm d → weight_of_ants d.ants ≤ 163840
 light-ants d ok = (let b = ants-bound d.ants in let f = few-ants d ok in omega (arith, b, f))

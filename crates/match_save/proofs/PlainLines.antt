@@ -3,11 +3,13 @@ use Rattle.std.proofs.Common.{◌≡◌, ℕ, zero, suc, ◌+◌, ◌%◌, ◌/�
 use Rattle.std.specs.List.{AllByRecursion}
 use Rattle.std.proofs.lemmas.Bool.{ne_eqb}
 use Rattle.std.proofs.lemmas.Nat.{mul-le}
+use Rattle.list_lemmas.proofs.AllElements.{AllByRecursion-append}
 use Rattle.ant_base.specs.Lines.{has_no_lf, is_lf, lines_of}
 use Rattle.ant_base.proofs.Linewise.{has_no_lf-append, has_no_lf-decimal}
 use Rattle.brain_read.specs.declared.instr.Instr.{Instr}
 use Rattle.brain_read.specs.Forms.{fields_of}
 use Rattle.line_tokens.proofs.PrintedLemmas.{no_lf-body}
+use Rattle.cell_world.proofs.GridSums.{one_if-le_one}
 use Rattle.cell_world.specs.declared.ant.Colour.{Colour}
 use Rattle.cell_world.specs.declared.ant.Colour.TheVariants.{Red, Black}
 use Rattle.cell_world.specs.declared.ant.PlacedAnt.{PlacedAnt}
@@ -21,7 +23,7 @@ use Rattle.match_save.specs.declared.soil.Soil.TheVariants.{Rock, Clear, RedHill
 use Rattle.match_save.specs.Text.{ant_lines, ant_tokens, colour_word, draft_lines, draft_text, food_byte, food_lines, food_tokens, head_tokens, instruction_line, marks_byte, program_lines, rows, soil_byte, spaced}
 use Rattle.match_save.specs.Saved.{IsSaveLines, IsSaveText, SavedValue, draft_of, save_text}
 use Rattle.match_save.specs.Verdict.{IsDraftText}
-use Rattle.match_save.proofs.AntReads.{low_dir, low_load}
+use Rattle.match_save.proofs.AntReads.{low_dir}
 use Rattle.match_save.proofs.Bytes.{draft-bytes, ends-lines, lines-text}
 use Rattle.match_save.proofs.FoodReads.{small_place}
 use Rattle.match_save.proofs.ProgramReads.{printed, spaced-body}
@@ -31,10 +33,6 @@ Plain line = has_no_lf line ≡ true
 
 abbrev ArePlain : List (List ℕ) → Type 0
 ArePlain lines = AllByRecursion (λ line. has_no_lf line ≡ true) lines
-
-all-append : (a b : List (List ℕ)) → ArePlain a → ArePlain b → ArePlain (a ++ b)
-all-append [] b p q = q
-all-append (x ∷ a) b p q = (p.0, all-append a b p.1 q)
 
 spaced-plain : (tokens : List (List ℕ)) → ArePlain tokens → Plain (spaced tokens)
 spaced-plain [] all = refl
@@ -103,7 +101,7 @@ food-other food = elim (leb food 62) as (λ b. is_lf (cond b (48 + food) 111) �
 foods-plain : (width i : ℕ) (foods : List ℕ) → 1 ≤ width → width ≤ 512 → i + length foods < 1000000 → AllByRecursion (λ food. food ≤ most_weight) foods → ArePlain (food_lines width i foods)
 foods-plain width i [] some narrow few all = tt
 foods-plain width i (food ∷ foods) some narrow few all =
-    all-append (cond (leb food 62) [] (spaced (food_tokens width i food) ∷ [])) (food_lines width (i + 1) foods) (here (leb food 62)) (foods-plain width (i + 1) foods some narrow (omega (arith, few)) all.1)
+    AllByRecursion-append Plain (cond (leb food 62) [] (spaced (food_tokens width i food) ∷ [])) (food_lines width (i + 1) foods) (here (leb food 62)) (foods-plain width (i + 1) foods some narrow (omega (arith, few)) all.1)
   where
     here : (b : Bool) → ArePlain (cond b [] (spaced (food_tokens width i food) ∷ []))
     here true = tt
@@ -131,7 +129,7 @@ ants-plain width height (it ∷ ants) narrow low all = (
             (
               number (number_of it.ant.facing) 5 (low_dir it.ant.facing) (omega arith),
               (
-                number (one_if it.ant.laden) 1 (low_load it.ant.laden) (omega arith),
+                number (one_if it.ant.laden) 1 (one_if-le_one it.ant.laden) (omega arith),
                 (number it.ant.state 10000 (let l = all.0.state in omega (arith, l)) (omega arith), (number it.ant.resting 255 all.0.resting (omega arith), tt)),
               ),
             ),
@@ -156,14 +154,14 @@ draft-plain d ok =
     let soils : List (List ℕ) = rows soil_byte width height d.soils in
     let black : List (List ℕ) = program_lines (codes "black") d.black in
     let red : List (List ℕ) = program_lines (codes "red") d.red in
-    all-append (map spaced (head_tokens d.head)) ((red ++ black) ++ ((soils ++ (reds ++ (blacks ++ (foods ++ more)))) ++ ants)) (head-plain d.head ok.head)
-    (all-append (red ++ black) ((soils ++ (reds ++ (blacks ++ (foods ++ more)))) ++ ants)
-    (all-append red black (program-plain (codes "red") d.red refl ok.red) (program-plain (codes "black") d.black refl ok.black))
-    (all-append (soils ++ (reds ++ (blacks ++ (foods ++ more)))) ants
-    (all-append soils (reds ++ (blacks ++ (foods ++ more))) (rows-plain soil_byte soil-other width height d.soils)
-    (all-append reds (blacks ++ (foods ++ more)) (rows-plain marks_byte marks-other width height d.red_marks)
-    (all-append blacks (foods ++ more) (rows-plain marks_byte marks-other width height d.black_marks)
-    (all-append foods more (rows-plain food_byte food-other width height d.foods)
+    AllByRecursion-append Plain (map spaced (head_tokens d.head)) ((red ++ black) ++ ((soils ++ (reds ++ (blacks ++ (foods ++ more)))) ++ ants)) (head-plain d.head ok.head)
+    (AllByRecursion-append Plain (red ++ black) ((soils ++ (reds ++ (blacks ++ (foods ++ more)))) ++ ants)
+    (AllByRecursion-append Plain red black (program-plain (codes "red") d.red refl ok.red) (program-plain (codes "black") d.black refl ok.black))
+    (AllByRecursion-append Plain (soils ++ (reds ++ (blacks ++ (foods ++ more)))) ants
+    (AllByRecursion-append Plain soils (reds ++ (blacks ++ (foods ++ more))) (rows-plain soil_byte soil-other width height d.soils)
+    (AllByRecursion-append Plain reds (blacks ++ (foods ++ more)) (rows-plain marks_byte marks-other width height d.red_marks)
+    (AllByRecursion-append Plain blacks (foods ++ more) (rows-plain marks_byte marks-other width height d.black_marks)
+    (AllByRecursion-append Plain foods more (rows-plain food_byte food-other width height d.foods)
     (foods-plain width 0 d.foods (let l = ok.head.wide in omega (arith, l)) ok.head.narrow (let l = mul-le height width 512 512 ok.head.low ok.head.narrow in let f = ok.foods in omega (arith, l, f)) ok.amounts)))))
     (ants-plain width height d.ants ok.head.narrow ok.head.low ok.ants)))
 

@@ -1,9 +1,9 @@
 -- The lines of the save that lines describe are these lines.
-use Rattle.std.proofs.Common.{◌≡◌, ◌≢◌, ◌⊎◌, ℕ, zero, suc, ◌<◌, ◌≤◌, Bool, true, false, cond, eqb, ltb, List, [], ◌∷◌, ◌++◌, length, map, get_or, set, Option, Some, None, refl, sym, ◌∙◌, ap, ap₂, subst, inl, inr, arith}
+use Rattle.std.proofs.Common.{◌≡◌, ◌≢◌, ◌⊎◌, ℕ, zero, suc, ◌<◌, ◌≤◌, Bool, true, false, cond, eqb, ltb, List, [], ◌∷◌, ◌++◌, length, map, get_or, set, Option, Some, None, refl, sym, ◌∙◌, ap, subst, inl, inr, arith}
 use Rattle.std.specs.List.{AllByRecursion}
 use Rattle.std.proofs.lemmas.Bool.{eqb-true, eqb-false, eq-eqb, ne_eqb, lt-ltb, le-ltb, ltb-true, ltb-false}
 use Rattle.std.proofs.lemmas.List.{get_or-set_same, get_or-set_other, length-set}
-use Rattle.std.proofs.lemmas.Nat.{div-mul-add, mod-mul-add}
+use Rattle.hex_geometry.proofs.RowLemmas.{pos_at-index_of}
 use Rattle.hex_geometry.specs.declared.position.Pos.{Pos}
 use Rattle.cell_world.specs.declared.ant.Ant.{Ant}
 use Rattle.cell_world.specs.declared.ant.PlacedAnt.{PlacedAnt}
@@ -24,11 +24,13 @@ abbrev pub In : PlacedAnt → List PlacedAnt → Type 0
 In it [] = ⊥
 In it (first ∷ ants) = (first ≡ it) ⊎ In it ants
 
-pos-index : (width : ℕ) (p : Pos) → p.x < width → pos_at width (index_of width p) ≡ p
-pos-index width p within = ap₂ (λ (x y : ℕ). record { x = x; y = y }) (mod-mul-add p.y width p.x within) (div-mul-add p.y width p.x within)
+-- what holds of each ant that is in a list holds of all
+pub each : (P : PlacedAnt → Type 0) (list : List PlacedAnt) → ((it : PlacedAnt) → In it list → P it) → AllByRecursion P list
+each P [] all = tt
+each P (it ∷ list) all = (all it (inl refl), each P list (λ other is_in. all other (inr is_in)))
 
 apart-index : (width : ℕ) (p q : Pos) → p.x < width → q.x < width → q ≢ p → index_of width p ≢ index_of width q
-apart-index width p q in_p in_q other same = other (sym (pos-index width q in_q) ∙ ap (pos_at width) (sym same) ∙ pos-index width p in_p)
+apart-index width p q in_p in_q other same = other (sym (pos_at-index_of width q in_q) ∙ ap (pos_at width) (sym same) ∙ pos_at-index_of width p in_p)
 
 -- an ant stands within the rows, and on one of so many cells
 pub record IsOn (width count : ℕ) (it : PlacedAnt) : Type 0 where

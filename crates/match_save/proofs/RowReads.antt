@@ -3,6 +3,7 @@ use Rattle.std.proofs.Common.{◌≡◌, ℕ, zero, suc, ◌*◌, ◌≤◌, Boo
 use Rattle.std.specs.List.{AllByRecursion}
 use Rattle.std.proofs.lemmas.Bool.{eqb-true, eq-eqb}
 use Rattle.std.proofs.lemmas.List.{length-take, length-drop, take-append-le, drop-append-le, take_all, drop_all}
+use Rattle.list_lemmas.proofs.AllElements.{AllByRecursion-append}
 use Rattle.match_save.specs.Text.{rows}
 use Rattle.match_save.specs.Inner.Readers.{Spells}
 use Rattle.match_save.specs.Inner.Reading.{all_of, joined, read_rows, row_of, with_value}
@@ -58,10 +59,6 @@ module _ {A : Type 0} {value : ℕ → Option A} {accepts : A → Type 0} {byte 
     pub full : length list ≡ height * width
     pub each : AllByRecursion accepts list
 
-  all-append : (a b : List A) → AllByRecursion accepts a → AllByRecursion accepts b → AllByRecursion accepts (a ++ b)
-  all-append [] b p q = q
-  all-append (x ∷ a) b p q = (p.0, all-append a b p.1 q)
-
   all-take : (n : ℕ) (a : List A) → AllByRecursion accepts a → AllByRecursion accepts (take n a)
   all-take zero a p = tt
   all-take (suc n) [] p = tt
@@ -83,7 +80,7 @@ module _ {A : Type 0} {value : ℕ → Option A} {accepts : A → Type 0} {byte 
     joined-ok (suc height) (row ∷ list) ok =
         let below = joined-ok height list (record { as_many = (let l = ok.as_many in omega (arith, l)); each = ok.each.1 }) in
         let wide = ok.each.0.wide in
-        record { full = (let l = length-append row (joined list) in let f = below.full in omega (arith, l, f, wide)); each = all-append row (joined list) ok.each.0.each below.each }
+        record { full = (let l = length-append row (joined list) in let f = below.full in omega (arith, l, f, wide)); each = AllByRecursion-append accepts row (joined list) ok.each.0.each below.each }
 
     take-row : (row rest : List A) → length row ≡ width → take width (row ++ rest) ≡ row
     take-row row rest wide = ap (λ n. take n (row ++ rest)) (sym wide) ∙ take-append-le (length row) row rest (omega arith) ∙ take_all (length row) row (omega arith)

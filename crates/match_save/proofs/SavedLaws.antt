@@ -11,7 +11,7 @@ use Rattle.match_save.specs.declared.soil.Soil.TheVariants.{Rock, Clear, RedHill
 use Rattle.match_save.specs.State.{IsState, ground_cells, grid_of_draft, with_ants}
 use Rattle.match_save.specs.Saved.{IsSaved, IsSaveLines, SavedValue, draft_of, living, saved_of, soil_of_cell}
 use Rattle.match_save.specs.Verdict.{IsDraftText}
-use Rattle.match_save.proofs.RoundTrip.{In, IsOn, ant-there, living-all, map-with_ants}
+use Rattle.match_save.proofs.RoundTrip.{In, IsOn, ant-there, each, living-all, map-with_ants}
 use Rattle.match_save.proofs.Verdicts.{one_draft}
 
 -- lists of one length each
@@ -54,10 +54,6 @@ again (s ∷ soils) (r ∷ reds) (b ∷ blacks) (f ∷ foods) are =
     soil Clear rest = ap (λ l. Clear ∷ l) rest
     soil RedHill rest = ap (λ l. RedHill ∷ l) rest
     soil BlackHill rest = ap (λ l. BlackHill ∷ l) rest
-
-pub each : (P : PlacedAnt → Type 0) (list : List PlacedAnt) → ((it : PlacedAnt) → In it list → P it) → AllByRecursion P list
-each P [] all = tt
-each P (it ∷ list) all = (all it (inl refl), each P list (λ other is_in. all other (inr is_in)))
 
 pub on_all : (width height count : ℕ) (ants : List PlacedAnt) → count ≡ height * width → AllByRecursion (IsAnt width height) ants → AllByRecursion (IsOn width count) ants
 on_all width height count [] full all = tt

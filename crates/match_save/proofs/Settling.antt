@@ -2,6 +2,7 @@
 use Rattle.std.proofs.Common.{◌≡◌, ℕ, zero, suc, ◌+◌, ◌*◌, ◌<◌, ◌≤◌, Bool, true, false, not, cond, nat_eq, nat_le, nat_lt, ltb, List, [], ◌∷◌, ◌++◌, length, map, drop, get_or, slice_get, Option, Some, None, Ok, Err, refl, sym, ◌∙◌, ap, subst, append_assoc, arith}
 use Rattle.std.specs.List.{AllByRecursion}
 use Rattle.std.proofs.lemmas.Bool.{eq-eqb, eqb-true, le-leb, leb-true, lt-ltb, ltb-true, ltb-false, and_parts, and_from}
+use Rattle.brain_read.proofs.FirstFaults.{not_below_none}
 use Rattle.brain_read.specs.declared.draft.Draft.{Draft}
 use Rattle.brain_read.specs.declared.instr.Instr.{Instr}
 use Rattle.brain_read.specs.Drafts.{draft_settled, drafted, or_state}
@@ -21,13 +22,6 @@ use Rattle.match_save.specs.Inner.Fit.{are_fit, has_turns, length_of}
 abbrev pub AreBelow : ℕ → Instr → Type 0
 AreBelow n i = AllByRecursion (λ state. state < n) (states_of i)
 
-none-above : (n : ℕ) (states : List ℕ) → first_not_below n states ≡ None → AllByRecursion (λ state. state < n) states
-none-above n [] e = tt
-none-above n (s ∷ states) e = go (ltb s n) refl e (none-above n states) where
-  go : (b : Bool) → ltb s n ≡ b → cond (not b) (Some s) (first_not_below n states) ≡ None → (first_not_below n states ≡ None → AllByRecursion (λ state. state < n) states) → (s < n) × AllByRecursion (λ state. state < n) states
-  go true is e rest = (ltb-true s n is, rest e)
-  go false is e rest = absurd (cc)
-
 some-above : (n : ℕ) (states : List ℕ) (s : ℕ) → first_not_below n states ≡ Some s → AllByRecursion (λ state. state < n) states → ⊥
 some-above n [] s e all = absurd (cc)
 some-above n (state ∷ states) s e all = go (ltb state n) refl e (some-above n states s) where
@@ -39,7 +33,7 @@ some-above n (state ∷ states) s e all = go (ltb state n) refl e (some-above n 
 pub settled-ok : (n : ℕ) (i j : Instr) → draft_settled n i ≡ Ok j → (i ≡ j) × AreBelow n i
 settled-ok n i j e = go (first_not_below n (states_of i)) refl e where
   go : (o : Option ℕ) → first_not_below n (states_of i) ≡ o → or_state o i ≡ Ok j → (i ≡ j) × AreBelow n i
-  go None is e = ((let s : i ≡ j = cc in s), none-above n (states_of i) is)
+  go None is e = ((let s : i ≡ j = cc in s), not_below_none n (states_of i) is)
   go (Some s) is e = absurd (cc)
 
 -- one that wasn't has a state that isn't

@@ -1,5 +1,6 @@
 -- Strict numbers, read digit by digit.
-use Rattle.std.proofs.Common.{◌≡◌, ℕ, ◌<◌, ◌≤◌, Bool, true, false, not, ◌&&◌, eqb, List, length, get_or, take, None, refl, ◌∙◌, ap, arith, nat_le, nat_lt}
+use Rattle.std.proofs.Common.{◌≡◌, ℕ, ◌<◌, ◌≤◌, false, not, ◌&&◌, eqb, List, length, get_or, take, None, refl, ◌∙◌, ap, arith, nat_le, nat_lt}
+use Rattle.std.proofs.Math.Bool.{and-false}
 use Rattle.std.proofs.lemmas.List.{length-take}
 use Rattle.std.proofs.lemmas.Str.Parse.{digits_value_short, numerals_by_value, tells_digits}
 use Rattle.std.specs.Str.{all_ascii_digits}
@@ -12,10 +13,6 @@ pub read_small : (text : List ℕ) (at n : ℕ) → length text ≤ 11 → Read 
 read_small text at n short read =
     let small = digits_value_short (numerals_by_value (AllDigits 10) tells_digits) (take at text) 11 read.digits (omega (arith, length-take at text)) in
     omega (arith, small, read.value)
-
-and-false : (b : Bool) → (b && false) ≡ false
-and-false true = refl
-and-false false = refl
 
 -- a text with a byte that is no digit is no number
 pub none_of_other : (text : List ℕ) → all_ascii_digits text ≡ false → strict_value text ≡ None

@@ -1,6 +1,7 @@
 -- Lines that are read by their tokens.
 use Rattle.std.proofs.Common.{◌≡◌, ℕ, zero, suc, ◌^◌, ◌<◌, ◌≤◌, Bool, true, false, not, ◌&&◌, cond, eqb, leb, List, [], ◌∷◌, ◌++◌, length, get_or, Option, Some, None, refl, sym, ◌∙◌, ap, arith, nat_le, nat_lt, decimal}
-use Rattle.std.proofs.lemmas.Bool.{and_parts, ne_eqb, eqb-true, eq-eqb, le-leb, leb-true, ltb-false}
+use Rattle.std.proofs.Math.Bool.{and-false}
+use Rattle.std.proofs.lemmas.Bool.{and_parts, eq-eqb, eqb-true, le-leb, leb-true, ltb-false, ne_eqb, not-true}
 use Rattle.std.proofs.lemmas.Fmt.{decimal_is_IsNumeral, decimal_nonempty, digits_decimal, digits_value-decimal, decimal-digits_value, length-decimal-le, first_decimal, decimal_digit}
 use Rattle.std.proofs.lemmas.Slice.Eq.{bytes_eq-Decides}
 use Rattle.std.proofs.lemmas.Str.Parse.{digit_from_value, digits_value_short}
@@ -16,10 +17,6 @@ use Rattle.match_save.specs.Text.{spaced}
 use Rattle.match_save.specs.Draft.{most_counted}
 use Rattle.match_save.proofs.Readers.Elements.{whole-spells}
 use Rattle.match_save.proofs.Readers.Good.{Good, one-good, lead-good}
-
-and-false : (b : Bool) → (b && false) ≡ false
-and-false true = refl
-and-false false = refl
 
 -- a printed number doesn't begin with a zero, unless it is one
 no_zero : (n : ℕ) → n ≤ most_counted → (nat_lt 1 (length (decimal n)) && (eqb (get_or (decimal n) 0 0) 48)) ≡ false
@@ -107,21 +104,17 @@ AreTokens [] = ⊥
 AreTokens (token ∷ []) = has_no_space token ≡ true
 AreTokens (token ∷ next ∷ tokens) = (has_no_space token ≡ true) × AreTokens (next ∷ tokens)
 
-false_of_not : (b : Bool) → not b ≡ true → b ≡ false
-false_of_not true e = sym e
-false_of_not false e = refl
-
 pieces-token : (token : List ℕ) → has_no_space token ≡ true → pieces token ≡ token ∷ []
 pieces-token [] plain = refl
 pieces-token (byte ∷ token) plain =
     let parts = and_parts (not (eqb byte 32)) (has_no_space token) plain in
-    rw (false_of_not (eqb byte 32) parts.0, pieces-token token parts.1) refl
+    rw (not-true (eqb byte 32) parts.0, pieces-token token parts.1) refl
 
 pieces-more : (token rest : List ℕ) → has_no_space token ≡ true → pieces (token ++ 32 ∷ rest) ≡ token ∷ pieces rest
 pieces-more [] rest plain = refl
 pieces-more (byte ∷ token) rest plain =
     let parts = and_parts (not (eqb byte 32)) (has_no_space token) plain in
-    rw (false_of_not (eqb byte 32) parts.0, pieces-more token rest parts.1) refl
+    rw (not-true (eqb byte 32) parts.0, pieces-more token rest parts.1) refl
 
 -- tokens with a space between them are cut into these tokens
 pub pieces-spaced : (tokens : List (List ℕ)) → AreTokens tokens → pieces (spaced tokens) ≡ tokens

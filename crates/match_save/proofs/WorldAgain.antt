@@ -24,7 +24,7 @@ use Rattle.match_save.specs.declared.soil.Soil.{Soil}
 use Rattle.match_save.specs.declared.soil.Soil.TheVariants.{Rock}
 use Rattle.match_save.specs.State.{StandApart, StandsAlone, ground_cells, is_rocky, with_ant, with_ants, hill_of}
 use Rattle.match_save.specs.Saved.{living, living_at, placed_at, soil_of_cell, soil_of_clear}
-use Rattle.match_save.proofs.RoundTrip.{In, IsOn, Others, alone, keeps}
+use Rattle.match_save.proofs.RoundTrip.{In, IsOn, Others, alone, each, keeps}
 
 -- a cell without its ant, as its line says it
 abbrev pub bare : Cell → Cell
@@ -189,10 +189,6 @@ module _ (g : Grid) (world : IsWorld g) where
         go (Some ant) told (inr never) = absurd never
         go (Some ant) told (inl same) = ap (λ (v : PlacedAnt). v.ant.id) (sym same) ∙ eqb-true ant.id n (ap (is_ant n) (sym told) ∙ place_in-holds (world_of g) n p is)
 
-  every : (P : PlacedAnt → Type 0) (list : List PlacedAnt) → ((it : PlacedAnt) → In it list → P it) → AllByRecursion P list
-  every P [] all = tt
-  every P (it ∷ list) all = (all it (inl refl), every P list (λ other is_in. all other (inr is_in)))
-
   other_at : (ants : List PlacedAnt) (i : ℕ) (it : PlacedAnt) → Others g.width i ants → In it ants → i ≢ index_of g.width it.place
   other_at [] i it others is_in = absurd is_in
   other_at (first ∷ ants) i it others (inl same) = subst (λ (v : PlacedAnt). i ≢ index_of g.width v.place) same others.0
@@ -216,7 +212,7 @@ module _ (g : Grid) (world : IsWorld g) where
   length-with_ants (it ∷ ants) cells = length-with_ants ants (with_ant g.width it cells) ∙ length-set cells (index_of g.width it.place) _
 
   on_floors : (n : ℕ) → AllByRecursion (IsOn g.width (length (floors g.cells))) (living g n)
-  on_floors n = every (IsOn g.width (length (floors g.cells))) (living g n) (λ it is_in.
+  on_floors n = each (IsOn g.width (length (floors g.cells))) (living g n) (λ it is_in.
       let alive = lives n n it (omega arith) is_in in
       let inside : IsInside g.width g.height it.place = place_in-inside (world_of g) it.ant.id it.place alive.place in
       record { column = inside.column; cell = (let l = index_of-early g.cells g.width g.height it.place world.full inside in let m = length-floors g.cells in omega (arith, l, m)) })
@@ -252,7 +248,7 @@ module _ (g : Grid) (world : IsWorld g) where
 
     empty : (get_or g.cells i rock).ant ≡ None → get_or (with_ants g.width (living g g.ids) (floors g.cells)) i rock ≡ get_or g.cells i rock
     empty is =
-        keeps g.width (living g g.ids) (floors g.cells) i (every (λ (it : PlacedAnt). i ≢ index_of g.width it.place) (living g g.ids) (λ it is_in same.
+        keeps g.width (living g g.ids) (floors g.cells) i (each (λ (it : PlacedAnt). i ≢ index_of g.width it.place) (living g g.ids) (λ it is_in same.
         let alive = lives g.ids g.ids it (omega arith) is_in in
         let inside : IsInside g.width g.height it.place = place_in-inside (world_of g) it.ant.id it.place alive.place in
         let place : pos_at g.width i ≡ it.place = ap (pos_at g.width) same ∙ pos_at-index_of g.width it.place inside.column in
