@@ -10,7 +10,7 @@ use Rattle.cell_world.specs.Grid.{Grid, world_of}
 use Rattle.world_read.specs.Opened.{IsOpeningWorld}
 use Rattle.ants.specs.Files.{AreAccepted, IsAccepted}
 use Rattle.ants.specs.Files.FileContent.{WorldContent, BrainContent}
-use Rattle.ants.specs.Jobs.{brain_file, game_files, world_file}
+use Rattle.ants.specs.Outputs.{brain_file, game_files, world_file}
 
 fits : (name red_name black_name : List ℕ) (grid : Grid) (red black : List Instr) (sheet : Sheet) (a b c : Fetched) → IsAccepted (world_file name) a (WorldContent grid) → IsAccepted (brain_file red_name) b (BrainContent red)
     → IsAccepted (brain_file black_name) c (BrainContent black) → Fits (world_of grid) (record { red = red; black = black; sheet = sheet })

@@ -23,7 +23,7 @@ use Rattle.match_run.specs.Run.{most_rounds, world_after}
 use Rattle.tournament.specs.Names.{has_name, with_name}
 use Rattle.ants.specs.Files.{AreAccepted}
 use Rattle.ants.specs.Inner.Cups.{AreReady, CanBePlayed, Opens}
-use Rattle.ants.specs.Jobs.{brain_file, cup_contents, cup_files, nowhere, score_between}
+use Rattle.ants.specs.Outputs.{brain_file, cup_contents, cup_files, nowhere, score_between}
 
 -- what holds of all of a list holds at each place
 all_at : {X : Type 0} (P : X → Type 0) (xs : List X) (i : ℕ) (none : X) → AllByRecursion P xs → i < length xs → P (get_or xs i none)

@@ -21,7 +21,7 @@ use Rattle.ants.specs.declared.stop.CommandStop.TheVariants as stop
 use Rattle.ants.specs.Files.{AreAccepted, File}
 use Rattle.ants.specs.Inner.Planning.{IsGenerating}
 use Rattle.ants.specs.Inner.Reading.{CarriesOut, ending_of}
-use Rattle.ants.specs.Jobs.{LacksRoom, contest_shape, files_of, sample_minds, shape_named}
+use Rattle.ants.specs.Outputs.{LacksRoom, contest_shape, files_of, sample_minds, shape_named}
 use Rattle.ants.proofs.Readings.{carries_done, carries_failure, carries_wanting, ending_stopped, reads_none}
 use Rattle.ants.proofs.SampleWorked.{sample_brain-sound}
 

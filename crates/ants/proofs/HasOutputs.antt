@@ -22,7 +22,7 @@ use Rattle.world_read.specs.Opened.{kinds_of}
 use Rattle.ants.specs.Files.{AreAccepted, FileContent, IsAccepted}
 use Rattle.ants.specs.Files.FileContent.{BrainContent, BreakContent, WorldContent, LabelledContent, SaveContent}
 use Rattle.ants.specs.Help.{help_text, version_text}
-use Rattle.ants.specs.Jobs.{IsCupOutput, IsViewOutput, asm_output, brain_file, brain_output, break_file, contest_shape, cup_contents, cup_files, match_output, resume_output, save_output, score_between, shape_named, show_output, summary_of, workload_text, world_file}
+use Rattle.ants.specs.Outputs.{IsCupOutput, IsViewOutput, asm_output, brain_file, brain_output, break_file, contest_shape, cup_contents, cup_files, match_output, resume_output, save_output, score_between, shape_named, show_output, summary_of, workload_text, world_file}
 use Rattle.ants.specs.Laws.{HasOutput}
 use Rattle.ants.proofs.Viewed.{view_of-view}
 

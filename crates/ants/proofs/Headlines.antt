@@ -11,14 +11,14 @@ use Rattle.match_run.specs.Run.{run_text}
 use Rattle.ants.specs.Files.{AreAccepted, FileContent, IsAccepted}
 use Rattle.ants.specs.Files.FileContent.{BrainContent, BreakContent, WorldContent, LabelledContent, SaveContent}
 use Rattle.ants.specs.Headline.{Headline, NamesTheReason, NamesTheWord, PrintsItsOutput, PrintsTheGame, KeepsPromise}
-use Rattle.ants.specs.Jobs.{IsJobText, brain_file, game_files, match_output, world_file}
+use Rattle.ants.specs.Outputs.{IsJobText, brain_file, game_files, match_output, world_file}
 use Rattle.ants.specs.Outside.{Outside}
-use Rattle.ants.specs.Performing.{IsDone}
-use Rattle.ants.specs.Running.{Ends, Reports}
+use Rattle.ants.specs.Endings.{IsDone}
+use Rattle.ants.specs.Run.{Ends, Reports}
 use Rattle.ants.specs.Status.{status_number}
-use Rattle.ants.specs.Stopping.{Ending, Reason, ending_status}
-use Rattle.ants.specs.Stopping.Ending.{Done, RefusedWord, Stopped}
-use Rattle.ants.specs.Stopping.Reason.{AtFile, AtInput, AtMemory, AtOutput, AtRoom}
+use Rattle.ants.specs.FaultLines.{Ending, Reason, ending_status}
+use Rattle.ants.specs.FaultLines.Ending.{Done, RefusedWord, Stopped}
+use Rattle.ants.specs.FaultLines.Reason.{AtFile, AtInput, AtMemory, AtOutput, AtRoom}
 
 -- a run that ended so
 record HasEnded (words : List (List ℕ)) (before after : Outside) (ending : Ending) : Type 0 where

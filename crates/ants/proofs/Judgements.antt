@@ -9,8 +9,8 @@ use Rattle.ant_base.specs.declared.shelf.FetchFault.TheVariants as answer
 use Rattle.ants.specs.declared.stop.FileFault.{FileFault}
 use Rattle.ants.specs.declared.stop.FileFault.TheVariants.{TooLong, World, Brain, Breaks, Labelled, Save, AlreadyAt}
 use Rattle.ants.specs.Files.{AreAccepted, FileContent, File, IsAccepted, IsNoText, IsRefused, Refuses, StopsAt}
-use Rattle.ants.specs.Judged.{AreThere, IsJudged, IsRefusedAs, Judged, JudgesOnce, FilesVerdict}
-use Rattle.ants.specs.Judged.FilesVerdict.{AllAccepted, FirstRefused}
+use Rattle.ants.specs.Verdict.{AreThere, IsJudged, IsRefusedAs, Judged, JudgesOnce, FilesVerdict}
+use Rattle.ants.specs.Verdict.FilesVerdict.{AllAccepted, FirstRefused}
 use Rattle.ants.proofs.Readings.{refused_text}
 use Rattle.ants.proofs.Texts.{one_refusal, some_reading}
 use Rattle.ants.proofs.Verdicts.{accepted_never_refused, never_bytes, one_bytes, one_content, one_verdict}

@@ -1,22 +1,27 @@
-pub mod Accepted
+-- Texts: what each command writes, and that it ends in LF.
 pub mod Cups
-pub mod Generated
-pub mod HasOutputs
-pub mod Headlines
-pub mod HelpWorked
-pub mod Judgements
-pub mod LabelledGames
-pub mod Listed
-pub mod OneTexts
-pub mod Planned
-pub mod Readings
-pub mod ResumedGames
-pub mod SampleWorked
-pub mod Saves
 pub mod TextEnds
 pub mod Texts
-pub mod Untouched
+-- What is fetched and judged, file by file.
+pub mod Readings
 pub mod Verdicts
+pub mod Judgements
+pub mod Accepted
+pub mod Listed
+-- The commands.
+pub mod SampleWorked
+pub mod Generated
+pub mod Planned
+pub mod Untouched
 pub mod Viewed
-pub mod WorkedStops
 pub mod Workloads
+pub mod Saves
+-- The laws: one text, one output, the headline.
+pub mod OneTexts
+pub mod HasOutputs
+pub mod LabelledGames
+pub mod ResumedGames
+pub mod Headlines
+-- Worked values.
+pub mod HelpWorked
+pub mod WorkedStops

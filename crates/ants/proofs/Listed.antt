@@ -11,8 +11,8 @@ use Rattle.ants.specs.Files.{FileContent, File, FileKind}
 use Rattle.ants.specs.Inner.Cups.{files_named}
 use Rattle.ants.specs.Inner.Reading.{ReadsFiles, outcome_of}
 use Rattle.ants.specs.Inner.Reading.ReadOutcome.{Contents, Stopped}
-use Rattle.ants.specs.Stopping.{reason_of}
-use Rattle.ants.specs.Stopping.Reason.{AtMemory}
+use Rattle.ants.specs.FaultLines.{reason_of}
+use Rattle.ants.specs.FaultLines.Reason.{AtMemory}
 use Rattle.ants.proofs.Readings.{outcome_stopped, reads_stopped, reads_then, reads_wanting}
 
 -- the file that a word names

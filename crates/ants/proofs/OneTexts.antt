@@ -17,7 +17,7 @@ use Rattle.world_read.specs.Canonical.{canonical_text}
 use Rattle.world_read.specs.Opened.{kinds_of}
 use Rattle.ants.specs.Files.{FileContent}
 use Rattle.ants.specs.Files.FileContent.{WorldContent, BrainContent, BreakContent, LabelledContent, SaveContent}
-use Rattle.ants.specs.Jobs.{IsCupOutput, IsJobText, IsMinimisedOutput, IsViewOutput, TellsGenerated, TellsMinimised, TellsWorkload, contest_shape, cup_contents, match_output, score_between, shape_named, summary_of, workload_text}
+use Rattle.ants.specs.Outputs.{IsCupOutput, IsJobText, IsMinimisedOutput, IsViewOutput, TellsGenerated, TellsMinimised, TellsWorkload, contest_shape, cup_contents, match_output, score_between, shape_named, summary_of, workload_text}
 use Rattle.ants.specs.Laws.{OneText, WindowsChangeCountsAlone, WorkersChangeNothing}
 
 tells_minimised : (list : List Instr) (text other : List ℕ) → TellsMinimised list text → TellsMinimised list other → text ≡ other

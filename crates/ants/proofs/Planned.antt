@@ -13,7 +13,7 @@ use Rattle.match_save.specs.Saved.{save_text}
 use Rattle.match_save.specs.Saving.{saved_after}
 use Rattle.ants.specs.Files.FileContent.{BrainContent, WorldContent}
 use Rattle.ants.specs.Inner.Planning.{IsSheetOf, Plans}
-use Rattle.ants.specs.Jobs.{chosen_rounds, match_output, minds_named, save_output}
+use Rattle.ants.specs.Outputs.{chosen_rounds, match_output, minds_named, save_output}
 
 pub output_planned : (setup : RunSetup) (plan : Plan) (sheet : code.Sheet) (grid : Grid) (red black : List Instr) → Plans setup plan → IsSheetOf setup sheet →
     whole_text (record { red = red; black = black; sheet = sheet_of sheet }) plan.seed plan.rounds (chooses plan.dumps) plan.window plan.stats (world_of grid) ≡ match_output setup (WorldContent grid) (BrainContent red) (BrainContent black)

@@ -21,14 +21,14 @@ use Rattle.ants.specs.Files.{File, FileContent, AreAccepted, AreBegun, IsRefused
 use Rattle.ants.specs.Inner.Planning.{stop_of}
 use Rattle.ants.specs.Inner.Reading.{CarriesOut, CarriesOutWords, ComesTo, EndsBy, ReadOutcome, ReadingStops, ReadsFiles, ReadsText, TextStops, ending_of, fetch_reason, outcome_of}
 use Rattle.ants.specs.Inner.Reading.ReadOutcome.{Contents, Stopped}
-use Rattle.ants.specs.Jobs.{files_of, IsJobText}
-use Rattle.ants.specs.Judged.{IsRefusedAs}
-use Rattle.ants.specs.Performing.{IsUnsure, StopsFor, WritesInPlay}
-use Rattle.ants.specs.Running.{Ends}
+use Rattle.ants.specs.Outputs.{files_of, IsJobText}
+use Rattle.ants.specs.Verdict.{IsRefusedAs}
+use Rattle.ants.specs.Endings.{IsUnsure, StopsFor, WritesInPlay}
+use Rattle.ants.specs.Run.{Ends}
 use Rattle.ants.specs.Outside.{Outside, outside_of}
-use Rattle.ants.specs.Stopping.{Reason, ending_by, reason_of}
-use Rattle.ants.specs.Stopping.Ending.{RefusedWord}
-use Rattle.ants.specs.Stopping.Reason.{AtFile, AtOutput, AtInput, AtRoom, AtMemory}
+use Rattle.ants.specs.FaultLines.{Reason, ending_by, reason_of}
+use Rattle.ants.specs.FaultLines.Ending.{RefusedWord}
+use Rattle.ants.specs.FaultLines.Reason.{AtFile, AtOutput, AtInput, AtRoom, AtMemory}
 use Rattle.ants.proofs.TextEnds.{texts_end_in_lf}
 use Rattle.ants.proofs.Texts.{never_long}
 

@@ -25,7 +25,7 @@ use Rattle.world_read.specs.Opened.{OpensAs}
 use Rattle.ants.specs.Files.{AreAccepted, FileContent, IsAccepted, Reads}
 use Rattle.ants.specs.Files.FileContent.{WorldContent, BrainContent, BreakContent, LabelledContent, SaveContent}
 use Rattle.ants.specs.Files.FileKind.{SaveFile}
-use Rattle.ants.specs.Jobs.{brain_file, chosen_rounds, game_files, match_output, minds_named, resume_output, save_output, world_file}
+use Rattle.ants.specs.Outputs.{brain_file, chosen_rounds, game_files, match_output, minds_named, resume_output, save_output, world_file}
 use Rattle.ants.specs.Laws.{IsGameOf, IsSavedAs, SavesAreResumed, front_output, resumed_setup, saved_setup}
 
 -- the bounds of a brain that was read are at most the largest

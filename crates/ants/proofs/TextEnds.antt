@@ -54,7 +54,7 @@ use Rattle.ants.specs.declared.workload.Summary.{Summary}
 use Rattle.ants.specs.Files.{AreAccepted, FileContent, IsAccepted}
 use Rattle.ants.specs.Help.{file_lines, game_lines, game_option_lines, head_lines, help_text, status_lines, version_text, world_option_lines}
 use Rattle.ants.specs.Files.FileContent.{BrainContent, BreakContent, WorldContent, LabelledContent, SaveContent}
-use Rattle.ants.specs.Jobs.{IsCupOutput, IsMinimisedOutput, IsViewOutput, asm_output, brain_file, brain_output, chosen_rounds, cup_files, match_output, minds_named, labelled_file, score_between, show_output, resume_output, save_file, save_output, summary_lines, summary_of, workload_text, world_file}
+use Rattle.ants.specs.Outputs.{IsCupOutput, IsMinimisedOutput, IsViewOutput, asm_output, brain_file, brain_output, chosen_rounds, cup_files, match_output, minds_named, labelled_file, score_between, show_output, resume_output, save_file, save_output, summary_lines, summary_of, workload_text, world_file}
 use Rattle.ants.specs.Laws.{TextsEndInLf}
 use Rattle.ants.proofs.Cups.{players_counted}
 

@@ -39,7 +39,7 @@ use Rattle.ants.specs.Inner.Planning.{IsUpTo}
 use Rattle.ants.specs.Files.FileContent.{WorldContent, BrainContent, BreakContent, LabelledContent, SaveContent}
 use Rattle.ants.specs.Files.FileKind.{WorldFile, BrainFile, BreakFile, LabelledFile, SaveFile}
 use Rattle.ants.specs.Inner.Reading.{TextStops, ReadsText, save_reason, brain_reason, break_reason, labelled_reason, world_reason}
-use Rattle.ants.specs.Stopping.Reason.{AtInput}
+use Rattle.ants.specs.FaultLines.Reason.{AtInput}
 
 -- bytes are never both a world's text and wrong
 never_wrong : (bytes : List ℕ) (grid : Grid) (fault : WorldFault) → OpensAs bytes grid → IsWorldFault bytes fault → ⊥

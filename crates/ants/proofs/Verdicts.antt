@@ -17,15 +17,15 @@ use Rattle.ants.specs.declared.stop.FileFault.{FileFault}
 use Rattle.ants.specs.declared.stop.FileFault.TheVariants.{TooLong, World, Brain, Breaks, Labelled, Save, AlreadyAt}
 use Rattle.ants.specs.Files.{AreAccepted, AreBegun, AreInOrder, FileContent, File, IsAccepted, IsFetched, IsNoText, IsRefused, Reads, Refuses, StopsAt}
 use Rattle.ants.specs.Inner.Reading.{EndsBy}
-use Rattle.ants.specs.Jobs.{HasRoom, IsJobText, LacksRoom, contest_shape, files_of, shape_named}
-use Rattle.ants.specs.Judged.{IsRefusedAs, Judged, FilesVerdict}
-use Rattle.ants.specs.Judged.FilesVerdict.{AllAccepted, FirstRefused}
+use Rattle.ants.specs.Outputs.{HasRoom, IsJobText, LacksRoom, contest_shape, files_of, shape_named}
+use Rattle.ants.specs.Verdict.{IsRefusedAs, Judged, FilesVerdict}
+use Rattle.ants.specs.Verdict.FilesVerdict.{AllAccepted, FirstRefused}
 use Rattle.ants.specs.Outside.{Outside}
-use Rattle.ants.specs.Performing.{IsUnsure}
-use Rattle.ants.specs.Running.{Ends, IsComplete, IsCrowding, IsNoCommand, IsOrderly, IsRefusing, IsRun, NeverUnread}
-use Rattle.ants.specs.Stopping.{Ending, Reason, ending_by, ending_status, status_of}
-use Rattle.ants.specs.Stopping.Ending.{Done, RefusedWord, Stopped}
-use Rattle.ants.specs.Stopping.Reason.{AtFile, AtOutput, AtInput, AtRoom, AtMemory}
+use Rattle.ants.specs.Endings.{IsUnsure}
+use Rattle.ants.specs.Run.{Ends, IsComplete, IsCrowding, IsNoCommand, IsOrderly, IsRefusing, IsRun, NeverUnread}
+use Rattle.ants.specs.FaultLines.{Ending, Reason, ending_by, ending_status, status_of}
+use Rattle.ants.specs.FaultLines.Ending.{Done, RefusedWord, Stopped}
+use Rattle.ants.specs.FaultLines.Reason.{AtFile, AtOutput, AtInput, AtRoom, AtMemory}
 use Rattle.ants.proofs.Texts.{never_both, one_reading}
 
 -- the contents of each name

@@ -6,9 +6,9 @@ use Rattle.world_read.specs.declared.fault.WorldFault.TheVariants as world
 use Rattle.ants.specs.declared.status.Status.TheVariants.{Done, Words, Read, Write, Input, Memory}
 use Rattle.ants.specs.declared.stop.FileFault.TheVariants as file
 use Rattle.ants.specs.Status.{status_number}
-use Rattle.ants.specs.Stopping.{ending_status, fault_line, word_line}
-use Rattle.ants.specs.Stopping.Ending.{Done as Finished, RefusedWord, Stopped}
-use Rattle.ants.specs.Stopping.Reason.{AtFile, AtInput, AtMemory, AtOutput, AtRoom}
+use Rattle.ants.specs.FaultLines.{ending_status, fault_line, word_line}
+use Rattle.ants.specs.FaultLines.Ending.{Done as Finished, RefusedWord, Stopped}
+use Rattle.ants.specs.FaultLines.Reason.{AtFile, AtInput, AtMemory, AtOutput, AtRoom}
 
 -- the numbers with which the program exits
 pub numbers : map status_number (Done ∷ Words ∷ Read ∷ Write ∷ Input ∷ Memory ∷ []) ≡ 0 ∷ 2 ∷ 3 ∷ 4 ∷ 5 ∷ 6 ∷ []

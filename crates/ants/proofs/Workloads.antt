@@ -15,7 +15,7 @@ use Rattle.match_run.specs.Game.{GameValue}
 use Rattle.match_run.specs.Run.{world_after}
 use Rattle.world_gen.specs.Food.{food_on}
 use Rattle.ants.specs.declared.workload.Summary.{Summary}
-use Rattle.ants.specs.Jobs.{sample_minds, summary_of}
+use Rattle.ants.specs.Outputs.{sample_minds, summary_of}
 use Rattle.ants.specs.Sample.{sample_brain}
 
 -- two lent brains that are the sample brain, by the contest's rules

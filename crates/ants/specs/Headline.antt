@@ -19,12 +19,12 @@ use Rattle.match_run.specs.Run.{dumps_text, world_after}
 use Rattle.world_read.specs.Opened.{OpensAs}
 use Rattle.ants.specs.declared.stop.FileFault.{FileFault}
 use Rattle.ants.specs.Files.{AreAccepted, FileContent}
-use Rattle.ants.specs.Jobs.{IsJobText, chosen_rounds, files_of, minds_named}
+use Rattle.ants.specs.Outputs.{IsJobText, chosen_rounds, files_of, minds_named}
 use Rattle.ants.specs.Outside.{Outside}
-use Rattle.ants.specs.Performing.{StopsFor}
-use Rattle.ants.specs.Running.{GotLine, IsNoCommand, IsRunTo}
-use Rattle.ants.specs.Stopping.{Reason, fault_line, word_line}
-use Rattle.ants.specs.Stopping.Reason.{AtFile, AtInput, AtMemory, AtOutput, AtRoom}
+use Rattle.ants.specs.Endings.{StopsFor}
+use Rattle.ants.specs.Run.{GotLine, IsNoCommand, IsRunTo}
+use Rattle.ants.specs.FaultLines.{Reason, fault_line, word_line}
+use Rattle.ants.specs.FaultLines.Reason.{AtFile, AtInput, AtMemory, AtOutput, AtRoom}
 
 -- status 0, by any command
 pub record PrintsItsOutput (words : List (List ℕ)) (before after : Outside) : Type 0 where

@@ -27,7 +27,7 @@ use Rattle.match_run.specs.Run.{dumps_text}
 use Rattle.ants.specs.Files.{AreAccepted, FileContent, Reads}
 use Rattle.ants.specs.Files.FileContent.{BrainContent, WorldContent}
 use Rattle.ants.specs.Files.FileKind.{SaveFile}
-use Rattle.ants.specs.Jobs.{HasRoom, IsJobText, chosen_rounds, files_of, game_files, minds_named}
+use Rattle.ants.specs.Outputs.{HasRoom, IsJobText, chosen_rounds, files_of, game_files, minds_named}
 
 -- each output of a command whose numbers and names are within the limits, and whose files were accepted, ends in LF
 abbrev pub TextsEndInLf : Type 0

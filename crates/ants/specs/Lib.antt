@@ -2,12 +2,12 @@ pub mod Files
 pub mod Headline
 pub mod Help
 pub mod Inner
-pub mod Jobs
-pub mod Judged
+pub mod Outputs
+pub mod Verdict
 pub mod Laws
 pub mod Outside
-pub mod Performing
-pub mod Running
+pub mod Endings
+pub mod Run
 pub mod Sample
 pub mod Status
-pub mod Stopping
+pub mod FaultLines

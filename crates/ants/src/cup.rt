@@ -9,7 +9,7 @@ ghost use Rattle.match_run.specs.Run.{most_rounds};
 ghost use Rattle.tournament.specs.Standing.{IsStandingOf};
 ghost use Rattle.ants.specs.Inner.Cups.{AreReady, CanBePlayed};
 ghost use Rattle.ants.specs.Inner.Reading.{CarriesOut, ReadsFiles, ending_of, outcome_of};
-ghost use Rattle.ants.specs.Jobs.{cup_contents, cup_files, score_between};
+ghost use Rattle.ants.specs.Outputs.{cup_contents, cup_files, score_between};
 
 use crate::fetching::read_files;
 use crate::stop::CommandStop;
@@ -55,7 +55,7 @@ struct Games<'c> {
 
 impl Referee for Games<'_> {
     ghost use Rattle.ants.specs.Inner.Cups.{CanBePlayed};
-    ghost use Rattle.ants.specs.Jobs.{score_between};
+    ghost use Rattle.ants.specs.Outputs.{score_between};
 
     ghost score = { λ games. score_between games.worlds.now games.players.now games.seed games.rounds };
 

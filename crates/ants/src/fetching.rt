@@ -5,7 +5,7 @@ ghost use Rattle.command_words.specs.Words.{texts};
 ghost use Rattle.ants.specs.Files.{FileContent, FileKind};
 ghost use Rattle.ants.specs.Inner.Cups.{files_named};
 ghost use Rattle.ants.specs.Inner.Reading.{FetchesFile, ReadsFiles, ReadsText, brain_reason, break_reason, fetch_reason, labelled_reason, outcome_of, world_reason};
-ghost use Rattle.ants.specs.Stopping.{reason_of};
+ghost use Rattle.ants.specs.FaultLines.{reason_of};
 
 use crate::stop::{CommandStop, FileFault};
 use ant_asm::{AsmFault, Assembled, assemble};

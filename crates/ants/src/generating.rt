@@ -4,7 +4,7 @@ ghost use Rattle.command_words.specs.Laws.{ShapeWithin};
 ghost use Rattle.world_gen.specs.Painting.{IsShape};
 ghost use Rattle.ants.specs.Inner.Reading.{CarriesOut, ending_of};
 ghost use Rattle.ants.specs.Inner.Planning.{IsGenerating};
-ghost use Rattle.ants.specs.Jobs.{shape_named};
+ghost use Rattle.ants.specs.Outputs.{shape_named};
 
 use crate::stop::CommandStop;
 use ant_base::{Shelf, Sink};

@@ -1,6 +1,6 @@
 // Laws on the definitions of what a command does. Each is proved by a function that does nothing.
 ghost use Rattle.ants.specs.Headline.{Headline};
-ghost use Rattle.ants.specs.Judged.{JudgesOnce};
+ghost use Rattle.ants.specs.Verdict.{JudgesOnce};
 ghost use Rattle.ants.specs.Laws.{AssembledAndMinimised, HasOutput, OneText, SavesAreResumed, TextsEndInLf, WindowsChangeCountsAlone, WorkersChangeNothing};
 
 /// The promise on one page: each run of the program ends with the status 0, 2, 3, 4, 5 or 6, and each of them says what was fetched, accepted

@@ -8,7 +8,7 @@ use round_book::{Crew, Field};
 use std::alloc::Global;
 
 /// The game on a field after so many rounds, played in windows of so many turns. The field is whole and at place 0.
-pub fn played<'b, C: Crew>(
+pub fn play_game<'b, C: Crew>(
     alloc: Global,
     crew: &mut C,
     field: Field<'b>,

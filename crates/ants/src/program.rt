@@ -10,10 +10,10 @@ ghost use Rattle.round_book.specs.Book.{CanBegin};
 ghost use Rattle.round_book.specs.Led.{IsWindow};
 ghost use Rattle.ants.specs.Inner.Reading.{CarriesOut, CarriesOutWords, ending_of};
 ghost use Rattle.ants.specs.Outside.{outside_of};
-ghost use Rattle.ants.specs.Running.{GotLine, IsComplete, IsCrowding, IsNoCommand, IsOrderly, NeverUnread, IsRefusing, IsRun, IsRunTo, Reports};
+ghost use Rattle.ants.specs.Run.{GotLine, IsComplete, IsCrowding, IsNoCommand, IsOrderly, NeverUnread, IsRefusing, IsRun, IsRunTo, Reports};
 ghost use Rattle.ants.specs.Status.{status_number};
-ghost use Rattle.ants.specs.Stopping.{ending_status, fault_line, plain_ending, reason_of, status_of, word_line};
-ghost use Rattle.ants.specs.Stopping.Reason.{AtMemory};
+ghost use Rattle.ants.specs.FaultLines.{ending_status, fault_line, plain_ending, reason_of, status_of, word_line};
+ghost use Rattle.ants.specs.FaultLines.Reason.{AtMemory};
 ghost use Rattle.std.specs.Process.{exit_status};
 
 use crate::asm::asm;
@@ -398,7 +398,7 @@ fn report<E: Sink>(ended: Ended<'_>, err: &mut E) -> Status
 }
 
 // Says which word is refused.
-#[tactic(auto, unfolding(crate::specs::Stopping::word_line))]
+#[tactic(auto, unfolding(crate::specs::FaultLines::word_line))]
 fn report_word<E: Sink>(word: usize, err: &mut E) -> Status
     ensures reports { GotLine (E.state err.old) (E.state err.new) (word_line word) }
     ensures status { result ≡ Status.Words }

@@ -9,8 +9,8 @@ ghost use Rattle.ants.specs.Files.FileContent.{SaveContent};
 ghost use Rattle.ants.specs.Files.FileKind.{SaveFile};
 ghost use Rattle.ants.specs.Inner.Reading.{CarriesOut, ReadsFiles, ReadsText, ending_of, outcome_of, save_reason};
 ghost use Rattle.ants.specs.Inner.Planning.{IsUpTo};
-ghost use Rattle.ants.specs.Jobs.{chosen_rounds, save_file};
-ghost use Rattle.ants.specs.Stopping.{reason_of};
+ghost use Rattle.ants.specs.Outputs.{chosen_rounds, save_file};
+ghost use Rattle.ants.specs.FaultLines.{reason_of};
 
 use crate::fetching::fetch_file;
 use crate::stop::{CommandStop, FileFault};

@@ -11,7 +11,7 @@ ghost use Rattle.match_run.specs.Dumps.{chooses};
 ghost use Rattle.match_run.specs.Play.{PushedBy};
 ghost use Rattle.ants.specs.Inner.Planning.{CanPlay, IsPlanned, IsSheetOf, Plans, setting_contents};
 ghost use Rattle.ants.specs.Inner.Reading.{CarriesOut, ReadsFiles, ending_of, outcome_of};
-ghost use Rattle.ants.specs.Jobs.{chosen_rounds, game_files};
+ghost use Rattle.ants.specs.Outputs.{chosen_rounds, game_files};
 
 use crate::fetching::{FileText, fetch_file, read_file};
 use crate::stop::CommandStop;

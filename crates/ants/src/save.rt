@@ -10,7 +10,7 @@ ghost use Rattle.world_read.specs.Opened.{IsOpeningWorld};
 ghost use Rattle.ants.specs.Inner.Planning.{CanPlay, IsSheetOf, Plans};
 ghost use Rattle.ants.specs.Inner.Reading.{CarriesOut, ending_of};
 
-use crate::played::played;
+use crate::played::play_game;
 use crate::run::{FileNames, Setting, setting_of};
 use crate::stop::CommandStop;
 use ant_base::{Shelf, Sink};
@@ -37,7 +37,7 @@ fn saved_game<C: Crew>(
     ensures { IfOk result (λ saved. saved ≡ saved_after (minds_of brains.entry) plan.now.seed plan.now.window (world_of world) plan.now.rounds) }
 {
     let field = Field::new(alloc, world, brains, plan.seed, 0)?;
-    let game = played(alloc, crew, field, plan.window, plan.rounds)?;
+    let game = play_game(alloc, crew, field, plan.window, plan.rounds)?;
     let _width = game.world().width();
     let _brains = game.field().brains();
     save_of(alloc, &game)

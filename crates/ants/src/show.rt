@@ -3,7 +3,7 @@ ghost use Rattle.ant_base.specs.Sink.{Pushed};
 ghost use Rattle.command_words.specs.Command.PlainCommand.{ShowCommand};
 ghost use Rattle.ants.specs.Files.FileContent.{WorldContent};
 ghost use Rattle.ants.specs.Inner.Reading.{CarriesOut, ending_of};
-ghost use Rattle.ants.specs.Jobs.{show_output};
+ghost use Rattle.ants.specs.Outputs.{show_output};
 
 use crate::fetching::read_file;
 use crate::stop::CommandStop;
@@ -13,7 +13,7 @@ use dump_print::{push_dump, push_seed};
 use std::alloc::Global;
 
 // Pushes the line of the seed and the dump after round 0.
-#[tactic(auto, unfolding(crate::specs::Jobs::show_output))]
+#[tactic(auto, unfolding(crate::specs::Outputs::show_output))]
 fn push_show<K: Sink>(world: &World, seed: u32, out: &mut K) -> Result<(), Failed>
     ensures { Pushed (K.state out.old) (K.state out.new) (show_output seed (WorldContent world.now)) result }
 {

@@ -1,6 +1,6 @@
 // How a run ended, why a command stopped, and the line that says so.
 ghost use Rattle.std.specs.Prelude.{◌≡◌};
-ghost use Rattle.ants.specs.Stopping.{file_fault_text, brain_fault_text, break_fault_text, labelled_fault_text, world_fault_text, ending_by, plain_ending, reason_of, reason_text, fault_line, status_of, save_fault_text};
+ghost use Rattle.ants.specs.FaultLines.{file_fault_text, brain_fault_text, break_fault_text, labelled_fault_text, world_fault_text, ending_by, plain_ending, reason_of, reason_text, fault_line, status_of, save_fault_text};
 ghost use Rattle.ants.specs.Inner.Reading.{ending_of};
 
 use crate::status::Status;
@@ -284,7 +284,7 @@ impl Layout for StopWords<'_> {
 impl Layout for CommandStop<'_> {
     ghost text = { λ stop. fault_line (reason_of stop) };
 
-    #[tactic(auto, unfolding(crate::specs::Stopping::fault_line))]
+    #[tactic(auto, unfolding(crate::specs::FaultLines::fault_line))]
     fn push_to<K: Sink>(&self, sink: &mut K) -> Result<(), Failed> {
         layout!("ants: ", StopWords(*self), "\n").push_to(sink)
     }

@@ -9,11 +9,11 @@ ghost use Rattle.dump_print.specs.Texts.{score_text, stats_text};
 ghost use Rattle.match_run.specs.Run.{most_rounds};
 ghost use Rattle.ants.specs.Inner.Reading.{CarriesOut, ending_of};
 ghost use Rattle.ants.specs.Inner.Planning.{IsGenerating};
-ghost use Rattle.ants.specs.Jobs.{contest_shape, sample_minds, summary_lines, summary_of, workload_text};
+ghost use Rattle.ants.specs.Outputs.{contest_shape, sample_minds, summary_lines, summary_of, workload_text};
 ghost use Rattle.ants.specs.Sample.{sample_brain};
 
 use crate::generating::generated;
-use crate::played::played;
+use crate::played::play_game;
 use crate::sample::sample_brain;
 use crate::stop::CommandStop;
 use ant_base::{Failed, Layout, Shelf, Sink, layout};
@@ -74,7 +74,7 @@ fn summary_of<C: Crew>(
         sheet: Sheet::contest(),
     };
     let field = Field::new(alloc, world, brains, seed, 0)?;
-    let game = played(alloc, crew, field, DEFAULT_WINDOW, rounds)?;
+    let game = play_game(alloc, crew, field, DEFAULT_WINDOW, rounds)?;
     let end = game.world();
     Ok(Summary {
         ants,
@@ -86,7 +86,7 @@ fn summary_of<C: Crew>(
     })
 }
 
-#[tactic(auto, unfolding(crate::specs::Jobs::workload_text))]
+#[tactic(auto, unfolding(crate::specs::Outputs::workload_text))]
 fn push_summary<K: Sink>(
     seed: u32,
     rounds: u32,
@@ -100,7 +100,7 @@ fn push_summary<K: Sink>(
 }
 
 // Pushes the first four lines, the last without its end.
-#[tactic(auto, unfolding(crate::specs::Jobs::summary_lines))]
+#[tactic(auto, unfolding(crate::specs::Outputs::summary_lines))]
 fn push_lines<K: Sink>(seed: u32, rounds: u32, summary: Summary, out: &mut K) -> Result<(), Failed>
     ensures { Pushed (K.state out.old) (K.state out.new) (summary_lines seed rounds summary) result }
 {

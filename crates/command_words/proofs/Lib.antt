@@ -1,16 +1,20 @@
+-- The table: each row once.
 pub mod PiecesLemmas
 pub mod ListLemmas
 pub mod TableLemmas
+-- Words walked over, one after another.
 pub mod WalkLooking
 pub mod WalkAmong
 pub mod WalkSteps
 pub mod WalkNames
 pub mod WalkShapes
 pub mod WalkCompletions
+-- Commands read, and the word that is refused.
 pub mod CommandLemmas
 pub mod ReadLemmas
-pub mod WordLaws
 pub mod FarWords
-pub mod WorkedFronts
+pub mod WordLaws
+-- Worked lines.
 pub mod WorkedLines
+pub mod WorkedFronts
 pub mod WorkedOptions

@@ -28,14 +28,14 @@ pub(crate) fn walk(kind: CommandKind, words: &[String]) -> Result<&'static [Plac
     for at in 1..words.len() {
         let before = &words[..at];
         let word = words[at].as_str();
-        let here = reached(due, &before[from..], word);
+        let here = places_reached(due, &before[from..], word);
         let Some(later) = due_after(kind, here, &before[from..], before, word) else {
             return Err(Refused { word: at + 1 });
         };
         from = names_from(here, from, at);
         due = later;
     }
-    Ok(closed(due, &words[from..]))
+    Ok(close_names(due, &words[from..]))
 }
 
 // Whether no place is due, and each option that is needed stands among the words.
@@ -58,7 +58,7 @@ fn has_needed(kind: CommandKind, words: &[String]) -> bool
 }
 
 // The places that are due where the words end: names that are enough are past.
-fn closed(due: &'static [Place], names: &[String]) -> &'static [Place]
+fn close_names(due: &'static [Place], names: &[String]) -> &'static [Place]
     ensures { result.now ≡ closed due.now (texts names.now) }
 {
     match due {
@@ -69,7 +69,7 @@ fn closed(due: &'static [Place], names: &[String]) -> &'static [Place]
 }
 
 // The places that are due where one more word stands: one that is no name ends names that are enough.
-fn reached(due: &'static [Place], names: &[String], word: &str) -> &'static [Place]
+fn places_reached(due: &'static [Place], names: &[String], word: &str) -> &'static [Place]
     ensures { result.now ≡ reached due.now (texts names.now) word.now }
 {
     match due {
@@ -79,7 +79,7 @@ fn reached(due: &'static [Place], names: &[String], word: &str) -> &'static [Pla
             if is_file_name(word) {
                 due
             } else {
-                closed(due, names)
+                close_names(due, names)
             }
         }
     }

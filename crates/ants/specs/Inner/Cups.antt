@@ -10,7 +10,7 @@ use Rattle.command_words.specs.Table.{fewest_names, most_names}
 use Rattle.command_words.specs.declared.table.NameList.TheVariants.{Brains, Worlds}
 use Rattle.match_run.specs.Run.{most_rounds}
 use Rattle.ants.specs.Files.{File, FileKind}
-use Rattle.ants.specs.Jobs.{minds_between, nowhere}
+use Rattle.ants.specs.Outputs.{minds_between, nowhere}
 
 -- the files of these names, of one kind
 abbrev pub files_named : FileKind → List (List ℕ) → List File

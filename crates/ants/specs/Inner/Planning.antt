@@ -19,9 +19,9 @@ use Rattle.ants.specs.declared.stop.CommandStop.{CommandStop}
 use Rattle.ants.specs.declared.stop.CommandStop.TheVariants as stop
 use Rattle.ants.specs.Files.{FileContent}
 use Rattle.ants.specs.Files.FileContent.{WorldContent, BrainContent}
-use Rattle.ants.specs.Jobs.{chosen_rounds, sheet_named}
-use Rattle.ants.specs.Stopping.{reason_of}
-use Rattle.ants.specs.Stopping.Reason.{AtInput}
+use Rattle.ants.specs.Outputs.{chosen_rounds, sheet_named}
+use Rattle.ants.specs.FaultLines.{reason_of}
+use Rattle.ants.specs.FaultLines.Reason.{AtInput}
 
 -- the plan is what the words say
 pub record Plans (setup : RunSetup) (plan : Plan) : Type 0 where

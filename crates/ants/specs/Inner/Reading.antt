@@ -20,12 +20,12 @@ use Rattle.world_read.specs.declared.fault.WorldFault.TheVariants as world
 use Rattle.ants.specs.declared.stop.FileFault.TheVariants.{TooLong, World, Brain, Breaks, Labelled, Save}
 use Rattle.ants.specs.declared.stop.CommandStop.{CommandStop}
 use Rattle.ants.specs.Files.{File, FileKind, FileContent, AreAccepted, AreBegun, Reads, Refuses, StopsAt}
-use Rattle.ants.specs.Judged.{IsRefusedAs}
+use Rattle.ants.specs.Verdict.{IsRefusedAs}
 use Rattle.ants.specs.Outside.{Outside, outside_of}
-use Rattle.ants.specs.Performing.{IsDone, IsUnsure, StopsFor}
-use Rattle.ants.specs.Running.{Ends}
-use Rattle.ants.specs.Stopping.{Ending, Reason, reason_of}
-use Rattle.ants.specs.Stopping.Reason.{AtFile, AtInput, AtMemory}
+use Rattle.ants.specs.Endings.{IsDone, IsUnsure, StopsFor}
+use Rattle.ants.specs.Run.{Ends}
+use Rattle.ants.specs.FaultLines.{Ending, Reason, reason_of}
+use Rattle.ants.specs.FaultLines.Reason.{AtFile, AtInput, AtMemory}
 
 -- what the reading of some files came to: their contents, or why it stopped
 pub data ReadOutcome : Type 0 where

@@ -2,7 +2,7 @@
 use Rattle.std.proofs.Common.{◌∷◌, [], refl}
 use Rattle.command_words.specs.Command.PlainCommand.{AsmCommand}
 use Rattle.ants.specs.Files.FileContent.{LabelledContent}
-use Rattle.ants.specs.Jobs.{asm_output}
+use Rattle.ants.specs.Outputs.{asm_output}
 use Rattle.ants.proofs.Readings.{carries_done, carries_failure}
 use Rattle.ants.proofs.asm.asm.Goals as goal
 

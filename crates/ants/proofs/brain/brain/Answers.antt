@@ -2,7 +2,7 @@
 use Rattle.std.proofs.Common.{◌∷◌, [], refl}
 use Rattle.command_words.specs.Command.PlainCommand.{BrainCommand}
 use Rattle.ants.specs.Files.FileContent.{BrainContent}
-use Rattle.ants.specs.Jobs.{brain_output}
+use Rattle.ants.specs.Outputs.{brain_output}
 use Rattle.ants.proofs.Readings.{carries_done, carries_failure}
 use Rattle.ants.proofs.brain.brain.Goals as goal
 

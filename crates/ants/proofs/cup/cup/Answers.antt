@@ -4,7 +4,7 @@ use Rattle.command_words.specs.Command.PlainCommand.{CupCommand}
 use Rattle.command_words.specs.Words.{texts}
 use Rattle.tournament.proofs.StandingLemmas.{players_named}
 use Rattle.tournament.specs.Games.{all_played}
-use Rattle.ants.specs.Jobs.{cup_contents, score_between}
+use Rattle.ants.specs.Outputs.{cup_contents, score_between}
 use Rattle.ants.proofs.Cups.{players_counted, ready}
 use Rattle.ants.proofs.Readings.{carries_wanting_later}
 use Rattle.ants.proofs.cup.cup.Goals as goal

@@ -4,7 +4,7 @@ use Rattle.command_words.specs.Words.{texts}
 use Rattle.ants.specs.declared.cup.Roster.{Roster}
 use Rattle.ants.specs.Files.FileContent.{BrainContent, WorldContent}
 use Rattle.ants.specs.Inner.Reading.ReadOutcome.{Contents}
-use Rattle.ants.specs.Jobs.{brain_file, cup_contents, world_file}
+use Rattle.ants.specs.Outputs.{brain_file, cup_contents, world_file}
 use Rattle.ants.proofs.Readings.{reads_then, stopped_first, stopped_later}
 use Rattle.ants.proofs.cup.roster_of.Goals as goal
 

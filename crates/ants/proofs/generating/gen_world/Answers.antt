@@ -1,7 +1,7 @@
 -- the world of the words was generated and written, or why not
 use Rattle.std.proofs.Common.{refl}
 use Rattle.command_words.specs.Command.PlainCommand.{GenCommand}
-use Rattle.ants.specs.Jobs.{shape_named}
+use Rattle.ants.specs.Outputs.{shape_named}
 use Rattle.ants.proofs.Generated.{carries_generated, carries_generated_front, carries_ungenerated, opens_generated}
 use Rattle.ants.proofs.generating.gen_world.Goals as goal
 

@@ -1,5 +1,5 @@
 -- the line was pushed
-use Rattle.ants.specs.Stopping.{word_line}
+use Rattle.ants.specs.FaultLines.{word_line}
 use Rattle.ants.proofs.program.report_word.Goals as goal
 
 pub returns-clause-reports : goal.returns-clause-reports

@@ -2,8 +2,8 @@
 use Rattle.command_words.specs.Far.{words_without_far}
 use Rattle.command_words.specs.Words.{texts}
 use Rattle.ants.specs.Outside.{outside_of}
-use Rattle.ants.specs.Running.{IsRun}
-use Rattle.ants.specs.Stopping.{plain_ending}
+use Rattle.ants.specs.Run.{IsRun}
+use Rattle.ants.specs.FaultLines.{plain_ending}
 use Rattle.ants.proofs.Verdicts.{complete_run, crowding_run, no_command_run, orderly_run, read_run, refusing_run, words_run}
 use Rattle.ants.proofs.program.run_here.Goals as goal
 

@@ -5,7 +5,7 @@ use Rattle.command_words.specs.Command.PlainCommand.{ResumeCommand}
 use Rattle.match_run.specs.Play.{StoppedBy}
 use Rattle.match_save.specs.Resumed.{rest_of}
 use Rattle.ants.specs.Files.FileContent.{SaveContent}
-use Rattle.ants.specs.Jobs.{resume_output}
+use Rattle.ants.specs.Outputs.{resume_output}
 use Rattle.ants.proofs.Readings.{carries_done, carries_fault}
 use Rattle.ants.proofs.resume.resume.Goals as goal
 

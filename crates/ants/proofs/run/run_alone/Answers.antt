@@ -6,7 +6,7 @@ use Rattle.command_words.specs.Command.PlainCommand.{RunCommand}
 use Rattle.match_run.specs.Play.{StoppedBy}
 use Rattle.ants.specs.Inner.Planning.{setting_contents}
 use Rattle.ants.specs.Files.FileContent.{BrainContent, WorldContent}
-use Rattle.ants.specs.Jobs.{match_output}
+use Rattle.ants.specs.Outputs.{match_output}
 use Rattle.ants.proofs.Accepted.{fits_accepted}
 use Rattle.ants.proofs.Planned.{output_planned}
 use Rattle.ants.proofs.Readings.{carries_done, carries_fault}

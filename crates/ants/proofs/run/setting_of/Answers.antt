@@ -9,8 +9,8 @@ use Rattle.ants.specs.Files.FileKind.{BrainFile}
 use Rattle.ants.specs.Inner.Planning.{setting_contents}
 use Rattle.ants.specs.Inner.Reading.{ReadsFiles, ReadsText, outcome_of}
 use Rattle.ants.specs.Inner.Reading.ReadOutcome.{Contents}
-use Rattle.ants.specs.Jobs.{brain_file, world_file}
-use Rattle.ants.specs.Stopping.{reason_of}
+use Rattle.ants.specs.Outputs.{brain_file, world_file}
+use Rattle.ants.specs.FaultLines.{reason_of}
 use Rattle.ants.proofs.Readings.{reads_stopped, reads_text, reads_then, stopped_first, stopped_later}
 use Rattle.ants.proofs.run.setting_of.Goals as goal
 

@@ -6,7 +6,7 @@ use Rattle.command_words.specs.Command.PlainCommand.{SaveCommand}
 use Rattle.match_save.specs.Saved.{save_text}
 use Rattle.ants.specs.Inner.Planning.{setting_contents}
 use Rattle.ants.specs.Files.FileContent.{BrainContent, WorldContent}
-use Rattle.ants.specs.Jobs.{save_output}
+use Rattle.ants.specs.Outputs.{save_output}
 use Rattle.ants.proofs.Accepted.{fits_accepted, opened_accepted}
 use Rattle.ants.proofs.Planned.{saved_planned}
 use Rattle.ants.proofs.Readings.{carries_done, carries_failure, carries_wanting_later}

@@ -8,7 +8,7 @@ use Rattle.command_words.specs.Command.PlainCommand.{ViewCommand}
 use Rattle.ants.specs.Files.FileContent.{BreakContent}
 use Rattle.ants.specs.Inner.Planning.{setting_contents}
 use Rattle.ants.specs.Inner.Reading.ReadOutcome.{Contents}
-use Rattle.ants.specs.Jobs.{break_file, game_files}
+use Rattle.ants.specs.Outputs.{break_file, game_files}
 use Rattle.ants.proofs.Accepted.{fits_accepted}
 use Rattle.ants.proofs.Readings.{carries_done, carries_failure, carries_stop, reads_stopped, reads_then}
 use Rattle.ants.proofs.Viewed.{view_of-view}

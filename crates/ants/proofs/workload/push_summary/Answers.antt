@@ -1,7 +1,7 @@
 -- the first lines, and then the others
 use Rattle.std.proofs.lemmas.Result.{err_from_is_err_and}
 use Rattle.ant_base.proofs.Pushing.{front_more, pushed_then}
-use Rattle.ants.specs.Jobs.{workload_text}
+use Rattle.ants.specs.Outputs.{workload_text}
 use Rattle.ants.proofs.workload.push_summary.Goals as goal
 
 pub returns-in_err-push_lines : goal.returns-in_err-push_lines

@@ -1,7 +1,7 @@
 -- the world was generated, or why not; its game was played, and what came of it was written
 use Rattle.std.proofs.Common.{[], refl, ap}
 use Rattle.command_words.specs.Command.PlainCommand.{WorkloadCommand}
-use Rattle.ants.specs.Jobs.{contest_shape, workload_text}
+use Rattle.ants.specs.Outputs.{contest_shape, workload_text}
 use Rattle.ants.proofs.Generated.{carries_ungenerated, fits_generated}
 use Rattle.ants.proofs.Readings.{carries_done, carries_failure, carries_wanting, reads_none}
 use Rattle.ants.proofs.workload.workload.Goals as goal

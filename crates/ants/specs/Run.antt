@@ -10,14 +10,14 @@ use Rattle.ants.specs.declared.status.Status.{Status}
 use Rattle.ants.specs.declared.status.Status.TheVariants as status
 use Rattle.ants.specs.declared.stop.FileFault.{FileFault}
 use Rattle.ants.specs.Files.{AreInOrder, FileContent}
-use Rattle.ants.specs.Jobs.{HasRoom, LacksRoom, files_of}
-use Rattle.ants.specs.Judged.{IsJudged, FilesVerdict}
-use Rattle.ants.specs.Judged.FilesVerdict.{AllAccepted, FirstRefused}
+use Rattle.ants.specs.Outputs.{HasRoom, LacksRoom, files_of}
+use Rattle.ants.specs.Verdict.{IsJudged, FilesVerdict}
+use Rattle.ants.specs.Verdict.FilesVerdict.{AllAccepted, FirstRefused}
 use Rattle.ants.specs.Outside.{Outside}
-use Rattle.ants.specs.Performing.{IsDone, StopsFor}
+use Rattle.ants.specs.Endings.{IsDone, StopsFor}
 use Rattle.ants.specs.Status.{status_number}
-use Rattle.ants.specs.Stopping.{Ending, Reason, ending_status, fault_line, word_line}
-use Rattle.ants.specs.Stopping.Ending.{Done, RefusedWord, Stopped}
+use Rattle.ants.specs.FaultLines.{Ending, Reason, ending_status, fault_line, word_line}
+use Rattle.ants.specs.FaultLines.Ending.{Done, RefusedWord, Stopped}
 
 -- the words are a command, which is done; where the output can tell, nothing waits to be flushed
 pub record IsFinished (words : List (List ℕ)) (before after : Outside) (fetches : List Fetched) : Type 0 where

@@ -10,11 +10,11 @@ use Rattle.command_words.specs.Command.PlainCommand.{ResumeCommand, RunCommand}
 use Rattle.match_run.specs.Play.{PushedSome}
 use Rattle.ants.specs.declared.stop.FileFault.{FileFault}
 use Rattle.ants.specs.Files.{File, FileContent, AreAccepted, AreBegun, StopsAt}
-use Rattle.ants.specs.Jobs.{files_of, IsJobText, LacksRoom}
-use Rattle.ants.specs.Judged.{IsRefusedAs}
+use Rattle.ants.specs.Outputs.{files_of, IsJobText, LacksRoom}
+use Rattle.ants.specs.Verdict.{IsRefusedAs}
 use Rattle.ants.specs.Outside.{Outside}
-use Rattle.ants.specs.Stopping.{Reason}
-use Rattle.ants.specs.Stopping.Reason.{AtFile, AtOutput, AtInput, AtRoom, AtMemory}
+use Rattle.ants.specs.FaultLines.{Reason}
+use Rattle.ants.specs.FaultLines.Reason.{AtFile, AtOutput, AtInput, AtRoom, AtMemory}
 
 -- all files were accepted, and the whole text was written
 pub record IsDone (command : PlainCommand) (before after : Outside) (fetches : List Fetched) : Type 0 where

@@ -3,7 +3,7 @@ use Rattle.std.proofs.Common.{◌≡◌, ℕ, ◌+◌, suc, arith, subst}
 use Rattle.match_run.proofs.GamesByRounds.{AreRounds-played, games_follow_the_rules}
 use Rattle.match_run.specs.Game.{beginning}
 use Rattle.match_run.specs.GameLaws.{AreRounds, IsAtRound}
-use Rattle.ants.proofs.played.played.Goals as goal
+use Rattle.ants.proofs.played.play_game.Goals as goal
 
 pub loop-init : goal.loop-init
 loop-init g c = record { ready = c.requires.ready; rounds = c.begin-game.ensures }
