@@ -8,6 +8,7 @@ use Rattle.cell_world.specs.World.{place_in}
 use Rattle.ant_turn.specs.Minds.{mind_of}
 use Rattle.ant_turn.specs.Turn.{instruction_at}
 use Rattle.round_book.specs.Book.{FieldValue}
+use Rattle.spec_record.specs.Claims.{seen_place}
 use Rattle.spec_record.specs.Look.{LookValue}
 use Rattle.far_crew.specs.Jobs.{FoundValue}
 
@@ -31,5 +32,5 @@ pub record IsSameAnt (field : FieldValue) (found : FoundValue) (t : ℕ) : Type 
 pub record AgreesWith (field : FieldValue) (found : FoundValue) (look : LookValue) (guess : ℕ) : Type 0 where
   pub game : IsSameGame field found
   pub guessed : look.guess ≡ guess
-  pub cells : AllByRecursion (λ read. (world_of found.base).cells read.0 ≡ (world_of field.world).cells read.0) look.reads
+  pub cells : AllByRecursion (λ read. (world_of found.base).cells (seen_place read) ≡ (world_of field.world).cells (seen_place read)) look.reads
   pub same_ant : IsSameAnt field found look.turn
