@@ -12,8 +12,9 @@ use Rattle.ant_base.specs.declared.shelf.FetchFault.{FetchFault}
 use Rattle.ant_base.specs.declared.sink.Failed.{Failed}
 use Rattle.ant_base.specs.Faults.{one_more}
 use Rattle.ant_base.specs.Lines.{ends_in_lf}
-use Rattle.ant_base.specs.Inner.Answered.{TakesAtMost, given_at, given_of, taken_at, taken_of}
+use Rattle.ant_base.specs.Inner.Answered.{given_at, given_of, taken_at, taken_of}
 use Rattle.ant_base.specs.Shelf.{longest}
+use Rattle.ant_base.specs.System.{TakesAtMost}
 use Rattle.ant_base.specs.Sink.{Pushed}
 use Rattle.list_lemmas.proofs.Elements.{append-empty}
 use Rattle.ant_base.proofs.Pushing.{ends_in_lf-append}

@@ -4,10 +4,10 @@ ghost use Rattle.std.specs.Io.KnownBytes.{Consumes, IsAtEnd};
 ghost use Rattle.std.specs.IoError.{error_kind};
 ghost use Rattle.std.specs.declared.io.Error.{Error};
 ghost use Rattle.ant_base.specs.Faults.{one_more};
-ghost use Rattle.ant_base.specs.Inner.Answered.{ReadsOn, TakesAtMost, given_of};
+ghost use Rattle.ant_base.specs.Inner.Answered.{ReadsOn, given_of};
 ghost use Rattle.ant_base.specs.Shelf.{Fetches, is_failed, longest};
 ghost use Rattle.ant_base.specs.Streams.{shelf_of_files};
-ghost use Rattle.ant_base.specs.System.{IsMadeOf, IsMadeOfOpen, dash, fetch_fault_at};
+ghost use Rattle.ant_base.specs.System.{IsMadeOf, IsMadeOfOpen, IsReadFrom, TakesAtMost, dash, fetch_fault_at};
 
 use crate::shelf::LONGEST;
 use crate::system_log::SystemLog;
@@ -66,9 +66,9 @@ impl<R: System> Shelf for FileShelf<'_, R> {
         ensures count { self.new.faults ≡ (if is_failed result then one_more self.old.faults else self.old.faults) }
         ensures system { self.new.system ≡ self.old.system }
         // Under each other name the file of that very name was opened, and the answer is made of it.
-        ensures named { name.now ≢ dash → (answer : Result R.File Error) × R.opened self.old.system name.now answer × IsMadeOfOpen R.File.sure R.File.remaining answer result }
+        ensures named { name.now ≢ dash → (answer : Result R.File Error) × R.opened self.old.system name.now answer × IsMadeOfOpen R.File.sure R.File.remaining R.File.closed answer result }
         // Under `-` the answer is made of standard input.
-        ensures input { name.now ≡ dash → (input : R.Input) × R.standard self.old.system input × IsMadeOf (R.Input.sure input) (R.Input.remaining input) result }
+        ensures input { name.now ≡ dash → (input : R.Input) × R.standard self.old.system input × IsMadeOf R.Input.sure R.Input.remaining R.Input.closed input result }
     {
         let content = if name == "-" {
             fetch_input(self.rt, alloc)
@@ -86,15 +86,15 @@ impl<R: System> Shelf for FileShelf<'_, R> {
 // What is left of standard input.
 fn fetch_input<S: System>(system: &S, alloc: Global) -> Result<Vec<u8>, FetchFault>
     ensures short { IfOk result (λ content. length content.items ≤ longest) }
-    ensures made { (input : S.Input) × S.standard system.now input × IsMadeOf (S.Input.sure input) (S.Input.remaining input) result }
+    ensures made { (input : S.Input) × S.standard system.now input × IsMadeOf S.Input.sure S.Input.remaining S.Input.closed input result }
 {
-    read_content(alloc, &mut system.standard_input())
+    read_to_end(alloc, system.standard_input())
 }
 
 // The content of the file of this name.
 fn fetch_named<S: System>(system: &S, alloc: Global, name: &str) -> Result<Vec<u8>, FetchFault>
     ensures short { IfOk result (λ content. length content.items ≤ longest) }
-    ensures made { (answer : Result S.File Error) × S.opened system.now name.now answer × IsMadeOfOpen S.File.sure S.File.remaining answer result }
+    ensures made { (answer : Result S.File Error) × S.opened system.now name.now answer × IsMadeOfOpen S.File.sure S.File.remaining S.File.closed answer result }
 {
     read_opened(alloc, system.open(name))
 }
@@ -105,18 +105,28 @@ fn read_opened<R: Source + Drop>(
     opened: io::Result<R>,
 ) -> Result<Vec<u8>, FetchFault>
     ensures short { IfOk result (λ content. length content.items ≤ longest) }
-    ensures made { IsMadeOfOpen R.sure R.remaining opened result }
+    ensures made { IsMadeOfOpen R.sure R.remaining R.closed opened result }
 {
     match opened {
-        Ok(mut file) => read_content(alloc, &mut file),
+        Ok(file) => read_to_end(alloc, file),
         Err(error) => Err(fault_of(error)),
     }
+}
+
+// What a reader has left, which is then closed.
+fn read_to_end<R: Source + Drop>(alloc: Global, mut reader: R) -> Result<Vec<u8>, FetchFault>
+    ensures short { IfOk result (λ content. length content.items ≤ longest) }
+    ensures made { IsMadeOf R.sure R.remaining R.closed reader result }
+{
+    let content = read_content(alloc, &mut reader);
+    reader.close();
+    content
 }
 
 // What a reader has left, if it isn't too long. One byte more than the longest content is taken from it at most.
 fn read_content<R: Source>(alloc: Global, reader: &mut R) -> Result<Vec<u8>, FetchFault>
     ensures short { IfOk result (λ content. length content.items ≤ longest) }
-    ensures made { IsMadeOf (R.sure reader.old) (R.remaining reader.old) result }
+    ensures made { IsReadFrom (R.sure reader.old) (R.remaining reader.old) result }
     ensures taken { TakesAtMost (longest + 1) (R.remaining reader.old) (R.remaining reader.new) }
 {
     let mut content = Vec::new(alloc);

@@ -13,11 +13,18 @@ pub trait Source: Read {
     /// For how many bytes from here on no read fails that asks for no more. It is none for each file and stream of the system.
     ghost sure: { Self → ℕ };
 
+    /// Holds of a reader that was closed.
+    ghost closed: { Self → Type 0 };
+
     /// Reads once: `Read::read`, and what a reader that is sure answers to it.
     fn read_some(&mut self, chunk: &mut [u8]) -> io::Result<usize>
         ensures bound { ReadsAtMost result chunk.new }
         ensures bytes { ReadConsumes (Self.remaining self.old) (Self.remaining self.new) result chunk.new }
         ensures sure { 0 < length chunk.old → length chunk.old ≤ sure self.old → GivesWithin (sure self.old) (sure self.new) result };
+
+    /// Ends the reading.
+    fn close(self)
+        ensures { closed self };
 }
 
 /// What a shelf of files asks of the system: files by their names, and standard input.
@@ -48,17 +55,25 @@ pub trait System {
 impl Source for File {
     ghost sure = { λ _. 0 };
 
+    ghost closed = { λ _. ⊤ };
+
     fn read_some(&mut self, chunk: &mut [u8]) -> io::Result<usize> {
         self.read(chunk)
     }
+
+    fn close(self) {}
 }
 
 impl Source for StdinLock<'_> {
     ghost sure = { λ _. 0 };
 
+    ghost closed = { λ _. ⊤ };
+
     fn read_some(&mut self, chunk: &mut [u8]) -> io::Result<usize> {
         self.read(chunk)
     }
+
+    fn close(self) {}
 }
 
 impl System for HostRuntime {

@@ -1,6 +1,5 @@
 -- What the system's answers are to a sink and a shelf.
-use Rattle.std.specs.Prelude.{ℕ, ◌+◌, ◌<◌, ⊤, Bool, true, false, zero, suc, ◌≤◌, List, length, Option, Some, None, Result, Ok, Err}
-use Rattle.std.specs.Io.KnownBytes.{Consumes}
+use Rattle.std.specs.Prelude.{ℕ, ◌+◌, ◌<◌, ⊤, Bool, true, false, zero, suc, ◌≤◌, Option, Some, None, Result, Ok, Err}
 use Rattle.std.specs.IoError.{error_kind}
 use Rattle.std.specs.declared.io.Error.{Error}
 use Rattle.std.specs.declared.io.ErrorKind.{ErrorKind}
@@ -30,12 +29,6 @@ given_at kind = Err (fetch_fault_at kind)
 abbrev pub given_of : Result ℕ Error → Result (Option ℕ) FetchFault
 given_of (Ok given) = Ok (Some given)
 given_of (Err error) = given_at (error_kind error)
-
--- at most so many bytes were taken from a reader
-pub record TakesAtMost (most : ℕ) (remaining new_remaining : Option (List ℕ)) : Type 0 where
-  pub bytes : List ℕ
-  pub taken : Consumes remaining new_remaining bytes
-  pub few : length bytes ≤ most
 
 -- a read of a reader that is sure: it is done or wants memory, and where there is more, one byte at least was taken; as many less are sure as were taken
 abbrev pub ReadsOn : (sure new_sure taken new_taken : ℕ) → Result Bool FetchFault → Type 0
