@@ -1,5 +1,6 @@
 // A window played on one thread: each look is settled as soon as it is made, so that one room is enough for all looks.
-ghost use Rattle.std.specs.Prelude.{◌≡◌, IfOk, OnOk, OnErr};
+ghost use Rattle.std.specs.Prelude.{◌≡◌, ◌+◌, ◌<◌, ◌≤◌, ◌^◌, IfOk, OnOk, OnErr};
+ghost use Rattle.std.specs.Vec.{vec_capacity, vec_len};
 ghost use Rattle.round_book.specs.Book.{CanBegin, IsPlayed, IsSameWindow, StandsOn, window_of};
 ghost use Rattle.round_book.specs.Counts.{counts_of};
 
@@ -10,7 +11,7 @@ use crate::field::Field;
 use ant_base::Gate;
 use ant_random::Stream;
 use hex_geometry::OutOfMemory;
-use spec_record::look_by;
+use spec_record::{Look, look};
 use std::alloc::Global;
 
 // The number of a worker that works alone.
@@ -33,17 +34,37 @@ pub fn play_window<G: Gate>(
     ensures unchanged { OnErr result (field.new ≡ field.old) }
 {
     let mut stream = field.take_stream();
+    let mut looks = field.take_looks(alloc)?;
+    if from < to && looks.is_empty() {
+        make_room(&mut looks, field, from);
+    }
     let mut book = field.begin(alloc, from, to)?;
-    settle_alone(&mut book, field, &mut stream, gate, from, to);
+    if from < to {
+        settle_alone(&mut book, field, &mut looks[0], &mut stream, gate, from, to);
+    }
     let counts = field.finish(book);
-    field.keep_stream(stream);
+    field.keep(stream, looks);
     Ok(counts)
 }
 
-// Settles the turns of a window by looks that are made one after another, in one room and off one stream.
+// Makes the first look of a list, for its room. That comes once on a field, so it is a call.
+#[inline(never)]
+fn make_room(looks: &mut Vec<Look>, field: &Field<'_>, id: u32)
+    requires none { vec_len looks.old ≡ 0 }
+    requires room { 1 ≤ vec_capacity looks.old }
+    requires id { id < field.now.world.ids }
+    requires place { field.now.place + 1 < 2 ^ 63 }
+    ensures { 1 ≤ vec_len looks.new }
+{
+    let place = field.place();
+    looks.push_reserved(look(field.world(), field.brains(), field.seed(), place, id));
+}
+
+// Settles the turns of a window, of which there is one, by looks that are made one after another, in one room and off one stream.
 fn settle_alone<G: Gate>(
     book: &mut Book,
     field: &Field<'_>,
+    look: &mut Look,
     stream: &mut Stream,
     gate: &G,
     from: u32,
@@ -53,21 +74,16 @@ fn settle_alone<G: Gate>(
     requires from { book.old.from ≡ from }
     requires next { book.old.next ≡ from }
     requires to { book.old.to ≡ to }
+    requires some { from ≤ to }
     requires seed { stream.old.seed ≡ field.now.seed }
     requires place { stream.old.place ≡ field.now.place }
     ensures stands { StandsOn field.now book.new }
     ensures next { book.new.next ≡ to }
     ensures same { IsSameWindow book.old book.new }
 {
-    if from >= to {
-        return;
-    }
-    gate.before_look(ALONE, from);
-    let mut look = look_by(field.world(), field.brains(), stream, from);
-    advance(book, field, &look);
-    for id in from + 1..to {
+    for id in from..to {
         gate.before_look(ALONE, id);
         look.renew(field.world(), field.brains(), stream, id);
-        advance(book, field, &look);
+        advance(book, field, look);
     }
 }

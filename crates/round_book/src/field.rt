@@ -1,6 +1,7 @@
 // A game's field.
 ghost use Rattle.std.specs.Prelude.{◌≡◌, ◌+◌, ◌-◌, ◌<◌, ◌≤◌, ◌^◌, true, None, IfOk, OnOk, OnErr};
 ghost use Rattle.std.specs.List.{Contains};
+ghost use Rattle.std.specs.Vec.{vec_capacity};
 ghost use Rattle.cell_world.specs.Grid.{IsWorld, world_of};
 ghost use Rattle.ant_turn.specs.Minds.{AreSound, Fits, minds_of};
 ghost use Rattle.round_book.specs.Book.{CanBegin, FieldValue, StandsOn, begun, lent_for};
@@ -12,8 +13,10 @@ use ant_random::Stream;
 use ant_turn::Brains;
 use cell_world::World;
 use hex_geometry::{OutOfMemory, Pos};
+use spec_record::{Look, look};
 use std::alloc::Global;
 use std::marker::Model;
+use std::mem;
 
 /// Where a game stands: its world, its brains, its seed and its place in the stream. It is whole, or lent for a window of turns, whose ends
 /// it knows; while it is lent it shows what it was when the window began.
@@ -27,6 +30,8 @@ pub struct Field<'b> {
     place: u64,
     // the stream that the last window left, so that the next one makes no jump
     stream: Option<Stream>,
+    // the room of the last window's looks, once one was made
+    looks: Vec<Look>,
 }
 
 impl<'b> Model for Field<'b> {
@@ -73,6 +78,7 @@ impl<'b> Field<'b> {
             seed,
             place,
             stream: None,
+            looks: Vec::new(alloc),
         })
     }
 
@@ -140,12 +146,26 @@ impl<'b> Field<'b> {
         Stream::at_place_uncounted(self.seed, self.place)
     }
 
-    // Keeps a stream for the next window.
+    // Keeps a stream, and the room of looks, for the next window.
     #[inline]
-    pub(crate) fn keep_stream(&mut self, stream: Stream)
+    pub(crate) fn keep(&mut self, stream: Stream, looks: Vec<Look>)
         ensures { self.new ≡ self.old }
     {
         self.stream = Some(stream);
+        self.looks = looks;
+    }
+
+    // Gives out a list with room for a look at least.
+    #[inline]
+    pub(crate) fn take_looks(&mut self, alloc: Global) -> Result<Vec<Look>, OutOfMemory>
+        ensures room { IfOk result (λ looks. 1 ≤ vec_capacity looks) }
+        ensures field { self.new ≡ self.old }
+    {
+        let mut looks = mem::replace(&mut self.looks, Vec::new(alloc));
+        if looks.capacity() == 0 {
+            looks.reserve(1)?;
+        }
+        Ok(looks)
     }
 
     // Lends the workspace, once it has room for the window.
