@@ -191,7 +191,7 @@ impl Book {
         ensures redone { IsRedone (minds_of brains.entry) cause self.old self.new }
         ensures same { IsSameWindow self.old self.new }
     {
-        vouch(brains, &self.work.world);
+        recall_validity(brains, &self.work.world);
         // the look at a turn in the very world in which it is taken says what the turn does
         let look = look(&self.work.world, brains, self.seed, self.place, self.next);
         self.end_turn(&look, Verdict::Redone(cause));
@@ -215,7 +215,7 @@ impl Book {
 
 // Brains are brains, their sheet is light, and a world is one.
 #[inline]
-pub(crate) fn vouch(brains: Brains<'_>, world: &World)
+pub(crate) fn recall_validity(brains: Brains<'_>, world: &World)
     ensures sound { AreSound (minds_of brains.entry) }
     ensures world { IsWorld world.now }
 {
