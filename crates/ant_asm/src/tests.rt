@@ -1,10 +1,9 @@
 // Labelled programs with their brains, places and faults, written out.
 use crate::{Address, AsmFault, Assembled, assemble};
+use ant_base::LONGEST;
 use brain_read::{Instr, Side};
 use std::alloc::Global;
 use std::process::Abort;
-
-const MOST_BYTES: usize = 4194304;
 
 /// A text, and its fault.
 type Row = (&'static [u8], Option<AsmFault>);
@@ -170,7 +169,7 @@ const FAULTS: [Row; 73] = [
 // Each text has this fault, or none.
 fn check_faults<R: Abort>(rt: &R, alloc: Global, rows: &[Row]) {
     for (text, fault) in rows {
-        assert!(rt; text.len() <= MOST_BYTES);
+        assert!(rt; text.len() <= LONGEST);
         assert_eq!(rt; assemble(alloc, text).err(), *fault);
     }
 }
@@ -230,7 +229,7 @@ const PROGRAMS: [Program; 5] = [
 // Each text is assembled to these instructions with these addresses.
 fn check_programs<R: Abort>(rt: &R, alloc: Global, rows: &[Program]) {
     for (text, list, places) in rows {
-        assert!(rt; text.len() <= MOST_BYTES);
+        assert!(rt; text.len() <= LONGEST);
         match assemble(alloc, text) {
             Ok(made) => check_program(rt, &made, list, places),
             Err(_) => assert!(rt; false),

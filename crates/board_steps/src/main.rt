@@ -18,7 +18,7 @@ ghost use Rattle.round_workers.specs.BoardSeats as seats;
 ghost use Rattle.round_workers.specs.BoardSeats.{IsSeatOf, basis_of, known};
 ghost use Rattle.board_steps.specs.Seats.{AreLeft, CanWork, IsFirst, IsFor, IsLaid, IsSecond, Shows, calm, first_at, second_at, view_taking};
 
-use ant_base::NoGate;
+use ant_base::{LONGEST, NoGate};
 use ant_turn::{Brains, Sheet};
 use brain_read::{Brain, read_brain};
 use round_book::{Book, Cause, Field, advance};
@@ -31,9 +31,6 @@ use world_read::read_world;
 // A red ant among four black ones, a fifth about to come.
 const WORLD: &str =
     "7\n6\n# # # # # # #\n # . . . . . #\n# . . - # . #\n # - . + - # #\n# + . - - # #\n # # # # # # #\n";
-
-// The most bytes of a file.
-const MOST_BYTES: usize = 4_194_304;
 
 // The seed of the random numbers.
 const SEED: u32 = 12345;
@@ -52,7 +49,7 @@ struct Laid {
 // The brain of a text.
 fn brain_of(alloc: Global, text: &str) -> Option<Brain> {
     let bytes = text.as_bytes();
-    if bytes.len() > MOST_BYTES {
+    if bytes.len() > LONGEST {
         return None;
     }
     read_brain(alloc, bytes).ok()
@@ -63,7 +60,7 @@ fn field_of<'b>(alloc: Global, brains: Brains<'b>) -> Option<Field<'b>>
     ensures { IfSome result (λ field. CanBegin field 0 7) }
 {
     let bytes = WORLD.as_bytes();
-    if bytes.len() > MOST_BYTES {
+    if bytes.len() > LONGEST {
         return None;
     }
     let Ok(world) = read_world(alloc, bytes) else {

@@ -18,10 +18,8 @@ use crate::states::{Watch, name_states};
 use crate::watching::take_watched;
 use ant_random::Stream;
 use ant_turn::Brains;
+use brain_read::MOST_STATES;
 use cell_world::{Score, World};
-
-// How many states a table names: a brain has no more. Of a longer brain's states beyond these each break is asked.
-const STATES: usize = 10_000;
 
 /// A stop of a game: the turn after which a break held, and which break.
 #[derive(Clone, Copy, Debug, PartialEq, Eq)]
@@ -60,7 +58,7 @@ pub fn find_stop(
     let items = breaks.items();
     let mut stream = Stream::from_seed(seed);
     let mut score = world.score();
-    let (mut red, mut black) = ([false; STATES], [false; STATES]);
+    let (mut red, mut black) = ([false; MOST_STATES], [false; MOST_STATES]);
     name_states(items, &mut red, &mut black);
     let watch = Watch {
         items,

@@ -8,7 +8,7 @@ use crate::dealing::job_between;
 use crate::guessing::guesses_in;
 use crate::line::Line;
 use crate::{Errand, Found, Job, OwnBrains, agrees, with_far};
-use ant_base::NoGate;
+use ant_base::{LONGEST, NoGate};
 use ant_turn::{Brains, Sheet};
 use brain_read::{Brain, read_brain};
 use crossbeam_channel::{Receiver, Sender, bounded};
@@ -30,9 +30,6 @@ const FLIPS: &str = "Flip 2 0 0";
 const MOVES: &str = "Move 0 0";
 
 const SEED: u32 = 12345;
-
-// The most bytes of a file.
-const MOST_BYTES: usize = 4_194_304;
 
 // Turns of the looks with guesses, and whether they agree with the field on which they were made.
 const OPENING: [(u32, u64, bool); 8] = [
@@ -88,7 +85,7 @@ struct Players {
 
 fn brain_of<R: Abort>(rt: &R, alloc: Global, text: &str) -> Result<Brain, Fail> {
     let bytes = text.as_bytes();
-    assert!(rt; bytes.len() <= MOST_BYTES);
+    assert!(rt; bytes.len() <= LONGEST);
     Ok(read_brain(alloc, bytes)?)
 }
 
@@ -125,7 +122,7 @@ fn field_of<'b, R: Abort>(
     ensures { IfOk result (λ field. (field.whole ≡ true) × (field.place ≡ 0)) }
 {
     let bytes = WORLD.as_bytes();
-    assert!(rt; bytes.len() <= MOST_BYTES);
+    assert!(rt; bytes.len() <= LONGEST);
     let brains = Brains {
         red: &players.red,
         black: &players.black,

@@ -14,7 +14,7 @@ const MOST_SEED: u64 = 4_294_967_295;
 
 const MOST_WINDOW: u64 = 16_384;
 
-const MOST_ROUNDS: u64 = 1_000_000;
+const MOST_ROUNDS: u64 = match_run::MOST_ROUNDS as u64;
 
 // The largest number of eleven digits.
 const MOST_COUNTED: u64 = 99_999_999_999;

@@ -4,12 +4,12 @@ ghost use Rattle.ant_base.specs.Shelf.{longest};
 
 use crate::tests::ROOM;
 use crate::tests::runs::{KILLED, KILLING};
-use ant_base::{Calls, MemSink};
+use ant_base::{Calls, LONGEST, MemSink};
 use ant_turn::{Brains, Sheet};
 use brain_read::{Brain, read_brain};
 use dump_print::push_dump;
 use hex_geometry::OutOfMemory;
-use match_run::{Game, Totals};
+use match_run::{Game, MOST_ROUNDS, Totals};
 use round_book::{Counts, Crew, Field, SoloCrew};
 use std::alloc::Global;
 use std::process::Abort;
@@ -18,12 +18,6 @@ use world_read::read_world;
 
 // The seed of that game.
 pub const SEED: u32 = 12345;
-
-// The most bytes of a file.
-const MOST_BYTES: usize = 4_194_304;
-
-// The most rounds of a game.
-const MOST_ROUNDS: u32 = 1_000_000;
 
 // A crew that plays as another does, but for the window of one call, which it refuses.
 #[derive(Drop)]
@@ -67,7 +61,7 @@ pub struct Players {
 // The brain of a text.
 fn brain_of<R: Abort>(rt: &R, alloc: Global, text: &str) -> Result<Brain, Fail> {
     let bytes = text.as_bytes();
-    assert!(rt; bytes.len() <= MOST_BYTES);
+    assert!(rt; bytes.len() <= LONGEST);
     Ok(read_brain(alloc, bytes)?)
 }
 
@@ -103,7 +97,7 @@ pub fn killing_field<'b, R: Abort>(
     ensures { IfOk result (λ field. (field.whole ≡ true) × (field.place ≡ 0)) }
 {
     let bytes = KILLING.world.as_bytes();
-    assert!(rt; bytes.len() <= MOST_BYTES);
+    assert!(rt; bytes.len() <= LONGEST);
     let brains = Brains {
         red: &players.red,
         black: &players.black,
