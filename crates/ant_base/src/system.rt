@@ -6,7 +6,7 @@ ghost use Rattle.std.specs.declared.io.Error.{Error};
 ghost use Rattle.ant_base.specs.System.{GivesWithin};
 
 use std::fs::{self, File};
-use std::io::{self, Input, Read, StdinLock};
+use std::io::{self, Read, Stdin};
 
 /// A reader that may be sure of its next bytes.
 pub trait Source: Read {
@@ -64,7 +64,7 @@ impl Source for File {
     fn close(self) {}
 }
 
-impl Source for StdinLock<'_> {
+impl Source for Stdin {
     ghost sure = { λ _. 0 };
 
     ghost closed = { λ _. ⊤ };
@@ -79,7 +79,7 @@ impl Source for StdinLock<'_> {
 impl System for HostRuntime {
     type File = File;
 
-    type Input = StdinLock<'static>;
+    type Input = Stdin;
 
     ghost opened = { λ _ _ _. ⊤ };
 
@@ -89,7 +89,7 @@ impl System for HostRuntime {
         fs::open(self, name)
     }
 
-    fn standard_input(&self) -> StdinLock<'static> {
-        self.reader()
+    fn standard_input(&self) -> Stdin {
+        self.stdin()
     }
 }
