@@ -168,12 +168,15 @@ same_far setup far (WorldContent grid) (BrainContent red) (BrainContent black) =
 same_far setup far (WorldContent grid) (BrainContent red) (WorldContent third) = refl
 same_far setup far (WorldContent grid) (BrainContent red) (BreakContent third) = refl
 same_far setup far (WorldContent grid) (BrainContent red) (LabelledContent made places) = refl
+same_far setup far (WorldContent grid) (BrainContent red) (SaveContent made) = refl
 same_far setup far (WorldContent grid) (WorldContent second) third = refl
 same_far setup far (WorldContent grid) (BreakContent second) third = refl
 same_far setup far (WorldContent grid) (LabelledContent made places) third = refl
+same_far setup far (WorldContent grid) (SaveContent made) third = refl
 same_far setup far (BrainContent first) second third = refl
 same_far setup far (BreakContent first) second third = refl
 same_far setup far (LabelledContent made places) second third = refl
+same_far setup far (SaveContent made) second third = refl
 
 other_far : (world red black : List ℕ) (setup : RunSetup) (far : Bool) (contents : List FileContent) (text : List ℕ)
     → IsJobText (RunCommand world red black setup) contents text → IsJobText (RunCommand world red black (record setup { far = far })) contents text
