@@ -127,6 +127,12 @@ pub save_defaults : IsCommand (words_of (codes "save w r b --rounds 2 --seed 1")
 unfolding command_kind_of choice_of is_among rest_after is_file_name is_dumps dumps_of decimal_value
 save_defaults = read-accepts (words_of (codes "save w r b --rounds 2 --seed 1")) (SaveCommand (codes "w") (codes "r") (codes "b") (game 1 2 NoDump 1 16384 5 3 14 false)) refl
 
+pub save_all : IsCommand (words_of (codes "save w r b --rest 9 --corpse 2 --surround 4 --window 50 --workers 3 --rounds 0 --seed 7"))
+    (SaveCommand (codes "w") (codes "r") (codes "b") (game 7 0 NoDump 3 50 4 2 9 false))
+unfolding command_kind_of choice_of is_among rest_after is_file_name is_dumps dumps_of decimal_value
+save_all = read-accepts (words_of (codes "save w r b --rest 9 --corpse 2 --surround 4 --window 50 --workers 3 --rounds 0 --seed 7"))
+    (SaveCommand (codes "w") (codes "r") (codes "b") (game 7 0 NoDump 3 50 4 2 9 false)) refl
+
 pub save_without_dumps : IsRefusedAt (words_of (codes "save w r b --rounds 2 --dump all --seed 1")) 7
 unfolding command_kind_of choice_of is_among rest_after is_file_name is_dumps dumps_of decimal_value
 save_without_dumps = read-refuses (words_of (codes "save w r b --rounds 2 --dump all --seed 1")) 7 refl
