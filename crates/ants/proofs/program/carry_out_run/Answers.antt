@@ -1,0 +1,13 @@
+-- memory was wanting for the chosen rounds, before a file was fetched
+use Rattle.std.proofs.Common.{◌≡◌, subst}
+use Rattle.std.specs.Prelude.{IsErrAnd}
+use Rattle.command_words.specs.Command.PlainCommand.{RunCommand}
+use Rattle.command_words.specs.Words.{plain_setup}
+use Rattle.ants.specs.declared.stop.CommandStop.{CommandStop}
+use Rattle.ants.proofs.Readings.{carries_wanting}
+use Rattle.ants.proofs.program.carry_out_run.Goals as goal
+
+pub returns-in_err-plan : goal.returns-in_err-plan
+returns-in_err-plan g c =
+    carries_wanting (RunCommand c.args.names.world.now c.args.names.red.now c.args.names.black.now (plain_setup c.args.options)) (g.S.Shelf.state c.args.shelf.now) (g.K.Sink.state c.args.out.now)
+    c.from_residual.result (subst (λ (why : CommandStop). IsErrAnd c.from_residual.result (λ other. other ≡ why)) c.in_err-plan.ensures c.from_residual.ensures.1)
