@@ -12,7 +12,7 @@ use Rattle.command_words.proofs.WordLaws.{within_limits}
 use Rattle.command_words.specs.Command.{PlainCommand, IsCommand, IsRefusedAt}
 use Rattle.match_run.specs.declared.fault.PlayFault.{PlayFault}
 use Rattle.match_run.specs.declared.fault.PlayFault.TheVariants as play
-use Rattle.match_run.specs.Play.{PushedSome, StoppedBy}
+use Rattle.match_run.specs.Play.{PushedProperPrefix, StoppedBy}
 use Rattle.ants.specs.declared.stop.FileFault.{FileFault}
 use Rattle.ants.specs.declared.stop.FileFault.TheVariants.{TooLong, World, Brain, Breaks, Labelled, Save, AlreadyAt}
 use Rattle.ants.specs.declared.stop.CommandStop.{CommandStop}
@@ -219,9 +219,9 @@ pub carries_cut : (command : PlainCommand) (shelf new_shelf : ShelfState) (out n
 carries_cut command shelf new_shelf out new_out contents reads text is pushed =
     record { fetches = reads.fetches; fetched = reads.fetched; ends = λ err new_err. record { contents = contents; accepted = reads.comes; text = text; is_text = is; cut = pushed } }
 
--- a command's files were read, and a front of its text was written before memory was wanting
+-- a command's files were read, and a proper prefix of its text was written before memory was wanting
 carries_broken : (command : PlainCommand) (shelf new_shelf : ShelfState) (out new_out : SinkState) (contents : List FileContent) → ReadsFiles shelf new_shelf (files_of command) (Contents contents)
-    → (text : List ℕ) → IsJobText command contents text → PushedSome out new_out text → WritesInPlay command → CarriesOut command shelf new_shelf out new_out (Some AtMemory)
+    → (text : List ℕ) → IsJobText command contents text → PushedProperPrefix out new_out text → WritesInPlay command → CarriesOut command shelf new_shelf out new_out (Some AtMemory)
 carries_broken command shelf new_shelf out new_out contents reads text is pushed in_play =
     record { fetches = reads.fetches; fetched = reads.fetched; ends = λ err new_err. inr (record { contents = contents; accepted = reads.comes; text = text; is_text = is; broken = pushed; in_play = in_play }) }
 

@@ -7,7 +7,7 @@ use Rattle.ant_base.specs.Sink.{PushedAll, PushedFront}
 use Rattle.ant_base.specs.declared.shelf.FetchFault.TheVariants as answer
 use Rattle.command_words.specs.Command.{PlainCommand}
 use Rattle.command_words.specs.Command.PlainCommand.{ResumeCommand, RunCommand}
-use Rattle.match_run.specs.Play.{PushedSome}
+use Rattle.match_run.specs.Play.{PushedProperPrefix}
 use Rattle.ants.specs.declared.stop.FileFault.{FileFault}
 use Rattle.ants.specs.Files.{File, FileContent, AreAccepted, AreBegun, StopsAt}
 use Rattle.ants.specs.Outputs.{files_of, IsJobText, LacksRoom}
@@ -67,13 +67,13 @@ WritesInPlay (RunCommand world red black setup) = Unit {0}
 WritesInPlay (ResumeCommand save setup) = Unit {0}
 WritesInPlay command = ⊥
 
--- all files were accepted, and a front of the text was written before memory could not be had; only a command that writes while it plays ends so
+-- all files were accepted, and a proper prefix of the text was written before memory could not be had; only a command that writes while it plays ends so
 pub record IsBrokenOff (command : PlainCommand) (before after : Outside) (fetches : List Fetched) : Type 0 where
   pub contents : List FileContent
   pub accepted : AreAccepted (files_of command) fetches contents
   pub text : List ℕ
   pub is_text : IsJobText command contents text
-  pub broken : PushedSome before.out after.out text
+  pub broken : PushedProperPrefix before.out after.out text
   pub in_play : WritesInPlay command
 
 -- memory could not be had

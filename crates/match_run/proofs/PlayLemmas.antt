@@ -1,5 +1,5 @@
 -- What playing a run pushes, and where it stands.
-use Rattle.std.proofs.Common.{◌≡◌, inl, inr, ℕ, ◌+◌, ◌-◌, ◌*◌, ◌^◌, ◌<◌, ◌≤◌, Bool, List, [], ◌++◌, refl, sym, ◌∙◌, ap, ap₂, subst, Result, Ok, Err, append_assoc, arith}
+use Rattle.std.proofs.Common.{◌≡◌, inl, inr, ℕ, ◌+◌, ◌-◌, ◌*◌, ◌^◌, ◌<◌, ◌≤◌, Bool, List, [], ◌++◌, length, refl, sym, ◌∙◌, ap, ap₂, subst, Result, Ok, Err, append_assoc, length-append, arith}
 use Rattle.ant_base.specs.Sink.{SinkState, PushedAll}
 use Rattle.ant_base.proofs.Numbered.{numbered-front, numbered-more, numbered-none}
 use Rattle.ant_base.proofs.Pushing.{all_of_nothing, all_then, front_more, front_then}
@@ -13,20 +13,27 @@ use Rattle.match_run.specs.declared.fault.PlayFault.TheVariants.{WriteFault, Out
 use Rattle.match_run.specs.Counts.{both, round_totals, totals_of}
 use Rattle.match_run.specs.Game.{GameValue, GoesOnFor, IsRoundPlayed, StopsWithin, counted_on, now_of}
 use Rattle.match_run.specs.Inner.Rounds.{RoundStopped}
-use Rattle.match_run.specs.Play.{PushedBy, PushedSome, StoppedBy}
+use Rattle.match_run.specs.Play.{PushedBy, PushedProperPrefix, StoppedBy}
 use Rattle.match_run.specs.Rest.{later_dumps}
 use Rattle.match_run.specs.Run.{chosen_dump}
 use Rattle.match_run.proofs.CountLemmas.{both-both, both-none, totals_of-more, totals_of-turns}
 use Rattle.match_run.proofs.GameLemmas.{whole-moment, whole-totals}
+use Rattle.match_run.proofs.RestLaws.{some_then}
 
--- nothing is pushed
-pub some_of_nothing : (state : SinkState) (text : List ℕ) → PushedSome state state text
-some_of_nothing state text = record { front = []; rest = text; whole = refl; pushed = all_of_nothing state }
+-- nothing of a text that has something is pushed
+pub prefix_of_nothing : (state : SinkState) (text : List ℕ) → 1 ≤ length text → PushedProperPrefix state state text
+prefix_of_nothing state text some = record { front = []; rest = text; whole = refl; some_left = some; pushed = all_of_nothing state }
 
 -- a play that stopped in a text stopped in a longer one
 pub stopped_more : (old new : SinkState) (a b : List ℕ) (fault : PlayFault) → StoppedBy old new a fault → StoppedBy old new (a ++ b) fault
 stopped_more old new a b WriteFault p = front_more old new a b p
-stopped_more old new a b OutOfMemory p = record { front = p.front; rest = p.rest ++ b; whole = ap (λ t. t ++ b) p.whole ∙ append_assoc p.front p.rest b; pushed = p.pushed }
+stopped_more old new a b OutOfMemory p = record {
+  front = p.front;
+  rest = p.rest ++ b;
+  whole = ap (λ t. t ++ b) p.whole ∙ append_assoc p.front p.rest b;
+  some_left = (let left = p.some_left in omega (arith, length-append p.rest b));
+  pushed = p.pushed;
+}
 
 -- one text, and then a play that stopped in another
 pub stopped_then : (old mid new : SinkState) (a b : List ℕ) (fault : PlayFault) → PushedAll old mid a → StoppedBy mid new b fault → StoppedBy old new (a ++ b) fault
@@ -35,6 +42,7 @@ stopped_then old mid new a b OutOfMemory p q = record {
   front = a ++ q.front;
   rest = q.rest;
   whole = ap (λ t. a ++ t) q.whole ∙ sym (append_assoc a q.front q.rest);
+  some_left = q.some_left;
   pushed = all_then old mid new a q.front p q.pushed;
 }
 
@@ -106,16 +114,20 @@ pub later_dumps-front : (minds : Minds) (seed : ℕ) (chosen : ℕ → Bool) (m 
 unfolding later_dumps
 later_dumps-front minds seed chosen m round i n le = numbered-front (λ k. chosen_dump chosen (after_rounds minds seed m (k + 1)).world (round + k + 1)) i n le
 
--- a round that wasn't shown stops the dumps up to it
+-- a round that wasn't shown stops the dumps up to it and whatever text comes behind them, which has something
 pub stopped-shown : {first : GameValue} {round : ℕ} {old : GameValue} (sink mid new_sink : SinkState) (chosen : ℕ → Bool) → GoesOnFor first old round → (new : GameValue) (fault : PlayFault)
     → PushedAll sink mid (later_dumps first.field.minds first.field.seed chosen (now_of first) first.done round) → RoundStopped old new chosen (first.done + round + 1) mid new_sink fault
-    → StoppedBy sink new_sink (later_dumps first.field.minds first.field.seed chosen (now_of first) first.done (round + 1)) fault
-stopped-shown {first} {round} {old} sink mid new_sink chosen at new WriteFault so_far stopped =
-    rw (later_dumps-more first.field.minds first.field.seed chosen (now_of first) first.done round, ← GoesOnFor-world (GoesOnFor-more at new stopped.0)) (front_then sink mid new_sink _ _ so_far stopped.1)
-stopped-shown {first} {round} {old} sink mid new_sink chosen at new OutOfMemory so_far stopped = record {
+    → (rest : List ℕ) → 1 ≤ length rest → StoppedBy sink new_sink (later_dumps first.field.minds first.field.seed chosen (now_of first) first.done (round + 1) ++ rest) fault
+stopped-shown {first} {round} {old} sink mid new_sink chosen at new WriteFault so_far stopped rest some =
+    rw (later_dumps-more first.field.minds first.field.seed chosen (now_of first) first.done round, ← GoesOnFor-world (GoesOnFor-more at new stopped.0)) (front_more sink new_sink _ rest (front_then sink mid new_sink _ _ so_far stopped.1))
+stopped-shown {first} {round} {old} sink mid new_sink chosen at new OutOfMemory so_far stopped rest some = record {
   front = later_dumps first.field.minds first.field.seed chosen (now_of first) first.done round;
-  rest = chosen_dump chosen (after_rounds first.field.minds first.field.seed (now_of first) (round + 1)).world (first.done + round + 1);
-  whole = later_dumps-more first.field.minds first.field.seed chosen (now_of first) first.done round;
+  rest = chosen_dump chosen (after_rounds first.field.minds first.field.seed (now_of first) (round + 1)).world (first.done + round + 1) ++ rest;
+  whole =
+      ap (λ (dumps : List ℕ). dumps ++ rest) (later_dumps-more first.field.minds first.field.seed chosen (now_of first) first.done round)
+      ∙ append_assoc (later_dumps first.field.minds first.field.seed chosen (now_of first) first.done round)
+      (chosen_dump chosen (after_rounds first.field.minds first.field.seed (now_of first) (round + 1)).world (first.done + round + 1)) rest;
+  some_left = some_then (chosen_dump chosen (after_rounds first.field.minds first.field.seed (now_of first) (round + 1)).world (first.done + round + 1)) rest some;
   pushed = subst (λ (state : SinkState). PushedAll sink state (later_dumps first.field.minds first.field.seed chosen (now_of first) first.done round)) (sym stopped.1) so_far;
 }
 

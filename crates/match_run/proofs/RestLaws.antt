@@ -1,11 +1,12 @@
 -- What holds of the rest of a run.
-use Rattle.std.proofs.Common.{◌≡◌, ℕ, zero, suc, ◌+◌, ◌-◌, Bool, List, ◌++◌, refl, sym, ap, ◌∙◌, append_assoc, append-nil, arith}
+use Rattle.std.proofs.Common.{◌≡◌, ℕ, zero, suc, ◌+◌, ◌-◌, ◌≤◌, Bool, List, ◌++◌, length, refl, sym, ap, ◌∙◌, append_assoc, append-nil, length-append, arith}
 use Rattle.ant_base.specs.Layout.{numbered}
 use Rattle.ant_base.proofs.Numbered.{numbered-more, numbered-none, numbered-same}
 use Rattle.ant_turn.specs.Minds.{Minds}
 use Rattle.ant_turn.specs.Rounds.{Moment, after_rounds, start_of}
 use Rattle.ant_turn.proofs.KeptByRounds.{after_rounds-then}
 use Rattle.cell_world.specs.Score.{score_of}
+use Rattle.cell_world.specs.declared.score.Score.{Score}
 use Rattle.cell_world.specs.World.{World}
 use Rattle.dump_print.specs.declared.totals.Totals.{Totals}
 use Rattle.dump_print.specs.Texts.{score_text, seed_text}
@@ -62,12 +63,36 @@ runs_go_on minds seed size w round rounds chosen stats within =
         append_assoc a ((b ++ c) ++ d) e
         ∙ ap (λ l. a ++ l) (append_assoc (b ++ c) d e ∙ append_assoc b c (d ++ e))
 
+-- a text that ends in one that has something has something
+pub some_then : (a b : List ℕ) → 1 ≤ length b → 1 ≤ length (a ++ b)
+some_then a b some = omega (arith, length-append a b, some)
+
+-- the end of a run has something: the line of its score
+pub end-some : (score : Score) (stats : Bool) (totals : Totals) → 1 ≤ length (score_text score ++ counts_text stats totals)
+unfolding score_text
+end-some score stats totals = omega arith
+
+-- the rest of a run has something
+pub rest_text-some : (minds : Minds) (seed size : ℕ) (m : Moment) (round : ℕ) (totals : Totals) (rounds : ℕ) (chosen : ℕ → Bool) (stats : Bool) → 1 ≤ length (rest_text minds seed size m round totals rounds chosen stats)
+unfolding rest_text
+rest_text-some minds seed size m round totals rounds chosen stats =
+    some_then (later_dumps minds seed chosen m round (rounds - round)) (score_text (score_of (after_rounds minds seed m (rounds - round)).world) ++ counts_text stats (both totals (totals_of minds seed size m (rounds - round))))
+    (end-some (score_of (after_rounds minds seed m (rounds - round)).world) stats (both totals (totals_of minds seed size m (rounds - round))))
+
 -- a run is the line of its seed, the dump of the start, if it is chosen, and the rest
 pub whole_text-rest : (minds : Minds) (seed size : ℕ) (w : World) (rounds : ℕ) (chosen : ℕ → Bool) (stats : Bool) → whole_text minds seed rounds chosen size stats w
     ≡ seed_text seed ++ (chosen_dump chosen w 0 ++ rest_text minds seed size (start_of w) 0 no_turns rounds chosen stats)
 whole_text-rest minds seed size w rounds chosen stats =
     runs_go_on minds seed size w 0 rounds chosen stats (omega arith)
     ∙ ap (λ (d : List ℕ). seed_text seed ++ (d ++ rest_text minds seed size (start_of w) 0 no_turns rounds chosen stats)) (dumps_text-first minds seed chosen w)
+
+-- a run has something
+pub whole_text-some : (minds : Minds) (seed size : ℕ) (w : World) (rounds : ℕ) (chosen : ℕ → Bool) (stats : Bool) → 1 ≤ length (whole_text minds seed rounds chosen size stats w)
+whole_text-some minds seed size w rounds chosen stats =
+    rw (whole_text-rest minds seed size w rounds chosen stats)
+    (some_then (seed_text seed) (chosen_dump chosen w 0 ++ rest_text minds seed size (start_of w) 0 no_turns rounds chosen stats)
+    (some_then (chosen_dump chosen w 0) (rest_text minds seed size (start_of w) 0 no_turns rounds chosen stats)
+    (rest_text-some minds seed size (start_of w) 0 no_turns rounds chosen stats)))
 
 -- the parts of the rest of a run
 pub rest_text-parts : (minds : Minds) (seed size : ℕ) (m : Moment) (round : ℕ) (totals : Totals) (rounds : ℕ) (chosen : ℕ → Bool) (stats : Bool) → rest_text minds seed size m round totals rounds chosen stats

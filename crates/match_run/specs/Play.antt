@@ -1,22 +1,23 @@
 -- What playing a run does to its sink (this project's own).
-use Rattle.std.specs.Prelude.{◌≡◌, ℕ, List, ◌++◌, Result, Ok, Err}
+use Rattle.std.specs.Prelude.{◌≡◌, ℕ, ◌≤◌, List, ◌++◌, length, Result, Ok, Err}
 use Rattle.ant_base.specs.Sink.{SinkState, PushedAll, PushedFront}
 use Rattle.match_run.specs.declared.fault.PlayFault.{PlayFault}
 use Rattle.match_run.specs.declared.fault.PlayFault.TheVariants.{WriteFault, OutOfMemory}
 
--- a front of a text was appended, and the sink didn't fail
-pub record PushedSome (old new : SinkState) (text : List ℕ) : Type 0 where
+-- a proper prefix of a text was appended, so that something of the text is left, and the sink didn't fail
+pub record PushedProperPrefix (old new : SinkState) (text : List ℕ) : Type 0 where
   pub front : List ℕ
   pub rest : List ℕ
   pub whole : text ≡ front ++ rest
+  pub some_left : 1 ≤ length rest
   pub pushed : PushedAll old new front
 
--- why a play stopped: the sink failed, after a front of the text, and its count of faults rose; or memory was wanting, after a front
+-- why a play stopped: the sink failed, after a prefix of the text, and its count of faults rose; or memory was wanting, after a proper prefix
 abbrev pub StoppedBy : SinkState → SinkState → List ℕ → PlayFault → Type 0
 StoppedBy old new text WriteFault = PushedFront old new text
-StoppedBy old new text OutOfMemory = PushedSome old new text
+StoppedBy old new text OutOfMemory = PushedProperPrefix old new text
 
--- at Ok all of a text was appended; else a front of it
+-- at Ok all of a text was appended; else a prefix of it, and a proper one where memory was wanting
 abbrev pub PushedBy : {A : Type 0} → SinkState → SinkState → List ℕ → Result A PlayFault → Type 0
 PushedBy old new text (Ok _) = PushedAll old new text
 PushedBy old new text (Err fault) = StoppedBy old new text fault

@@ -10,7 +10,7 @@ ghost use Rattle.dump_print.specs.Texts.{score_text};
 ghost use Rattle.match_run.specs.Counts.{counts_text, whole_text};
 ghost use Rattle.match_run.specs.Dumps.{chooses};
 ghost use Rattle.match_run.specs.Game.{GoesOnFor, StopsWithin, beginning, counted_on, now_of};
-ghost use Rattle.match_run.specs.Inner.Rounds.{RoundShown};
+ghost use Rattle.match_run.specs.Inner.Rounds.{RoundShown, RoundsPushed};
 ghost use Rattle.match_run.specs.Play.{PushedBy};
 ghost use Rattle.match_run.specs.Rest.{later_dumps, rest_text};
 ghost use Rattle.match_run.specs.Run.{ended, most_rounds, world_after};
@@ -35,7 +35,8 @@ use std::alloc::Global;
 /// place 0 on. Gives the score after the last round: the food on each colour's hill; the crew's count of turns has risen by that of the ids
 /// times the rounds then, or stands at its last value.
 ///
-/// It is refused where the sink failed, whose count of faults rose then, or for want of memory; in both cases a front of the text was pushed.
+/// It is refused where the sink failed, whose count of faults rose then: a prefix of the text was pushed. Or for want of memory: a proper
+/// prefix of it was.
 pub fn play<C: Crew, K: Sink>(
     alloc: Global,
     crew: &mut C,
@@ -96,8 +97,9 @@ fn game_of<'b>(
 /// The rounds are at most 1,000,000, and at least those that are done. Gives the score at the end. The game stands there then, and the crew's
 /// count of turns has risen by that of the ids times the later rounds, or stands at its last value.
 ///
-/// It is refused where the sink failed, whose count of faults rose then, or for want of memory. In both cases a prefix of the text was
-/// pushed; the game stands at the end of a round, or, where memory was wanting, at the window that was refused, and it can be gone on with.
+/// It is refused where the sink failed, whose count of faults rose then, and a prefix of the text was pushed; or for want of memory, and a
+/// proper prefix was. The game stands at the end of a round, or, where memory was wanting, at the window that was refused, and it can be gone
+/// on with.
 pub fn play_rest<C: Crew, K: Sink>(
     alloc: Global,
     crew: &mut C,
@@ -137,7 +139,7 @@ fn play_rounds<C: Crew, K: Sink>(
     requires left { game.old.done ≤ rounds }
     requires few_rounds { rounds ≤ most_rounds }
     ensures ready { C.ready crew.new }
-    ensures text { PushedBy (K.state sink.old) (K.state sink.new)
+    ensures text { RoundsPushed (K.state sink.old) (K.state sink.new)
         (later_dumps game.old.field.minds game.old.field.seed (chooses dumps.now) (now_of game.old) game.old.done (rounds - game.old.done)) result }
     ensures played { OnOk result (GoesOnFor game.old game.new (rounds - game.old.done)) }
     ensures stopped { OnErr result (StopsWithin game.old game.new (rounds - game.old.done)) }

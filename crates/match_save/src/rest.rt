@@ -20,8 +20,8 @@ use std::alloc::Global;
 /// save and this rest are together the text of the run that was never broken off: the law `saves_go_on`.
 ///
 /// The rounds are at most 1,000,000, and at least those that are done. Gives the score at the end; the crew's count of turns has risen by that of
-/// the ids times the later rounds then, or stands at its last value. It is refused where the sink failed, whose count of faults rose then, or for
-/// want of memory; in both cases a prefix of the text was pushed. The save stays as it is.
+/// the ids times the later rounds then, or stands at its last value. It is refused where the sink failed, whose count of faults rose then, and a
+/// prefix of the text was pushed; or for want of memory, and a proper prefix was. The save stays as it is.
 pub fn resume<C: Crew, K: Sink>(
     alloc: Global,
     crew: &mut C,

@@ -1,10 +1,11 @@
 -- A game that is played round by round (this project's own).
-use Rattle.std.specs.Prelude.{◌≡◌, ℕ, Bool, Result, Ok, Err}
+use Rattle.std.specs.Prelude.{◌≡◌, ℕ, ◌≤◌, Bool, List, ◌++◌, length, Result, Ok, Err}
 use Rattle.ant_base.specs.Sink.{SinkState, PushedAll, PushedFront}
 use Rattle.cell_world.specs.Grid.{world_of}
 use Rattle.match_run.specs.declared.fault.PlayFault.{PlayFault}
 use Rattle.match_run.specs.declared.fault.PlayFault.TheVariants.{WriteFault, OutOfMemory}
 use Rattle.match_run.specs.Game.{GameValue, IsRoundPlayed, IsRoundRefused}
+use Rattle.match_run.specs.Play.{StoppedBy}
 use Rattle.match_run.specs.Run.{chosen_dump}
 
 -- why a round wasn't shown: it was played, and the sink failed at its dump; or memory was wanting for a window of it, and nothing was pushed
@@ -16,3 +17,8 @@ RoundStopped old new chosen round sink new_sink OutOfMemory = IsRoundRefused old
 abbrev pub RoundShown : {A : Type 0} → GameValue → GameValue → (ℕ → Bool) → ℕ → SinkState → SinkState → Result A PlayFault → Type 0
 RoundShown old new chosen round sink new_sink (Ok _) = IsRoundPlayed old new × PushedAll sink new_sink (chosen_dump chosen (world_of new.field.world) round)
 RoundShown old new chosen round sink new_sink (Err fault) = RoundStopped old new chosen round sink new_sink fault
+
+-- what playing rounds pushed: at Ok their whole text; else the play stopped in it and whatever text comes behind it, which has something
+abbrev pub RoundsPushed : {A : Type 0} → SinkState → SinkState → List ℕ → Result A PlayFault → Type 0
+RoundsPushed sink new_sink text (Ok _) = PushedAll sink new_sink text
+RoundsPushed sink new_sink text (Err fault) = (rest : List ℕ) → 1 ≤ length rest → StoppedBy sink new_sink (text ++ rest) fault

@@ -9,16 +9,19 @@ use Rattle.dump_print.specs.Texts.{score_text}
 use Rattle.match_run.specs.Counts.{both, counts_text, totals_of}
 use Rattle.match_run.specs.Dumps.{chooses}
 use Rattle.match_run.specs.Game.{now_of}
-use Rattle.match_run.proofs.PlayLemmas.{GoesOnFor-world, StopsWithin-last, stopped_more}
-use Rattle.match_run.proofs.RestLaws.{rest_text-parts}
+use Rattle.match_run.proofs.PlayLemmas.{GoesOnFor-world, StopsWithin-last}
+use Rattle.match_run.proofs.RestLaws.{end-some, rest_text-parts}
 use Rattle.match_run.proofs.playing.play_rest.Goals as goal
 
 pub returns-in_err-play_rounds-clause-text : goal.returns-in_err-play_rounds-clause-text
 returns-in_err-play_rounds-clause-text g c =
     let game = c.args.game.now in
+    let more : ℕ = c.args.rounds - game.done in
+    let there = after_rounds game.field.minds game.field.seed (now_of game) more in
+    let totals = both game.totals (totals_of game.field.minds game.field.seed game.window (now_of game) more) in
     let p = err_from_is_err_and c.from_residual.result c.from_residual.ensures.1 in
     rw (p.1, p.2, rest_text-parts game.field.minds game.field.seed game.window (now_of game) game.done game.totals c.args.rounds (chooses c.args.dumps.now) c.args.stats)
-    (stopped_more _ _ _ _ c.in_err-play_rounds.field-0.0 c.in_err-play_rounds.ensures.text)
+    (c.in_err-play_rounds.ensures.text (score_text (score_of there.world) ++ counts_text c.args.stats totals) (end-some (score_of there.world) c.args.stats totals))
 
 pub returns-in_err-push_end-clause-text : goal.returns-in_err-push_end-clause-text
 returns-in_err-push_end-clause-text g c =

@@ -1,4 +1,4 @@
-use Rattle.std.proofs.Common.{◌+◌, ◌-◌, ℕ, subst, arith}
+use Rattle.std.proofs.Common.{◌+◌, ◌-◌, ℕ, List, ◌++◌, append_assoc, subst, arith}
 use Rattle.std.proofs.lemmas.Result.{err_from_is_err_and}
 use Rattle.ant_base.proofs.Pushing.{all_of_nothing, all_then}
 use Rattle.match_run.specs.Dumps.{chooses}
@@ -8,7 +8,8 @@ use Rattle.cell_world.specs.Grid.{world_of}
 use Rattle.match_run.specs.Run.{chosen_dump}
 use Rattle.match_run.specs.Inner.Rounds.{RoundStopped}
 use Rattle.match_run.specs.Rest.{later_dumps}
-use Rattle.match_run.proofs.PlayLemmas.{GoesOnFor-more, GoesOnFor-none, GoesOnFor-turns, GoesOnFor-world, StopsWithin-shown, counted-round, counted-start, later_dumps-front, later_dumps-more, later_dumps-none, stopped-shown, stopped_more}
+use Rattle.match_run.proofs.PlayLemmas.{GoesOnFor-more, GoesOnFor-none, GoesOnFor-turns, GoesOnFor-world, StopsWithin-shown, counted-round, counted-start, later_dumps-front, later_dumps-more, later_dumps-none, stopped-shown}
+use Rattle.match_run.proofs.RestLaws.{some_then}
 use Rattle.match_run.proofs.playing.play_rounds.Goals as goal
 
 pub loop-more-init : goal.loop-more-init
@@ -36,10 +37,10 @@ returns-in_err-play_round-clause-text g c =
     let chosen = chooses c.args.dumps.now in
     let p = err_from_is_err_and c.from_residual.result c.from_residual.ensures.1 in
     let rest = later_dumps-front game.field.minds game.field.seed chosen (now_of game) game.done (more + 1) (c.args.rounds - game.done) (omega (arith, c.loop-more-test.true, c.done-done.ensures.done)) in
-    rw (p.1, p.2, rest.1)
-    (stopped_more (g.K.Sink.state c.args.sink.now) (g.K.Sink.state c.play_round.new.sink) (later_dumps game.field.minds game.field.seed chosen (now_of game) game.done (more + 1)) rest.0 c.in_err-play_round.field-0.0
+    let so_far : List ℕ = later_dumps game.field.minds game.field.seed chosen (now_of game) game.done (more + 1) in
+    rw (p.1, p.2) (λ tail some. rw (rest.1, append_assoc so_far rest.0 tail)
     (stopped-shown (g.K.Sink.state c.args.sink.now) (g.K.Sink.state c.loop-more.sink) (g.K.Sink.state c.play_round.new.sink) chosen c.loop-more.invariant.at c.play_round.new.game c.in_err-play_round.field-0.0 c.loop-more.invariant.text
-    (subst (λ (done : ℕ). RoundStopped c.loop-more.game c.play_round.new.game chosen (done + more + 1) (g.K.Sink.state c.loop-more.sink) (g.K.Sink.state c.play_round.new.sink) c.in_err-play_round.field-0.0) c.done-done.ensures.done c.in_err-play_round.ensures.shown)))
+    (subst (λ (done : ℕ). RoundStopped c.loop-more.game c.play_round.new.game chosen (done + more + 1) (g.K.Sink.state c.loop-more.sink) (g.K.Sink.state c.play_round.new.sink) c.in_err-play_round.field-0.0) c.done-done.ensures.done c.in_err-play_round.ensures.shown) (rest.0 ++ tail) (some_then rest.0 tail some)))
 
 pub returns-in_err-play_round-clause-stopped : goal.returns-in_err-play_round-clause-stopped
 returns-in_err-play_round-clause-stopped g c =
