@@ -273,8 +273,9 @@ def page(spec):
         out.append("## The headline\n")
         out.append(
             "The law [%s](../%s): the promise on one page of %d lines. It follows from the clauses, which is checked; so whoever reads it can leave the chapter on\n"
-            "endings. What `%s` rests on are %s lines, or %s without the counts of `--stats`; and `%s`, which says what the words mean, %s more.\n"
-            % (LAW, spec.headline.law.link, spec.headline.lines, GAME, number(game), number(uncounted), WORDS, number(words))
+            "endings. What `%s` rests on are %s lines, or %s without the counts of `--stats`, which are `%s` and what it alone names; and `%s`, which says what the\n"
+            "words mean, %s more.\n"
+            % (LAW, spec.headline.law.link, spec.headline.lines, GAME, number(game), number(uncounted), COUNTS, WORDS, number(words))
         )
         out += [shown(it, files) for it in spec.headline.parts]
     for i, chapter in enumerate(spec.chapters):
