@@ -213,9 +213,10 @@ impl Book {
     }
 }
 
-// Brains are brains, their sheet is light, and a world is one.
+/// Gives nothing, and does nothing that can be seen: it is called for its clauses, that brains and a world are what their types promise.
+/// The program's own, for a caller whose proof needs it before a turn.
 #[inline]
-pub(crate) fn recall_validity(brains: Brains<'_>, world: &World)
+pub fn recall_validity(brains: Brains<'_>, world: &World)
     ensures sound { AreSound (minds_of brains.entry) }
     ensures world { IsWorld world.now }
 {
