@@ -1,15 +1,16 @@
 // Rounds, played one after another.
 ghost use Rattle.std.specs.Prelude.{◌≡◌, ◌+◌, ◌-◌, ◌<◌, ◌≤◌, ◌^◌, length};
 ghost use Rattle.ant_turn.specs.Listed.{AreUp, after_listed};
-ghost use Rattle.ant_turn.specs.Minds.{AreSound, Fits, minds_of};
+ghost use Rattle.ant_turn.specs.Minds.{Fits, minds_of};
 ghost use Rattle.ant_turn.specs.Rounds.{after_round, after_turns};
-ghost use Rattle.cell_world.specs.Grid.{IsWorld, world_of};
+ghost use Rattle.cell_world.specs.Grid.{world_of};
 ghost use Rattle.cell_world.specs.Limits.{most_ants};
 ghost use Rattle.match_run.specs.Inner.Sequential.{LastsARound, moment_from};
 
 use ant_random::Stream;
 use ant_turn::{Brains, take_acting_turn, take_turn};
 use cell_world::{Ground, World};
+use round_book::recall_validity;
 
 // Plays one round: a turn of each id in rising order. Where many ants rest, they are told apart first, some at a time, which spares the
 // processor to guess of each whether it rests.
@@ -103,7 +104,7 @@ fn play_chunk(world: &mut World, brains: Brains<'_>, stream: &mut Stream, from: 
     ensures seed { stream.new.seed ≡ stream.old.seed }
     ensures fit { Fits (world_of world.new) (minds_of brains.entry) }
 {
-    vouch(brains, world);
+    recall_validity(brains, world);
     let mut acting = [0; 64];
     let count = world.rest_some(from, to, &mut acting);
     take_listed(world, brains, stream, &acting[..count]);
@@ -122,16 +123,4 @@ fn take_listed(world: &mut World, brains: Brains<'_>, stream: &mut Stream, ids: 
     for id in ids {
         let _deed = take_acting_turn(world, brains, stream, u32::from(*id));
     }
-}
-
-// Brains are brains, their sheet is light, and a world is one.
-#[inline]
-fn vouch(brains: Brains<'_>, world: &World)
-    ensures sound { AreSound (minds_of brains.entry) }
-    ensures world { IsWorld world.now }
-{
-    let _red = brains.red.len();
-    let _black = brains.black.len();
-    let _corpse = brains.sheet.corpse();
-    let _width = world.width();
 }
