@@ -100,6 +100,7 @@ pub record KeepsPromise (words : List (List ℕ)) (before after : Outside) (numb
   pub output_failed : number ≡ 4 → NamesTheReason words before after AtOutput
   pub refused : number ≡ 5 → ((name : List ℕ) × (fault : FileFault) × NamesTheReason words before after (AtInput name fault))
       ⊎ ((element : ℕ) × NamesTheReason words before after (AtRoom element))
+  -- nothing was written; or, by a `run` or a `resume`, a proper prefix of its text
   pub out_of_memory : number ≡ 6 → NamesTheReason words before after AtMemory
   pub no_other : (number ≡ 0) ⊎ (number ≡ 2) ⊎ (number ≡ 3) ⊎ (number ≡ 4) ⊎ (number ≡ 5) ⊎ (number ≡ 6)
 

@@ -24,7 +24,7 @@ refused_after line number [] read = tt
 refused_after line number (word ∷ words) read =
     (read-refuses (words_of line ++ word ∷ []) number read.0, refused_after line number words read.1)
 
--- the options of a game that only `run` has
+-- the options of a game, but for those that follow below
 abbrev game_options : List (List ℕ)
 game_options = (codes "--dump") ∷ (codes "--window") ∷ (codes "--surround") ∷ (codes "--corpse") ∷ (codes "--rest") ∷ (codes "--stats") ∷ (codes "--far") ∷ []
 
@@ -75,6 +75,21 @@ pub run_takes_no_shape : AreRefusedAfter (codes "run w r b") 5 shape_options
 unfolding command_kind_of choice_of is_among rest_after is_file_name is_dumps dumps_of decimal_value
 run_takes_no_shape = refused_after (codes "run w r b") 5 shape_options
     (refl, (refl, (refl, (refl, tt))))
+
+-- `save` takes no dumps, no counts, no standing workers, and no option of a world
+pub save_takes_no_text : AreRefusedAfter (codes "save w r b") 5 ((codes "--dump") ∷ (codes "--stats") ∷ (codes "--far") ∷ shape_options)
+unfolding command_kind_of choice_of is_among rest_after is_file_name is_dumps dumps_of decimal_value
+save_takes_no_text = refused_after (codes "save w r b") 5 ((codes "--dump") ∷ (codes "--stats") ∷ (codes "--far") ∷ shape_options)
+    (refl, (refl, (refl, (refl, (refl, (refl, (refl, tt)))))))
+
+-- what a save holds, `resume` takes no option for: the seed, the window and the sheet; nor does it take standing workers or an option of a world
+abbrev held_options : List (List ℕ)
+held_options = (codes "--seed") ∷ (codes "--window") ∷ (codes "--surround") ∷ (codes "--corpse") ∷ (codes "--rest") ∷ []
+
+pub resume_takes_four : AreRefusedAfter (codes "resume k") 3 (held_options ++ (codes "--far") ∷ shape_options)
+unfolding command_kind_of choice_of is_among rest_after is_file_name is_dumps dumps_of decimal_value
+resume_takes_four = refused_after (codes "resume k") 3 (held_options ++ (codes "--far") ∷ shape_options)
+    (refl, (refl, (refl, (refl, (refl, (refl, (refl, (refl, (refl, (refl, tt))))))))))
 
 -- `gen` takes no option of a game
 pub gen_takes_no_game : AreRefusedAfter (codes "gen 1") 3 (game_options ++ common_options)
