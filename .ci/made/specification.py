@@ -30,7 +30,8 @@ READING = """**How to read it.** `ℕ` are the whole numbers from 0 on, and `a -
 `codes "text"` and `decimal n` are texts as lists of bytes, `slice_index_or list i x` is the element at i, or x where there is none. `zero` is 0 and `suc n` is n + 1;
 `record x { f = y }` is x with y for its field f; `==`, `nat_eq`, `nat_lt`, `nat_le`, `&&`, `||` are tests that compute, as in a program. `a ≡ b` says that they are
 equal, `¬` not, `×` and, `⊎` or; `⊥` never holds, `⊤` and `Unit` always do. `(x : A) → B` says that B holds for every x, `(x : A) × B` that it does for some x.
-`IfSome`, `IfOk` and their like say something where there is such a value, `AllByRecursion` something of each element of a list. `λ x. b` is the function that gives b at x. A `record` has all of its fields; where a
+`IfSome`, `IfOk` and their like say something where there is such a value, `AllByRecursion` something of each element of a list, `AllZip` of each two of two lists;
+`prefix_len test list` is how many elements at its beginning pass a test, `suffix_len` how many at its end. `λ x. b` is the function that gives b at x. A `record` has all of its fields; where a
 field is a fact, it says so. A definition by several equations means the first that fits. `unfoldable` and `abbrev` tell the checker when to open a definition,
 and mean nothing to a reader.
 """

@@ -55,7 +55,7 @@ marks_byte set = 48 + set
 abbrev pub food_byte : ℕ → ℕ
 food_byte food = if nat_le food 62 then 48 + food else 111
 
--- so many rows of a byte for each of these
+-- so many rows of this width, with a byte for each element of a list
 abbrev pub rows : {A : Type 0} → (A → ℕ) → ℕ → ℕ → List A → List (List ℕ)
 rows byte width zero list = []
 rows byte width (suc height) list = map byte (take width list) ∷ rows byte width height (drop width list)
