@@ -1,10 +1,9 @@
 -- Turns under other states of the ants: the states decide nothing but which instruction is executed.
-use Rattle.std.proofs.Common.{◌≡◌, ℕ, Bool, Option, refl}
-use Rattle.std.specs.Prelude.{option_map}
+use Rattle.std.proofs.Common.{◌≡◌, ℕ, refl}
 use Rattle.cell_world.specs.declared.ant.Ant.{Ant}
 use Rattle.cell_world.specs.declared.ant.Colour.{Colour}
 use Rattle.cell_world.specs.declared.cell.Cell.{Cell}
-use Rattle.cell_world.specs.World.{Cells, World, place_in}
+use Rattle.cell_world.specs.World.{World, place_in}
 use Rattle.brain_read.specs.declared.instr.Cond.{Cond}
 use Rattle.ant_turn.specs.Conditions.{meets}
 use Rattle.ant_turn.specs.Minds.{Minds}

@@ -1,6 +1,6 @@
 -- Turns and rounds under new numbers of a side's states.
-use Rattle.std.proofs.Common.{◌≡◌, inl, inr, ℕ, zero, suc, ◌+◌, Bool, true, false, List, [], ◌∷◌, Option, Some, None, refl, sym, ap, ap₂, ◌∙◌, subst}
-use Rattle.std.specs.Prelude.{option_map, unwrap_or, IsSome, ◌||◌, ◌==◌, ◌-◌, if◌then◌else◌}
+use Rattle.std.proofs.Common.{◌≡◌, inl, inr, ℕ, zero, suc, ◌+◌, Bool, true, false, List, [], ◌∷◌, Option, Some, None, refl, sym, ap, ◌∙◌, subst}
+use Rattle.std.specs.Prelude.{unwrap_or, IsSome, ◌||◌, ◌==◌, ◌-◌, if◌then◌else◌}
 use Rattle.std.specs.List.{AllByRecursion}
 use Rattle.std.proofs.lemmas.Bool.{cond_both}
 use Rattle.std.proofs.lemmas.Option.{same_Some}
@@ -20,7 +20,7 @@ use Rattle.ant_random.specs.Stream.{drawn}
 use Rattle.ant_turn.specs.Conditions.{meets}
 use Rattle.ant_turn.specs.Kills.{after_kill, check_all, check_at, places_around}
 use Rattle.ant_turn.specs.Minds.{Minds, mind_of}
-use Rattle.ant_turn.specs.Renumber.{Numbers, Carries, AreNumbered, state_number, redirected, renumbered, renumbered_ant, renumbered_cells, renumbered_moment, renumbered_outcome, renumbered_world, side_states, with_mind}
+use Rattle.ant_turn.specs.Renumber.{Numbers, Carries, AreNumbered, state_number, redirected, renumbered, renumbered_moment, renumbered_outcome, side_states, with_mind}
 use Rattle.ant_turn.specs.Rounds.{Moment, after_round, after_rounds, after_turn, after_turns, moment_after}
 use Rattle.ant_turn.specs.Sheet.{Sheet}
 use Rattle.ant_turn.specs.Turn.{Outcome, acts, arrived, execute, in_state, instruction_at, is_blocked, left_by_ant, marked, stepped, turn, turn_from, turn_at, unmarked, with_ant}

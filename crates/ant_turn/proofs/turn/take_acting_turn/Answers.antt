@@ -1,5 +1,5 @@
 -- the turn of an ant that doesn't rest
-use Rattle.std.proofs.Common.{◌≡◌, arith}
+use Rattle.std.proofs.Common.{arith}
 use Rattle.ant_turn.specs.Minds.{minds_of}
 use Rattle.ant_turn.proofs.Turns.{found_up, turn-found}
 use Rattle.ant_turn.proofs.turn.take_acting_turn.Goals as goal
