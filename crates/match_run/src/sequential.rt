@@ -2,10 +2,9 @@
 ghost use Rattle.std.specs.Prelude.{◌≡◌, ◌+◌, ◌-◌, ◌<◌, ◌≤◌, ◌^◌, length};
 ghost use Rattle.ant_turn.specs.Listed.{AreUp, after_listed};
 ghost use Rattle.ant_turn.specs.Minds.{Fits, minds_of};
-ghost use Rattle.ant_turn.specs.Rounds.{after_round, after_turns};
+ghost use Rattle.ant_turn.specs.Rounds.{after_turns};
 ghost use Rattle.cell_world.specs.Grid.{world_of};
-ghost use Rattle.cell_world.specs.Limits.{most_ants};
-ghost use Rattle.match_run.specs.Inner.Sequential.{LastsARound, moment_from};
+ghost use Rattle.match_run.specs.Inner.Sequential.{LastsARound, RoundTaken, moment_from};
 
 use ant_random::Stream;
 use ant_turn::{Brains, take_acting_turn, take_turn};
@@ -18,10 +17,7 @@ use round_book::recall_validity;
 pub(crate) fn play_round(world: &mut World, brains: Brains<'_>, stream: &mut Stream)
     requires fit { Fits (world_of world.old) (minds_of brains) }
     requires place { LastsARound stream.old }
-    ensures moment { moment_from world.new stream.new ≡ after_round (minds_of brains.entry) stream.old.seed (moment_from world.old stream.old) }
-    ensures seed { stream.new.seed ≡ stream.old.seed }
-    ensures place { stream.new.place ≤ stream.old.place + most_ants }
-    ensures fit { Fits (world_of world.new) (minds_of brains.entry) }
+    ensures { RoundTaken (minds_of brains.entry) world.old stream.old world.new stream.new }
 {
     if many_rest(world) {
         play_in_chunks(world, brains, stream);
@@ -63,10 +59,7 @@ fn is_resting(world: &mut World, id: u32) -> bool
 fn play_in_turn(world: &mut World, brains: Brains<'_>, stream: &mut Stream)
     requires fit { Fits (world_of world.old) (minds_of brains) }
     requires place { LastsARound stream.old }
-    ensures moment { moment_from world.new stream.new ≡ after_round (minds_of brains.entry) stream.old.seed (moment_from world.old stream.old) }
-    ensures seed { stream.new.seed ≡ stream.old.seed }
-    ensures place { stream.new.place ≤ stream.old.place + most_ants }
-    ensures fit { Fits (world_of world.new) (minds_of brains.entry) }
+    ensures { RoundTaken (minds_of brains.entry) world.old stream.old world.new stream.new }
 {
     for id in 0..world.ant_count() {
         let _deed = take_turn(world, brains, stream, id);
@@ -78,10 +71,7 @@ fn play_in_turn(world: &mut World, brains: Brains<'_>, stream: &mut Stream)
 fn play_in_chunks(world: &mut World, brains: Brains<'_>, stream: &mut Stream)
     requires fit { Fits (world_of world.old) (minds_of brains) }
     requires place { LastsARound stream.old }
-    ensures moment { moment_from world.new stream.new ≡ after_round (minds_of brains.entry) stream.old.seed (moment_from world.old stream.old) }
-    ensures seed { stream.new.seed ≡ stream.old.seed }
-    ensures place { stream.new.place ≤ stream.old.place + most_ants }
-    ensures fit { Fits (world_of world.new) (minds_of brains.entry) }
+    ensures { RoundTaken (minds_of brains.entry) world.old stream.old world.new stream.new }
 {
     let ids = world.ant_count();
     let mut from = 0;
