@@ -1,7 +1,5 @@
 -- A turn without a kill changes the food on the hills by that of the ant's own cell alone.
-use Rattle.std.proofs.Common.{◌≡◌, ◌≢◌, inl, inr, ⊎_elim, ◌+◌, ◌-◌, ◌≤◌, ℕ, zero, suc, Bool, true, false, nat_eq, List, [], ◌∷◌, length, Option, Some, None, cond, refl, sym, ap, ap₂, ◌∙◌, subst, arith, eqb-true, if◌then◌else◌}
-use Rattle.std.specs.Option.{is_some}
-use Rattle.std.proofs.lemmas.Bool.{cond_both}
+use Rattle.std.proofs.Common.{◌≡◌, ◌≢◌, ◌+◌, ◌-◌, ◌≤◌, ℕ, zero, suc, Bool, true, false, List, [], ◌∷◌, Option, Some, None, cond, refl, sym, ap, ap₂, ◌∙◌, subst, arith}
 use Rattle.list_lemmas.proofs.Elements.{append-empty}
 use Rattle.hex_geometry.specs.declared.position.Pos.{Pos}
 use Rattle.hex_geometry.specs.Position.{IsInside}
@@ -27,10 +25,9 @@ use Rattle.brain_read.specs.declared.instr.Instr.TheVariants.{Sense, Mark, Unmar
 use Rattle.ant_turn.specs.Kills.{check_at, check_all, killed_at, killed_all, places_around}
 use Rattle.ant_turn.specs.Minds.{Minds, mind_of}
 use Rattle.ant_turn.specs.Sheet.{Sheet}
-use Rattle.ant_turn.specs.Turn.{Outcome, acts, ant_becomes, arrived, checked, execute, in_state, instruction_at, is_blocked, left_by_ant, stepped, turn, turn_from, turn_at, with_ant}
+use Rattle.ant_turn.specs.Turn.{acts, ant_becomes, arrived, checked, execute, in_state, instruction_at, is_blocked, left_by_ant, stepped, turn, turn_from, turn_at, with_ant}
 use Rattle.ant_turn.proofs.Checks.{check_at-cases}
 use Rattle.ant_turn.proofs.KeptByTurns.{free_apart, free_clear}
-use Rattle.ant_turn.proofs.TurnParts.{Does, turn_parts}
 use Rattle.break_view.specs.Inner.Counting.{cell_at, score_in_any, IsCounted, CanCount}
 
 -- the food that the cell at a position gives, where there is a position
