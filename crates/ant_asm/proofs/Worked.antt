@@ -5,7 +5,7 @@ use Rattle.hex_geometry.specs.declared.direction.Side.TheVariants.{Left}
 use Rattle.brain_read.specs.declared.instr.Instr.{Instr}
 use Rattle.brain_read.specs.declared.instr.Instr.TheVariants as instr
 use Rattle.ant_asm.specs.declared.action.Action.TheVariants.{Drop, Move, Turn}
-use Rattle.ant_asm.specs.declared.fault.AsmFault.TheVariants.{NoLabel, Twice, NoBlock, EmptyBlock, UnknownWord, BadName, ExtraToken}
+use Rattle.ant_asm.specs.declared.fault.AsmFault.TheVariants.{NoLabel, Twice, NoBlock, EmptyBlock, TooMany, UnknownWord, BadName, ExtraToken}
 use Rattle.ant_asm.specs.Program.{Items}
 use Rattle.ant_asm.specs.Names.Named.{NextWord, Name}
 use Rattle.ant_asm.specs.Lines.{Line}
@@ -62,36 +62,53 @@ worked_no_block = refl
 worked_empty : place_fault (below nothing_yet 1 (Begins (codes "a") [])) 2 Ends ≡ Some (EmptyBlock 2)
 worked_empty = refl
 
+-- a: / block a
+worked_kinds : place_fault (below nothing_yet 1 (Marks (codes "a"))) 2 (Begins (codes "a") []) ≡ None
+worked_kinds = refl
+
+-- block b / Drop next / Drop next / end, below that so many instructions / use b
+abbrev after_so_many : ℕ → Standing
+after_so_many size =
+    let two : Standing = below_all nothing_yet 1 (Begins (codes "b") [] ∷ Instructs (Drop NextWord) ∷ Instructs (Drop NextWord) ∷ Ends ∷ []) in
+    record two { main = record two.main { size = size } }
+
+worked_room : (place_fault (after_so_many 9998) 5 (Uses (codes "b") []) ≡ None) × (place_fault (after_so_many 9999) 5 (Uses (codes "b") []) ≡ Some (TooMany 5))
+    × (place_fault (after_so_many 9999) 5 (Instructs (Drop NextWord)) ≡ None) × (place_fault (after_so_many 10000) 5 (Instructs (Drop NextWord)) ≡ Some (TooMany 5))
+worked_room = (refl, refl, refl, refl)
+
+-- block z, below so many blocks
+worked_blocks : (place_fault (record nothing_yet { count = 255 }) 1 (Begins (codes "z") []) ≡ None) × (place_fault (record nothing_yet { count = 256 }) 1 (Begins (codes "z") []) ≡ Some (TooMany 1))
+worked_blocks = (refl, refl)
+
 -- next: · move: · end x · Move go 1 · block next · a: b
-module _ where
-  worked_next : spelling_fault 1 (codes "next:" ∷ []) ≡ Some (UnknownWord 1)
-  unfolding spelling_fault is_name is_next
-  worked_next = refl
+worked_next : spelling_fault 1 (codes "next:" ∷ []) ≡ Some (UnknownWord 1)
+unfolding spelling_fault is_name is_next
+worked_next = refl
 
-  worked_keyword : spelling_fault 1 (codes "move:" ∷ []) ≡ None
-  unfolding spelling_fault is_name is_next
-  worked_keyword = refl
+worked_keyword : spelling_fault 1 (codes "move:" ∷ []) ≡ None
+unfolding spelling_fault is_name is_next
+worked_keyword = refl
 
-  worked_end : spelling_fault 3 (codes "end" ∷ codes "x" ∷ []) ≡ Some (ExtraToken 3)
-  unfolding spelling_fault is_name is_next
-  worked_end = refl
+worked_end : spelling_fault 3 (codes "end" ∷ codes "x" ∷ []) ≡ Some (ExtraToken 3)
+unfolding spelling_fault is_name is_next
+worked_end = refl
 
-  worked_number : spelling_fault 1 (codes "Move" ∷ codes "go" ∷ codes "1" ∷ []) ≡ Some (BadName 1)
-  unfolding spelling_fault is_name is_next
-  worked_number = refl
+worked_number : spelling_fault 1 (codes "Move" ∷ codes "go" ∷ codes "1" ∷ []) ≡ Some (BadName 1)
+unfolding spelling_fault is_name is_next
+worked_number = refl
 
-  worked_block : spelling_fault 1 (codes "block" ∷ codes "next" ∷ []) ≡ Some (BadName 1)
-  unfolding spelling_fault is_name is_next
-  worked_block = refl
+worked_block : spelling_fault 1 (codes "block" ∷ codes "next" ∷ []) ≡ Some (BadName 1)
+unfolding spelling_fault is_name is_next
+worked_block = refl
 
-  worked_two : spelling_fault 1 (codes "a:" ∷ codes "b" ∷ []) ≡ Some (UnknownWord 1)
-  unfolding spelling_fault is_name is_next
-  worked_two = refl
+worked_two : spelling_fault 1 (codes "a:" ∷ codes "b" ∷ []) ≡ Some (UnknownWord 1)
+unfolding spelling_fault is_name is_next
+worked_two = refl
 
-  worked_many : spelling_fault 1 (codes "block" ∷ codes "b" ∷ codes "p1" ∷ codes "p2" ∷ codes "p3" ∷ codes "p4" ∷ codes "p5" ∷ codes "p6" ∷ codes "p7" ∷ codes "p8" ∷ codes "9" ∷ []) ≡ Some (ExtraToken 1)
-  unfolding spelling_fault is_name is_next
-  worked_many = refl
+worked_many : spelling_fault 1 (codes "block" ∷ codes "b" ∷ codes "p1" ∷ codes "p2" ∷ codes "p3" ∷ codes "p4" ∷ codes "p5" ∷ codes "p6" ∷ codes "p7" ∷ codes "p8" ∷ codes "9" ∷ []) ≡ Some (ExtraToken 1)
+unfolding spelling_fault is_name is_next
+worked_many = refl
 
-  worked_long : spelling_fault 1 (codes "a23456789012345678901234567890123:" ∷ []) ≡ Some (UnknownWord 1)
-  unfolding spelling_fault is_name is_next
-  worked_long = refl
+worked_long : spelling_fault 1 (codes "a23456789012345678901234567890123:" ∷ []) ≡ Some (UnknownWord 1)
+unfolding spelling_fault is_name is_next
+worked_long = refl

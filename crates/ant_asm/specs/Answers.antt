@@ -24,17 +24,17 @@ pub record IsAssembledText (text : List ℕ) (brain : List Instr) (places : List
   pub is : IsAsmText text main
   pub assembled : IsAssembled main brain places
 
--- a fault that is answered is the text's; want of memory says nothing of the text
+-- a fault that is answered is the text's; out of memory says nothing of the text
 abbrev pub IsFaultOf : List ℕ → AsmFault → Type 0
 IsFaultOf text OutOfMemory = Unit {0}
 IsFaultOf text fault = IsAsmFault text fault
 
--- the answer is the program assembled, or want of memory
+-- the answer is the program assembled, or out of memory
 abbrev pub AnswersProgram : Result code.Assembled AsmFault → Items → Type 0
 AnswersProgram (Ok made) main = IsAssembled main made.brain made.places
 AnswersProgram (Err fault) main = fault ≡ OutOfMemory
 
--- the answer is this fault, or want of memory
+-- the answer is this fault, or out of memory
 abbrev pub AnswersFault : Result code.Assembled AsmFault → AsmFault → Type 0
 AnswersFault (Ok made) fault = ⊥
 AnswersFault (Err answered) fault = (answered ≡ fault) ⊎ (answered ≡ OutOfMemory)

@@ -16,7 +16,7 @@ use Rattle.ant_asm.specs.Names.Named.{NextWord, Name}
 pub data Keyword : Type 0 where
   BlockWord EndWord UseWord : Keyword
 
--- their spelling
+-- how a keyword is spelled
 abbrev pub word_of_keyword : Keyword → List ℕ
 word_of_keyword BlockWord = codes "block"
 word_of_keyword EndWord = codes "end"

@@ -3,8 +3,8 @@ ghost use Rattle.std.specs.Prelude.{◌≡◌, ℕ, List, ◌+◌, ◌<◌, ◌�
 ghost use Rattle.ant_asm.specs.Program.{size_of};
 ghost use Rattle.ant_asm.specs.Places.{places_of};
 ghost use Rattle.ant_asm.specs.LabelGame.{instruction_by};
-ghost use Rattle.ant_asm.specs.Inner.Emitting.{emitted, number_first, number_target};
-ghost use Rattle.ant_asm.specs.Inner.Flat.{AreGood, AreLabelsOf, HasGiven, IsActionOf, IsLabelOf, IsPlace, IsPlaceOfItem, numbers_of, tree_at, most};
+ghost use Rattle.ant_asm.specs.Inner.Emitting.{emitted, number_first};
+ghost use Rattle.ant_asm.specs.Inner.Flat.{AreGood, AreLabelsOf, HasGiven, IsActionOf, IsLabelOf, IsPlace, IsSpot, number_led, numbers_of, tree_at, most};
 
 use crate::action::{Action, Label};
 use crate::body::{Body, Item};
@@ -56,14 +56,9 @@ fn number_first(bodies: &[Body], number: usize, frame: Frame, place: usize) -> u
 
 // The number to which a label of an item leads.
 fn number_target(spot: Spot, label: Label) -> u16
-    requires good { AreGood spot.bodies.now }
-    requires known { spot.number < length spot.bodies.now }
-    requires inside { IsPlaceOfItem spot.bodies.now spot.number spot.place }
-    requires small { spot.place < most }
+    requires spot { IsSpot spot }
     requires label { IsLabelOf spot.bodies.now spot.number label }
-    requires given { HasGiven spot.bodies.now spot.number spot.frame }
-    requires fits { spot.frame.base + size_of (tree_at spot.bodies.now spot.number) ≤ most }
-    ensures { result ≡ number_target (tree_at spot.entry.bodies.now spot.entry.number) (numbers_of spot.entry.frame) spot.entry.place label }
+    ensures { result ≡ number_led spot.entry label }
 {
     match label {
         Label::Next => number_first(spot.bodies, spot.number, spot.frame, spot.place + 1),
@@ -74,14 +69,9 @@ fn number_target(spot: Spot, label: Label) -> u16
 
 // The numbers to which the labels lead that an item hands to a block.
 fn handed_numbers(alloc: Global, spot: Spot, handed: &[Label]) -> Result<Vec<u16>, OutOfMemory>
-    requires good { AreGood spot.bodies.now }
-    requires known { spot.number < length spot.bodies.now }
-    requires inside { IsPlaceOfItem spot.bodies.now spot.number spot.place }
-    requires small { spot.place < most }
+    requires spot { IsSpot spot }
     requires labels { AreLabelsOf spot.bodies.now spot.number handed.now }
-    requires given { HasGiven spot.bodies.now spot.number spot.frame }
-    requires fits { spot.frame.base + size_of (tree_at spot.bodies.now spot.number) ≤ most }
-    ensures { IfOk result (λ numbers. numbers.items ≡ map (number_target (tree_at spot.entry.bodies.now spot.entry.number) (numbers_of spot.entry.frame) spot.entry.place) handed.now) }
+    ensures { IfOk result (λ numbers. numbers.items ≡ map (number_led spot.entry) handed.now) }
 {
     let mut numbers = Vec::with_capacity(alloc, handed.len())?;
     for label in handed {
@@ -162,15 +152,10 @@ fn emit(
     action: Action<Label>,
     out: &mut Expansion,
 ) -> Result<(), OutOfMemory>
-    requires good { AreGood spot.bodies.now }
-    requires known { spot.number < length spot.bodies.now }
-    requires inside { IsPlaceOfItem spot.bodies.now spot.number spot.place }
-    requires small { spot.place < most }
+    requires spot { IsSpot spot }
     requires action { IsActionOf spot.bodies.now spot.number action }
-    requires given { HasGiven spot.bodies.now spot.number spot.frame }
-    requires fits { spot.frame.base + size_of (tree_at spot.bodies.now spot.number) ≤ most }
     ensures list { OnOk result (out.new.list.items ≡ out.old.list.items
-        ++ instruction_by (number_target (tree_at spot.entry.bodies.now spot.entry.number) (numbers_of spot.entry.frame) spot.entry.place) action ∷ []) }
+        ++ instruction_by (number_led spot.entry) action ∷ []) }
     ensures places { OnOk result (out.new.places.items ≡ out.old.places.items ++ (out.old.path.items ++ spot.entry.place ∷ []) ∷ []) }
     ensures path { OnOk result (out.new.path.items ≡ out.old.path.items) }
 {
@@ -183,14 +168,9 @@ fn emit(
 
 // The instruction with numbers for labels.
 fn numbered_at(spot: Spot, action: Action<Label>) -> Instr
-    requires good { AreGood spot.bodies.now }
-    requires known { spot.number < length spot.bodies.now }
-    requires inside { IsPlaceOfItem spot.bodies.now spot.number spot.place }
-    requires small { spot.place < most }
+    requires spot { IsSpot spot }
     requires action { IsActionOf spot.bodies.now spot.number action }
-    requires given { HasGiven spot.bodies.now spot.number spot.frame }
-    requires fits { spot.frame.base + size_of (tree_at spot.bodies.now spot.number) ≤ most }
-    ensures { result ≡ instruction_by (number_target (tree_at spot.entry.bodies.now spot.entry.number) (numbers_of spot.entry.frame) spot.entry.place) action }
+    ensures { result ≡ instruction_by (number_led spot.entry) action }
 {
     match action {
         Action::Sense {

@@ -9,7 +9,7 @@ use std::process::Abort;
 type Row = (&'static [u8], Option<AsmFault>);
 
 /// Each fault at its line, and texts that come near it.
-const FAULTS: [Row; 73] = [
+const FAULTS: [Row; 85] = [
     (b"use a\n", Some(AsmFault::NoBlock { line: 1 })),
     (b"block a\nuse a\n", Some(AsmFault::NoBlock { line: 2 })),
     (b"Move go 1\n", Some(AsmFault::BadName { line: 1 })),
@@ -155,6 +155,30 @@ const FAULTS: [Row; 73] = [
         b"Sense Here 1 next Wall\n",
         Some(AsmFault::BadName { line: 1 }),
     ),
+    (b"a:\nblock a\nDrop next\nend\nuse a\n", None),
+    (b"a-b:\n", Some(AsmFault::UnknownWord { line: 1 })),
+    (
+        b"here:\nDrop here\nblock a\nDrop here\nend\n",
+        Some(AsmFault::NoLabel { line: 4 }),
+    ),
+    (
+        b"block a\nhere:\nDrop here\nend\nDrop here\n",
+        Some(AsmFault::NoLabel { line: 5 }),
+    ),
+    (
+        b"block b p\nDrop p\nend\nDrop next\nuse b go\n",
+        Some(AsmFault::NoLabel { line: 5 }),
+    ),
+    (
+        b"Sense Here next go Food\n",
+        Some(AsmFault::NoLabel { line: 1 }),
+    ),
+    (b"Mark 0 go\n", Some(AsmFault::NoLabel { line: 1 })),
+    (b"Unmark 0 go\n", Some(AsmFault::NoLabel { line: 1 })),
+    (b"PickUp next go\n", Some(AsmFault::NoLabel { line: 1 })),
+    (b"Turn Left go\n", Some(AsmFault::NoLabel { line: 1 })),
+    (b"Move next go\n", Some(AsmFault::NoLabel { line: 1 })),
+    (b"Flip 2 next go\n", Some(AsmFault::NoLabel { line: 1 })),
     (b"Drop next next\n", Some(AsmFault::ExtraToken { line: 1 })),
     (b"Drop \x7f\n", Some(AsmFault::BadByte { line: 1 })),
     (b"Drop next \x80\n", Some(AsmFault::BadByte { line: 1 })),
@@ -182,7 +206,7 @@ fn each_text_has_its_first_fault_or_none(rt: HostRuntime) {
 /// A text, its instructions, and the address of each, of at most two numbers.
 type Program = (&'static [u8], &'static [Instr], &'static [&'static [u32]]);
 
-const PROGRAMS: [Program; 5] = [
+const PROGRAMS: [Program; 6] = [
     (
         b"block back done\nTurn Left next\nTurn Left next\nTurn Left done\nend\ngo:\nMove go stuck\nstuck:\nuse back go\n",
         &[
@@ -223,6 +247,24 @@ const PROGRAMS: [Program; 5] = [
         b"block a\nDrop last\nlast:\nend\nuse a\nuse a\n",
         &[Instr::Drop { next: 1 }, Instr::Drop { next: 0 }],
         &[&[0, 0], &[1, 0]],
+    ),
+    (
+        b"top:\nFlip 2 top next\nPickUp top next\nTurn Right next\nMark 3 top\nUnmark 4 top\n",
+        &[
+            Instr::Flip {
+                bound: 2,
+                yes: 0,
+                no: 1,
+            },
+            Instr::PickUp { yes: 0, no: 2 },
+            Instr::Turn {
+                side: Side::Right,
+                next: 3,
+            },
+            Instr::Mark { mark: 3, next: 0 },
+            Instr::Unmark { mark: 4, next: 0 },
+        ],
+        &[&[0], &[1], &[2], &[3], &[4]],
     ),
 ];
 

@@ -9,3 +9,4 @@ pub mod Streaming
 pub mod Fetching
 -- Worked values.
 pub mod Worked
+pub mod SystemWorked

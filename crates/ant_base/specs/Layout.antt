@@ -1,8 +1,8 @@
 -- Texts in parts (this project's own).
 use Rattle.std.specs.Prelude.{ℕ, zero, suc, List, [], ◌++◌, Option, Some, None}
 
--- one text and then another; it groups to the right, as the pairs of a layout do
 infixr 65 ◌+++◌
+-- one text and then another; it groups to the right, as the pairs of a layout do
 abbrev pub ◌+++◌ : List ℕ → List ℕ → List ℕ
 a +++ b = a ++ b
 

@@ -27,7 +27,7 @@ pub record PushedAll (old new : SinkState) (text : List ℕ) : Type 0 where
   pub flushed : ends_in_lf text ≡ true → NothingWaits new.waiting
   pub kept : text ≡ [] → NothingWaits old.waiting → NothingWaits new.waiting
 
--- a front of the text was appended, and the count of faults rose
+-- a prefix of the text was appended, and the count of faults rose
 pub record PushedFront (old new : SinkState) (text : List ℕ) : Type 0 where
   pub front : List ℕ
   pub rest : List ℕ
@@ -36,7 +36,7 @@ pub record PushedFront (old new : SinkState) (text : List ℕ) : Type 0 where
   pub rose : Rose old.faults new.faults
   pub later : old.faults ≤ new.faults
 
--- what pushing a text did: at Ok all of it was appended, at a fault a front of it, and the count rose
+-- what pushing a text did: at Ok all of it was appended, at a fault a prefix of it, and the count rose
 abbrev pub Pushed : SinkState → SinkState → List ℕ → Result (Unit {0}) Failed → Type 0
 Pushed old new text (Ok _) = PushedAll old new text
 Pushed old new text (Err _) = PushedFront old new text

@@ -33,14 +33,14 @@ TakesSome (Err _) = ⊥
 abbrev pub sink_of_stream : StreamState → SinkState
 sink_of_stream s = record { held = Some s.taken; waiting = Some s.waiting; faults = s.faults }
 
--- a front of the piece was taken, and this rest of it is left; what the stream tells by itself grew by that front
+-- a prefix of the piece was taken, and this rest of it is left; what the stream tells by itself grew by that prefix
 pub record TookUpTo (taken new_taken : List ℕ) (written new_written : Option (List ℕ)) (piece rest : List ℕ) : Type 0 where
   pub front : List ℕ
   pub whole : piece ≡ front ++ rest
   pub took : new_taken ≡ taken ++ front
   pub told : Appends written new_written front
 
--- what was taken of a piece: all of it at Ok, and a front of it at a fault
+-- what was taken of a piece: all of it at Ok, and a prefix of it at a fault
 abbrev pub Takes : List ℕ → List ℕ → Option (List ℕ) → Option (List ℕ) → List ℕ → Result (Unit {0}) Failed → Type 0
 Takes taken new_taken written new_written piece (Ok _) = TookUpTo taken new_taken written new_written piece []
 Takes taken new_taken written new_written piece (Err _) = (rest : List ℕ) × TookUpTo taken new_taken written new_written piece rest

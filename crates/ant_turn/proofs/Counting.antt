@@ -5,14 +5,13 @@ use Rattle.hex_geometry.specs.declared.position.Pos.{Pos}
 use Rattle.hex_geometry.specs.Neighbourhood.{adjacent_pos}
 use Rattle.hex_geometry.specs.Position.{IsInside}
 use Rattle.cell_world.specs.declared.ant.Ant.{Ant}
-use Rattle.cell_world.specs.declared.ant.Colour.{Colour}
 use Rattle.cell_world.specs.declared.ant.Colour.TheVariants.{Red, Black}
 use Rattle.cell_world.specs.declared.cell.Cell.{Cell}
 use Rattle.cell_world.specs.Cell.{ant_weight, carried, cell_weight, food_in, is_ant_of, one_if}
-use Rattle.cell_world.specs.Colour.{same_colour}
 use Rattle.cell_world.specs.Score.{alive_in, alive_of, food_of}
 use Rattle.cell_world.specs.Valid.{Valid}
 use Rattle.cell_world.specs.World.{World, area, put, sum_over, total, weight, with_cells}
+use Rattle.cell_world.proofs.AliveArePlaced.{of_one_colour}
 use Rattle.cell_world.proofs.Places.{ant-clear, clear_inside}
 use Rattle.cell_world.proofs.ValidLemmas.{put_cell-all}
 use Rattle.cell_world.proofs.Totals.{total-put, total-put_two}
@@ -149,15 +148,10 @@ weight-counts sheet small = record {
 living_in : Cell → ℕ
 living_in cell = alive_in Red cell + alive_in Black cell
 
--- an ant is of one colour
-of_one : (colour : Colour) → one_if (same_colour Red colour) + one_if (same_colour Black colour) ≡ 1
-of_one Red = refl
-of_one Black = refl
-
 -- on a cell with an ant is one
 living_in-some : (cell : Cell) (ant : Ant) → cell.ant ≡ Some ant → living_in cell ≡ 1
 unfolding living_in
-living_in-some cell ant is = ap (λ o. one_if (is_ant_of Red o) + one_if (is_ant_of Black o)) is ∙ of_one ant.colour
+living_in-some cell ant is = ap (λ o. one_if (is_ant_of Red o) + one_if (is_ant_of Black o)) is ∙ of_one_colour ant.colour
 
 -- and on one without there is none
 living_in-none : (cell : Cell) → cell.ant ≡ None → living_in cell ≡ 0

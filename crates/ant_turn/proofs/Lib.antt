@@ -20,8 +20,9 @@ pub mod StandsLemmas
 pub mod Counting
 pub mod FoodByRounds
 pub mod Killing
--- Turns that change nothing, and states under other numbers.
+-- Turns that change nothing, and turns where ants have other states and rest for longer or shorter.
 pub mod QuietLemmas
+pub mod OtherAnts
 pub mod RenumberLemmas
 pub mod RenumberedTurns
 -- The turns of those that rest may be taken first.

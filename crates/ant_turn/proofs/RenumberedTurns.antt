@@ -1,6 +1,6 @@
 -- Turns and rounds under new numbers of a side's states.
-use Rattle.std.proofs.Common.{◌≡◌, inl, inr, ℕ, zero, suc, ◌+◌, Bool, true, false, List, [], ◌∷◌, Option, Some, None, refl, sym, ap, ap₂, ◌∙◌, subst}
-use Rattle.std.specs.Prelude.{option_map, unwrap_or, IsSome, ◌||◌, ◌==◌, ◌-◌, if◌then◌else◌}
+use Rattle.std.proofs.Common.{◌≡◌, inl, inr, ℕ, zero, suc, ◌+◌, Bool, true, false, List, [], ◌∷◌, Option, Some, None, refl, sym, ap, ◌∙◌, subst}
+use Rattle.std.specs.Prelude.{unwrap_or, IsSome, ◌||◌, ◌==◌, ◌-◌, if◌then◌else◌}
 use Rattle.std.specs.List.{AllByRecursion}
 use Rattle.std.proofs.lemmas.Bool.{cond_both}
 use Rattle.std.proofs.lemmas.Option.{same_Some}
@@ -20,12 +20,12 @@ use Rattle.ant_random.specs.Stream.{drawn}
 use Rattle.ant_turn.specs.Conditions.{meets}
 use Rattle.ant_turn.specs.Kills.{after_kill, check_all, check_at, places_around}
 use Rattle.ant_turn.specs.Minds.{Minds, mind_of}
-use Rattle.ant_turn.specs.Renumber.{Numbers, Carries, AreNumbered, state_number, redirected, renumbered, renumbered_ant, renumbered_cells, renumbered_moment, renumbered_outcome, renumbered_world, side_states, with_mind}
+use Rattle.ant_turn.specs.Renumber.{Numbers, Carries, AreNumbered, state_number, redirected, renumbered, renumbered_moment, renumbered_outcome, side_states, with_mind}
 use Rattle.ant_turn.specs.Rounds.{Moment, after_round, after_rounds, after_turn, after_turns, moment_after}
 use Rattle.ant_turn.specs.Sheet.{Sheet}
 use Rattle.ant_turn.specs.Turn.{Outcome, acts, arrived, execute, in_state, instruction_at, is_blocked, left_by_ant, marked, stepped, turn, turn_from, turn_at, unmarked, with_ant}
 use Rattle.ant_turn.proofs.Checks.{check_at-cases}
-use Rattle.ant_turn.proofs.RenumberLemmas.{after, becomes-renumbered, execute-renumbered, place_in-renumbered}
+pub use Rattle.ant_turn.proofs.RenumberLemmas.{turn-alike}
 
 -- the ant, if one stands there, has a state of which a fact holds
 abbrev AntHas : (P : Colour → ℕ → Type 0) → Cell → Type 0
@@ -101,39 +101,6 @@ module _ (P : Colour → ℕ → Type 0) where
   execute-have sheet seed cells place p ant (Flip bound met unmet) all holds =
       let first : Bool = drawn seed place bound == 0 in
       goes_on cells p (with_ant (cells p) (in_state ant (if first then met else unmet))) (in_state ant (if first then met else unmet)) all refl (either ant.colour first met unmet holds.0 holds.1.0)
-
--- this ant acts alike: the other minds have, at the number of its state, its instruction with each state that it names mapped
-abbrev pub ActsAlike : (f : Colour → ℕ → ℕ) (minds other : Minds) → Ant → Type 0
-ActsAlike f minds other ant = instruction_at (mind_of other ant.colour) (f ant.colour ant.state) ≡ redirected (f ant.colour) (instruction_at (mind_of minds ant.colour) ant.state)
-
--- so does the ant whose turn it is, where one stands at a place
-abbrev pub ActsAlikeAt : (f : Colour → ℕ → ℕ) (minds other : Minds) → Cells → Option Pos → Type 0
-ActsAlikeAt f minds other cells place = (p : Pos) (ant : Ant) → place ≡ Some p → (cells p).ant ≡ Some ant → ActsAlike f minds other ant
-
--- other minds under the same rules
-module _ (f : Colour → ℕ → ℕ) (minds other : Minds) (rules : other.sheet ≡ minds.sheet) where
-  acts-renumbered : (n seed : ℕ) (cells : Cells) (place : ℕ) (p : Pos) (ant : Ant) → ActsAlike f minds other ant →
-      acts n other seed (renumbered_cells f cells) place p (renumbered_ant f ant) ≡ after f (acts n minds seed cells place p ant)
-  acts-renumbered zero seed cells place p ant same =
-      ap₂ (λ sheet instruction. execute sheet seed (renumbered_cells f cells) place p (renumbered_ant f ant) instruction) rules same
-      ∙ execute-renumbered f minds.sheet seed cells place p ant (instruction_at (mind_of minds ant.colour) ant.state)
-  acts-renumbered (suc left) seed cells place p ant same = becomes-renumbered f false cells p (with_ant (cells p) (record ant { resting = left }))
-
-  turn_at-renumbered : (seed : ℕ) (cells : Cells) (place : ℕ) (p : Pos) (o : Option Ant) → ((ant : Ant) → o ≡ Some ant → ActsAlike f minds other ant) →
-      turn_at other seed (renumbered_cells f cells) place p (option_map (renumbered_ant f) o) ≡ after f (turn_at minds seed cells place p o)
-  turn_at-renumbered seed cells place p None alike = refl
-  turn_at-renumbered seed cells place p (Some ant) alike = acts-renumbered ant.resting seed cells place p ant (alike ant refl)
-
-  turn_from-renumbered : (seed : ℕ) (cells : Cells) (place : ℕ) (o : Option Pos) → ActsAlikeAt f minds other cells o →
-      turn_from other seed (renumbered_cells f cells) place o ≡ after f (turn_from minds seed cells place o)
-  turn_from-renumbered seed cells place None alike = refl
-  turn_from-renumbered seed cells place (Some p) alike = turn_at-renumbered seed cells place p (cells p).ant (λ ant is. alike p ant refl is)
-
-  -- a turn commutes with new numbers of states, whatever they are, where the ant whose turn it is acts alike
-  pub turn-alike : (seed : ℕ) (w : World) (place t : ℕ) → ActsAlikeAt f minds other w.cells (place_in w t) → turn other seed (renumbered_world f w) place t ≡ after f (turn minds seed w place t)
-  unfolding turn
-  turn-alike seed w place t alike =
-      ap (turn_from other seed (renumbered_cells f w.cells) place) (place_in-renumbered f w t) ∙ turn_from-renumbered seed w.cells place (place_in w t) alike
 
 module _ (P : Colour → ℕ → Type 0) (minds : Minds) (onward : (colour : Colour) (state : ℕ) → P colour state → AllByRecursion (P colour) (states_of (instruction_at (mind_of minds colour) state))) where
   acts-have : (n seed : ℕ) (cells : Cells) (place : ℕ) (p : Pos) (ant : Ant) → AllHave P cells → P ant.colour ant.state → AllHave P (acts n minds seed cells place p ant).cells

@@ -21,7 +21,7 @@ use Rattle.ants.specs.declared.stop.Ended.{Ended}
 use Rattle.ants.specs.declared.stop.Ended.TheVariants as ended
 
 -- why a command stopped: at a file that was not read, at the output, at a file that was refused, at an element of a generated world that
--- has no room, or for want of memory
+-- has no room, or out of memory
 pub data Reason : Type 0 where
   AtFile : List ℕ → Reason
   AtOutput : Reason

@@ -51,7 +51,7 @@ brain_file name = record { name = name; kind = BrainFile }
 abbrev pub break_file : List ℕ → File
 break_file name = record { name = name; kind = BreakFile }
 
--- and one with a labelled program
+-- a file with a labelled program
 abbrev pub labelled_file : List ℕ → File
 labelled_file name = record { name = name; kind = LabelledFile }
 

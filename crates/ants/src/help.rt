@@ -96,8 +96,8 @@ impl Layout for GameOptionLines {
     #[tactic(auto, unfolding(crate::specs::Help::game_option_lines))]
     fn push_to<K: Sink>(&self, sink: &mut K) -> Result<(), Failed> {
         layout!(
-            "Options of run, of which view and cup take the first two, save all but --dump\n",
-            "and --stats, and resume --rounds, --dump, --workers and --stats:\n",
+            "Options of run, of which view and cup take the first two, save all but --dump,\n",
+            "--stats and --far, and resume --rounds, --dump, --workers and --stats:\n",
             "  --seed N      where the random numbers begin, 0 to 4294967295; needed\n",
             "  --rounds N    how many rounds are played, 0 to 1000000; needed\n",
             "  --dump D      dumps after rounds: none, all, or as 0,10,100; none\n",

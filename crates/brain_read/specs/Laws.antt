@@ -26,6 +26,6 @@ CanonicalTextIsRead = (brain : List Instr) → IsBrain brain → AllByRecursion 
 abbrev pub TextsMakeBrains : Type 0
 TextsMakeBrains = (text : List ℕ) (brain : List Instr) → IsBrainText text brain → IsBrain brain
 
--- want of memory is no text's fault
+-- out of memory is no text's fault
 abbrev pub NoTextWantsMemory : Type 0
 NoTextWantsMemory = (text : List ℕ) → ¬ IsBrainFault text OutOfMemory

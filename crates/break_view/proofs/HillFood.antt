@@ -1,7 +1,5 @@
 -- A turn without a kill changes the food on the hills by that of the ant's own cell alone.
-use Rattle.std.proofs.Common.{◌≡◌, ◌≢◌, inl, inr, ⊎_elim, ◌+◌, ◌-◌, ◌≤◌, ℕ, zero, suc, Bool, true, false, nat_eq, List, [], ◌∷◌, length, Option, Some, None, cond, refl, sym, ap, ap₂, ◌∙◌, subst, arith, eqb-true, if◌then◌else◌}
-use Rattle.std.specs.Option.{is_some}
-use Rattle.std.proofs.lemmas.Bool.{cond_both}
+use Rattle.std.proofs.Common.{◌≡◌, ◌≢◌, ◌+◌, ◌-◌, ◌≤◌, ℕ, zero, suc, Bool, true, false, List, [], ◌∷◌, Option, Some, None, cond, refl, sym, ap, ap₂, ◌∙◌, subst, arith}
 use Rattle.list_lemmas.proofs.Elements.{append-empty}
 use Rattle.hex_geometry.specs.declared.position.Pos.{Pos}
 use Rattle.hex_geometry.specs.Position.{IsInside}
@@ -27,11 +25,14 @@ use Rattle.brain_read.specs.declared.instr.Instr.TheVariants.{Sense, Mark, Unmar
 use Rattle.ant_turn.specs.Kills.{check_at, check_all, killed_at, killed_all, places_around}
 use Rattle.ant_turn.specs.Minds.{Minds, mind_of}
 use Rattle.ant_turn.specs.Sheet.{Sheet}
-use Rattle.ant_turn.specs.Turn.{Outcome, acts, ant_becomes, arrived, checked, execute, in_state, instruction_at, is_blocked, left_by_ant, stepped, turn, turn_from, turn_at, with_ant}
+use Rattle.ant_turn.specs.Turn.{acts, ant_becomes, arrived, checked, execute, in_state, instruction_at, is_blocked, left_by_ant, stepped, turn, turn_from, turn_at, with_ant}
 use Rattle.ant_turn.proofs.Checks.{check_at-cases}
 use Rattle.ant_turn.proofs.KeptByTurns.{free_apart, free_clear}
-use Rattle.ant_turn.proofs.TurnParts.{Does, turn_parts}
-use Rattle.break_view.specs.Inner.Counting.{score_at, on_hill, IsCounted, CanCount}
+use Rattle.break_view.specs.Inner.Counting.{cell_at, score_in_any, IsCounted, CanCount}
+
+-- the food that the cell at a position gives, where there is a position
+abbrev pub score_at : World → Option Pos → Score
+score_at w o = score_in_any (cell_at w o)
 
 -- these cells have the food of a world on its hills, but for what the cell at p gives
 abbrev CountsAt : World → Pos → Cells → Type 0
@@ -112,58 +113,19 @@ module _ (minds : Minds) (seed place : ℕ) (w : World) (valid : Valid w) where
       record { red = counts Red; black = counts Black }
 
 -- after a turn without a kill the score is another one by the ant's own cell alone
-pub turn-counts : (minds : Minds) (seed : ℕ) (w : World) (place t : ℕ) → Valid w → (turn minds seed w place t).killed ≡ []
+turn-counts : (minds : Minds) (seed : ℕ) (w : World) (place t : ℕ) → Valid w → (turn minds seed w place t).killed ≡ []
     → IsCounted (score_of w) (score_at w (place_in w t)) (score_of (with_cells w (turn minds seed w place t).cells)) (score_at (with_cells w (turn minds seed w place t).cells) (place_in w t))
 unfolding turn
 turn-counts minds seed w place t valid none = turn_from-counts minds seed place w valid t (place_in w t) refl none
 
--- what an ant does without a kill leaves the hill of its own cell
-does-hill : (instruction : Instr) (sheet : Sheet) (w : World) (p : Pos) (ant : Ant) (outcome : Outcome) → (w.cells p).ant ≡ Some ant → Does instruction sheet w.cells p ant outcome → outcome.killed ≡ [] → (outcome.cells p).hill ≡ (w.cells p).hill
-does-hill instruction sheet w p ant outcome here (inl stayed) none =
-    ap (λ (cells : Cells). (cells p).hill) stayed.cells_after ∙ ap (λ (c : Cell). c.hill) (put_cell-same w.cells p stayed.new) ∙ stayed.stays.same_hill
-does-hill instruction sheet w p ant outcome here (inr went) none =
-    let q = adjacent_pos p ant.facing in
-    let spares = spared sheet (places_around q) (stepped sheet w.cells p ant q went.next) (ap (λ (o : Outcome). o.killed) (sym went.is) ∙ none) in
-    ap (λ (o : Outcome). (o.cells p).hill) went.is ∙ ap (λ (cells : Cells). (cells p).hill) spares
-    ∙ ap (λ (c : Cell). c.hill) (stepped-left sheet w.cells p ant q went.next (free_apart w.cells p ant q here went.free))
-
-own_hill : (minds : Minds) (seed : ℕ) (w : World) (place t : ℕ) → (turn minds seed w place t).killed ≡ [] → (p : Pos) → place_in w t ≡ Some p → ((turn minds seed w place t).cells p).hill ≡ (w.cells p).hill
-own_hill minds seed w place t none p found = ⊎_elim
-    (λ nothing. ap (λ (o : Outcome). (o.cells p).hill) nothing)
-    (λ acted.
-    let same : Some acted.p ≡ Some p = sym acted.place ∙ found in
-    let there : acted.p ≡ p = cc in
-    subst (λ (q : Pos). ((turn minds seed w place t).cells q).hill ≡ (w.cells q).hill) there
-    (does-hill (instruction_at (mind_of minds acted.ant.colour) acted.ant.state) minds.sheet w acted.p acted.ant (turn minds seed w place t) acted.is acted.does none))
-    (turn_parts minds seed w place t)
-
--- off the hills no food counts
-score_at-on_hill : (w now : World) (o : Option Pos) → ((p : Pos) → o ≡ Some p → (now.cells p).hill ≡ (w.cells p).hill) → score_at now (on_hill w o) ≡ score_at now o
-score_at-on_hill w now None hills = refl
-score_at-on_hill w now (Some p) hills = go (w.cells p).hill refl where
-  go : (hill : Option Colour) → (w.cells p).hill ≡ hill → score_at now (if is_some (w.cells p).hill then Some p else None) ≡ score_at now (Some p)
-  go None here = ap (λ (h : Option Colour). score_at now (if is_some h then Some p else None)) here
-      ∙ sym (ap (λ (h : Option Colour). record { red = cond (is_hill_of Red h) (now.cells p).food 0; black = cond (is_hill_of Black h) (now.cells p).food 0 }) (hills p refl ∙ here))
-  go (Some colour) here = ap (λ (h : Option Colour). score_at now (if is_some h then Some p else None)) here
-
--- the same of scores that are known by equations, and of the position where it is on a hill
+-- the same of what is known by equations
 pub turn-recounted : (minds : Minds) (seed : ℕ) (w : World) (place t : ℕ) → Valid w → (turn minds seed w place t).killed ≡ [] → (o : Option Pos) (new : World) (score before after : Score)
-    → score ≡ score_of w → o ≡ on_hill w (place_in w t) → before ≡ score_at w o → new ≡ with_cells w (turn minds seed w place t).cells → after ≡ score_at new o → IsCounted score before (score_of new) after
+    → score ≡ score_of w → o ≡ place_in w t → before ≡ score_at w o → new ≡ with_cells w (turn minds seed w place t).cells → after ≡ score_at new o → IsCounted score before (score_of new) after
 turn-recounted minds seed w place t valid none o new score before after is_score is_place is_before is_new is_after =
-    let next : World = with_cells w (turn minds seed w place t).cells in
     subst (λ s. IsCounted s before (score_of new) after) (sym is_score)
-    (subst (λ b. IsCounted (score_of w) b (score_of new) after) (sym (is_before ∙ ap (score_at w) is_place ∙ score_at-on_hill w w (place_in w t) (λ p _. refl)))
-    (subst (λ a. IsCounted (score_of w) (score_at w (place_in w t)) (score_of new) a)
-    (sym (is_after ∙ ap (score_at new) is_place ∙ ap (λ (v : World). score_at v (on_hill w (place_in w t))) is_new ∙ score_at-on_hill w next (place_in w t) (own_hill minds seed w place t none)))
-    (subst (λ v. IsCounted (score_of w) (score_at w (place_in w t)) (score_of v) (score_at next (place_in w t))) (sym is_new) (turn-counts minds seed w place t valid none))))
-
--- and it is inside
-pub on_hill-inside : (w : World) (t : ℕ) (p : Pos) → on_hill w (place_in w t) ≡ Some p → IsInside w.width w.height p
-on_hill-inside w t p at = go (place_in w t) refl at where
-  go : (o : Option Pos) → place_in w t ≡ o → on_hill w o ≡ Some p → IsInside w.width w.height p
-  go None found none = (absurd (cc))
-  go (Some q) found there = cond_both (is_some (w.cells q).hill) (Some q) None (λ (a : Option Pos). a ≡ Some p → IsInside w.width w.height p)
-      (λ _ same. place_in-inside w t p (found ∙ same)) (λ _ none. absurd (cc)) there
+    (subst (λ b. IsCounted (score_of w) b (score_of new) after) (sym (is_before ∙ ap (score_at w) is_place))
+    (subst (λ a. IsCounted (score_of w) (score_at w (place_in w t)) (score_of new) a) (sym (is_after ∙ ap (score_at new) is_place))
+    (subst (λ v. IsCounted (score_of w) (score_at w (place_in w t)) (score_of v) (score_at v (place_in w t))) (sym is_new) (turn-counts minds seed w place t valid none))))
 
 -- the food on each hill is at most what a world weighs
 pub record IsLight (score : Score) : Type 0 where
@@ -199,8 +161,3 @@ counted-is old before new after made counted red black =
     let same_red : made.red ≡ new.red = omega (arith, counted.red, red) in
     let same_black : made.black ≡ new.black = omega (arith, counted.black, black) in
     ap₂ (λ (r : ℕ) (b : ℕ). record { red = r; black = b }) same_red same_black
-
--- a list of no length has nothing in it
-pub nothing_in : (xs : List ℕ) → nat_eq (length xs) 0 ≡ true → xs ≡ []
-nothing_in [] e = refl
-nothing_in (x ∷ xs) e = let z : suc (length xs) ≡ 0 = eqb-true (suc (length xs)) 0 e in absurd (omega arith)

@@ -25,8 +25,9 @@ use Rattle.ant_turn.proofs.OwnCells.{Stays}
 use Rattle.ant_turn.proofs.TurnParts.{Does, Stayed, turn_parts}
 use Rattle.break_view.specs.declared.breaks.Break.{Break}
 use Rattle.break_view.specs.declared.breaks.Break.TheVariants.{Round, State, Stand, Food, Killed, Score}
+use Rattle.break_view.specs.Inner.Counting.{cell_at}
 use Rattle.break_view.specs.Met.{ant_at, clear_cell, first_met, has_ant_of, if_clear, is_fed, is_in_state, is_met}
-use Rattle.break_view.specs.Inner.Watching.{IsNamed, IsQuietButStates, LooksSame, food_at, is_left, names, names_ant}
+use Rattle.break_view.specs.Inner.Watching.{IsNamed, IsQuietButStates, LooksSame, food_in, is_left, names, names_ant}
 use Rattle.break_view.proofs.HillFood.{put-keeps, spared, stepped-left}
 
 -- a test of a clear cell gives the same after a change of the cell that it doesn't tell
@@ -71,14 +72,14 @@ does_stay instruction sheet cells p ant outcome is (inr went) none there =
 
 -- so its turn changes no break but those of states
 turn_looks : (minds : Minds) (seed : ℕ) (w : World) (place t : ℕ) → (turn minds seed w place t).killed ≡ []
-    → is_left (with_cells w (turn minds seed w place t).cells) (place_in w t) (food_at w (place_in w t)) ≡ true
+    → is_left (cell_at (with_cells w (turn minds seed w place t).cells) (place_in w t)) (food_in (cell_at w (place_in w t))) ≡ true
     → LooksSame w (with_cells w (turn minds seed w place t).cells)
 turn_looks minds seed w place t none left = ⊎_elim
     (λ nothing. subst (λ (o : Outcome). LooksSame w (with_cells w o.cells)) (sym nothing) (same_world w))
     (λ acted.
     let now = turn minds seed w place t in
     let there : has_ant (now.cells acted.p).ant && ((now.cells acted.p).food == (w.cells acted.p).food) ≡ true =
-    subst (λ (o : Option Pos). is_left (with_cells w now.cells) o (food_at w o) ≡ true) acted.place left in
+    subst (λ (o : Option Pos). is_left (cell_at (with_cells w now.cells) o) (food_in (cell_at w o)) ≡ true) acted.place left in
     let parts = and_parts (has_ant (now.cells acted.p).ant) ((now.cells acted.p).food == (w.cells acted.p).food) there in
     let stayed = does_stay (instruction_at (mind_of minds acted.ant.colour) acted.ant.state) minds.sheet w.cells acted.p acted.ant now acted.is acted.does none parts.0 in
     let own : now.cells acted.p ≡ stayed.new = ap (λ (cells : Cells). cells acted.p) stayed.cells_after ∙ put_cell-same w.cells acted.p stayed.new in
@@ -94,15 +95,16 @@ turn_looks minds seed w place t none left = ⊎_elim
     same_world w (Killed id) r _ _ asks = refl
     same_world w (Score colour least) r _ _ asks = refl
 
--- the same where the place, the food and the new world are known by equations
-pub looks_same : (minds : Minds) (seed : ℕ) (w : World) (place t : ℕ) (o : Option Pos) (food : ℕ) (new : World) → (turn minds seed w place t).killed ≡ []
-    → o ≡ place_in w t → food ≡ food_at w o → new ≡ with_cells w (turn minds seed w place t).cells → is_left new o food ≡ true → LooksSame w new
-looks_same minds seed w place t o food new none is_place is_food is_new left =
+-- the same of what is known by equations
+pub looks_same : (minds : Minds) (seed : ℕ) (w : World) (place t : ℕ) (o : Option Pos) (new : World) (before after : Option Cell) → (turn minds seed w place t).killed ≡ []
+    → o ≡ place_in w t → before ≡ cell_at w o → new ≡ with_cells w (turn minds seed w place t).cells → after ≡ cell_at new o → is_left after (food_in before) ≡ true → LooksSame w new
+looks_same minds seed w place t o new before after none is_place is_before is_new is_after left =
     subst (LooksSame w) (sym is_new)
     (turn_looks minds seed w place t none
-    (subst (λ (v : World). is_left v (place_in w t) (food_at w (place_in w t)) ≡ true) is_new
-    (subst (λ (q : Option Pos). is_left new q (food_at w q) ≡ true) is_place
-    (subst (λ (n : ℕ). is_left new o n ≡ true) is_food left))))
+    (subst (λ (v : World). is_left (cell_at v (place_in w t)) (food_in (cell_at w (place_in w t))) ≡ true) is_new
+    (subst (λ (q : Option Pos). is_left (cell_at new q) (food_in (cell_at w q)) ≡ true) is_place
+    (subst (λ (c : Option Cell). is_left c (food_in (cell_at w o)) ≡ true) is_after
+    (subst (λ (c : Option Cell). is_left after (food_in c) ≡ true) is_before left)))))
 
 -- an ant whose state no table names is in the state of no break
 state_away : (red black : List Bool) (colour : Colour) (state : ℕ) (o : Option Ant) → names red black colour state ≡ true → names_ant red black o ≡ false → is_in_state colour state o ≡ false

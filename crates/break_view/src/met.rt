@@ -54,6 +54,9 @@ pub(crate) fn met_now(
     requires quiet { IsTrue same → 0 < id → IsQuietButStates watch.items.now (world_of world.now) round id }
     ensures { result ≡ met.first_met 1 watch.entry.items.now (world_of world.now) round id }
 {
+    if watch.items.is_empty() {
+        return None;
+    }
     let named = names_ant(watch.red, watch.black, ant_of(world, id));
     if is_skipped(named, id, same) {
         return None;

@@ -8,16 +8,18 @@ ghost use Rattle.cell_world.specs.Score.{score_of};
 ghost use Rattle.cell_world.specs.World.{with_cells};
 ghost use Rattle.hex_geometry.specs.Position.{IsInside};
 ghost use Rattle.hex_geometry.specs.declared.position.Pos.{Pos};
+ghost use Rattle.break_view.specs.Inner.Counting as counting;
 ghost use Rattle.break_view.specs.Inner.Watching as watching;
 
-use crate::counting::take_counted;
+use crate::counting::{count_again, score_in_any};
 use ant_random::Stream;
-use ant_turn::Brains;
+use ant_turn::{Brains, take_turn};
 use cell_world::{Cell, Score, World};
 use hex_geometry::Pos;
 
-// Takes the turn of an id, and keeps the score. Gives whether no break can hold otherwise than before, but those of states: nobody was
-// killed, and the ant is left where it stood, on as much food, or it was dead.
+// Takes the turn of an id, and keeps the score: where nobody was killed, the food changed on the ant's own cell alone, if at all. Gives
+// whether no break can hold otherwise than before, but those of states: nobody was killed, and the ant is left where it stood, on as much
+// food, or it was dead.
 pub(crate) fn take_watched(
     world: &mut World,
     brains: Brains<'_>,
@@ -38,35 +40,48 @@ pub(crate) fn take_watched(
     ensures same { IsTrue result → watching.LooksSame (world_of world.old) (world_of world.new) }
 {
     let place = world.ant_place(id);
-    let food = food_at(world, place);
-    let calm = take_counted(world, brains, stream, score, id);
-    if calm {
-        is_left(world, place, food)
+    let before = cell_at(world, place);
+    let deed = take_turn(world, brains, stream, id);
+    if deed.killed.is_empty() {
+        let after = cell_at(world, place);
+        *score = count_again(*score, score_in_any(before), score_in_any(after));
+        is_left(after, food_in(before))
     } else {
+        *score = world.score();
         false
     }
 }
 
-// The food on the cell at a place: none where there is no place.
+// The cell at a place, where there is a place.
 #[inline]
-fn food_at(world: &World, place: Option<Pos>) -> u32
+fn cell_at(world: &World, place: Option<Pos>) -> Option<Cell>
     requires { (p : Pos) → place ≡ Some p → IsInside world.now.width world.now.height p }
-    ensures { result ≡ watching.food_at (world_of world.now) place }
+    ensures { result ≡ counting.cell_at (world_of world.now) place }
 {
     match place {
-        Some(place) => world.cell(place).food,
+        Some(place) => Some(world.cell(place)),
+        None => None,
+    }
+}
+
+// The food on a cell: none where there is no cell.
+#[inline]
+fn food_in(cell: Option<Cell>) -> u32
+    ensures { result ≡ watching.food_in cell }
+{
+    match cell {
+        Some(cell) => cell.food,
         None => 0,
     }
 }
 
-// Whether an ant stands at a place on so much food, or there is no place.
+// Whether an ant stands on a cell with so much food, or there is no cell.
 #[inline]
-fn is_left(world: &World, place: Option<Pos>, food: u32) -> bool
-    requires { (p : Pos) → place ≡ Some p → IsInside world.now.width world.now.height p }
-    ensures { result ≡ watching.is_left (world_of world.now) place food }
+fn is_left(cell: Option<Cell>, food: u32) -> bool
+    ensures { result ≡ watching.is_left cell food }
 {
-    match place {
-        Some(place) => has_ant_on(world.cell(place), food),
+    match cell {
+        Some(cell) => has_ant_on(cell, food),
         None => true,
     }
 }

@@ -75,13 +75,15 @@ below-placed w (suc t) valid =
     ∙ sum_over-both w.width (λ p. one_if (is_below t (w.cells p).ant)) (λ p. one_if (holds_id t (w.cells p))) (area w)
     ∙ ap₂ ◌+◌ (below-placed w t valid) (held_once w t valid)
 
+-- an ant is of one colour
+pub of_one_colour : (colour : Colour) → one_if (same_colour Red colour) + one_if (same_colour Black colour) ≡ 1
+of_one_colour Red = refl
+of_one_colour Black = refl
+
 -- an ant is red or black, and its id was made
 either_colour : (ids : ℕ) (o : Option Ant) → ((ant : Ant) → o ≡ Some ant → ant.id < ids) → one_if (is_ant_of Red o) + one_if (is_ant_of Black o) ≡ one_if (is_below ids o)
 either_colour ids None known = refl
-either_colour ids (Some ant) known = go ant.colour ∙ ap one_if (sym (lt-ltb ant.id ids (known ant refl))) where
-  go : (colour : Colour) → one_if (same_colour Red colour) + one_if (same_colour Black colour) ≡ 1
-  go Red = refl
-  go Black = refl
+either_colour ids (Some ant) known = of_one_colour ant.colour ∙ ap one_if (sym (lt-ltb ant.id ids (known ant refl)))
 
 -- the ants alive are as many as the ids that have a place
 pub alive-placed : (w : World) → Valid w → alive_of w Red + alive_of w Black ≡ placed_below w w.ids

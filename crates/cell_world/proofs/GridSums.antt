@@ -1,5 +1,6 @@
 -- Sums over a world's positions are sums over its grid's list of cells.
 use Rattle.std.proofs.Common.{◌≡◌, ℕ, suc, zero, ◌+◌, ◌*◌, ◌<◌, ◌≤◌, Bool, true, false, cond, List, length, map, get_or, take, sum, sum_by, refl, sym, ap, ap₂, ◌∙◌, arith, add-one, take_all}
+use mir.Val.{bool_byte}
 use Rattle.std.proofs.lemmas.Bool.{cond_both}
 use Rattle.std.proofs.lemmas.List.Sums.{sum-map, sum_by_more, sum_by-le-sum_by}
 use Rattle.std.proofs.lemmas.Simd.{map-map}
@@ -42,6 +43,11 @@ total-list g f full =
 pub weight-list : (g : Grid) → length g.cells ≡ g.width * g.height → weight (world_of g) ≡ sum_by cell_weight g.cells
 unfolding weight
 weight-list g full = total-list g cell_weight full
+
+-- a bool as a number is one or nothing
+pub one_if-byte : (b : Bool) → bool_byte b ≡ one_if b
+one_if-byte true = refl
+one_if-byte false = refl
 
 -- one or nothing is at most one
 pub one_if-le_one : (b : Bool) → one_if b ≤ 1

@@ -1,5 +1,8 @@
 -- A world without an ant, written out.
-use Rattle.std.proofs.Common.{ℕ, ◌<◌, true, false, List, [], ◌∷◌, None, refl, arith}
+use Rattle.std.proofs.Common.{◌≡◌, ℕ, ◌<◌, true, false, List, [], ◌∷◌, Some, None, refl, arith}
+use Rattle.hex_geometry.specs.declared.direction.Dir.TheVariants.{East}
+use Rattle.cell_world.specs.declared.ant.Ant.{Ant}
+use Rattle.cell_world.specs.declared.ant.Colour.TheVariants.{Red}
 use Rattle.cell_world.specs.declared.cell.Cell.{Cell}
 use Rattle.cell_world.specs.declared.kind.Kind.{Kind}
 use Rattle.cell_world.specs.declared.kind.Kind.TheVariants.{Rock, Clear, Food}
@@ -57,3 +60,10 @@ IsGround-fed =
       };
       empty = (refl, (refl, (refl, (refl, (refl, (refl, (refl, (refl, (refl, (refl, (refl, (refl, (refl, (refl, (refl, tt)))))))))))))));
     }
+
+-- cells are no ground where an ant stands on one of them
+abbrev lone : Ant
+lone = record { id = 0; colour = Red; state = 0; resting = 0; facing = East; laden = false }
+
+pub manned : IsGround (record (fed_grid no_marks) { cells = ground no_marks 0 ∷ record (ground no_marks 0) { ant = Some lone } ∷ [] }) → ⊥
+manned is = (let never : Some lone ≡ None = is.empty.1.0 in absurd (cc))

@@ -28,7 +28,7 @@ NeverBoth = (words : List (List ℕ)) (command : PlainCommand) (word : ℕ) → 
 abbrev pub OneOfBoth : Type 0
 OneOfBoth = (words : List (List ℕ)) → ((command : PlainCommand) × IsCommand words command) ⊎ ((word : ℕ) × IsRefusedAt words word)
 
--- the front of a beginning is a beginning, so that the refused word ends it for good
+-- a prefix of a beginning is a beginning, so that the refused word ends it for good
 abbrev pub FrontBegins : Type 0
 FrontBegins = (words more : List (List ℕ)) → IsBeginning (words ++ more) → IsBeginning words
 

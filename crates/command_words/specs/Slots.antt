@@ -42,7 +42,7 @@ dumps_of word =
     if bytes_eq word (codes "none") then Some NoDump
     else (if bytes_eq word (codes "all") then Some EveryDump else option_map ChosenDumps (numbers_of (pieces_of word)))
 
--- whether a word is one of these
+-- whether a word is a choice of dumps
 unfoldable pub is_dumps : List ℕ → Bool
 is_dumps word = is_some (dumps_of word)
 

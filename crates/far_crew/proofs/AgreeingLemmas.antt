@@ -13,7 +13,7 @@ use Rattle.cell_world.proofs.Places.{Holder, place_in-ant, place_in-inside}
 use Rattle.ant_turn.specs.Minds.{Minds, mind_of}
 use Rattle.ant_turn.specs.Turn.{instruction_at}
 use Rattle.round_book.specs.Book.{FieldValue}
-use Rattle.spec_record.specs.Claims.{Claim, Sighting, with_cells_at}
+use Rattle.spec_record.specs.Claims.{Claim, Sighting, seen_cell, seen_place, with_cells_at}
 use Rattle.spec_record.specs.Look.{LookValue, look_of}
 use Rattle.spec_record.specs.Reads.{reads}
 use Rattle.spec_record.specs.SameLooks.{SameAt, SameForLook}
@@ -22,15 +22,15 @@ use Rattle.far_crew.specs.Agreeing.{AgreesWith, IsSameAnt, IsSameGame}
 use Rattle.far_crew.specs.Jobs.{FoundValue, IsLookOf}
 
 -- what was read is as it was stored where it is in the other world what it is in the own one
-stored : (v w : Cells) (claims : List Claim) → AllByRecursion (λ (read : Sighting). w read.0 ≡ read.2) (with_cells_at v claims) → AllByRecursion (λ (read : Sighting). v read.0 ≡ w read.0) (with_cells_at v claims)
+stored : (v w : Cells) (claims : List Claim) → AllByRecursion (λ (read : Sighting). w (seen_place read) ≡ seen_cell read) (with_cells_at v claims) → AllByRecursion (λ (read : Sighting). v (seen_place read) ≡ w (seen_place read)) (with_cells_at v claims)
 stored v w [] all = tt
 stored v w (c ∷ claims) all = (sym all.0, stored v w claims all.1)
 
-stored-back : (v w : Cells) (claims : List Claim) → AllByRecursion (λ (read : Sighting). v read.0 ≡ w read.0) (with_cells_at v claims) → AllByRecursion (λ (read : Sighting). w read.0 ≡ read.2) (with_cells_at v claims)
+stored-back : (v w : Cells) (claims : List Claim) → AllByRecursion (λ (read : Sighting). v (seen_place read) ≡ w (seen_place read)) (with_cells_at v claims) → AllByRecursion (λ (read : Sighting). w (seen_place read) ≡ seen_cell read) (with_cells_at v claims)
 stored-back v w [] all = tt
 stored-back v w (c ∷ claims) all = (sym all.0, stored-back v w claims all.1)
 
-stored-SameAt : (v w : Cells) (claims : List Claim) → AllByRecursion (λ (read : Sighting). v read.0 ≡ w read.0) (with_cells_at v claims) → SameAt v w claims
+stored-SameAt : (v w : Cells) (claims : List Claim) → AllByRecursion (λ (read : Sighting). v (seen_place read) ≡ w (seen_place read)) (with_cells_at v claims) → SameAt v w claims
 stored-SameAt v w [] all = tt
 stored-SameAt v w (c ∷ claims) all = (all.0, stored-SameAt v w claims all.1)
 
@@ -39,22 +39,22 @@ module _ (minds : Minds) (seed : ℕ) (base : Grid) (w : Cells) (look : LookValu
   unfolding look_of
   reads-is = ap (λ (l : LookValue). l.reads) is.is
 
-  reads_same : AllByRecursion (λ (read : Sighting). w read.0 ≡ read.2) look.reads → AllByRecursion (λ (read : Sighting). (world_of base).cells read.0 ≡ w read.0) look.reads
+  reads_same : AllByRecursion (λ (read : Sighting). w (seen_place read) ≡ seen_cell read) look.reads → AllByRecursion (λ (read : Sighting). (world_of base).cells (seen_place read) ≡ w (seen_place read)) look.reads
   reads_same all =
-      subst (AllByRecursion (λ (read : Sighting). (world_of base).cells read.0 ≡ w read.0)) (sym reads-is)
-      (stored (world_of base).cells w (reads minds (world_of base) look.turn) (subst (AllByRecursion (λ (read : Sighting). w read.0 ≡ read.2)) reads-is all))
+      subst (AllByRecursion (λ (read : Sighting). (world_of base).cells (seen_place read) ≡ w (seen_place read))) (sym reads-is)
+      (stored (world_of base).cells w (reads minds (world_of base) look.turn) (subst (AllByRecursion (λ (read : Sighting). w (seen_place read) ≡ seen_cell read)) reads-is all))
 
-  reads_stored : AllByRecursion (λ (read : Sighting). (world_of base).cells read.0 ≡ w read.0) look.reads → AllByRecursion (λ (read : Sighting). w read.0 ≡ read.2) look.reads
+  reads_stored : AllByRecursion (λ (read : Sighting). (world_of base).cells (seen_place read) ≡ w (seen_place read)) look.reads → AllByRecursion (λ (read : Sighting). w (seen_place read) ≡ seen_cell read) look.reads
   reads_stored all =
-      subst (AllByRecursion (λ (read : Sighting). w read.0 ≡ read.2)) (sym reads-is)
-      (stored-back (world_of base).cells w (reads minds (world_of base) look.turn) (subst (AllByRecursion (λ (read : Sighting). (world_of base).cells read.0 ≡ w read.0)) reads-is all))
+      subst (AllByRecursion (λ (read : Sighting). w (seen_place read) ≡ seen_cell read)) (sym reads-is)
+      (stored-back (world_of base).cells w (reads minds (world_of base) look.turn) (subst (AllByRecursion (λ (read : Sighting). (world_of base).cells (seen_place read) ≡ w (seen_place read))) reads-is all))
 
-  reads_SameAt : AllByRecursion (λ (read : Sighting). (world_of base).cells read.0 ≡ w read.0) look.reads → SameAt (world_of base).cells w (reads minds (world_of base) look.turn)
+  reads_SameAt : AllByRecursion (λ (read : Sighting). (world_of base).cells (seen_place read) ≡ w (seen_place read)) look.reads → SameAt (world_of base).cells w (reads minds (world_of base) look.turn)
   reads_SameAt all =
-      stored-SameAt (world_of base).cells w (reads minds (world_of base) look.turn) (subst (AllByRecursion (λ (read : Sighting). (world_of base).cells read.0 ≡ w read.0)) reads-is all)
+      stored-SameAt (world_of base).cells w (reads minds (world_of base) look.turn) (subst (AllByRecursion (λ (read : Sighting). (world_of base).cells (seen_place read) ≡ w (seen_place read))) reads-is all)
 
   -- a test of what was stored is a test of both worlds
-  pub reads-test : (test : Bool) → (test ≡ true) ↔ AllByRecursion (λ (read : Sighting). w read.0 ≡ read.2) look.reads → (test ≡ true) ↔ AllByRecursion (λ (read : Sighting). (world_of base).cells read.0 ≡ w read.0) look.reads
+  pub reads-test : (test : Bool) → (test ≡ true) ↔ AllByRecursion (λ (read : Sighting). w (seen_place read) ≡ seen_cell read) look.reads → (test ≡ true) ↔ AllByRecursion (λ (read : Sighting). (world_of base).cells (seen_place read) ≡ w (seen_place read)) look.reads
   reads-test test is_test = (λ now. reads_same (is_test.0 now), λ all. is_test.1 (reads_stored all))
 
 -- the law on looks, for a look that agrees
@@ -121,7 +121,7 @@ game_test field found test is = (
 
 -- and a test of all
 pub agrees_test : (field : FieldValue) (found : FoundValue) (look : LookValue) (guess : ℕ) (test : Bool) →
-    (test ≡ true) ↔ (IsSameGame field found × (look.guess ≡ guess) × (AllByRecursion (λ (read : Sighting). (world_of found.base).cells read.0 ≡ (world_of field.world).cells read.0) look.reads × IsSameAnt field found look.turn))
+    (test ≡ true) ↔ (IsSameGame field found × (look.guess ≡ guess) × (AllByRecursion (λ (read : Sighting). (world_of found.base).cells (seen_place read) ≡ (world_of field.world).cells (seen_place read)) look.reads × IsSameAnt field found look.turn))
     → (test ≡ true) ↔ AgreesWith field found look guess
 agrees_test field found look guess test is = (
   λ now. let all = is.0 now in record { game = all.0; guessed = all.1; cells = all.2.0; same_ant = all.2.1 },

@@ -3,6 +3,7 @@ use Rattle.std.proofs.Common.{◌≡◌, inl, inr, ℕ, zero, suc, ◌+◌, ◌<
 use Rattle.std.specs.Option.{is_some}
 use Rattle.std.proofs.lemmas.Bool.{cases_eq}
 use Rattle.std.proofs.lemmas.List.{get_or-set_other, get_or-set_same}
+use Rattle.std.proofs.lemmas.Option.{slice_get_past, slice_get_read}
 use Rattle.cell_world.proofs.Patches.{some_one}
 use Rattle.round_book.specs.Window.{Window, look_for}
 use Rattle.spec_record.specs.Look.{LookValue}
@@ -68,23 +69,12 @@ AreFilled-set picks n k pick next within filled =
     (λ j early. ap is_some (get_or-set_other picks n j (Some pick) None (λ at. omega arith)) ∙ filled j early)
     (ap is_some (get_or-set_same picks n (Some pick) None within))
 
--- what a list has at an index
-slice_get-read : {X : Type 0} (xs : List X) (i : ℕ) (x : X) → i < length xs → x ≡ get_or xs i x → slice_get xs i ≡ Some x
-slice_get-read [] i x within is = absurd (omega arith)
-slice_get-read (y ∷ xs) zero x within is = ap Some (sym is)
-slice_get-read (y ∷ xs) (suc i) x within is = slice_get-read xs i x (omega arith) is
-
-slice_get-past : {X : Type 0} (xs : List X) (i : ℕ) → length xs ≤ i → slice_get xs i ≡ None
-slice_get-past [] i past = refl
-slice_get-past (y ∷ xs) zero past = absurd (omega arith)
-slice_get-past (y ∷ xs) (suc i) past = slice_get-past xs i (omega arith)
-
 -- the looks of a line that has an answer
 pub looks_in_some : (lines : List Line) (i : ℕ) (line : Line) (found : FoundValue) → i < length lines → line ≡ get_or lines i line → line.found ≡ Some found → looks_in lines i ≡ found.looks
-looks_in_some lines i line found within is answered = ap looks_of_line (slice_get-read lines i line within is) ∙ ap looks_of_answer answered
+looks_in_some lines i line found within is answered = ap looks_of_line (slice_get_read lines (length lines) i line refl within is) ∙ ap looks_of_answer answered
 
 pub looks_in_none : (lines : List Line) (i : ℕ) (line : Line) → i < length lines → line ≡ get_or lines i line → line.found ≡ None → looks_in lines i ≡ []
-looks_in_none lines i line within is none = ap looks_of_line (slice_get-read lines i line within is) ∙ ap looks_of_answer none
+looks_in_none lines i line within is none = ap looks_of_line (slice_get_read lines (length lines) i line refl within is) ∙ ap looks_of_answer none
 
 pub looks_in_past : (lines : List Line) (i : ℕ) → length lines ≤ i → looks_in lines i ≡ []
-looks_in_past lines i past = ap looks_of_line (slice_get-past lines i past)
+looks_in_past lines i past = ap looks_of_line (slice_get_past lines i past)

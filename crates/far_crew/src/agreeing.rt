@@ -5,6 +5,7 @@ ghost use Rattle.ant_turn.specs.Minds.{minds_of, mind_of};
 ghost use Rattle.ant_turn.specs.Turn.{instruction_at};
 ghost use Rattle.cell_world.specs.Grid.{world_of};
 ghost use Rattle.cell_world.specs.World.{place_in};
+ghost use Rattle.spec_record.specs.Claims.{seen_place};
 ghost use Rattle.spec_record.specs.Look.{look_of};
 ghost use Rattle.far_crew.specs.Agreeing.{AgreesWith, IsSameAnt, IsSameGame};
 ghost use Rattle.far_crew.specs.Jobs.{IsLookOf};
@@ -69,7 +70,7 @@ fn is_agreeing(field: &Field<'_>, found: &Found, look: &Look, guess: u64) -> boo
 fn is_same_in_all(field: &Field<'_>, found: &Found, look: &Look, guess: u64) -> bool
     requires { IsLookOf found.now.minds found.now.seed found.now.base look.now }
     ensures { (result ≡ true) ↔ (IsSameGame field.now found.now × (look.now.guess ≡ guess)
-        × (AllByRecursion (λ read. (world_of found.now.base).cells read.0 ≡ (world_of field.now.world).cells read.0) look.now.reads
+        × (AllByRecursion (λ read. (world_of found.now.base).cells (seen_place read) ≡ (world_of field.now.world).cells (seen_place read)) look.now.reads
         × IsSameAnt field.now found.now look.now.turn)) }
 {
     is_same_game(field, found) && look.guess() == guess && is_same_there(field, found, look)
@@ -78,7 +79,7 @@ fn is_same_in_all(field: &Field<'_>, found: &Found, look: &Look, guess: u64) -> 
 // Whether the field's world holds what the look read, and its ant is the same.
 fn is_same_there(field: &Field<'_>, found: &Found, look: &Look) -> bool
     requires { IsLookOf found.now.minds found.now.seed found.now.base look.now }
-    ensures { (result ≡ true) ↔ (AllByRecursion (λ read. (world_of found.now.base).cells read.0 ≡ (world_of field.now.world).cells read.0) look.now.reads
+    ensures { (result ≡ true) ↔ (AllByRecursion (λ read. (world_of found.now.base).cells (seen_place read) ≡ (world_of field.now.world).cells (seen_place read)) look.now.reads
         × IsSameAnt field.now found.now look.now.turn) }
 {
     are_reads_same(field, found, look) && is_same_ant(field, found, look.turn())
@@ -87,7 +88,7 @@ fn is_same_there(field: &Field<'_>, found: &Found, look: &Look) -> bool
 // Whether the field's world holds at each position that was read what the answer's world holds there, which is what the look stored.
 fn are_reads_same(field: &Field<'_>, found: &Found, look: &Look) -> bool
     requires { IsLookOf found.now.minds found.now.seed found.now.base look.now }
-    ensures { (result ≡ true) ↔ AllByRecursion (λ read. (world_of found.now.base).cells read.0 ≡ (world_of field.now.world).cells read.0) look.now.reads }
+    ensures { (result ≡ true) ↔ AllByRecursion (λ read. (world_of found.now.base).cells (seen_place read) ≡ (world_of field.now.world).cells (seen_place read)) look.now.reads }
 {
     are_cells_same(field.world(), look.reads().as_slice())
 }

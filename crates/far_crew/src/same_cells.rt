@@ -3,6 +3,7 @@ ghost use Rattle.std.specs.Prelude.{◌≡◌, ◌↔◌, true};
 ghost use Rattle.std.specs.List.{AllByRecursion};
 ghost use Rattle.cell_world.specs.Cell.{rock};
 ghost use Rattle.cell_world.specs.Grid.{world_of};
+ghost use Rattle.spec_record.specs.Claims.{seen_cell, seen_place};
 ghost use Rattle.far_crew.specs.Inner.Cells.{all_parts};
 
 use cell_world::{Cell, Colour, Marks, Part, Parts, World};
@@ -10,11 +11,12 @@ use hex_geometry::Pos;
 
 // Whether a world holds at each position the cell that was read there.
 pub(crate) fn are_cells_same(world: &World, reads: &[(Pos, Parts, Cell)]) -> bool
-    ensures { (result ≡ true) ↔ AllByRecursion (λ read. (world_of world.now).cells read.0 ≡ read.2) reads.now }
+    ensures { (result ≡ true) ↔ AllByRecursion (λ read. (world_of world.now).cells (seen_place read) ≡ seen_cell read) reads.now }
 {
     let mut rest = reads;
     while let Some((read, more)) = rest.split_first() {
-        if !is_same_cell(&cell_at(world, read.0), &read.2) {
+        let (at, _, cell) = read;
+        if !is_same_cell(&cell_at(world, *at), cell) {
             return false;
         }
         rest = more;

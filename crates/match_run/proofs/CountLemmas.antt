@@ -107,7 +107,8 @@ windows_of-full size turns sized =
     let whole = div-add-mod' (turns + size - 1) size in
     omega (arith, whole)
 
-abbrev window_from : Minds → ℕ → Moment → ℕ → ℕ → Window
+-- the window of some turns at a moment
+abbrev pub window_from : Minds → ℕ → Moment → ℕ → ℕ → Window
 window_from minds seed m from to = record { minds = minds; seed = seed; base = m.world; place = m.place; from = from; to = to }
 
 module _ (minds : Minds) (seed size : ℕ) (m : Moment) (from k : ℕ) where

@@ -12,7 +12,7 @@ use Rattle.ant_turn.specs.Turn.{turn}
 use Rattle.ant_turn.proofs.KeptByRounds.{IsWithin, after_rounds-more, after_turn-place, after_turns-ids, after_turns-more, after_turns-place, after_turns-then}
 use Rattle.ant_turn.proofs.RestingChunks.{AreUp-next}
 use Rattle.match_run.specs.Run.{world_after}
-use Rattle.match_run.specs.Inner.Sequential.{moment_from}
+use Rattle.match_run.specs.Inner.Sequential.{RoundTaken, moment_from}
 
 -- the moment of a world and a place
 abbrev moment_at : World → ℕ → Moment
@@ -138,19 +138,19 @@ IsAfter-none minds seed grid stream same begins fits = record {
 
 -- one round more is played
 pub IsAfter-more : {minds : Minds} {seed : ℕ} {w : World} {round : ℕ} {grid : Grid} {stream : SeedAndPlace} → IsAfter minds seed w round grid stream → (next : Grid) (later : SeedAndPlace)
-    → moment_from next later ≡ after_round minds stream.seed (moment_from grid stream)
-    → later.seed ≡ stream.seed → later.place ≤ stream.place + most_ants → Fits (world_of next) minds → IsAfter minds seed w (round + 1) next later
-IsAfter-more {minds} {seed} {w} {round} {grid} {stream} after next later played same few fits =
+    → RoundTaken minds grid stream next later → IsAfter minds seed w (round + 1) next later
+IsAfter-more {minds} {seed} {w} {round} {grid} {stream} after next later taken =
     let so_far : stream.place ≤ round * most_ants = after.place in
+    let few : later.place ≤ stream.place + most_ants = taken.place in
     record {
       moment =
-          played
+          taken.moment
           ∙ ap (λ (s : ℕ). after_round minds s (moment_from grid stream)) after.same_seed
           ∙ ap (after_round minds seed) after.moment
           ∙ sym (after_rounds-more minds seed (start_of w) round);
-      same_seed = same ∙ after.same_seed;
+      same_seed = taken.seed ∙ after.same_seed;
       place = omega arith;
-      fits = fits;
+      fits = taken.fit;
     }
 
 -- the world then is that after these rounds

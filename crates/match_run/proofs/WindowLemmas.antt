@@ -10,7 +10,7 @@ use Rattle.round_book.specs.Window.{Window, moment_before}
 use Rattle.match_run.specs.Counts.{both, sum_windows, window_at, window_totals}
 use Rattle.match_run.specs.Game.{counted_on}
 use Rattle.match_run.specs.Inner.Windows.{WindowsPlayed}
-use Rattle.match_run.proofs.CountLemmas.{both-both, both-none, sum_windows-turns}
+use Rattle.match_run.proofs.CountLemmas.{both-both, both-none, sum_windows-turns, window_from}
 
 -- no window is played
 pub played-none : (field : FieldValue) (size from : ℕ) (totals : Totals) → 1 ≤ size → from ≤ field.world.ids → field.whole ≡ true → WindowsPlayed field size from totals field from totals
@@ -25,9 +25,6 @@ played-none field size from totals sized within whole = record {
   ids = refl;
   whole = whole;
 }
-
-abbrev window_from : Minds → ℕ → Moment → ℕ → ℕ → Window
-window_from minds seed m from to = record { minds = minds; seed = seed; base = m.world; place = m.place; from = from; to = to }
 
 module _ {old : FieldValue} {size from : ℕ} {totals : Totals} {mid : FieldValue} {next : ℕ} {mid_totals : Totals} (played : WindowsPlayed old size from totals mid next mid_totals) where
   -- the stream went on by one number a turn at most

@@ -1,15 +1,15 @@
 // Rounds, played one after another.
 ghost use Rattle.std.specs.Prelude.{◌≡◌, ◌+◌, ◌-◌, ◌<◌, ◌≤◌, ◌^◌, length};
 ghost use Rattle.ant_turn.specs.Listed.{AreUp, after_listed};
-ghost use Rattle.ant_turn.specs.Minds.{AreSound, Fits, minds_of};
-ghost use Rattle.ant_turn.specs.Rounds.{after_round, after_turns};
-ghost use Rattle.cell_world.specs.Grid.{IsWorld, world_of};
-ghost use Rattle.cell_world.specs.Limits.{most_ants};
-ghost use Rattle.match_run.specs.Inner.Sequential.{LastsARound, moment_from};
+ghost use Rattle.ant_turn.specs.Minds.{Fits, minds_of};
+ghost use Rattle.ant_turn.specs.Rounds.{after_turns};
+ghost use Rattle.cell_world.specs.Grid.{world_of};
+ghost use Rattle.match_run.specs.Inner.Sequential.{LastsARound, RoundTaken, moment_from};
 
 use ant_random::Stream;
 use ant_turn::{Brains, take_acting_turn, take_turn};
 use cell_world::{Ground, World};
+use round_book::recall_validity;
 
 // Plays one round: a turn of each id in rising order. Where many ants rest, they are told apart first, some at a time, which spares the
 // processor to guess of each whether it rests.
@@ -17,10 +17,7 @@ use cell_world::{Ground, World};
 pub(crate) fn play_round(world: &mut World, brains: Brains<'_>, stream: &mut Stream)
     requires fit { Fits (world_of world.old) (minds_of brains) }
     requires place { LastsARound stream.old }
-    ensures moment { moment_from world.new stream.new ≡ after_round (minds_of brains.entry) stream.old.seed (moment_from world.old stream.old) }
-    ensures seed { stream.new.seed ≡ stream.old.seed }
-    ensures place { stream.new.place ≤ stream.old.place + most_ants }
-    ensures fit { Fits (world_of world.new) (minds_of brains.entry) }
+    ensures { RoundTaken (minds_of brains.entry) world.old stream.old world.new stream.new }
 {
     if many_rest(world) {
         play_in_chunks(world, brains, stream);
@@ -62,10 +59,7 @@ fn is_resting(world: &mut World, id: u32) -> bool
 fn play_in_turn(world: &mut World, brains: Brains<'_>, stream: &mut Stream)
     requires fit { Fits (world_of world.old) (minds_of brains) }
     requires place { LastsARound stream.old }
-    ensures moment { moment_from world.new stream.new ≡ after_round (minds_of brains.entry) stream.old.seed (moment_from world.old stream.old) }
-    ensures seed { stream.new.seed ≡ stream.old.seed }
-    ensures place { stream.new.place ≤ stream.old.place + most_ants }
-    ensures fit { Fits (world_of world.new) (minds_of brains.entry) }
+    ensures { RoundTaken (minds_of brains.entry) world.old stream.old world.new stream.new }
 {
     for id in 0..world.ant_count() {
         let _deed = take_turn(world, brains, stream, id);
@@ -77,10 +71,7 @@ fn play_in_turn(world: &mut World, brains: Brains<'_>, stream: &mut Stream)
 fn play_in_chunks(world: &mut World, brains: Brains<'_>, stream: &mut Stream)
     requires fit { Fits (world_of world.old) (minds_of brains) }
     requires place { LastsARound stream.old }
-    ensures moment { moment_from world.new stream.new ≡ after_round (minds_of brains.entry) stream.old.seed (moment_from world.old stream.old) }
-    ensures seed { stream.new.seed ≡ stream.old.seed }
-    ensures place { stream.new.place ≤ stream.old.place + most_ants }
-    ensures fit { Fits (world_of world.new) (minds_of brains.entry) }
+    ensures { RoundTaken (minds_of brains.entry) world.old stream.old world.new stream.new }
 {
     let ids = world.ant_count();
     let mut from = 0;
@@ -103,7 +94,7 @@ fn play_chunk(world: &mut World, brains: Brains<'_>, stream: &mut Stream, from: 
     ensures seed { stream.new.seed ≡ stream.old.seed }
     ensures fit { Fits (world_of world.new) (minds_of brains.entry) }
 {
-    vouch(brains, world);
+    recall_validity(brains, world);
     let mut acting = [0; 64];
     let count = world.rest_some(from, to, &mut acting);
     take_listed(world, brains, stream, &acting[..count]);
@@ -122,16 +113,4 @@ fn take_listed(world: &mut World, brains: Brains<'_>, stream: &mut Stream, ids: 
     for id in ids {
         let _deed = take_acting_turn(world, brains, stream, u32::from(*id));
     }
-}
-
-// Brains are brains, their sheet is light, and a world is one.
-#[inline]
-fn vouch(brains: Brains<'_>, world: &World)
-    ensures sound { AreSound (minds_of brains.entry) }
-    ensures world { IsWorld world.now }
-{
-    let _red = brains.red.len();
-    let _black = brains.black.len();
-    let _corpse = brains.sheet.corpse();
-    let _width = world.width();
 }

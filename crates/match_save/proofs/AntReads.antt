@@ -15,7 +15,8 @@ use Rattle.cell_world.specs.declared.ant.PlacedAnt.{PlacedAnt}
 use Rattle.cell_world.specs.Cell.{one_if}
 use Rattle.match_save.specs.Draft.{IdsRise, IsAnt}
 use Rattle.match_save.specs.Text as text
-use Rattle.match_save.specs.Text.{ant_lines, colour_word, spaced}
+use Rattle.dump_print.specs.Content.{colour_text}
+use Rattle.match_save.specs.Text.{ant_lines, spaced}
 use Rattle.match_save.specs.Inner.Readers.{Left, Spells, Took, StopsAt, Begins, made}
 use Rattle.match_save.specs.Inner.Reading.{AntParts, ant_of, ant_tokens, ants_from, colour_of, ant_onto, placed_ant, read_ants}
 use Rattle.match_save.proofs.Readers.Composed.{Recasts, left_at}
@@ -25,28 +26,28 @@ use Rattle.match_save.proofs.Tokens.{AreTokens, IsBetween, has_no_space, line-sp
 IsColour : Colour → Type 0
 IsColour colour = Unit {0}
 
-colour-spells : Spells colour_of IsColour colour_word
+colour-spells : Spells colour_of IsColour colour_text
 unfolding IsColour
 colour-spells = record {
   parses = parses;
   accepted = λ token colour e. tt;
   spelled = λ token colour e. first token colour (bytes_eq (codes "red") token) refl e;
 } where
-  parses : (colour : Colour) → IsColour colour → colour_of (colour_word colour) ≡ Some colour
+  parses : (colour : Colour) → IsColour colour → colour_of (colour_text colour) ≡ Some colour
   parses Red ok = refl
   parses Black ok = refl
 
-  next : (token : List ℕ) (colour : Colour) (b : Bool) → bytes_eq (codes "black") token ≡ b → cond b (Some Black) None ≡ Some colour → token ≡ colour_word colour
+  next : (token : List ℕ) (colour : Colour) (b : Bool) → bytes_eq (codes "black") token ≡ b → cond b (Some Black) None ≡ Some colour → token ≡ colour_text colour
   next token colour false is e = absurd (cc)
   next token colour true is e =
       let same : Black ≡ colour = cc in
-      sym ((bytes_eq-Decides (codes "black") token).0 is) ∙ ap colour_word same
+      sym ((bytes_eq-Decides (codes "black") token).0 is) ∙ ap colour_text same
 
-  first : (token : List ℕ) (colour : Colour) (b : Bool) → bytes_eq (codes "red") token ≡ b → cond b (Some Red) (cond (bytes_eq (codes "black") token) (Some Black) None) ≡ Some colour → token ≡ colour_word colour
+  first : (token : List ℕ) (colour : Colour) (b : Bool) → bytes_eq (codes "red") token ≡ b → cond b (Some Red) (cond (bytes_eq (codes "black") token) (Some Black) None) ≡ Some colour → token ≡ colour_text colour
   first token colour false is e = next token colour (bytes_eq (codes "black") token) refl e
   first token colour true is e =
       let same : Red ≡ colour = cc in
-      sym ((bytes_eq-Decides (codes "red") token).0 is) ∙ ap colour_word same
+      sym ((bytes_eq-Decides (codes "red") token).0 is) ∙ ap colour_text same
 
 abbrev IsAntParts : ℕ → ℕ → AntParts → Type 0
 IsAntParts width height p =
@@ -54,7 +55,7 @@ IsAntParts width height p =
     × (IsBetween 0 5 p.1.1.1.1.0 × (IsBetween 0 1 p.1.1.1.1.1.0 × (IsBetween 0 9999 p.1.1.1.1.1.1.0 × IsBetween 0 255 p.1.1.1.1.1.1.1))))))
 
 abbrev ant_print : AntParts → List (List ℕ)
-ant_print p = codes "ant" ∷ decimal p.0 ∷ colour_word p.1.0 ∷ decimal p.1.1.0 ∷ decimal p.1.1.1.0 ∷ decimal p.1.1.1.1.0 ∷ decimal p.1.1.1.1.1.0 ∷ decimal p.1.1.1.1.1.1.0 ∷ decimal p.1.1.1.1.1.1.1 ∷ []
+ant_print p = codes "ant" ∷ decimal p.0 ∷ colour_text p.1.0 ∷ decimal p.1.1.0 ∷ decimal p.1.1.1.0 ∷ decimal p.1.1.1.1.0 ∷ decimal p.1.1.1.1.1.0 ∷ decimal p.1.1.1.1.1.1.0 ∷ decimal p.1.1.1.1.1.1.1 ∷ []
 
 number_of-dir_of : (n : ℕ) → n ≤ 5 → number_of (dir_of n) ≡ n
 number_of-dir_of zero low = refl
@@ -97,8 +98,8 @@ ant-casts width height wide tall = record {
     resting = ok.1.1.1.1.1.1.1.1;
   };
   same = λ p ok.
-      ap (λ d. codes "ant" ∷ decimal p.0 ∷ colour_word p.1.0 ∷ decimal p.1.1.0 ∷ decimal p.1.1.1.0 ∷ decimal d ∷ decimal (one_if (eqb p.1.1.1.1.1.0 1)) ∷ decimal p.1.1.1.1.1.1.0 ∷ decimal p.1.1.1.1.1.1.1 ∷ []) (number_of-dir_of p.1.1.1.1.0 ok.1.1.1.1.0.1)
-      ∙ ap (λ l. codes "ant" ∷ decimal p.0 ∷ colour_word p.1.0 ∷ decimal p.1.1.0 ∷ decimal p.1.1.1.0 ∷ decimal p.1.1.1.1.0 ∷ decimal l ∷ decimal p.1.1.1.1.1.1.0 ∷ decimal p.1.1.1.1.1.1.1 ∷ []) (one_if-is p.1.1.1.1.1.0 ok.1.1.1.1.1.0.1);
+      ap (λ d. codes "ant" ∷ decimal p.0 ∷ colour_text p.1.0 ∷ decimal p.1.1.0 ∷ decimal p.1.1.1.0 ∷ decimal d ∷ decimal (one_if (eqb p.1.1.1.1.1.0 1)) ∷ decimal p.1.1.1.1.1.1.0 ∷ decimal p.1.1.1.1.1.1.1 ∷ []) (number_of-dir_of p.1.1.1.1.0 ok.1.1.1.1.0.1)
+      ∙ ap (λ l. codes "ant" ∷ decimal p.0 ∷ colour_text p.1.0 ∷ decimal p.1.1.0 ∷ decimal p.1.1.1.0 ∷ decimal p.1.1.1.1.0 ∷ decimal l ∷ decimal p.1.1.1.1.1.1.0 ∷ decimal p.1.1.1.1.1.1.1 ∷ []) (one_if-is p.1.1.1.1.1.0 ok.1.1.1.1.1.0.1);
   unmade = unmade;
 } where
   unmade : (it : PlacedAnt) → IsAnt width height it → (p : AntParts) × IsAntParts width height p × (placed_ant p ≡ it)
@@ -120,7 +121,7 @@ ant-casts width height wide tall = record {
     ap (λ d. record it { ant = record (it.ant) { facing = d; laden = eqb (one_if it.ant.laden) 1 } }) (dir_of_number_of it.ant.facing) ∙ ap (λ l. record it { ant = record (it.ant) { laden = l } }) (is_load it.ant.laden),
   )
 
-plain_colour : (colour : Colour) → has_no_space (colour_word colour) ≡ true
+plain_colour : (colour : Colour) → has_no_space (colour_text colour) ≡ true
 plain_colour Red = refl
 plain_colour Black = refl
 

@@ -20,7 +20,8 @@ use Rattle.match_save.specs.Draft.{Draft, IsAnt, IsHead, IsInForm, IsInstruction
 use Rattle.match_save.specs.declared.head.Head.{Head}
 use Rattle.match_save.specs.declared.soil.Soil.{Soil}
 use Rattle.match_save.specs.declared.soil.Soil.TheVariants.{Rock, Clear, RedHill, BlackHill}
-use Rattle.match_save.specs.Text.{ant_lines, ant_tokens, colour_word, draft_lines, draft_text, food_byte, food_lines, food_tokens, head_tokens, instruction_line, marks_byte, program_lines, rows, soil_byte, spaced}
+use Rattle.dump_print.specs.Content.{colour_text}
+use Rattle.match_save.specs.Text.{ant_lines, ant_tokens, draft_lines, draft_text, food_byte, food_lines, food_tokens, head_tokens, instruction_line, marks_byte, program_lines, rows, soil_byte, spaced}
 use Rattle.match_save.specs.Saved.{IsSaveLines, IsSaveText, SavedValue, draft_of, save_text}
 use Rattle.match_save.specs.Verdict.{IsDraftText}
 use Rattle.match_save.proofs.AntReads.{low_dir}
@@ -109,7 +110,7 @@ foods-plain width i (food ∷ foods) some narrow few all =
         let place = small_place width i some narrow (omega (arith, few)) in
         (spaced-plain (food_tokens width i food) (refl, (number (i % width) 99999999999 place.0 (omega arith), (number (i / width) 99999999999 place.1 (omega arith), (number food 2340900 all.0 (omega arith), tt)))), tt)
 
-colour-plain : (colour : Colour) → Plain (colour_word colour)
+colour-plain : (colour : Colour) → Plain (colour_text colour)
 colour-plain Red = refl
 colour-plain Black = refl
 

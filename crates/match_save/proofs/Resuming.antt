@@ -14,7 +14,7 @@ use Rattle.ant_turn.specs.Minds.{Fits, Minds, mind_of}
 use Rattle.ant_turn.specs.Rounds.{Moment, start_of}
 use Rattle.dump_print.specs.Texts.{seed_text}
 use Rattle.dump_print.specs.declared.totals.Totals.{Totals}
-use Rattle.match_run.proofs.RestLaws.{runs_go_on}
+use Rattle.match_run.proofs.RestLaws.{rest_text-some, runs_go_on}
 use Rattle.match_run.specs.Counts.{totals_of}
 use Rattle.match_run.specs.Game.{CanGoOn, GameValue, game_at_round, now_of}
 use Rattle.match_run.specs.Rest.{rest_text}
@@ -123,3 +123,8 @@ pub rest-is : (s : SavedValue) (game : GameValue) (rounds : ℕ) (chosen : ℕ �
     → rest_text game.field.minds game.field.seed game.window (now_of game) game.done game.totals rounds chosen stats ≡ rest_of s rounds chosen stats
 unfolding rest_of
 rest-is s game rounds chosen stats e = ap (λ (g : GameValue). rest_text g.field.minds g.field.seed g.window (now_of g) g.done g.totals rounds chosen stats) e
+
+-- the rest of a save has something
+pub rest_of-some : (s : SavedValue) (rounds : ℕ) (chosen : ℕ → Bool) (stats : Bool) → 1 ≤ length (rest_of s rounds chosen stats)
+unfolding rest_of
+rest_of-some s rounds chosen stats = rest_text-some s.minds s.seed s.window (moment_of s) s.round s.totals rounds chosen stats

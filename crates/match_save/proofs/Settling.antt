@@ -91,25 +91,22 @@ IsBrain-program list ok below = record { some = ok.some; few = ok.few; sound = �
   sound (first ∷ l) n zero instruction all low at = (let same : first ≡ instruction = (let e : Some first ≡ Some instruction = at in cc) in subst (IsSound n) same (sound_of n first all.0.in_range low.0))
   sound (first ∷ l) n (suc i) instruction all low at = sound l n i instruction all.1 low.1 at
 
+-- how many states the brain of a colour has
+length_of-program : (d : SaveDraft) (colour : Colour) → length_of (length d.red) (length d.black) colour ≡ length (program_of d colour)
+length_of-program d Red = refl
+length_of-program d Black = refl
+
 -- whether ants fit their brains, as a test
 pub fit-true : (d : SaveDraft) (ants : List PlacedAnt) → are_fit (length d.red) (length d.black) ants ≡ true → AllByRecursion (λ (it : PlacedAnt). it.ant.state < length (program_of d it.ant.colour)) ants
 fit-true d [] e = tt
 fit-true d (it ∷ ants) e =
     let parts = and_parts (nat_lt it.ant.state (length_of (length d.red) (length d.black) it.ant.colour)) (are_fit (length d.red) (length d.black) ants) e in
-    (subst (λ (n : ℕ). it.ant.state < n) (same it.ant.colour) (ltb-true it.ant.state _ parts.0), fit-true d ants parts.1)
-  where
-    same : (colour : Colour) → length_of (length d.red) (length d.black) colour ≡ length (program_of d colour)
-    same Red = refl
-    same Black = refl
+    (subst (λ (n : ℕ). it.ant.state < n) (length_of-program d it.ant.colour) (ltb-true it.ant.state _ parts.0), fit-true d ants parts.1)
 
 pub fit-holds : (d : SaveDraft) (ants : List PlacedAnt) → AllByRecursion (λ (it : PlacedAnt). it.ant.state < length (program_of d it.ant.colour)) ants → are_fit (length d.red) (length d.black) ants ≡ true
 fit-holds d [] all = refl
 fit-holds d (it ∷ ants) all = and_from (nat_lt it.ant.state (length_of (length d.red) (length d.black) it.ant.colour)) (are_fit (length d.red) (length d.black) ants)
-    (lt-ltb it.ant.state _ (subst (λ (n : ℕ). it.ant.state < n) (sym (same it.ant.colour)) all.0)) (fit-holds d ants all.1)
-  where
-    same : (colour : Colour) → length_of (length d.red) (length d.black) colour ≡ length (program_of d colour)
-    same Red = refl
-    same Black = refl
+    (lt-ltb it.ant.state _ (subst (λ (n : ℕ). it.ant.state < n) (sym (length_of-program d it.ant.colour)) all.0)) (fit-holds d ants all.1)
 
 -- whether turns fit their rounds, as a test
 pub turns-true : (head : Head) (ids : ℕ) → has_turns head ids ≡ true → (head.place ≤ ids * head.round) × (head.taken + head.redone ≡ ids * head.round)

@@ -170,6 +170,10 @@ instructions-written (i ∷ list) = ap₂ (λ a b. a ++ b) (sym (text-ended i)) 
 program-written : (name : List ℕ) (list : List Instr) → text_of_lines (program_lines name list) ≡ program_text name list
 program-written name list = ap₂ (λ a b. a ++ b) (tokens-line (name ∷ decimal (length list) ∷ [])) (instructions-written list)
 
+-- some lines and others
+append : (one other : List (List ℕ)) (a b : List ℕ) → text_of_lines one ≡ a → text_of_lines other ≡ b → text_of_lines (one ++ other) ≡ a ++ b
+append one other a b e f = flat_map-append (λ line. line ++ 10 ∷ []) one other ∙ ap₂ (λ s t. s ++ t) e f
+
 -- the lines of the cells
 cells-lines : (d : Draft) (g : Grid) → length g.cells ≡ g.width * g.height → 1 ≤ g.width
     → d.head.width ≡ g.width → d.head.height ≡ g.height → d.soils ≡ map soil_of_cell g.cells → d.red_marks ≡ map (λ (cell : Cell). cell.red.set) g.cells
@@ -181,9 +185,7 @@ cells-lines d g full wide w h soils reds blacks foods = rw (w, h, soils, reds, b
     (append (rows marks_byte g.width g.height (map (λ (cell : Cell). cell.red.set) g.cells)) _ _ _ (rows-cells marks_byte (λ cell. cell.red.set) g full)
     (append (rows marks_byte g.width g.height (map (λ (cell : Cell). cell.black.set) g.cells)) _ _ _ (rows-cells marks_byte (λ cell. cell.black.set) g full)
     (append (rows food_byte g.width g.height (map (λ (cell : Cell). cell.food) g.cells)) _ _ _ (rows-cells food_byte (λ cell. cell.food) g full)
-    (foods-cells g full wide))))) where
-      append : (one other : List (List ℕ)) (a b : List ℕ) → text_of_lines one ≡ a → text_of_lines other ≡ b → text_of_lines (one ++ other) ≡ a ++ b
-      append one other a b e f = flat_map-append (λ line. line ++ 10 ∷ []) one other ∙ ap₂ (λ s t. s ++ t) e f
+    (foods-cells g full wide)))))
 
 -- all of it
 pub saved-written : (s : SavedValue) → IsWorld s.world → written s ≡ save_text s
@@ -195,9 +197,7 @@ saved-written s is = sym (
     (append (cell_lines (draft_of s)) (ant_lines (living s.world s.world.ids)) _ _ (cells-lines (draft_of s) s.world is.full (omega (arith, is.valid.wide)) refl refl refl refl refl refl)
     (ants-lines (living s.world s.world.ids) ∙ ap (λ t. t ++ codes "end\n") (living-written s.world s.world.ids))))
     ∙ ap (λ t. lines_text (head_tokens (head_of s)) ++ t)
-    (append_assoc (program_text (codes "red") s.minds.red) (program_text (codes "black") s.minds.black) (cells_written s.world ++ (numbered (ant_text_at s.world) s.world.ids ++ codes "end\n")))) where
-      append : (one other : List (List ℕ)) (a b : List ℕ) → text_of_lines one ≡ a → text_of_lines other ≡ b → text_of_lines (one ++ other) ≡ a ++ b
-      append one other a b e f = flat_map-append (λ line. line ++ 10 ∷ []) one other ∙ ap₂ (λ s t. s ++ t) e f
+    (append_assoc (program_text (codes "red") s.minds.red) (program_text (codes "black") s.minds.black) (cells_written s.world ++ (numbered (ant_text_at s.world) s.world.ids ++ codes "end\n"))))
 
 -- the parts as they are pushed
 pub written-parts : (s : SavedValue) (h : Head) (m : Minds) (g : Grid) → h ≡ head_of s → m ≡ s.minds → g ≡ s.world

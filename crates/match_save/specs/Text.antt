@@ -4,10 +4,9 @@ use Rattle.brain_read.specs.declared.instr.Instr.{Instr}
 use Rattle.brain_read.specs.Forms.{fields_of}
 use Rattle.line_tokens.specs.Fields.{field_text}
 use Rattle.hex_geometry.specs.Direction.{number_of}
-use Rattle.cell_world.specs.declared.ant.Colour.{Colour}
-use Rattle.cell_world.specs.declared.ant.Colour.TheVariants.{Red, Black}
 use Rattle.cell_world.specs.declared.ant.PlacedAnt.{PlacedAnt}
 use Rattle.cell_world.specs.Cell.{one_if}
+use Rattle.dump_print.specs.Content.{colour_text}
 use Rattle.match_save.specs.Draft.{Draft}
 use Rattle.match_save.specs.declared.head.Head.{Head}
 use Rattle.match_save.specs.declared.soil.Soil.{Soil}
@@ -55,7 +54,7 @@ marks_byte set = 48 + set
 abbrev pub food_byte : ℕ → ℕ
 food_byte food = if nat_le food 62 then 48 + food else 111
 
--- so many rows of a byte for each of these
+-- so many rows of this width, with a byte for each element of a list
 abbrev pub rows : {A : Type 0} → (A → ℕ) → ℕ → ℕ → List A → List (List ℕ)
 rows byte width zero list = []
 rows byte width (suc height) list = map byte (take width list) ∷ rows byte width height (drop width list)
@@ -69,15 +68,10 @@ abbrev pub food_lines : ℕ → ℕ → List ℕ → List (List ℕ)
 food_lines width i [] = []
 food_lines width i (food ∷ foods) = (if nat_le food 62 then [] else spaced (food_tokens width i food) ∷ []) ++ food_lines width (i + 1) foods
 
--- the word of a colour
-abbrev pub colour_word : Colour → List ℕ
-colour_word Red = codes "red"
-colour_word Black = codes "black"
-
 -- the line of an ant
 abbrev pub ant_tokens : PlacedAnt → List (List ℕ)
 ant_tokens it =
-    codes "ant" ∷ decimal it.ant.id ∷ colour_word it.ant.colour ∷ decimal it.place.x ∷ decimal it.place.y ∷ decimal (number_of it.ant.facing)
+    codes "ant" ∷ decimal it.ant.id ∷ colour_text it.ant.colour ∷ decimal it.place.x ∷ decimal it.place.y ∷ decimal (number_of it.ant.facing)
     ∷ decimal (one_if it.ant.laden) ∷ decimal it.ant.state ∷ decimal it.ant.resting ∷ []
 
 -- the lines of the ants, and the last

@@ -7,7 +7,8 @@ ghost use Rattle.cell_world.specs.declared.cell.Cell.{Cell};
 ghost use Rattle.cell_world.specs.Grid.{cell_in};
 ghost use Rattle.cell_world.specs.Marks.{IsOfSix};
 ghost use Rattle.match_save.specs.Saved.{save_text, soil_of_cell};
-ghost use Rattle.match_save.specs.Text.{ant_tokens, colour_word, food_byte, head_tokens, marks_byte, soil_byte};
+ghost use Rattle.dump_print.specs.Content.{colour_text};
+ghost use Rattle.match_save.specs.Text.{ant_tokens, food_byte, head_tokens, marks_byte, soil_byte};
 ghost use Rattle.match_save.specs.Inner.Pushing.{lines_text, tokens_text};
 ghost use Rattle.match_save.specs.Inner.Written.{ant_text_at, black_byte, cell_food_byte, cells_written, food_text, food_text_at, ground_byte, program_text, red_byte, row_text, rows_text, with_power, written};
 
@@ -331,7 +332,7 @@ impl Layout for CellLines<'_> {
 struct Word(Colour);
 
 impl Layout for Word {
-    ghost text = { λ word. colour_word word.0 };
+    ghost text = { λ word. colour_text word.0 };
 
     fn push_to<K: Sink>(&self, sink: &mut K) -> Result<(), Failed> {
         match self.0 {

@@ -21,7 +21,7 @@ mod workspace;
 
 pub use advancing::advance;
 pub use alone::play_window;
-pub use book::Book;
+pub use book::{Book, recall_validity};
 pub use counts::Counts;
 pub use crew::Crew;
 pub use field::Field;

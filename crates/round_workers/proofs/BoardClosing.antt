@@ -20,7 +20,7 @@ use Rattle.round_workers.specs.declared.board.view.View.{View}
 use Rattle.round_workers.specs.BoardTotals.{once_below, summed}
 use Rattle.round_workers.specs.BoardView.{spent_seat, window_for}
 use Rattle.round_workers.specs.BoardRule.{HasHome, IsKept, IsLookKept, made_by, putting, taking, turns_of}
-use Rattle.round_workers.specs.Inner.BoardPlaces.{AreTaken, book_in, look_in}
+use Rattle.round_workers.specs.Inner.BoardPlaces.{AreTaken, book_room, look_in}
 use Rattle.round_workers.specs.BoardSeats.{left_if, left_look}
 use Rattle.round_workers.proofs.BoardTotalLemmas.{below-where, once-le, total-alone, total-at, total-two}
 use Rattle.round_workers.proofs.BoardSeating.{made-all}
@@ -100,8 +100,8 @@ pub look-at-slot : (key : Basis) (v : View) (words : List ℕ) (slots : List Boa
 look-at-slot key v words slots k place last inside at = let found = last.looks k inside in ap look_in (maybe.some-injective place found.0 (sym at ∙ found.1)) ∙ found.2
 
 -- the book, from what its slot has
-pub book-at-slot : (key : Basis) (v : View) (words : List ℕ) (slots : List BoardSlot) (place : BoardSlot) → IsLast key v words slots → get_elem? slots 0 ≡ maybe.some place → (book : BookValue) × (book_in place ≡ Some book) × StandsFor (window_for key) book
-book-at-slot key v words slots place last at = (last.book.0, ap book_in (maybe.some-injective place (TheBook (Some last.book.0)) (sym at ∙ last.book.1)), last.book.2)
+pub book-at-slot : (key : Basis) (v : View) (words : List ℕ) (slots : List BoardSlot) (place : BoardSlot) → IsLast key v words slots → get_elem? slots 0 ≡ maybe.some place → (book : BookValue) × (book_room place ≡ Some (Some book)) × StandsFor (window_for key) book
+book-at-slot key v words slots place last at = (last.book.0, ap book_room (maybe.some-injective place (TheBook (Some last.book.0)) (sym at ∙ last.book.1)), last.book.2)
 
 -- it is the one that was found
 pub stands-so : (window : Window) (result : Option BookValue) (one other : BookValue) → result ≡ Some one → result ≡ Some other → StandsFor window one → StandsFor window other

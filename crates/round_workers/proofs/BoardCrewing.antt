@@ -5,13 +5,10 @@ use Rattle.std.proofs.Math.Seq.{get_or-append_seam}
 use Rattle.std.specs.Prelude.{IfSome}
 use Rattle.std.proofs.lemmas.List.Elements.{All-append, All-cons, All-nil, All-same}
 use Rattle.cell_world.specs.Cell.{one_if}
-use Rattle.cell_world.specs.World.{World}
-use Rattle.ant_turn.specs.Minds.{Minds}
-use Rattle.spec_record.specs.Guess.{guesses_of}
 use Rattle.spec_record.specs.Look.{LookValue}
 use Rattle.round_book.specs.Book.{BookValue, FieldValue, IsLentFor, StandsFor, StandsOn, window_of}
 use Rattle.round_book.specs.Machine.{times}
-use Rattle.round_book.specs.Window.{Window, guesses_for, look_for}
+use Rattle.round_book.specs.Window.{Window, look_for}
 use Rattle.round_workers.specs.declared.board.seat.Board.{Board}
 use Rattle.round_workers.specs.declared.board.seat.Seat.{Seat}
 use Rattle.round_workers.specs.declared.board.view.Basis.{Basis}
@@ -153,11 +150,6 @@ module _ (field : FieldValue) (from to : ℕ) (book : BookValue) (begins : book.
 
   pub look-there : (look : LookValue) (places : List BoardSlot) → AreLooks (window_of field from to) places → look_in (slice_index_or places k Nothing) ≡ Some look → look ≡ look_for (window_of field book.from book.to) book.next
   look-there look places are is = look-next look (subst (λ (o : Option LookValue). IfSome o (λ l. l ≡ look_for (window_of field from to) (from + k))) is (are k (omega arith)))
-
--- the guesses of a window, from what they are made of
-pub guesses-so : (window : Window) (minds : Minds) (base : World) (place : ℕ) → minds ≡ window.minds → base ≡ window.base → place ≡ window.place
-    → guesses_of minds base place window.from window.from (turns_in window) ≡ guesses_for window
-guesses-so window minds base place em eb ep = λ k. guesses_of (em k) (eb k) (ep k) window.from window.from (turns_in window)
 
 -- what workers did that were lent as a slice
 pub worked-so : (board : Board) (slice items new : List Worker) → slice ≡ items → ((i : ℕ) (d : Worker) → i < length slice → HasWorked board (slice_index_or slice i d) (slice_index_or new i d))

@@ -1,16 +1,23 @@
 -- A seat that holds a slot, before and after what lies in it is exchanged.
 use Rattle.std.proofs.Common.{◌≡◌, ◌≢◌, ℕ, ◌+◌, ◌-◌, ◌≤◌, List, [], ◌∷◌, refl, sym, ap, ◌∙◌, subst, arith, Option, Some, None}
 use Rattle.std.specs.Prelude.{IfNone, IfSome, OnSome}
+use Rattle.atomic_table.specs.declared.shared.Seat.{Seat as Hand}
 use Rattle.atomic_table.specs.Table.{Me, rest}
+use Rattle.round_workers.specs.declared.board.seat.Board.{Board}
 use Rattle.round_workers.specs.declared.board.view.BoardSlot.{BoardSlot}
 use Rattle.round_workers.specs.declared.board.view.BoardSlot.TheVariants.{Nothing}
 use Rattle.round_workers.specs.declared.board.view.View.{View}
 use Rattle.round_workers.specs.BoardPlays.{has_put, puts_now}
+use Rattle.round_workers.specs.BoardSeats.{IsHandOf}
 use Rattle.round_workers.specs.BoardView.{IsAtRest, out_with}
 use Rattle.round_workers.specs.declared.board.view.Phase.TheVariants.{Resting}
 
 abbrev pub At : Type 0
 At = Me BoardSlot View
+
+-- a hand of a board after a step: it is of the same table, and knows the window still
+pub hand_after : (board : Board) (hand new : Hand BoardSlot View) → new.table_id ≡ hand.table_id → new.me.0.about ≡ hand.me.0.about → IsHandOf board hand → IsHandOf board new
+hand_after board hand new table about is = record { table = table ∙ is.table; knows = about ∙ is.knows }
 
 pub slot-held : (me : At) (a : View) (k : ℕ) (p : BoardSlot) (c : List (ℕ × BoardSlot)) → me ≡ (a, (k, p) ∷ c) → me.1 ≡ (k, p) ∷ rest me.1
 slot-held me a k p c e = ap (λ (m : At). m.1) e ∙ ap (λ (l : List (ℕ × BoardSlot)). (k, p) ∷ l) (sym (ap (λ (m : At). rest m.1) e))

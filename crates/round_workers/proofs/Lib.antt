@@ -14,7 +14,8 @@ pub mod BoardCrewing
 pub mod BoardLawLemmas
 pub mod BoardWays
 pub mod BoardClosing
--- Pieces.
+-- Guesses, and pieces.
+pub mod GuessLemmas
 pub mod ShareLemmas
 pub mod PieceLemmas
 -- Worked values.

@@ -7,19 +7,17 @@ use Rattle.std.proofs.Math.ListN.{get_or-append}
 use Rattle.std.proofs.Math.Seq.{drop-cons, get_or-append_seam}
 use Rattle.std.proofs.lemmas.List.Elements.{All-append, All-cons, All-nil, All-same}
 use Rattle.cell_world.specs.Cell.{one_if}
-use Rattle.cell_world.specs.Grid.{Grid, world_of}
-use Rattle.ant_turn.specs.Minds.{Minds}
+use Rattle.cell_world.specs.Grid.{world_of}
 use Rattle.round_book.specs.Book.{CanBegin, FieldValue, window_of}
 use Rattle.round_book.specs.Window.{Window, guess_for, look_for}
 use Rattle.round_book.proofs.SoloLemmas.{guess_for-le, guess_for-next}
-use Rattle.spec_record.specs.Guess.{guess}
 use Rattle.spec_record.specs.Look.{LookValue, look_of}
 use Rattle.spec_record.proofs.Flips.{look-drew}
 use Rattle.round_workers.specs.declared.piece.Piece.{Piece}
 use Rattle.round_workers.specs.declared.share.Share.{Share}
-use Rattle.round_workers.specs.Inner.Pieces.{AreLooked, AreConsecutive, HasPieceRoom, IsPieceDone, IsPieceReady, all_have_room, shares_among}
+use Rattle.round_workers.specs.Inner.Pieces.{AreLooked, AreConsecutive, HasPieceRoom, IsGuessed, IsPieceDone, IsPieceReady, all_have_room, shares_among}
 use Rattle.round_workers.specs.Inner.Shares.{looks_for, shares}
-use Rattle.round_workers.proofs.ShareLemmas.{Follow-shares, AreConsecutive-within}
+use Rattle.round_workers.proofs.ShareLemmas.{AreConsecutive-within, Follow-shares, shares-guessed}
 
 pub looks_for-length : (window : Window) (t n : ℕ) → length (looks_for window t n) ≡ n
 looks_for-length window t zero = refl
@@ -71,12 +69,6 @@ looked-none window t looks =
     let none : t - t ≡ 0 = omega arith in
     subst (λ n. take n looks ≡ looks_for window t n) (sym none) refl
 
--- the guess at which the looks of a piece begin
-pub guess_for-first : (field : FieldValue) (from to t : ℕ) (minds : Minds) (world : Grid) (place : ℕ) → minds ≡ field.minds → world ≡ field.world → place ≡ field.place → guess minds (world_of world) place from t ≡ guess_for (window_of field from to) t
-unfolding guess_for
-guess_for-first field from to t minds world place own_minds own_world own_place =
-    ap (λ m. guess m (world_of world) place from t) own_minds ∙ ap (λ (g : Grid). guess field.minds (world_of g) place from t) own_world ∙ ap (λ n. guess field.minds (world_of field.world) n from t) own_place
-
 module _ (field : FieldValue) (from to id seed place : ℕ) (same_seed : seed ≡ field.seed) (guessed : place ≡ guess_for (window_of field from to) id) where
   made-is : look_of field.minds seed (world_of field.world) place id ≡ look_for (window_of field from to) id
   unfolding look_for
@@ -122,19 +114,19 @@ begin-front field from to end begin first within = record {
 }
 
 module _ (field : FieldValue) (from to : ℕ) (begin : CanBegin field from to) where
-  ready-from : (pieces : List Piece) (at : ℕ) → from ≤ at → AreConsecutive (map (λ piece. piece.share) pieces) at to → All HasPieceRoom pieces → All (IsPieceReady field from) pieces
-  ready-from [] at first follow rooms = All-nil (IsPieceReady field from)
-  ready-from (piece ∷ pieces) at first follow rooms =
+  ready-from : (pieces : List Piece) (at : ℕ) → from ≤ at → AreConsecutive (map (λ piece. piece.share) pieces) at to → All HasPieceRoom pieces → All (IsGuessed field from) (map (λ piece. piece.share) pieces) → All (IsPieceReady field from) pieces
+  ready-from [] at first follow rooms guessed = All-nil (IsPieceReady field from)
+  ready-from (piece ∷ pieces) at first follow rooms guessed =
       let here : piece.share.from ≡ at = follow.0 in
       let forwards : piece.share.from ≤ piece.share.to = follow.1 in
       let within : piece.share.to ≤ to = AreConsecutive-within (map (λ p. p.share) pieces) piece.share.to to follow.2 in
       All-cons (IsPieceReady field from) piece pieces
-      (record { begin = begin-front field from to piece.share.to begin (omega arith) within; first = omega arith; forwards = forwards; room = rooms 0 piece (omega arith) })
-      (ready-from pieces piece.share.to (omega arith) follow.2 (λ k d lt. rooms (suc k) d (omega arith)))
+      (record { begin = begin-front field from to piece.share.to begin (omega arith) within; first = omega arith; forwards = forwards; guess = guessed 0 piece.share (omega arith); room = rooms 0 piece (omega arith) })
+      (ready-from pieces piece.share.to (omega arith) follow.2 (λ k d lt. rooms (suc k) d (omega arith)) (λ k d lt. guessed (suc k) d (omega arith)))
 
-  -- pieces that are a window's, and have room
-  pub ready : (pieces : List Piece) → AreConsecutive (map (λ piece. piece.share) pieces) from to → All HasPieceRoom pieces → All (IsPieceReady field from) pieces
-  ready pieces follow rooms = ready-from pieces from (omega arith) follow rooms
+  -- pieces that are a window's, are guessed, and have room
+  pub ready : (pieces : List Piece) → AreConsecutive (map (λ piece. piece.share) pieces) from to → All HasPieceRoom pieces → All (IsGuessed field from) (map (λ piece. piece.share) pieces) → All (IsPieceReady field from) pieces
+  ready pieces follow rooms guessed = ready-from pieces from (omega arith) follow rooms guessed
 
 module _ (field : FieldValue) (from to : ℕ) where
   abbrev IsLooked : Piece → Type 0
@@ -181,9 +173,16 @@ module _ (window : Window) (share : Share) (looks : List LookValue) (looked : Ar
       let within : i < share.to - share.from = omega arith in
       is ∙ ap (λ xs. get_or xs i look) looked ∙ looks_for-at window share.from (share.to - share.from) i look within
 
--- what was dealt to all workers is the window
-pub dealt-follow : (workers from to dealt : ℕ) (pieces slice : List Piece) → 0 < workers → from ≤ to → slice ≡ pieces → shares_among dealt pieces ≡ shares workers from (to - from) workers → AreConsecutive (shares_among dealt slice) from to
-dealt-follow workers from to dealt pieces slice some_workers forwards is shared =
-    let end : from + (to - from) ≡ to = omega arith in
-    subst (λ ss. AreConsecutive ss from to) (sym (ap (shares_among dealt) is ∙ shared))
-    (subst (λ e. AreConsecutive (shares workers from (to - from) workers) from e) end (Follow-shares workers from (to - from) some_workers))
+-- what was dealt to all workers is the window, and each share is guessed
+module _ (field : FieldValue) (from to workers dealt : ℕ) (pieces slice : List Piece) (is : slice ≡ pieces) (shared : shares_among dealt pieces ≡ shares (window_of field from to) workers workers) where
+  dealt-are : shares_among dealt slice ≡ shares (window_of field from to) workers workers
+  dealt-are = ap (shares_among dealt) is ∙ shared
+
+  pub dealt-follow : 0 < workers → from ≤ to → AreConsecutive (shares_among dealt slice) from to
+  dealt-follow some_workers forwards =
+      let end : from + (to - from) ≡ to = omega arith in
+      subst (λ ss. AreConsecutive ss from to) (sym dealt-are)
+      (subst (λ e. AreConsecutive (shares (window_of field from to) workers workers) from e) end (Follow-shares (window_of field from to) workers some_workers))
+
+  pub dealt-guessed : All (IsGuessed field from) (shares_among dealt slice)
+  dealt-guessed = subst (All (IsGuessed field from)) (sym dealt-are) (shares-guessed field from to workers workers)

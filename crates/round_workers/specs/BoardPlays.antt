@@ -14,6 +14,7 @@ use Rattle.round_workers.specs.declared.board.view.Try.TheVariants.{Never, OfBoo
 use Rattle.round_workers.specs.declared.board.view.View.{View}
 use Rattle.round_workers.specs.BoardView.{book_home, book_out, look_emptied, look_empty, look_full, look_in_hand, window_about}
 
+-- a seat as the table sees it: its view, and what it has in hand
 abbrev At : Type 0
 At = Me BoardSlot View
 

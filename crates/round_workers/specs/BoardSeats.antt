@@ -1,11 +1,13 @@
 -- Boards and their seats (this project's own).
 use Rattle.std.specs.Prelude.{◌≡◌, ◌≢◌, ℕ, zero, suc, ◌+◌, Option, Some, None}
+use Rattle.atomic_table.specs.declared.shared.Seat.{Seat as Hand}
 use Rattle.spec_record.specs.Look.{LookValue}
 use Rattle.round_book.specs.Machine.{times}
 use Rattle.round_book.specs.Window.{Window, look_for}
 use Rattle.round_workers.specs.declared.board.seat.Board.{Board}
 use Rattle.round_workers.specs.declared.board.seat.Seat.{Seat}
 use Rattle.round_workers.specs.declared.board.view.Basis.{Basis}
+use Rattle.round_workers.specs.declared.board.view.BoardSlot.{BoardSlot}
 use Rattle.round_workers.specs.declared.board.view.Try.TheVariants.{OfLook}
 use Rattle.round_workers.specs.declared.board.view.View.{View}
 use Rattle.round_workers.specs.BoardPlays.{after_try}
@@ -22,10 +24,14 @@ board_window board = window_for (basis_of board)
 abbrev pub known : Seat → View
 known seat = seat.hand.me.0
 
+-- a hand is one of this board, and knows its window
+pub record IsHandOf (board : Board) (hand : Hand BoardSlot View) : Type 0 where
+  pub table : hand.table_id ≡ board.table.shared.table_id
+  pub knows : hand.me.0.about ≡ Some (basis_of board)
+
 -- a seat is one of this board, and knows its window
-pub record IsSeatOf (board : Board) (seat : Seat) : Type 0 where
-  pub table : seat.hand.table_id ≡ board.table.shared.table_id
-  pub knows : (known seat).about ≡ Some (basis_of board)
+abbrev pub IsSeatOf : Board → Seat → Type 0
+IsSeatOf board seat = IsHandOf board seat.hand
 
 -- a seat tried for the look of a ticket, and found that its word wasn't full
 pub record IsMiss (ticket : ℕ) (old new : View) : Type 0 where

@@ -20,9 +20,12 @@ mod looking;
 mod places;
 mod room;
 mod seat;
+mod stock;
 mod view;
 mod worker;
 
+use crate::board::stock::Stock;
+use crate::share::Turns;
 pub use closing::Closed;
 pub use crew::BoardCrew;
 use hex_geometry::OutOfMemory;
@@ -50,8 +53,7 @@ impl Board {
         ensures board { IfOk result (λ made. IsSeatOf made.0 made.1) }
         ensures first { IfOk result (λ made. known made.1 ≡ first_seat (basis_of made.0)) }
     {
-        let mut kept = Vec::new(alloc);
-        Board::over(alloc, field, from, to, &mut kept)
+        Board::over(alloc, field, Turns { from, to }, &mut Stock::new(alloc))
     }
 
     // How many turns the window has.

@@ -12,6 +12,7 @@
 
 mod board;
 mod fork;
+mod guessing;
 mod laws;
 mod piece;
 mod piece_crew;

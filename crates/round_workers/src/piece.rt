@@ -6,15 +6,16 @@ ghost use Rattle.cell_world.specs.Grid.{world_of};
 ghost use Rattle.round_book.specs.Book.{CanBegin, window_of};
 ghost use Rattle.round_book.specs.Window.{guess_for};
 ghost use Rattle.spec_record.specs.Look.{look_of};
-ghost use Rattle.round_workers.specs.Inner.Pieces.{AreLooked, HasPieceRoom, IsPieceDone, IsPieceReady, all_have_room, shares_among};
+ghost use Rattle.round_workers.specs.Inner.Pieces.{AreLooked, HasPieceRoom, IsGuessed, IsPieceDone, IsPieceReady, all_have_room, shares_among};
 ghost use Rattle.round_workers.specs.Inner.Shares.{if_any, looks_for, shares};
 
-use crate::share::{Share, share_of};
+use crate::guessing::guess_on;
+use crate::share::{Share, Turns, share_of};
 use ant_base::Gate;
 use ant_random::Stream;
 use hex_geometry::OutOfMemory;
 use round_book::Field;
-use spec_record::{Look, guess_at, look_into};
+use spec_record::{Look, look_into};
 use std::alloc::Global;
 
 // A worker's turns, and rooms for its looks. The looks of the turns are the first of the list; behind them stand those of an earlier window
@@ -52,17 +53,11 @@ fn make_looks<G: Gate>(looks: &mut Vec<Look>, share: Share, field: &Field<'_>, g
     requires begin { CanBegin field.now from share.to }
     requires first { from ≤ share.from }
     requires forwards { share.from ≤ share.to }
+    requires guess { IsGuessed field.now from share }
     requires room { share.to - share.from ≤ vec_capacity looks.old }
     ensures { AreLooked (window_of field.now from share.to) share looks.new.items }
 {
-    let place = guess_at(
-        field.world(),
-        field.brains(),
-        field.place(),
-        from,
-        share.from,
-    );
-    let mut stream = Stream::at_place_uncounted(field.seed(), place);
+    let mut stream = Stream::at_place_uncounted(field.seed(), share.guess);
     for id in share.from..share.to {
         gate.before_look(share.worker, id);
         make_look(looks, (id - share.from) as usize, field, &mut stream, id);
@@ -89,23 +84,25 @@ fn make_look(looks: &mut Vec<Look>, at: usize, field: &Field<'_>, stream: &mut S
 }
 
 // Gives each worker that has a turn of the window its share, in a piece with room for its looks, from the first piece on; answers how many
-// pieces that are.
+// pieces that are. The guesses are counted here, each id once.
 pub fn deal(
     pieces: &mut Vec<Piece>,
     alloc: Global,
+    field: &Field<'_>,
+    turns: Turns,
     workers: u32,
-    from: u32,
-    to: u32,
 ) -> Result<usize, OutOfMemory>
-    requires workers { workers ≤ 16 }
-    requires forwards { from ≤ to }
-    ensures shares { IfOk result (λ dealt. shares_among dealt pieces.new.items ≡ shares workers from (to - from) workers) }
+    requires workers { (1 ≤ workers) × (workers ≤ 16) }
+    requires window { CanBegin field.now turns.from turns.to }
+    ensures shares { IfOk result (λ dealt. shares_among dealt pieces.new.items ≡ shares (window_of field.now turns.from turns.to) workers workers) }
     ensures rooms { IfOk result (λ dealt. all_have_room dealt pieces.new.items) }
     ensures within { IfOk result (λ dealt. dealt ≤ vec_len pieces.new) }
 {
+    let mut guess = field.place();
     let mut dealt = 0;
     for worker in 0..workers {
-        let share = share_of(workers, from, to - from, worker);
+        let share = share_of(workers, turns, worker, guess);
+        guess = guess_on(field, turns, guess, share.from, share.to);
         dealt = give(pieces, alloc, dealt, share)?;
     }
     Ok(dealt)

@@ -6,6 +6,7 @@ ghost use Rattle.round_book.specs.Counts.{counts_of};
 use crate::fork::look_at_pieces;
 use crate::piece::{Piece, deal};
 use crate::settling::settle_pieces;
+use crate::share::Turns;
 use ant_base::Gate;
 use hex_geometry::OutOfMemory;
 use round_book::{Counts, Field, play_window};
@@ -89,8 +90,7 @@ impl<'c, R: Threads + Sync, G: Gate> PieceCrew<'c, R, G> {
             &mut pieces,
             self.workers,
             field,
-            from,
-            to,
+            Turns { from, to },
         );
         self.pieces = Some(pieces);
         let counts = played?;
@@ -107,19 +107,19 @@ fn play<R: Threads + Sync, G: Gate>(
     pieces: &mut Vec<Piece>,
     workers: u32,
     field: &mut Field<'_>,
-    from: u32,
-    to: u32,
+    turns: Turns,
 ) -> Result<Counts, OutOfMemory>
     requires workers { (1 ≤ workers) × (workers ≤ 16) }
-    requires window { CanBegin field.old from to }
-    ensures played { OnOk result (IsPlayed field.old from to field.new) }
-    ensures counts { IfOk result (λ counts. counts ≡ counts_of (window_of field.old from to)) }
+    requires window { CanBegin field.old turns.from turns.to }
+    ensures played { OnOk result (IsPlayed field.old turns.from turns.to field.new) }
+    ensures counts { IfOk result (λ counts. counts ≡ counts_of (window_of field.old turns.from turns.to)) }
     ensures unchanged { OnErr result (field.new ≡ field.old) }
 {
+    let Turns { from, to } = turns;
     if workers.min(to - from) <= 1 {
         return play_window(gate, alloc, field, from, to);
     }
-    let dealt = deal(pieces, alloc, workers, from, to)?;
+    let dealt = deal(pieces, alloc, field, turns, workers)?;
     let pieces = &mut pieces[..dealt];
     look_at_pieces(rt, gate, field, from, pieces, workers as usize);
     let mut book = field.begin(alloc, from, to)?;

@@ -9,6 +9,7 @@ use Rattle.brain_read.specs.declared.instr.Instr.TheVariants.{Sense, Mark, Unmar
 use Rattle.ant_turn.specs.Minds.{Minds, mind_of}
 use Rattle.ant_turn.specs.Turn.{instruction_at}
 
+-- whether an instruction draws a random number
 abbrev pub is_flip : Instr → Bool
 is_flip (Sense sight met unmet condition) = false
 is_flip (Mark i next) = false

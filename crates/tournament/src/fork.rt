@@ -5,7 +5,7 @@ ghost use Rattle.tournament.specs.Games.{played_by};
 ghost use Rattle.tournament.specs.Inner.Pieces.{IsPieceReady, IsPieceDone, dealt_games};
 
 use crate::games::Played;
-use crate::pieces::{Piece, gathered};
+use crate::pieces::{Piece, gather};
 use crate::referee::Referee;
 use hex_geometry::OutOfMemory;
 use std::alloc::Global;
@@ -13,7 +13,7 @@ use std::thread;
 use std::thread::Threads;
 
 // The games of all pieces with their scores, each piece played in a thread; refused where a game was.
-pub fn played_together<R: Threads + Sync, F: Referee>(
+pub fn play_together<R: Threads + Sync, F: Referee>(
     rt: &R,
     alloc: Global,
     referee: &F,
@@ -25,7 +25,7 @@ pub fn played_together<R: Threads + Sync, F: Referee>(
     ensures { IfOk result (λ played. played.items ≡ map (played_by (F.score referee.now)) (dealt_games pieces.old)) }
 {
     play_pieces(rt, alloc, referee, pieces, workers);
-    gathered(alloc, pieces)
+    gather(alloc, pieces)
 }
 
 // Plays each piece, in at most so many threads.

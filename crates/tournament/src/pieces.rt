@@ -58,7 +58,7 @@ fn play_games<F: Referee>(
 
 // The games in as many pieces as there are workers, piece k from game k * n / workers on, where n is the number of games. Pieces
 // without a game are left out.
-pub fn dealt(alloc: Global, games: &[Pairing], workers: usize) -> Result<Vec<Piece>, OutOfMemory>
+pub fn deal(alloc: Global, games: &[Pairing], workers: usize) -> Result<Vec<Piece>, OutOfMemory>
     requires workers { (0 < workers) × (workers ≤ 16) }
     requires few { length games.now < 2 ^ 30 }
     ensures games { IfOk result (λ pieces. dealt_games pieces.items ≡ games.now) }
@@ -88,7 +88,7 @@ fn add_piece(pieces: &mut Vec<Piece>, alloc: Global, games: &[Pairing]) -> Resul
 }
 
 // The played games of all pieces, in their order; refused where a game of a piece was.
-pub fn gathered(alloc: Global, pieces: &[Piece]) -> Result<Vec<Played>, OutOfMemory>
+pub fn gather(alloc: Global, pieces: &[Piece]) -> Result<Vec<Played>, OutOfMemory>
     ensures played { IfOk result (λ played. played.items ≡ played_games pieces.now) }
     ensures whole { OnOk result (All (λ piece. piece.refused ≡ false) pieces.now) }
 {

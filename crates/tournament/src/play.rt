@@ -2,9 +2,9 @@
 ghost use Rattle.std.specs.Prelude.{◌≡◌, ◌≢◌, ℕ, ◌<◌, ◌≤◌, IfOk};
 ghost use Rattle.tournament.specs.Standing.{IsStandingOf};
 
-use crate::fork::played_together;
+use crate::fork::play_together;
 use crate::games::games_of;
-use crate::pieces::dealt;
+use crate::pieces::deal;
 use crate::referee::Referee;
 use crate::standing::Standing;
 use crate::tally::standing_of;
@@ -30,7 +30,7 @@ pub fn play_all<R: Threads + Sync, F: Referee>(
     ensures { IfOk result (λ standing. IsStandingOf players worlds (F.score referee.now) standing) }
 {
     let games = games_of(alloc, players, worlds)?;
-    let mut pieces = dealt(alloc, &games, workers as usize)?;
-    let played = played_together(rt, alloc, referee, &mut pieces, workers as usize)?;
+    let mut pieces = deal(alloc, &games, workers as usize)?;
+    let played = play_together(rt, alloc, referee, &mut pieces, workers as usize)?;
     standing_of(alloc, players, &played)
 }

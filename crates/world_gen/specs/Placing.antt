@@ -85,7 +85,7 @@ Goes fits seed width height element g spot after =
     IsChosenSpot fits seed width height (figure_begun seed g element) (after_begun g element) spot after
     ⊎ IsFound fits seed width height (figure_begun seed g element) (after_begun g element) spot after
 
--- it has no room
+-- an element has no room
 abbrev pub HasNone : (Spot → Type 0) → ℕ → ℕ → ℕ → Element → ℕ → Type 0
 HasNone fits seed width height element g = IsBarred fits seed width height (figure_begun seed g element) (after_begun g element)
 

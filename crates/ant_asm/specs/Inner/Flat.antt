@@ -1,5 +1,5 @@
 -- Programs as lists of bodies, in which a use names a body by its number.
-use Rattle.std.specs.Prelude.{◌≡◌, ℕ, suc, ◌<◌, ◌≤◌, List, [], ◌∷◌, ◌++◌, length, slice_index_or, slice_get, Some}
+use Rattle.std.specs.Prelude.{◌≡◌, ℕ, suc, ◌+◌, ◌<◌, ◌≤◌, List, [], ◌∷◌, ◌++◌, length, slice_index_or, slice_get, Some}
 use Rattle.std.specs.List.{AllByRecursion}
 use Rattle.ant_asm.specs.declared.action.Action.{Action}
 use Rattle.ant_asm.specs.declared.action.Action.TheVariants.{Sense, Mark, Unmark, PickUp, Drop, Turn, Move, Flip}
@@ -8,9 +8,10 @@ use Rattle.ant_asm.specs.declared.action.Label.TheVariants.{Next, Place, Paramet
 use Rattle.ant_asm.specs.declared.body.Body.{Body}
 use Rattle.ant_asm.specs.declared.body.Item.{Item}
 use Rattle.ant_asm.specs.declared.expand.Frame.{Frame}
+use Rattle.ant_asm.specs.declared.expand.Spot.{Spot}
 use Rattle.ant_asm.specs.Program.{Items, size_of}
 use Rattle.ant_asm.specs.Program.Items.{End, Do, Use}
-use Rattle.ant_asm.specs.Inner.Emitting.{Numbers, offset}
+use Rattle.ant_asm.specs.Inner.Emitting.{Numbers, number_target, offset}
 
 -- the most instructions
 abbrev pub most : ℕ
@@ -97,3 +98,16 @@ HasGiven bodies number frame = (body : Body) → slice_get bodies number ≡ Som
 -- the numbers of a frame
 abbrev pub numbers_of : Frame → Numbers
 numbers_of frame = record { base = frame.base; after = frame.after; given = frame.given.now }
+
+-- an item of a body of these that is put in place, where all its instructions have numbers
+pub record IsSpot (spot : Spot) : Type 0 where
+  pub good : AreGood spot.bodies.now
+  pub known : spot.number < length spot.bodies.now
+  pub inside : IsPlaceOfItem spot.bodies.now spot.number spot.place
+  pub small : spot.place < most
+  pub given : HasGiven spot.bodies.now spot.number spot.frame
+  pub fits : spot.frame.base + size_of (tree_at spot.bodies.now spot.number) ≤ most
+
+-- the number to which a label of the item leads
+abbrev pub number_led : Spot → Label → ℕ
+number_led spot label = number_target (tree_at spot.bodies.now spot.number) (numbers_of spot.frame) spot.place label

@@ -99,11 +99,11 @@ reading above (line ∷ lines) = then_lines (stepped above line.number (read_lin
 unfoldable pub reading_from : Standing → ℕ → List (List ℕ) → Result Standing AsmFault
 reading_from above number lines = reading above (token_lines number lines)
 
--- an answer's fault is that of the reading, or want of memory
+-- an answer's fault is that of the reading, or out of memory
 abbrev pub FailsAs : AsmFault → Result Standing AsmFault → Type 0
 FailsAs fault made = (made ≡ Err fault) ⊎ (fault ≡ OutOfMemory)
 
--- an answer's fault is the text's, or want of memory
+-- an answer's fault is the text's, or out of memory
 abbrev pub FailsText : List ℕ → AsmFault → Type 0
 FailsText text fault = IsAsmFault text fault ⊎ (fault ≡ OutOfMemory)
 

@@ -40,11 +40,11 @@ abbrev pub action_read : Result (Action Source) SpellingFault → Read Line
 action_read (Ok action) = Ok (Instructs (mapped seen action))
 action_read (Err fault) = Err fault
 
--- an answer's fault is that of what is read, or want of memory
+-- an answer's fault is that of what is read, or out of memory
 abbrev pub StopsAs : {A : Type 0} → Read A → SpellingFault → Type 0
 StopsAs made fault = (made ≡ Err fault) ⊎ (fault ≡ OutOfMemory)
 
--- an answer is what is read, or want of memory
+-- an answer is what is read, or out of memory
 abbrev pub ReadsAs : {A B : Type 0} → (B → A) → Read A → Result B SpellingFault → Type 0
 ReadsAs see made (Ok x) = made ≡ Ok (see x)
 ReadsAs see made (Err fault) = StopsAs made fault

@@ -21,7 +21,7 @@ use Rattle.ant_asm.specs.Inner.Reading.{seen}
 use Rattle.ant_asm.specs.Inner.ReadLine.{labels_seen}
 use Rattle.ant_asm.specs.Inner.Scopes.{known_as}
 
--- an answer's fault is this one, or want of memory
+-- an answer's fault is this one, or out of memory
 abbrev pub FailsWith : AsmFault → Option AsmFault → Type 0
 FailsWith fault is = (is ≡ Some fault) ⊎ (fault ≡ OutOfMemory)
 

@@ -12,7 +12,7 @@ use Rattle.brain_read.specs.Inner.Verdict.{Placed, Judgement}
 abbrev pub placed_of : DraftLine → Placed
 placed_of d = record { line = d.line; instruction = drafted d.draft }
 
--- a fault that is answered is the one that was judged; want of memory says nothing
+-- a fault that is answered is the one that was judged; out of memory says nothing
 abbrev pub FailsAs : {A : Type 0} → BrainFault → Judgement A → Type 0
 FailsAs OutOfMemory judged = Unit {0}
 FailsAs fault judged = judged ≡ Err fault

@@ -5,7 +5,7 @@ use Rattle.break_view.specs.declared.fault.BreakFault.{BreakFault}
 use Rattle.break_view.specs.declared.fault.BreakFault.TheVariants.{OutOfMemory}
 use Rattle.break_view.specs.Inner.Verdict.{Judgement}
 
--- a fault that is answered is the one that was judged; want of memory says nothing
+-- a fault that is answered is the one that was judged; out of memory says nothing
 abbrev pub FailsAs : BreakFault → Judgement (List Break) → Type 0
 FailsAs OutOfMemory judged = Unit {0}
 FailsAs fault judged = judged ≡ Err fault

@@ -1,6 +1,5 @@
 -- What one cell gives to the score, and how the score changes with it.
-use Rattle.std.specs.Prelude.{◌≡◌, ◌+◌, ◌<◌, ◌≤◌, ◌^◌, Option, Some, None, if◌then◌else◌}
-use Rattle.std.specs.Option.{is_some}
+use Rattle.std.specs.Prelude.{◌≡◌, ◌+◌, ◌<◌, ◌≤◌, ◌^◌, Option, Some, None}
 use Rattle.hex_geometry.specs.declared.position.Pos.{Pos}
 use Rattle.cell_world.specs.declared.ant.Colour.TheVariants.{Red, Black}
 use Rattle.cell_world.specs.declared.cell.Cell.{Cell}
@@ -12,15 +11,14 @@ use Rattle.cell_world.specs.World.{World}
 abbrev pub score_in : Cell → Score
 score_in cell = record { red = hill_food_in Red cell; black = hill_food_in Black cell }
 
--- the food that the cell at a position gives, where there is a position
-abbrev pub score_at : World → Option Pos → Score
-score_at w None = record { red = 0; black = 0 }
-score_at w (Some p) = score_in (w.cells p)
+abbrev pub score_in_any : Option Cell → Score
+score_in_any None = record { red = 0; black = 0 }
+score_in_any (Some cell) = score_in cell
 
--- the position, where its cell is of a hill: no other cell gives anything
-abbrev pub on_hill : World → Option Pos → Option Pos
-on_hill w None = None
-on_hill w (Some p) = if is_some (w.cells p).hill then Some p else None
+-- the cell at a position, where there is a position
+abbrev pub cell_at : World → Option Pos → Option Cell
+cell_at w None = None
+cell_at w (Some p) = Some (w.cells p)
 
 -- the score became another one by a cell alone, which gave this before and gives that after it
 pub record IsCounted (old before new after : Score) : Type 0 where

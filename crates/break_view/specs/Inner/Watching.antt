@@ -1,10 +1,10 @@
 -- What can change whether a break holds from one turn to the next.
 use Rattle.std.specs.Prelude.{◌≡◌, ℕ, Bool, true, false, ◌&&◌, ◌==◌, List, Option, Some, None, slice_index_or}
 use Rattle.std.specs.List.{AllByRecursion}
-use Rattle.hex_geometry.specs.declared.position.Pos.{Pos}
 use Rattle.cell_world.specs.declared.ant.Ant.{Ant}
 use Rattle.cell_world.specs.declared.ant.Colour.{Colour}
 use Rattle.cell_world.specs.declared.ant.Colour.TheVariants.{Red, Black}
+use Rattle.cell_world.specs.declared.cell.Cell.{Cell}
 use Rattle.cell_world.specs.World.{World, place_in}
 use Rattle.ant_turn.specs.Turn.{has_ant}
 use Rattle.break_view.specs.declared.breaks.Break.{Break}
@@ -24,15 +24,15 @@ is_state (Score colour least) = false
 abbrev pub LooksSame : World → World → Type 0
 LooksSame w v = (item : Break) (r t u : ℕ) → is_state item ≡ false → is_met item v r u ≡ is_met item w r t
 
--- the food on the cell at a position, where there is a position
-abbrev pub food_at : World → Option Pos → ℕ
-food_at w None = 0
-food_at w (Some p) = (w.cells p).food
+-- the food on a cell, where there is a cell
+abbrev pub food_in : Option Cell → ℕ
+food_in None = 0
+food_in (Some cell) = cell.food
 
--- whether an ant stands at a position on so much food; without a position there is nothing to ask
-abbrev pub is_left : World → Option Pos → ℕ → Bool
-is_left w None food = true
-is_left w (Some p) food = has_ant (w.cells p).ant && ((w.cells p).food == food)
+-- whether an ant stands on a cell with so much food; without a cell there is nothing to ask
+abbrev pub is_left : Option Cell → ℕ → Bool
+is_left None food = true
+is_left (Some cell) food = has_ant cell.ant && (cell.food == food)
 
 -- whether the tables of both colours name a state: beyond its length a table names every state
 abbrev pub names : List Bool → List Bool → Colour → ℕ → Bool

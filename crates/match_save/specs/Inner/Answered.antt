@@ -31,7 +31,7 @@ abbrev pub line_told : {A : Type 0} → Result A RefusedLine → Result A ℕ
 line_told (Ok x) = Ok x
 line_told (Err line) = Err line.0
 
--- a fault is the line that was told; want of memory says nothing
+-- a fault is the line that was told; out of memory says nothing
 abbrev pub FaultTold : {A : Type 0} → Result A ℕ → SaveFault → Type 0
 FaultTold told (BadLine line) = told ≡ Err line
 FaultTold told BadState = ⊥

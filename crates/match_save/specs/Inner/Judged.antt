@@ -12,7 +12,7 @@ use Rattle.match_save.specs.State.{IsState, grid_of_draft}
 use Rattle.match_save.specs.Inner.State.{HasWorld}
 use Rattle.std.specs.Prelude.{ℕ}
 
--- what is refused can't be had; want of memory says nothing
+-- what is refused can't be had; out of memory says nothing
 abbrev pub Refutes : Type 0 → SaveFault → Type 0
 Refutes P (BadLine line) = ⊥
 Refutes P BadState = P → ⊥

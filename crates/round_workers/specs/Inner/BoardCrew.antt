@@ -2,14 +2,17 @@
 use Rattle.std.specs.Prelude.{◌≡◌, ℕ, ◌+◌, ◌<◌, ◌≤◌, true, false, List, [], map, slice_index_or, All, IfSome, Vec}
 use Rattle.std.specs.List.{AllByRecursion}
 use Rattle.std.specs.Vec.{vec_capacity, vec_len}
+use Rattle.round_book.specs.Book.{BookValue, FieldValue, StandsOn}
 use Rattle.round_book.specs.Machine.{times}
-use Rattle.round_book.specs.Window.{Window, look_for}
+use Rattle.round_book.specs.Window.{Window, guesses_for, look_for}
+use Rattle.round_workers.specs.declared.board.crew.CrewStock.{CrewStock}
 use Rattle.round_workers.specs.declared.board.crew.Laid.{Laid}
 use Rattle.round_workers.specs.declared.board.seat.Board.{Board}
 use Rattle.round_workers.specs.declared.board.seat.Seat.{Seat}
 use Rattle.round_workers.specs.declared.board.worker.Worker.{Worker}
 use Rattle.round_workers.specs.declared.board.view.BoardSlot.{BoardSlot}
 use Rattle.round_workers.specs.declared.board.view.BoardSlot.TheVariants.{Nothing}
+use Rattle.round_workers.specs.declared.share.Turns.{Turns}
 use Rattle.round_workers.specs.Inner.BoardPlaces.{look_in}
 use Rattle.round_workers.specs.BoardSeats.{IsSeatOf, basis_of, known, board_window}
 use Rattle.round_workers.specs.BoardTotals.{once_below}
@@ -46,15 +49,28 @@ pub record IsRoom {A : Type 0} (turns : ℕ) (room : Vec ℕ A) : Type 0 where
   pub bare : room.items ≡ []
   pub wide : turns ≤ vec_capacity room
 
--- all that a window takes memory for: a board with its first seat, the lists of the workers, and room for the workers
+-- a board of a window with its first seat
 pub record IsLaid (for_window : Window) (laid : Laid) : Type 0 where
   pub window : board_window laid.board ≡ for_window
   pub seat : IsSeatOf laid.board laid.first
   pub first : known laid.first ≡ first_seat (basis_of laid.board)
-  pub lists : All (IsRoom (turns_in for_window)) laid.lists.items
-  pub few : vec_len laid.lists ≤ 16
-  pub bare : laid.workers.items ≡ []
-  pub wide : vec_len laid.lists ≤ vec_capacity laid.workers
+
+-- all else that a window takes memory for, but for its book: its guesses, the lists of the workers, and room for the workers, for their lists
+-- and for the rooms of its looks
+pub record IsCrewStocked (for_window : Window) (stock : CrewStock) : Type 0 where
+  pub guesses : stock.guesses.items ≡ guesses_for for_window
+  pub lists : All (IsRoom (turns_in for_window)) stock.lists.items
+  pub few : vec_len stock.lists ≤ 16
+  pub bare : stock.workers.items ≡ []
+  pub wide : vec_len stock.lists ≤ vec_capacity stock.workers
+  pub idle : vec_len stock.idle + 16 ≤ vec_capacity stock.idle
+  pub rooms : vec_len stock.board.rooms + turns_in for_window ≤ vec_capacity stock.board.rooms
+
+-- a book stands on a field, for these turns
+pub record IsBookOf (field : FieldValue) (turns : Turns) (book : BookValue) : Type 0 where
+  pub stands : StandsOn field book
+  pub from : book.from ≡ turns.from
+  pub to : book.to ≡ turns.to
 
 -- the looks of a window that wait in these places, by ticket, are those at its turns
 abbrev pub AreLooks : Window → List BoardSlot → Type 0

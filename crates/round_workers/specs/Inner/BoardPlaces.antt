@@ -1,9 +1,11 @@
 -- What lies in a slot of a board (this project's own).
-use Rattle.std.specs.Prelude.{◌≡◌, ℕ, ◌+◌, ◌<◌, ◌≤◌, Bool, true, false, List, length, slice_index_or, Option, Some, None}
+use Rattle.std.specs.Prelude.{◌≡◌, ℕ, ◌+◌, ◌<◌, ◌≤◌, Bool, true, false, List, [], length, replicate, slice_index_or, Option, Some, None}
+use Rattle.std.specs.Vec.{vec_capacity, vec_len}
 use mathlib.Core.Option as maybe
 use lib.ListN.{get_elem?}
 use Rattle.spec_record.specs.Look.{LookValue}
 use Rattle.round_book.specs.Book.{BookValue}
+use Rattle.round_workers.specs.declared.board.stock.Stock.{Stock}
 use Rattle.round_workers.specs.declared.board.view.BoardSlot.{BoardSlot}
 use Rattle.round_workers.specs.declared.board.view.BoardSlot.TheVariants.{Nothing, OneLook, Spare, TheBook}
 
@@ -13,13 +15,6 @@ book_room Nothing = None
 book_room (TheBook content) = Some content
 book_room (Spare old) = None
 book_room (OneLook content) = None
-
--- the book in a place, if it is there
-abbrev pub book_in : BoardSlot → Option BookValue
-book_in Nothing = None
-book_in (TheBook content) = content
-book_in (Spare old) = None
-book_in (OneLook content) = None
 
 -- the look in a place, if one is there
 abbrev pub look_in : BoardSlot → Option LookValue
@@ -39,6 +34,15 @@ look_room (OneLook content) = Some content
 pub record AreTaken (n count : ℕ) (filled : List Bool) : Type 0 where
   pub taken : (k : ℕ) → k < n → slice_index_or filled k false ≡ false
   pub there : (k : ℕ) → n ≤ k → k < count → slice_index_or filled k false ≡ true
+
+-- there is room for a board of so many turns
+pub record IsStocked (turns : ℕ) (stock : Stock) : Type 0 where
+  pub rooms : vec_len stock.rooms + turns + 1 ≤ vec_capacity stock.rooms
+  pub words : stock.words.items ≡ replicate (turns + 2) 0
+  pub no_places : stock.places.items ≡ []
+  pub places : turns ≤ vec_capacity stock.places
+  pub no_looks : stock.looks.items ≡ []
+  pub looks : turns ≤ vec_capacity stock.looks
 
 -- the slots with which a board begins: the book's room without the book, and a look's for each turn
 pub record AreBare (turns : ℕ) (slots : List BoardSlot) : Type 0 where

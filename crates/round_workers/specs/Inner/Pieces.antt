@@ -2,7 +2,7 @@
 use Rattle.std.specs.Prelude.{◌≡◌, ℕ, ◌-◌, ◌≤◌, List, [], ◌∷◌, take, map, All}
 use Rattle.std.specs.Vec.{vec_capacity}
 use Rattle.round_book.specs.Book.{CanBegin, FieldValue, window_of}
-use Rattle.round_book.specs.Window.{Window}
+use Rattle.round_book.specs.Window.{Window, guess_for}
 use Rattle.spec_record.specs.Look.{LookValue}
 use Rattle.round_workers.specs.declared.piece.Piece.{Piece}
 use Rattle.round_workers.specs.declared.share.Share.{Share}
@@ -24,11 +24,16 @@ all_have_room n pieces = All HasPieceRoom (take n pieces)
 abbrev pub AreLooked : Window → Share → List LookValue → Type 0
 AreLooked window share looks = take (share.to - share.from) looks ≡ looks_for window share.from (share.to - share.from)
 
+-- the first turn of a share, in a window of this field that begins at turn `from`, is guessed to stand where the share says
+abbrev pub IsGuessed : FieldValue → ℕ → Share → Type 0
+IsGuessed field from share = share.guess ≡ guess_for (window_of field from share.to) share.from
+
 -- a piece of a window of this field that begins at turn `from`
 pub record IsPieceReady (field : FieldValue) (from : ℕ) (piece : Piece) : Type 0 where
   pub begin : CanBegin field from piece.share.to
   pub first : from ≤ piece.share.from
   pub forwards : piece.share.from ≤ piece.share.to
+  pub guess : IsGuessed field from piece.share
   pub room : HasPieceRoom piece
 
 -- its looks are made

@@ -1,22 +1,30 @@
 -- How the turns of a window are shared out among workers, and what each makes of its share (this project's own).
-use Rattle.std.specs.Prelude.{ℕ, zero, suc, ◌+◌, List, [], ◌∷◌, ◌++◌, nat_lt, if◌then◌else◌}
+use Rattle.std.specs.Prelude.{ℕ, zero, suc, ◌+◌, ◌-◌, List, [], ◌∷◌, ◌++◌, nat_lt, if◌then◌else◌}
 use Rattle.work_share.specs.Borders.{border}
-use Rattle.round_book.specs.Window.{Window, look_for}
+use Rattle.round_book.specs.Window.{Window, guess_for, look_for}
 use Rattle.spec_record.specs.Look.{LookValue}
 use Rattle.round_workers.specs.declared.share.Share.{Share}
 
--- of n turns from `from` on worker k has the piece between two borders of the row of turns
-abbrev pub share_of : (workers from n k : ℕ) → Share
-share_of workers from n k = record { worker = k; from = from + border workers n k; to = from + border workers n (k + 1) }
+-- of n turns from `from` on worker k has the piece between two borders of the row of turns, where this is the guess of its first turn
+abbrev pub share_of : (workers from n k guess : ℕ) → Share
+share_of workers from n k guess = record { worker = k; from = from + border workers n k; to = from + border workers n (k + 1); guess = guess }
+
+-- the first turn of worker k in a window
+abbrev pub first_turn : Window → (workers k : ℕ) → ℕ
+first_turn window workers k = window.from + border workers (window.to - window.from) k
+
+-- the share of worker k in a window
+abbrev pub window_share : Window → (workers k : ℕ) → Share
+window_share window workers k = share_of workers window.from (window.to - window.from) k (guess_for window (first_turn window workers k))
 
 -- the share, if it has a turn
 abbrev pub if_any : Share → List Share
 if_any share = if nat_lt share.from share.to then share ∷ [] else []
 
--- the shares of the first k workers that have a turn
-abbrev pub shares : (workers from n k : ℕ) → List Share
-shares workers from n zero = []
-shares workers from n (suc k) = shares workers from n k ++ if_any (share_of workers from n k)
+-- the shares of the first k workers that have a turn of a window
+abbrev pub shares : Window → (workers k : ℕ) → List Share
+shares window workers zero = []
+shares window workers (suc k) = shares window workers k ++ if_any (window_share window workers k)
 
 -- the looks at n turns of a window from turn t on
 abbrev pub looks_for : Window → (t n : ℕ) → List LookValue

@@ -5,7 +5,7 @@ ghost use Rattle.round_book.specs.Book.{IsLentFor, StandsFor};
 ghost use Rattle.round_workers.specs.declared.board.view.BoardSlot.TheVariants.{Nothing};
 ghost use Rattle.round_workers.specs.declared.board.view.Try.TheVariants.{OfBook};
 ghost use Rattle.round_workers.specs.BoardPlays.{after_try, has_seen, with_book, without_book};
-ghost use Rattle.round_workers.specs.BoardSeats.{IsSeatOf, basis_of, known, board_window};
+ghost use Rattle.round_workers.specs.BoardSeats.{IsHandOf, IsSeatOf, known, board_window};
 ghost use Rattle.round_workers.specs.BoardView.{book_out};
 ghost use Rattle.round_workers.specs.BoardWorker.{IsSameButTook};
 
@@ -94,8 +94,7 @@ impl Board {
     // Tries to get the room of the book, with the book.
     #[inline]
     fn begin_book(&self, hand: &mut Hand) -> Option<Room<Book>>
-        requires table { hand.old.table_id ≡ self.now.table.shared.table_id }
-        requires knows { hand.old.me.0.about ≡ Some (basis_of self.now) }
+        requires hand { IsHandOf self.now hand.old }
         requires opened { hand.old.me.0.opened ≡ true }
         requires free { hand.old.me.0.holds ≡ false }
         ensures table { hand.new.table_id ≡ hand.old.table_id }
@@ -113,8 +112,7 @@ impl Board {
     // Gives the room back, with the book.
     #[inline]
     fn end_book(&self, hand: &mut Hand, room: Room<Book>)
-        requires table { hand.old.table_id ≡ self.now.table.shared.table_id }
-        requires knows { hand.old.me.0.about ≡ Some (basis_of self.now) }
+        requires hand { IsHandOf self.now hand.old }
         requires holds { hand.old.me.0.holds ≡ true }
         requires out { hand.old.me.1 ≡ (0, Nothing) ∷ rest hand.old.me.1 }
         requires stands { IsSomeAnd room (StandsFor (board_window self.now)) }

@@ -12,7 +12,8 @@ ghost use Rattle.round_workers.specs.BoardLaws.{IsWhereClosed, Way};
 ghost use Rattle.round_workers.specs.BoardTotals.{once_below};
 ghost use Rattle.round_workers.specs.BoardSeats.{IsSeatOf, basis_of, known, left_look, board_window};
 
-use crate::board::places::{book_in, look_out_of};
+use crate::board::places::look_out_of;
+use crate::board::room::Room;
 use crate::board::seat::{Board, Seat};
 use crate::board::view::BoardSlot;
 use round_book::Book;
@@ -49,6 +50,7 @@ impl Board {
     {
         let Ended {
             book,
+            home: _,
             places,
             room,
             drawn,
@@ -61,10 +63,12 @@ impl Board {
     }
 }
 
-// What a board leaves: its book, the places of its looks, by ticket, a room for as many looks, and how many tickets were drawn.
+// What a board leaves: its book and the room of it, the places of its looks, by ticket, a room for as many looks, and how many tickets were
+// drawn.
 #[derive(Drop)]
 pub(crate) struct Ended {
     pub(crate) book: Book,
+    pub(crate) home: Room<Book>,
     pub(crate) places: Vec<BoardSlot>,
     pub(crate) room: Vec<Option<Look>>,
     pub(crate) drawn: u32,

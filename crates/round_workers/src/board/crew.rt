@@ -6,26 +6,30 @@ ghost use Rattle.round_book.specs.Book as books;
 ghost use Rattle.round_book.specs.Counts.{counts_of};
 ghost use Rattle.round_book.specs.Window.{guesses_for};
 ghost use Rattle.round_workers.specs.declared.board.worker.Worker.{Worker};
-ghost use Rattle.round_workers.specs.Inner.BoardCrew.{AreLooks, HasWorked, IsHired, IsLaid, IsManned, IsRoom};
+ghost use Rattle.round_workers.specs.Inner.BoardCrew.{AreLooks, HasWorked, IsBookOf, IsCrewStocked, IsHired, IsLaid, IsManned, IsRoom};
 ghost use Rattle.round_workers.specs.BoardPlays.{newcomer};
 ghost use Rattle.round_workers.specs.BoardSeats.{IsSeatOf, known, board_window};
 ghost use Rattle.round_workers.specs.BoardWorker.{turns_in};
 
 use crate::board::closing::Ended;
 use crate::board::looking::look_at;
-use crate::board::places::{keep, look_in};
-use crate::board::room::Room;
+use crate::board::places::look_in;
 use crate::board::seat::{Board, Seat};
+use crate::board::stock::Stock;
 use crate::board::view::BoardSlot;
 use crate::board::worker::Worker;
+use crate::guessing::list_guesses;
+use crate::share::Turns;
 use ant_base::Gate;
 use hex_geometry::OutOfMemory;
 use round_book::{Book, Counts, Field, advance, play_window};
-use spec_record::{Look, guesses};
 use std::alloc::Global;
 use std::marker::Model;
 use std::thread;
 use std::thread::Threads;
+
+// How many workers a crew has at most.
+const MOST_WORKERS: usize = 16;
 
 /// A crew of workers that draw the turns of a window, put the looks at them on a board, and pass its book from one to another to settle
 /// them.
@@ -35,7 +39,7 @@ pub struct BoardCrew<'c, R: Threads + Sync, G: Gate> {
     gate: &'c G,
     workers: u32,
     turns: u64,
-    rooms: Option<Vec<Room<Look>>>,
+    stock: Option<CrewStock>,
 }
 
 impl<'c, R: Threads + Sync, G: Gate> Model for BoardCrew<'c, R, G> {
@@ -61,7 +65,7 @@ impl<'c, R: Threads + Sync, G: Gate> BoardCrew<'c, R, G> {
             gate,
             workers,
             turns: 0,
-            rooms: None,
+            stock: None,
         }
     }
 
@@ -95,21 +99,45 @@ impl<'c, R: Threads + Sync, G: Gate> BoardCrew<'c, R, G> {
         ensures unchanged { OnErr result (field.new ≡ field.old) }
         ensures as_before { OnErr result (self.new ≡ self.old) }
     {
-        let mut rooms = self.rooms.take().unwrap_or_else(|| Vec::new(alloc));
+        let mut stock = self.stock.take().unwrap_or_else(|| CrewStock::new(alloc));
         let played = play(
             self.rt,
             self.gate,
             alloc,
-            &mut rooms,
+            &mut stock,
             self.workers,
             field,
-            from,
-            to,
+            Turns { from, to },
         );
-        self.rooms = Some(rooms);
+        self.stock = Some(stock);
         let counts = played?;
         self.turns = self.turns.saturating_add(u64::from(to - from));
         Ok(counts)
+    }
+}
+
+// What a crew keeps from one window to the next, so that a window takes memory for its table alone, and where it has more turns than those
+// before. Nothing is known of what lies in it between two windows.
+#[derive(Drop)]
+struct CrewStock {
+    board: Stock,
+    guesses: Vec<u64>,
+    // The lists of the workers of the window, each of its own, and those that no worker has.
+    lists: Vec<Vec<u32>>,
+    idle: Vec<Vec<u32>>,
+    workers: Vec<Worker>,
+}
+
+impl CrewStock {
+    // A stock of nothing.
+    fn new(alloc: Global) -> CrewStock {
+        CrewStock {
+            board: Stock::new(alloc),
+            guesses: Vec::new(alloc),
+            lists: Vec::new(alloc),
+            idle: Vec::new(alloc),
+            workers: Vec::new(alloc),
+        }
     }
 }
 
@@ -118,22 +146,21 @@ fn play<R: Threads + Sync, G: Gate>(
     rt: &R,
     gate: &G,
     alloc: Global,
-    rooms: &mut Vec<Room<Look>>,
+    stock: &mut CrewStock,
     workers: u32,
     field: &mut Field<'_>,
-    from: u32,
-    to: u32,
+    turns: Turns,
 ) -> Result<Counts, OutOfMemory>
     requires workers { (1 ≤ workers) × (workers ≤ 16) }
-    requires window { books.CanBegin field.old from to }
-    ensures played { OnOk result (books.IsPlayed field.old from to field.new) }
-    ensures counts { IfOk result (λ counts. counts ≡ counts_of (books.window_of field.old from to)) }
+    requires window { books.CanBegin field.old turns.from turns.to }
+    ensures played { OnOk result (books.IsPlayed field.old turns.from turns.to field.new) }
+    ensures counts { IfOk result (λ counts. counts ≡ counts_of (books.window_of field.old turns.from turns.to)) }
     ensures unchanged { OnErr result (field.new ≡ field.old) }
 {
-    if workers.min(to - from) <= 1 {
-        play_window(gate, alloc, field, from, to)
+    if workers.min(turns.to - turns.from) <= 1 {
+        play_window(gate, alloc, field, turns.from, turns.to)
     } else {
-        play_on_board(rt, gate, alloc, rooms, workers, field, from, to)
+        play_on_board(rt, gate, alloc, stock, workers, field, turns)
     }
 }
 
@@ -142,148 +169,144 @@ fn play_on_board<R: Threads + Sync, G: Gate>(
     rt: &R,
     gate: &G,
     alloc: Global,
-    rooms: &mut Vec<Room<Look>>,
+    stock: &mut CrewStock,
     workers: u32,
     field: &mut Field<'_>,
-    from: u32,
-    to: u32,
+    turns: Turns,
 ) -> Result<Counts, OutOfMemory>
     requires workers { (1 ≤ workers) × (workers ≤ 16) }
-    requires window { books.CanBegin field.old from to }
-    ensures played { OnOk result (books.IsPlayed field.old from to field.new) }
-    ensures counts { IfOk result (λ counts. counts ≡ counts_of (books.window_of field.old from to)) }
+    requires window { books.CanBegin field.old turns.from turns.to }
+    ensures played { OnOk result (books.IsPlayed field.old turns.from turns.to field.new) }
+    ensures counts { IfOk result (λ counts. counts ≡ counts_of (books.window_of field.old turns.from turns.to)) }
     ensures unchanged { OnErr result (field.new ≡ field.old) }
 {
-    let guesses = guesses_in(alloc, field, from, to)?;
-    let hired = workers.min(to - from) as usize;
-    let laid = lay(alloc, rooms, field, hired, from, to)?;
-    let book = field.begin(alloc, from, to)?;
-    let book = settle(
-        rt,
-        gate,
-        rooms,
-        laid,
-        book,
-        field,
-        &guesses,
-        workers as usize,
-        from,
-        to,
-    );
+    let hired = workers.min(turns.to - turns.from) as usize;
+    let laid = lay(alloc, stock, field, hired, turns)?;
+    let book = field.begin(alloc, turns.from, turns.to)?;
+    let book = settle(rt, gate, workers as usize, stock, laid, book, field, turns);
     Ok(field.finish(book))
 }
 
-// The guess of each turn of a window.
-fn guesses_in(alloc: Global, field: &Field<'_>, from: u32, to: u32) -> Result<Vec<u64>, OutOfMemory>
-    requires { books.CanBegin field.now from to }
-    ensures { IfOk result (λ all. all.items ≡ guesses_for (books.window_of field.now from to)) }
-{
-    guesses(
-        alloc,
-        field.world(),
-        field.brains(),
-        field.place(),
-        from,
-        to,
-    )
-}
-
-// All that a window takes memory for, but for its guesses and its book.
+// A board of a window, and its first seat.
 #[derive(Drop)]
 struct Laid {
     board: Board,
     first: Seat,
-    lists: Vec<Vec<u32>>,
-    workers: Vec<Worker>,
 }
 
-// A board of the window, its first seat, and room for so many workers, and for the rooms of all looks in the list of those that are kept.
+// A board of the window and its first seat, and all else that the window takes memory for, but for its book: its guesses, and room for so many
+// workers, for their lists, and for the rooms of all looks in the list of those that are kept.
 fn lay(
     alloc: Global,
-    rooms: &mut Vec<Room<Look>>,
+    stock: &mut CrewStock,
     field: &Field<'_>,
     hired: usize,
-    from: u32,
-    to: u32,
+    turns: Turns,
 ) -> Result<Laid, OutOfMemory>
-    requires window { books.CanBegin field.now from to }
+    requires window { books.CanBegin field.now turns.from turns.to }
     requires few { hired ≤ 16 }
-    ensures laid { IfOk result (IsLaid (books.window_of field.now from to)) }
-    ensures room { OnOk result (vec_len rooms.new + (to - from) ≤ vec_capacity rooms.new) }
+    ensures laid { IfOk result (IsLaid (books.window_of field.now turns.from turns.to)) }
+    ensures stocked { OnOk result (IsCrewStocked (books.window_of field.now turns.from turns.to) stock.new) }
 {
-    let lists = lists(alloc, hired, (to - from) as usize)?;
-    let workers = Vec::with_capacity(alloc, hired)?;
-    let (board, first) = Board::over(alloc, field, from, to, rooms)?;
-    Ok(Laid {
-        board,
-        first,
-        lists,
-        workers,
-    })
+    list_guesses(&mut stock.guesses, field, turns)?;
+    let count = (turns.to - turns.from) as usize;
+    lay_lists(alloc, &mut stock.lists, &mut stock.idle, hired, count)?;
+    lay_workers(&mut stock.workers, hired)?;
+    let (board, first) = Board::over(alloc, field, turns, &mut stock.board)?;
+    Ok(Laid { board, first })
 }
 
-// So many empty lists, each with room for so many turns.
-fn lists(alloc: Global, count: usize, turns: usize) -> Result<Vec<Vec<u32>>, OutOfMemory>
-    ensures lists { IfOk result (λ lists. All (IsRoom turns) lists.items) }
-    ensures count { IfOk result (λ lists. vec_len lists ≡ count) }
+// Lays out so many empty lists, each with room for so many turns, and has room for as many workers' lists to come back.
+fn lay_lists(
+    alloc: Global,
+    lists: &mut Vec<Vec<u32>>,
+    idle: &mut Vec<Vec<u32>>,
+    count: usize,
+    turns: usize,
+) -> Result<(), OutOfMemory>
+    ensures lists { OnOk result (All (IsRoom turns) lists.new.items) }
+    ensures count { OnOk result (vec_len lists.new ≡ count) }
+    ensures room { OnOk result (vec_len idle.new + 16 ≤ vec_capacity idle.new) }
 {
-    let mut lists = Vec::with_capacity(alloc, count)?;
+    idle.reserve(MOST_WORKERS)?;
+    lists.clear();
+    lists.reserve(count)?;
     for _ in 0..count {
-        lists.push_reserved(Vec::with_capacity(alloc, turns)?);
+        let made = list(alloc, idle, turns)?;
+        lists.push_reserved(made);
     }
-    Ok(lists)
+    Ok(())
+}
+
+// An empty list with room for so many turns: one that no worker has, or a new one.
+fn list(alloc: Global, idle: &mut Vec<Vec<u32>>, turns: usize) -> Result<Vec<u32>, OutOfMemory>
+    ensures list { IfOk result (IsRoom turns) }
+    ensures fewer { vec_len idle.new ≤ vec_len idle.old }
+    ensures capacity { vec_capacity idle.new ≡ vec_capacity idle.old }
+{
+    let mut made = idle.pop().unwrap_or_else(|| Vec::new(alloc));
+    made.clear();
+    made.reserve(turns)?;
+    Ok(made)
+}
+
+// Has room for so many workers, of which there is none yet.
+fn lay_workers(workers: &mut Vec<Worker>, count: usize) -> Result<(), OutOfMemory>
+    ensures bare { OnOk result (workers.new.items ≡ []) }
+    ensures wide { OnOk result (count ≤ vec_capacity workers.new) }
+{
+    workers.clear();
+    workers.reserve(count)?;
+    Ok(())
 }
 
 // Settles a window by workers over a board, and what they leave on this thread.
 fn settle<R: Threads + Sync, G: Gate>(
     rt: &R,
     gate: &G,
-    rooms: &mut Vec<Room<Look>>,
+    threads: usize,
+    stock: &mut CrewStock,
     laid: Laid,
     book: Book,
     field: &Field<'_>,
-    guesses: &[u64],
-    threads: usize,
-    from: u32,
-    to: u32,
+    turns: Turns,
 ) -> Book
     requires threads { 0 < threads }
-    requires laid { IsLaid (books.window_of field.now from to) laid }
-    requires room { vec_len rooms.old + (to - from) ≤ vec_capacity rooms.old }
-    requires stands { books.StandsOn field.now book }
-    requires from { book.from ≡ from }
-    requires next { book.next ≡ from }
-    requires to { book.to ≡ to }
-    requires guesses { guesses.now ≡ guesses_for (books.window_of field.now from to) }
-    ensures stands { books.StandsOn field.now result }
-    ensures from { result.from ≡ from }
-    ensures to { result.to ≡ to }
-    ensures next { result.next ≡ to }
+    requires stocked { IsCrewStocked (books.window_of field.now turns.from turns.to) stock.old }
+    requires laid { IsLaid (books.window_of field.now turns.from turns.to) laid }
+    requires book { IsBookOf field.now turns book }
+    requires next { book.next ≡ turns.from }
+    ensures book { IsBookOf field.now turns result }
+    ensures next { result.next ≡ turns.to }
 {
-    let Laid {
-        board,
-        mut first,
-        lists,
-        mut workers,
-    } = laid;
+    let Laid { board, mut first } = laid;
     board.open_book(&mut first, book);
-    hire(&board, &mut first, &mut workers, lists);
-    work_all(rt, gate, &board, field, guesses, &mut workers, threads);
-    gather(&board, &mut first, workers);
+    hire(&board, &mut first, &mut stock.workers, &mut stock.lists);
+    work_all(
+        rt,
+        gate,
+        threads,
+        &board,
+        field,
+        &stock.guesses,
+        &mut stock.workers,
+    );
+    gather(&board, &mut first, &mut stock.workers, &mut stock.idle);
     let ended = board.take_apart(first);
-    settle_left(ended, rooms, field, guesses, from, to)
+    settle_left(ended, &mut stock.board, field, &stock.guesses, turns)
 }
 
 // Gives each list to a worker of its own, with a seat of its own.
-fn hire(board: &Board, first: &mut Seat, workers: &mut Vec<Worker>, mut lists: Vec<Vec<u32>>)
+fn hire(board: &Board, first: &mut Seat, workers: &mut Vec<Worker>, lists: &mut Vec<Vec<u32>>)
     requires manned { IsManned board.now first.old workers.old.items }
     requires hired { All (IsHired board.now) workers.old.items }
-    requires lists { All (IsRoom (turns_in (board_window board.now))) lists.items }
-    requires few { (known first.old).made + vec_len lists ≤ 16 }
+    requires lists { All (IsRoom (turns_in (board_window board.now))) lists.old.items }
+    requires few { (known first.old).made + vec_len lists.old ≤ 16 }
     requires counted { vec_len workers.old ≤ (known first.old).made }
-    requires wide { vec_len workers.old + vec_len lists ≤ vec_capacity workers.old }
+    requires wide { vec_len workers.old + vec_len lists.old ≤ vec_capacity workers.old }
     ensures manned { IsManned board.now first.new workers.new.items }
     ensures hired { All (IsHired board.now) workers.new.items }
+    ensures few { vec_len workers.new ≤ 16 }
 {
     while let Some(made) = lists.pop() {
         let seat = board.split(first);
@@ -310,11 +333,11 @@ fn worker(number: u32, seat: Seat, made: Vec<u32>) -> Worker
 fn work_all<R: Threads + Sync, G: Gate>(
     rt: &R,
     gate: &G,
+    threads: usize,
     board: &Board,
     field: &Field<'_>,
     guesses: &[u64],
     workers: &mut [Worker],
-    threads: usize,
 )
     requires threads { 0 < threads }
     requires hired { All (IsHired board.now) workers.old }
@@ -336,19 +359,21 @@ fn work_all<R: Threads + Sync, G: Gate>(
     );
 }
 
-// Joins the seats of the workers into the first one.
-fn gather(board: &Board, first: &mut Seat, mut workers: Vec<Worker>)
-    requires manned { IsManned board.now first.old workers.items }
-    requires seats { All (λ worker. IsSeatOf board.now worker.seat) workers.items }
+// Joins the seats of the workers into the first one, and takes their lists back.
+fn gather(board: &Board, first: &mut Seat, workers: &mut Vec<Worker>, idle: &mut Vec<Vec<u32>>)
+    requires manned { IsManned board.now first.old workers.old.items }
+    requires seats { All (λ worker. IsSeatOf board.now worker.seat) workers.old.items }
+    requires room { vec_len idle.old + vec_len workers.old ≤ vec_capacity idle.old }
     ensures { IsManned board.now first.new [] }
 {
     while let Some(worker) = workers.pop() {
-        join(board, first, worker);
+        let made = join(board, first, worker);
+        idle.push_reserved(made);
     }
 }
 
-// Joins the seat of a worker into the first one.
-fn join(board: &Board, first: &mut Seat, worker: Worker)
+// Joins the seat of a worker into the first one, and gives the worker's list.
+fn join(board: &Board, first: &mut Seat, worker: Worker) -> Vec<u32>
     requires board { IsSeatOf board.now first.old }
     requires seat { IsSeatOf board.now worker.seat }
     ensures board { IsSeatOf board.now first.new }
@@ -361,42 +386,39 @@ fn join(board: &Board, first: &mut Seat, worker: Worker)
     let Worker {
         number: _,
         seat,
-        made: _,
+        made,
     } = worker;
     board.join(first, seat);
+    made
 }
 
 // Settles what the workers left, by the looks that they left and, where one isn't there, by a look that is made here.
 fn settle_left(
     ended: Ended,
-    rooms: &mut Vec<Room<Look>>,
+    stock: &mut Stock,
     field: &Field<'_>,
     guesses: &[u64],
-    from: u32,
-    to: u32,
+    turns: Turns,
 ) -> Book
-    requires stands { books.StandsOn field.now ended.book }
-    requires from { ended.book.from ≡ from }
-    requires to { ended.book.to ≡ to }
-    requires looks { AreLooks (books.window_of field.now from to) ended.places.items }
-    requires all { vec_len ended.places ≡ to - from }
-    requires room { vec_len rooms.old + (to - from) ≤ vec_capacity rooms.old }
-    requires guesses { guesses.now ≡ guesses_for (books.window_of field.now from to) }
-    ensures stands { books.StandsOn field.now result }
-    ensures from { result.from ≡ from }
-    ensures to { result.to ≡ to }
-    ensures next { result.next ≡ to }
+    requires book { IsBookOf field.now turns ended.book }
+    requires looks { AreLooks (books.window_of field.now turns.from turns.to) ended.places.items }
+    requires all { vec_len ended.places ≡ turns.to - turns.from }
+    requires room { vec_len stock.old.rooms + (turns.to - turns.from) ≤ vec_capacity stock.old.rooms }
+    requires guesses { guesses.now ≡ guesses_for (books.window_of field.now turns.from turns.to) }
+    ensures book { IsBookOf field.now turns result }
+    ensures next { result.next ≡ turns.to }
 {
     let Ended {
         mut book,
+        home,
         places,
-        room: _,
+        room,
         drawn: _,
     } = ended;
-    while book.next() < to {
-        settle_next(&mut book, field, guesses, &places, from, to);
+    while book.next() < turns.to {
+        settle_next(&mut book, field, guesses, &places, turns);
     }
-    keep(rooms, places);
+    stock.take_back(home, places, room);
     book
 }
 
@@ -406,24 +428,19 @@ fn settle_next(
     field: &Field<'_>,
     guesses: &[u64],
     places: &[BoardSlot],
-    from: u32,
-    to: u32,
+    turns: Turns,
 )
-    requires stands { books.StandsOn field.now book.old }
-    requires from { book.old.from ≡ from }
-    requires to { book.old.to ≡ to }
-    requires left { book.old.next < to }
-    requires looks { AreLooks (books.window_of field.now from to) places.now }
-    requires all { to - from ≤ length places.now }
-    requires guesses { guesses.now ≡ guesses_for (books.window_of field.now from to) }
-    ensures stands { books.StandsOn field.now book.new }
-    ensures from { book.new.from ≡ from }
-    ensures to { book.new.to ≡ to }
+    requires book { IsBookOf field.now turns book.old }
+    requires left { book.old.next < turns.to }
+    requires looks { AreLooks (books.window_of field.now turns.from turns.to) places.now }
+    requires all { turns.to - turns.from ≤ length places.now }
+    requires guesses { guesses.now ≡ guesses_for (books.window_of field.now turns.from turns.to) }
+    ensures book { IsBookOf field.now turns book.new }
     ensures next { book.new.next ≡ book.old.next + 1 }
 {
-    let ticket = book.next() - from;
+    let ticket = book.next() - turns.from;
     match look_in(&places[ticket as usize]) {
         Some(look) => advance(book, field, look),
-        None => advance(book, field, &look_at(field, guesses, from, to, ticket)),
+        None => advance(book, field, &look_at(field, guesses, turns, ticket)),
     };
 }

@@ -11,7 +11,8 @@ ghost use Rattle.round_workers.specs.declared.board.view.Phase.TheVariants.{Rest
 ghost use Rattle.round_workers.specs.declared.board.view.BoardSlot.TheVariants.{Nothing};
 ghost use Rattle.round_workers.specs.BoardPlays.{has_put, has_taken, puts_now, takes_now, took_look};
 ghost use Rattle.round_workers.specs.BoardRule.{turns_of};
-ghost use Rattle.round_workers.specs.BoardSeats.{IsMiss, IsSeatOf, basis_of, known, board_window};
+ghost use Rattle.round_workers.specs.Inner.BoardSettling.{CanSettle};
+ghost use Rattle.round_workers.specs.BoardSeats.{IsHandOf, IsMiss, IsSeatOf, basis_of, known, board_window};
 
 use crate::board::places::look_room;
 use crate::board::room::Room;
@@ -86,8 +87,7 @@ impl Board {
     // Gets the room of the look of a ticket, which has no look.
     #[inline]
     fn begin_put(&self, hand: &mut Hand, ticket: usize) -> Room<Look>
-        requires table { hand.old.table_id ≡ self.now.table.shared.table_id }
-        requires knows { hand.old.me.0.about ≡ Some (basis_of self.now) }
+        requires hand { IsHandOf self.now hand.old }
         requires ticket { ticket < turns_of (basis_of self.now) }
         requires rests { hand.old.me.0.phase ≡ Resting }
         requires drew { 1 ≤ times ticket hand.old.me.0.drawn }
@@ -102,8 +102,7 @@ impl Board {
     // Gives the room back, with the look of the ticket.
     #[inline]
     fn end_put(&self, hand: &mut Hand, ticket: usize, room: Room<Look>)
-        requires table { hand.old.table_id ≡ self.now.table.shared.table_id }
-        requires knows { hand.old.me.0.about ≡ Some (basis_of self.now) }
+        requires hand { IsHandOf self.now hand.old }
         requires ticket { ticket < turns_of (basis_of self.now) }
         requires putting { hand.old.me.0.phase ≡ Putting ticket }
         requires out { hand.old.me.1 ≡ (ticket + 1, Nothing) ∷ rest hand.old.me.1 }
@@ -152,11 +151,7 @@ impl Board {
     // Tries to settle the book's next turn by its look, once, without waiting. The look lies where it was put meanwhile.
     #[inline]
     pub(crate) fn settle_look(&self, hand: &mut Hand, field: &Field<'_>, book: &mut Book) -> bool
-        requires table { hand.old.table_id ≡ self.now.table.shared.table_id }
-        requires knows { hand.old.me.0.about ≡ Some (basis_of self.now) }
-        requires rests { hand.old.me.0.phase ≡ Resting }
-        requires holds { hand.old.me.0.holds ≡ true }
-        requires field { IsLentFor field.now (board_window self.now) }
+        requires can { CanSettle self.now field.now hand.old }
         requires stands { StandsFor (board_window self.now) book.old }
         requires left { book.old.next < (basis_of self.now).to }
         ensures table { hand.new.table_id ≡ hand.old.table_id }
@@ -178,8 +173,7 @@ impl Board {
     // Tries to get the room of the look of a ticket, with the look.
     #[inline]
     fn begin_take(&self, hand: &mut Hand, ticket: usize) -> Option<Room<Look>>
-        requires table { hand.old.table_id ≡ self.now.table.shared.table_id }
-        requires knows { hand.old.me.0.about ≡ Some (basis_of self.now) }
+        requires hand { IsHandOf self.now hand.old }
         requires ticket { ticket < turns_of (basis_of self.now) }
         requires rests { hand.old.me.0.phase ≡ Resting }
         ensures table { hand.new.table_id ≡ hand.old.table_id }
@@ -198,8 +192,7 @@ impl Board {
     // Gives the room back, in which no look waits any more.
     #[inline]
     fn end_take(&self, hand: &mut Hand, ticket: usize, room: Room<Look>)
-        requires table { hand.old.table_id ≡ self.now.table.shared.table_id }
-        requires knows { hand.old.me.0.about ≡ Some (basis_of self.now) }
+        requires hand { IsHandOf self.now hand.old }
         requires ticket { ticket < turns_of (basis_of self.now) }
         requires taking { hand.old.me.0.phase ≡ Taking ticket }
         requires out { hand.old.me.1 ≡ (ticket + 1, Nothing) ∷ rest hand.old.me.1 }

@@ -3,25 +3,26 @@ ghost use Rattle.std.specs.Prelude.{◌≡◌, ◌+◌, ◌-◌, ◌<◌, ◌≤
 ghost use Rattle.round_book.specs.Book.{window_of};
 ghost use Rattle.round_book.specs.Window.{guesses_for, look_for};
 
+use crate::share::Turns;
 use ant_random::Stream;
 use round_book::Field;
 use spec_record::{Look, look};
 
 // The look of a ticket of the window of these turns.
 #[inline]
-pub(crate) fn look_at(field: &Field<'_>, guesses: &[u64], from: u32, to: u32, ticket: u32) -> Look
-    requires ticket { ticket < to - from }
-    requires ids { to ≤ field.now.world.ids }
-    requires lasting { field.now.place + (to - from) < 2 ^ 63 }
-    requires guesses { guesses.now ≡ guesses_for (window_of field.now from to) }
-    ensures { result ≡ look_for (window_of field.now from to) (from + ticket) }
+pub(crate) fn look_at(field: &Field<'_>, guesses: &[u64], turns: Turns, ticket: u32) -> Look
+    requires ticket { ticket < turns.to - turns.from }
+    requires ids { turns.to ≤ field.now.world.ids }
+    requires lasting { field.now.place + (turns.to - turns.from) < 2 ^ 63 }
+    requires guesses { guesses.now ≡ guesses_for (window_of field.now turns.from turns.to) }
+    ensures { result ≡ look_for (window_of field.now turns.from turns.to) (turns.from + ticket) }
 {
     look(
         field.world(),
         field.brains(),
         field.seed(),
         guesses[ticket as usize],
-        from + ticket,
+        turns.from + ticket,
     )
 }
 

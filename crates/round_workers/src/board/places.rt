@@ -1,7 +1,7 @@
 // What lies in a place.
 ghost use Rattle.std.specs.Prelude.{◌≡◌, ◌≢◌, ◌+◌, ◌≤◌, Some, None, MatchOption};
 ghost use Rattle.std.specs.Vec.{vec_capacity, vec_len};
-ghost use Rattle.round_workers.specs.Inner.BoardPlaces.{book_in, book_room, look_in, look_room};
+ghost use Rattle.round_workers.specs.Inner.BoardPlaces.{book_room, look_in, look_room};
 
 use crate::board::room::Room;
 use crate::board::view::BoardSlot;
@@ -47,9 +47,9 @@ fn room_of(place: BoardSlot) -> Option<Room<Look>> {
     }
 }
 
-// Keeps the rooms of looks in these places for another window, in the room that their list has.
-pub(crate) fn keep(rooms: &mut Vec<Room<Look>>, mut places: Vec<BoardSlot>)
-    requires { vec_len rooms.old + vec_len places ≤ vec_capacity rooms.old }
+// Takes the rooms of looks out of these places, and keeps them, in the room that their list has.
+pub(crate) fn keep(rooms: &mut Vec<Room<Look>>, places: &mut Vec<BoardSlot>)
+    requires { vec_len rooms.old + vec_len places.old ≤ vec_capacity rooms.old }
 {
     while let Some(place) = places.pop() {
         if let Some(room) = room_of(place) {
@@ -83,19 +83,6 @@ pub(crate) fn look_out_of(place: BoardSlot) -> Option<Look>
         BoardSlot::OneLook(mut room) => room.take(),
         BoardSlot::Spare(_room) => None,
         BoardSlot::TheBook(_room) => None,
-        BoardSlot::Nothing => None,
-    }
-}
-
-// Takes the book out of a place, if it is there.
-#[inline]
-pub(crate) fn book_in(place: BoardSlot) -> Option<Book>
-    ensures { result ≡ book_in place }
-{
-    match place {
-        BoardSlot::TheBook(mut room) => room.take(),
-        BoardSlot::Spare(_room) => None,
-        BoardSlot::OneLook(_room) => None,
         BoardSlot::Nothing => None,
     }
 }

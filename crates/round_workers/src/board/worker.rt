@@ -1,14 +1,14 @@
 // Workers: who makes the looks of a window.
-ghost use Rattle.std.specs.Prelude.{◌≡◌, ◌+◌, ◌-◌, ◌<◌, ◌≤◌, ◌^◌, ℕ, true, false, length, Some, IsSomeAnd};
+ghost use Rattle.std.specs.Prelude.{◌≡◌, ◌+◌, ◌-◌, ◌<◌, ◌≤◌, ◌^◌, ℕ, true, false, length, IsSomeAnd};
 ghost use Rattle.std.specs.List.{AllByRecursion};
 ghost use Rattle.std.specs.Vec.{vec_capacity};
 ghost use Rattle.round_book.specs.Book.{IsLentFor, StandsFor};
 ghost use Rattle.round_book.specs.Machine.{times};
 ghost use Rattle.round_book.specs.Window.{guesses_for, look_for};
-ghost use Rattle.round_workers.specs.declared.board.view.Phase.TheVariants.{Resting};
+ghost use Rattle.round_workers.specs.Inner.BoardSettling.{CanSettle, HasSettled};
 ghost use Rattle.round_workers.specs.BoardSeats.{IsSeatOf, basis_of, known, board_window};
 ghost use Rattle.round_workers.specs.BoardTotals.{late_among};
-ghost use Rattle.round_workers.specs.BoardWorker.{HasServed, IsSameButTook, IsWorker, turns_in};
+ghost use Rattle.round_workers.specs.BoardWorker.{HasServed, IsWorker, turns_in};
 
 use crate::board::looking::reach;
 use crate::board::room::Room;
@@ -106,17 +106,9 @@ impl Room<Book> {
     // Settles the next turns of the book in the room for as long as their looks are there. The seat has the room in hand.
     #[inline]
     pub(crate) fn settle(&mut self, board: &Board, hand: &mut Hand, field: &Field<'_>)
-        requires table { hand.old.table_id ≡ board.now.table.shared.table_id }
-        requires knows { hand.old.me.0.about ≡ Some (basis_of board.now) }
-        requires rests { hand.old.me.0.phase ≡ Resting }
-        requires holds { hand.old.me.0.holds ≡ true }
-        requires field { IsLentFor field.now (board_window board.now) }
+        requires can { CanSettle board.now field.now hand.old }
         requires stands { IsSomeAnd self.old (StandsFor (board_window board.now)) }
-        ensures table { hand.new.table_id ≡ hand.old.table_id }
-        ensures rests { hand.new.me.0.phase ≡ Resting }
-        ensures out { hand.new.me.1 ≡ hand.old.me.1 }
-        ensures same { IsSameButTook hand.old.me.0 hand.new.me.0 }
-        ensures tries { hand.old.me.0.tries ≤ hand.new.me.0.tries }
+        ensures settled { HasSettled hand.old hand.new }
         ensures stands { IsSomeAnd self.new (StandsFor (board_window board.now)) }
     {
         settle_in(&mut self.content, board, hand, field);
@@ -126,17 +118,9 @@ impl Room<Book> {
 // The same of the book, which is there.
 #[inline]
 fn settle_in(content: &mut Option<Book>, board: &Board, hand: &mut Hand, field: &Field<'_>)
-    requires table { hand.old.table_id ≡ board.now.table.shared.table_id }
-    requires knows { hand.old.me.0.about ≡ Some (basis_of board.now) }
-    requires rests { hand.old.me.0.phase ≡ Resting }
-    requires holds { hand.old.me.0.holds ≡ true }
-    requires field { IsLentFor field.now (board_window board.now) }
+    requires can { CanSettle board.now field.now hand.old }
     requires stands { IsSomeAnd content.old (StandsFor (board_window board.now)) }
-    ensures table { hand.new.table_id ≡ hand.old.table_id }
-    ensures rests { hand.new.me.0.phase ≡ Resting }
-    ensures out { hand.new.me.1 ≡ hand.old.me.1 }
-    ensures same { IsSameButTook hand.old.me.0 hand.new.me.0 }
-    ensures tries { hand.old.me.0.tries ≤ hand.new.me.0.tries }
+    ensures settled { HasSettled hand.old hand.new }
     ensures stands { IsSomeAnd content.new (StandsFor (board_window board.now)) }
 {
     match content {
@@ -148,17 +132,9 @@ fn settle_in(content: &mut Option<Book>, board: &Board, hand: &mut Hand, field: 
 // Settles the next turns of the book for as long as their looks are there.
 #[inline]
 fn settle_looks(board: &Board, hand: &mut Hand, field: &Field<'_>, book: &mut Book)
-    requires table { hand.old.table_id ≡ board.now.table.shared.table_id }
-    requires knows { hand.old.me.0.about ≡ Some (basis_of board.now) }
-    requires rests { hand.old.me.0.phase ≡ Resting }
-    requires holds { hand.old.me.0.holds ≡ true }
-    requires field { IsLentFor field.now (board_window board.now) }
+    requires can { CanSettle board.now field.now hand.old }
     requires stands { StandsFor (board_window board.now) book.old }
-    ensures table { hand.new.table_id ≡ hand.old.table_id }
-    ensures rests { hand.new.me.0.phase ≡ Resting }
-    ensures out { hand.new.me.1 ≡ hand.old.me.1 }
-    ensures same { IsSameButTook hand.old.me.0 hand.new.me.0 }
-    ensures tries { hand.old.me.0.tries ≤ hand.new.me.0.tries }
+    ensures settled { HasSettled hand.old hand.new }
     ensures stands { StandsFor (board_window board.now) book.new }
 {
     while book.next() < board.end() {

@@ -11,9 +11,16 @@ use Rattle.ant_asm.proofs.FlatLemmas.{IsUnderway, at_item, body_end, item_good, 
 use Rattle.ant_asm.proofs.expand.+expand.Goals.{in-Do+in_ok-emit-in-Do, in-Use+in_ok-given-in-Use+in_ok-push-in-Use+in_ok-expand-in-Use}
 use Rattle.ant_asm.proofs.expand.+expand.Goals as goal
 
-pub emit-requires-clause-small : goal.emit-requires-clause-small
-emit-requires-clause-small t c =
-    item_short (at_item c.requires.good c.requires.known c.index-bodies-number.is c.as_slice-items.result.now c.as_slice-items.ensures.value c.loop-place-test.true c.index-items-place.is)
+pub emit-requires-clause-spot : goal.emit-requires-clause-spot
+emit-requires-clause-spot t c =
+    let a = at_item c.requires.good c.requires.known c.index-bodies-number.is c.as_slice-items.result.now c.as_slice-items.ensures.value c.loop-place-test.true c.index-items-place.is in record {
+      good = c.requires.good;
+      known = c.requires.known;
+      inside = of_body a (λ (b : Body). c.loop-place.place < length b.items.items) a.inside;
+      small = item_short a;
+      given = c.requires.given;
+      fits = c.requires.fits;
+    }
 
 pub emit-requires-clause-action : goal.emit-requires-clause-action
 emit-requires-clause-action t c =
@@ -22,14 +29,16 @@ emit-requires-clause-action t c =
     of_body a (λ (b : Body). IsGoodAction b.parameters (length b.items.items) c.in-Do.action)
     (subst (IsGoodItem c.args.bodies.now c.args.number body.parameters (length body.items.items)) c.in-Do.is (item_good a))
 
-pub handed_numbers-requires-clause-inside : goal.handed_numbers-requires-clause-inside
-handed_numbers-requires-clause-inside t c =
-    let a = at_item c.requires.good c.requires.known c.index-bodies-number.is c.as_slice-items.result.now c.as_slice-items.ensures.value c.loop-place-test.true c.index-items-place.is in
-    of_body a (λ (b : Body). c.loop-place.place < length b.items.items) a.inside
-
-pub handed_numbers-requires-clause-small : goal.handed_numbers-requires-clause-small
-handed_numbers-requires-clause-small t c =
-    item_short (at_item c.requires.good c.requires.known c.index-bodies-number.is c.as_slice-items.result.now c.as_slice-items.ensures.value c.loop-place-test.true c.index-items-place.is)
+pub handed_numbers-requires-clause-spot : goal.handed_numbers-requires-clause-spot
+handed_numbers-requires-clause-spot t c =
+    let a = at_item c.requires.good c.requires.known c.index-bodies-number.is c.as_slice-items.result.now c.as_slice-items.ensures.value c.loop-place-test.true c.index-items-place.is in record {
+      good = c.requires.good;
+      known = c.requires.known;
+      inside = of_body a (λ (b : Body). c.loop-place.place < length b.items.items) a.inside;
+      small = item_short a;
+      given = c.requires.given;
+      fits = c.requires.fits;
+    }
 
 pub handed_numbers-requires-clause-labels : goal.handed_numbers-requires-clause-labels
 handed_numbers-requires-clause-labels t c =

@@ -29,7 +29,7 @@ loop-round-preserved g c =
     let minds = minds_of c.args.brains in
     let plan = c.args.plan.now in
     let after : IsAfter minds plan.seed (world_of c.args.world.now) (c.loop-round.round + 1) c.play_round.new.world c.play_round.new.stream =
-    IsAfter-more c.loop-round.invariant.after _ _ c.play_round.ensures.moment c.play_round.ensures.seed c.play_round.ensures.place c.play_round.ensures.fit in
+    IsAfter-more c.loop-round.invariant.after _ _ c.play_round.ensures in
     record {
       after = after;
       text = rw (dumps_text-more minds plan.seed (chooses plan.dumps) (world_of c.args.world.now) (c.loop-round.round + 1), ← IsAfter-world after)
@@ -53,7 +53,7 @@ returns-in_err-push_chosen-2-clause-text g c =
     let round = c.loop-round.round in
     let p = err_from_is_err_and c.from_residual-in_err-push_chosen-2.result c.from_residual-in_err-push_chosen-2.ensures.1 in
     let after : IsAfter minds plan.seed w (round + 1) c.play_round.new.world c.play_round.new.stream =
-    IsAfter-more c.loop-round.invariant.after _ _ c.play_round.ensures.moment c.play_round.ensures.seed c.play_round.ensures.place c.play_round.ensures.fit in
+    IsAfter-more c.loop-round.invariant.after _ _ c.play_round.ensures in
     let rest = dumps_text-front minds plan.seed (chooses plan.dumps) w (round + 1 + 1) (plan.rounds + 1) (omega (arith, c.loop-round-test.true)) in
     rw (p.1, rest.1, dumps_text-more minds plan.seed (chooses plan.dumps) w (round + 1), ← IsAfter-world after)
     (front_more _ _ _ _ (front_then _ _ _ _ _ c.loop-round.invariant.text c.in_err-push_chosen-2.ensures))

@@ -15,7 +15,7 @@ pub play_round-requires-clause-place : goal.play_round-requires-clause-place
 play_round-requires-clause-place c = omega (arith, c.loop.invariant.place, c.loop-test.true, c.requires.few_rounds)
 
 pub loop-preserved : goal.loop-preserved
-loop-preserved c = IsAfter-more c.loop.invariant _ _ c.play_round.ensures.moment c.play_round.ensures.seed c.play_round.ensures.place c.play_round.ensures.fit
+loop-preserved c = IsAfter-more c.loop.invariant _ _ c.play_round.ensures
 
 pub returns : goal.returns
 returns c =

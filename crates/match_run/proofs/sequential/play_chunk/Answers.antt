@@ -31,4 +31,4 @@ returns-clause-moment c =
     let rests : world_of c.rest_some-count.new.self ≡ rested c.args.from (c.args.from + n) w = c.rest_some-count.ensures.world ∙ ap (λ (k : ℕ). rested c.args.from k w) (sym all) in
     c.take_listed.ensures.moment
     ∙ ap (λ (now : World). after_listed (minds_of c.args.brains) c.args.stream.now.seed (record m { world = now }) listed) rests
-    ∙ chunk-moment (minds_of c.args.brains) c.args.stream.now.seed m c.args.from n listed c.rest_some-count.ensures.listed c.vouch.ensures.sound c.vouch.ensures.world.valid c.requires.fit
+    ∙ chunk-moment (minds_of c.args.brains) c.args.stream.now.seed m c.args.from n listed c.rest_some-count.ensures.listed c.recall_validity.ensures.sound c.recall_validity.ensures.world.valid c.requires.fit

@@ -22,12 +22,12 @@ loop-from-preserved c = record {
   inside = omega (arith, c.min-to.ensures);
 }
 
-pub returns-clause-moment : goal.returns-clause-moment
-returns-clause-moment c =
+pub returns : goal.returns
+returns c =
     let all : c.loop-from.from ≡ c.args.world.now.ids = omega (arith, c.loop-from.invariant.inside, c.ant_count-ids.ensures.ids, c.loop-from-test.false) in
-    IsTaken-all c.loop-from.invariant.taken all
-
-pub returns-clause-place : goal.returns-clause-place
-returns-clause-place c =
-    let all : c.loop-from.from ≡ c.args.world.now.ids = omega (arith, c.loop-from.invariant.inside, c.ant_count-ids.ensures.ids, c.loop-from-test.false) in
-    omega (arith, IsTaken-place c.loop-from.invariant.taken, all, c.ant_count-ids.ensures.world.valid.few)
+    record {
+      moment = IsTaken-all c.loop-from.invariant.taken all;
+      seed = c.loop-from.invariant.taken.seed;
+      place = omega (arith, IsTaken-place c.loop-from.invariant.taken, all, c.ant_count-ids.ensures.world.valid.few);
+      fit = c.loop-from.invariant.taken.fits;
+    }

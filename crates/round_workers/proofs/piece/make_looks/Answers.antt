@@ -1,19 +1,23 @@
 use Rattle.std.proofs.Common.{refl, ◌∙◌, ap, arith}
 use Rattle.ant_random.specs.Stream.{SeedAndPlace}
-use Rattle.ant_turn.specs.Minds.{minds_of}
 use Rattle.round_book.specs.Book.{window_of}
-use Rattle.round_workers.proofs.PieceLemmas.{guess_for-first, guess_for-more, guess_for-small, looked-more, looked-none}
+use Rattle.round_book.proofs.SoloLemmas.{guess_for-le}
+use Rattle.round_workers.proofs.PieceLemmas.{guess_for-more, guess_for-small, looked-more, looked-none}
 use Rattle.round_workers.proofs.piece.make_looks.Goals as goal
 
 pub loop-id-init : goal.loop-id-init
 loop-id-init g c = record {
   looked = looked-none (window_of c.args.field.now c.args.from c.args.share.to) c.args.share.from c.args.looks.now.items;
-  guess = c.at_place_uncounted-stream.ensures.place ∙ c.guess_at-place.ensures.guess
-      ∙ guess_for-first c.args.field.now c.args.from c.args.share.to c.args.share.from (minds_of c.brains.result) c.world.result.now c.place.result c.brains.ensures.brains c.world.ensures.world c.place.ensures;
+  guess = c.at_place_uncounted-stream.ensures.place ∙ c.requires.guess;
   seed = c.at_place_uncounted-stream.ensures.seed ∙ c.seed.ensures;
   len = omega arith;
   capacity = refl;
 }
+
+pub at_place_uncounted-stream-requires : goal.at_place_uncounted-stream-requires
+at_place_uncounted-stream-requires g c =
+    let few = guess_for-le (window_of c.args.field.now c.args.from c.args.share.to) c.args.share.from in let is = c.requires.guess in let lasting = c.requires.begin.lasting in
+    let first = c.requires.first in let forwards = c.requires.forwards in omega arith
 
 pub make_look-requires-clause-place : goal.make_look-requires-clause-place
 make_look-requires-clause-place g c =

@@ -17,7 +17,7 @@ ghost use Rattle.round_workers.specs.Inner.BoardPlaces.{AreBare, look_in};
 ghost use Rattle.round_workers.specs.BoardLaws.{IsWhereClosed, Way};
 ghost use Rattle.round_workers.specs.BoardPlays.{TellsTake, TellsTakeLook, drew, has_put, has_seen, has_taken, made_one, newcomer, opens_now, puts_now, views_joined, without_book};
 ghost use Rattle.round_workers.specs.BoardRule.{turns_of};
-ghost use Rattle.round_workers.specs.BoardSeats.{IsSeatOf, basis_of, board_window, known, left_look};
+ghost use Rattle.round_workers.specs.BoardSeats.{IsHandOf, IsSeatOf, basis_of, board_window, known, left_look};
 ghost use Rattle.round_workers.specs.BoardTotals.{once_below};
 ghost use Rattle.round_workers.specs.BoardView.{IsAtRest, first_seat, window_for};
 
@@ -26,15 +26,18 @@ use crate::board::law::{
     Draws, GivesBook, HasPut, HasTaken, Joins, Opened, Opens, Puts, SeesEachOnce, Splits,
     TakesBook, TakesLook,
 };
-use crate::board::places::{book_in, keep};
+use crate::board::places::{book_room, keep};
 use crate::board::room::Room;
 use crate::board::seat::{Board, Hand, Seat};
+use crate::board::stock::Stock;
 use crate::board::view::{Basis, BoardSlot, View};
+use crate::share::Turns;
 use atomic_table::Table;
 use hex_geometry::OutOfMemory;
-use round_book::Field;
+use round_book::{Book, Field};
 use spec_record::Look;
 use std::alloc::Global;
+use std::mem;
 use std::snapshot::Snapshot;
 
 // The word of the tickets: how many are drawn.
@@ -59,39 +62,36 @@ pub(crate) const FULL: u64 = 2;
 const EMPTIED: u64 = 3;
 
 impl Board {
-    // What `new` does, with the rooms for looks that were kept, and such as are wanted besides. Where it is refused, the rooms are kept still;
-    // else their list has room for those of the window.
+    // What `new` does, of a stock, to which is added what is wanted besides. Where it is refused, the stock has the rooms of looks still; else
+    // their list has room for those of the window.
     pub(crate) fn over(
         alloc: Global,
         field: &Field<'_>,
-        from: u32,
-        to: u32,
-        kept: &mut Vec<Room<Look>>,
+        turns: Turns,
+        stock: &mut Stock,
     ) -> Result<(Board, Seat), OutOfMemory>
-        requires { CanBegin field.now from to }
-        ensures window { IfOk result (λ made. window_for (basis_of made.0) ≡ window_of field.now from to) }
+        requires { CanBegin field.now turns.from turns.to }
+        ensures window { IfOk result (λ made. window_for (basis_of made.0) ≡ window_of field.now turns.from turns.to) }
         ensures board { IfOk result (λ made. IsSeatOf made.0 made.1) }
         ensures first { IfOk result (λ made. known made.1 ≡ first_seat (basis_of made.0)) }
-        ensures room { OnOk result (vec_len kept.new + (to - from) ≤ vec_capacity kept.new) }
+        ensures room { OnOk result (vec_len stock.new.rooms + (turns.to - turns.from) ≤ vec_capacity stock.new.rooms) }
     {
+        let Turns { from, to } = turns;
         let basis = basis(field, from, to);
-        let turns = (to - from) as usize;
-        kept.reserve(turns + 1)?;
-        let words = vec![in alloc; 0u64; turns + 2]?;
-        let places = Vec::with_capacity(alloc, turns)?;
-        let room = Vec::with_capacity(alloc, turns)?;
-        let slots = bare(alloc, turns, kept)?;
-        let (table, hand) = match Table::new(alloc, &words, slots, &basis) {
+        let count = (to - from) as usize;
+        stock.fill(count)?;
+        let slots = bare(alloc, count, &mut stock.rooms, &mut stock.home)?;
+        let (table, hand) = match Table::new(alloc, &stock.words, slots, &basis) {
             Ok(made) => made,
-            Err(refused) => {
-                keep(kept, refused.slots);
+            Err(mut refused) => {
+                keep(&mut stock.rooms, &mut refused.slots);
                 return Err(OutOfMemory);
             }
         };
         let board = Board {
             table,
-            places,
-            room,
+            places: mem::replace(&mut stock.places, Vec::new(alloc)),
+            room: mem::replace(&mut stock.looks, Vec::new(alloc)),
             from,
             to,
         };
@@ -124,7 +124,8 @@ impl Board {
         let Seat { hand } = seat;
         let mut closed = table.close_with(hand);
         let drawn = closed.word(0) as u32;
-        let Some(book) = book_in(take_slot(&mut closed, 0)) else {
+        let mut home = book_room(take_slot(&mut closed, 0));
+        let Some(book) = home.take() else {
             unreachable!()
         };
         for ticket in 0..(to - from) as usize {
@@ -133,6 +134,7 @@ impl Board {
         closed.free();
         Ended {
             book,
+            home,
             places,
             room,
             drawn,
@@ -142,8 +144,7 @@ impl Board {
     // Draws the next ticket.
     #[inline]
     pub(crate) fn draw_step(&self, hand: &mut Hand) -> u64
-        requires table { hand.old.table_id ≡ self.now.table.shared.table_id }
-        requires knows { hand.old.me.0.about ≡ Some (basis_of self.now) }
+        requires hand { IsHandOf self.now hand.old }
         requires early { AllByRecursion (λ k. k < turns_of (basis_of self.now)) hand.old.me.0.drawn }
         ensures table { hand.new.table_id ≡ hand.old.table_id }
         ensures drew { hand.new.me ≡ (drew hand.old.me.0 result, hand.old.me.1) }
@@ -155,8 +156,7 @@ impl Board {
 
     // Makes another seat.
     pub(crate) fn split_step(&self, hand: &mut Hand) -> Hand
-        requires table { hand.old.table_id ≡ self.now.table.shared.table_id }
-        requires knows { hand.old.me.0.about ≡ Some (basis_of self.now) }
+        requires hand { IsHandOf self.now hand.old }
         requires first { hand.old.me.0.number ≡ 0 }
         requires few { hand.old.me.0.made < 16 }
         ensures table { hand.new.table_id ≡ hand.old.table_id }
@@ -169,10 +169,8 @@ impl Board {
 
     // Joins another seat into one.
     pub(crate) fn join_step(&self, hand: &mut Hand, other: Hand)
-        requires table { hand.old.table_id ≡ self.now.table.shared.table_id }
-        requires other_table { other.table_id ≡ self.now.table.shared.table_id }
-        requires knows { hand.old.me.0.about ≡ Some (basis_of self.now) }
-        requires other_knows { other.me.0.about ≡ Some (basis_of self.now) }
+        requires hand { IsHandOf self.now hand.old }
+        requires other { IsHandOf self.now other }
         requires other_first { other.me.0.number ≢ 0 }
         requires free { other.me.0.holds ≡ false }
         requires other_rests { other.me.0.phase ≡ Resting }
@@ -195,8 +193,7 @@ impl Board {
 
     // Begins to open the book: its slot is the seat's from now on.
     pub(crate) fn open_step(&self, hand: &mut Hand)
-        requires table { hand.old.table_id ≡ self.now.table.shared.table_id }
-        requires knows { hand.old.me.0.about ≡ Some (basis_of self.now) }
+        requires hand { IsHandOf self.now hand.old }
         requires first { hand.old.me.0.number ≡ 0 }
         requires unopened { hand.old.me.0.opened ≡ false }
         requires rests { hand.old.me.0.phase ≡ Resting }
@@ -210,8 +207,7 @@ impl Board {
 
     // Ends the opening of the book: its slot goes back, with the book.
     pub(crate) fn opened_step(&self, hand: &mut Hand)
-        requires table { hand.old.table_id ≡ self.now.table.shared.table_id }
-        requires knows { hand.old.me.0.about ≡ Some (basis_of self.now) }
+        requires hand { IsHandOf self.now hand.old }
         requires first { hand.old.me.0.number ≡ 0 }
         requires opening { hand.old.me.0.phase ≡ Opening }
         requires book { (content : Option BookValue) × (hand.old.me.1 ≡ (0, TheBook content) ∷ rest hand.old.me.1) × IsSomeAnd content (StandsFor (board_window self.now)) }
@@ -224,8 +220,7 @@ impl Board {
     // Tries for the book, once; what the try found.
     #[inline]
     pub(crate) fn take_book_step(&self, hand: &mut Hand) -> u64
-        requires table { hand.old.table_id ≡ self.now.table.shared.table_id }
-        requires knows { hand.old.me.0.about ≡ Some (basis_of self.now) }
+        requires hand { IsHandOf self.now hand.old }
         requires opened { hand.old.me.0.opened ≡ true }
         requires free { hand.old.me.0.holds ≡ false }
         ensures table { hand.new.table_id ≡ hand.old.table_id }
@@ -239,8 +234,7 @@ impl Board {
     // Gives the book back, with its slot.
     #[inline]
     pub(crate) fn give_book_step(&self, hand: &mut Hand)
-        requires table { hand.old.table_id ≡ self.now.table.shared.table_id }
-        requires knows { hand.old.me.0.about ≡ Some (basis_of self.now) }
+        requires hand { IsHandOf self.now hand.old }
         requires holds { hand.old.me.0.holds ≡ true }
         requires book { (content : Option BookValue) × (hand.old.me.1 ≡ (0, TheBook content) ∷ rest hand.old.me.1) × IsSomeAnd content (StandsFor (board_window self.now)) }
         ensures table { hand.new.table_id ≡ hand.old.table_id }
@@ -252,8 +246,7 @@ impl Board {
     // Begins to put the look of a ticket: its slot is the seat's from now on.
     #[inline]
     pub(crate) fn put_step(&self, hand: &mut Hand, ticket: usize)
-        requires table { hand.old.table_id ≡ self.now.table.shared.table_id }
-        requires knows { hand.old.me.0.about ≡ Some (basis_of self.now) }
+        requires hand { IsHandOf self.now hand.old }
         requires ticket { ticket < turns_of (basis_of self.now) }
         requires rests { hand.old.me.0.phase ≡ Resting }
         requires drew { 1 ≤ times ticket hand.old.me.0.drawn }
@@ -269,8 +262,7 @@ impl Board {
     // Ends the put of a look: its slot goes back, with the look.
     #[inline]
     pub(crate) fn has_put_step(&self, hand: &mut Hand, ticket: usize)
-        requires table { hand.old.table_id ≡ self.now.table.shared.table_id }
-        requires knows { hand.old.me.0.about ≡ Some (basis_of self.now) }
+        requires hand { IsHandOf self.now hand.old }
         requires ticket { ticket < turns_of (basis_of self.now) }
         requires putting { hand.old.me.0.phase ≡ Putting ticket }
         requires look { hand.old.me.1 ≡ (ticket + 1, OneLook (Some (look_for (board_window self.now) ((basis_of self.now).from + ticket)))) ∷ rest hand.old.me.1 }
@@ -285,8 +277,7 @@ impl Board {
     // Tries for the look of a ticket, once; what the try found.
     #[inline]
     pub(crate) fn take_look_step(&self, hand: &mut Hand, ticket: usize) -> u64
-        requires table { hand.old.table_id ≡ self.now.table.shared.table_id }
-        requires knows { hand.old.me.0.about ≡ Some (basis_of self.now) }
+        requires hand { IsHandOf self.now hand.old }
         requires ticket { ticket < turns_of (basis_of self.now) }
         requires rests { hand.old.me.0.phase ≡ Resting }
         ensures table { hand.new.table_id ≡ hand.old.table_id }
@@ -300,8 +291,7 @@ impl Board {
     // Ends the taking of a look: its slot goes back, with no look waiting in it.
     #[inline]
     pub(crate) fn has_taken_step(&self, hand: &mut Hand, ticket: usize)
-        requires table { hand.old.table_id ≡ self.now.table.shared.table_id }
-        requires knows { hand.old.me.0.about ≡ Some (basis_of self.now) }
+        requires hand { IsHandOf self.now hand.old }
         requires ticket { ticket < turns_of (basis_of self.now) }
         requires taking { hand.old.me.0.phase ≡ Taking ticket }
         requires spare { (old : Option LookValue) × (hand.old.me.1 ≡ (ticket + 1, Spare old) ∷ rest hand.old.me.1) }
@@ -352,11 +342,12 @@ fn basis(field: &Field<'_>, from: u32, to: u32) -> Basis
 }
 
 // The slots with which a board of so many turns begins, with the rooms that were kept, and such as are wanted besides. Where memory is
-// wanting, those that are there by then are kept.
+// wanting, those of looks that are there by then are kept.
 fn bare(
     alloc: Global,
     turns: usize,
     kept: &mut Vec<Room<Look>>,
+    home: &mut Option<Room<Book>>,
 ) -> Result<Vec<BoardSlot>, OutOfMemory>
     requires turns { turns < 2 ^ 32 }
     requires room { vec_len kept.old + turns + 1 ≤ vec_capacity kept.old }
@@ -364,16 +355,28 @@ fn bare(
     ensures room { OnOk result (vec_len kept.new + turns + 1 ≤ vec_capacity kept.new) }
 {
     let mut slots = Vec::with_capacity(alloc, turns + 1)?;
-    let book = Room::new(alloc)?;
+    let book = book_spare(alloc, home)?;
     slots.push_reserved(BoardSlot::TheBook(book));
     for _ in 0..turns {
         let Ok(room) = spare(alloc, kept) else {
-            keep(kept, slots);
+            keep(kept, &mut slots);
             return Err(OutOfMemory);
         };
         slots.push_reserved(BoardSlot::Spare(room));
     }
     Ok(slots)
+}
+
+// A room for the book, without one: the one that was kept, or a new one.
+#[inline]
+fn book_spare(alloc: Global, kept: &mut Option<Room<Book>>) -> Result<Room<Book>, OutOfMemory>
+    ensures { IfOk result (λ room. room ≡ None) }
+{
+    let Some(mut room) = kept.take() else {
+        return Room::new(alloc);
+    };
+    room.take();
+    Ok(room)
 }
 
 // A room for a look: one that was kept, or a new one.

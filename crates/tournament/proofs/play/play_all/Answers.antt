@@ -8,14 +8,14 @@ use Rattle.tournament.proofs.GamesLemmas.{IsGame, All-games_of, length-games_of}
 use Rattle.tournament.proofs.PiecesLemmas.{ready}
 use Rattle.tournament.proofs.play.play_all.Goals as goal
 
-pub dealt-requires-clause-few : goal.dealt-requires-clause-few
-dealt-requires-clause-few g c =
+pub deal-requires-clause-few : goal.deal-requires-clause-few
+deal-requires-clause-few g c =
     let short = length-games_of c.args.players c.args.worlds (omega arith) (omega arith) in
     let at = ap length (c.deref.ensures.value ∙ c.in_ok-games.ensures) in
     omega arith
 
-pub played_together-requires-clause-ready : goal.played_together-requires-clause-ready
-played_together-requires-clause-ready g c = λ κs outlives.
+pub play_together-requires-clause-ready : goal.play_together-requires-clause-ready
+play_together-requires-clause-ready g c = λ κs outlives.
     let all = All-same (IsGame c.args.players c.args.worlds) _ _ (c.deref.ensures.value ∙ c.in_ok-games.ensures) (All-games_of c.args.players c.args.worlds) in
     All-same (IsPieceReady (g.F.Referee.knows c.args.referee.now)) _ _ c.deref_mut.ensures.value
     (ready (g.F.Referee.knows c.args.referee.now) c.args.players c.args.worlds c.deref.result.now c.in_ok-pieces.pieces.items c.requires.known all c.in_ok-pieces.ensures.games c.in_ok-pieces.ensures.fresh)

@@ -1,6 +1,5 @@
 -- the bodies are told apart one after another
-use Rattle.std.proofs.Common.{◌≡◌, ◌+◌, ◌≤◌, ◌<◌, ◌-◌, Bool, true, false, ◌∙◌, ap, arith, length, refl, set, subst, sym, take}
-use mir.Val.{bool_byte}
+use Rattle.std.proofs.Common.{◌≡◌, ◌+◌, ◌≤◌, ◌<◌, ◌-◌, ◌∙◌, ap, arith, length, set, subst, sym, take}
 use Rattle.std.specs.Prelude.{nat_eq}
 use Rattle.std.proofs.lemmas.List.{get_or_default, length-set}
 use Rattle.cell_world.specs.declared.body.Body.{Body}
@@ -8,17 +7,9 @@ use Rattle.cell_world.specs.Cell.{one_if}
 use Rattle.cell_world.specs.Inner.Catching.{body_of}
 use Rattle.cell_world.specs.Inner.Stored.{no_body}
 use Rattle.cell_world.specs.Inner.TellingApart.{ToldApart, with_resting}
+use Rattle.cell_world.proofs.GridSums.{one_if-byte, one_if-le_one}
 use Rattle.cell_world.proofs.RestingLemmas.{ToldApart-more, ToldApart-none}
 use Rattle.cell_world.proofs.world.resting.rest_bodies.Goals as goal
-
--- a bool as a number is one or nothing
-one_if-byte : (b : Bool) → bool_byte b ≡ one_if b
-one_if-byte true = refl
-one_if-byte false = refl
-
-one_if-small : (b : Bool) → one_if b ≤ 1
-one_if-small true = omega arith
-one_if-small false = omega arith
 
 pub loop-id-init : goal.loop-id-init
 loop-id-init c = (ToldApart-none c.args.bodies.now.items c.args.from c.args.acting.now, omega arith, c.told-acting)
@@ -31,7 +22,7 @@ loop-id-preserved c =
     let room : c.loop-id.count < length c.loop-id.acting = omega (arith, c.loop-id.invariant.1, c.loop-id.invariant.2, c.requires.few, c.loop-id-test.true, late) in
     let read : c.index_mut.result.now ≡ body_of c.loop-id.bodies.items c.loop-id.id = c.index_mut.ensures.value ∙ get_or_default c.loop-id.bodies.items c.loop-id.id c.index_mut.result.now no_body made in
     let counted : c.from-count.result ≡ one_if c.rest_one-acts.result = c.from-count.ensures ∙ one_if-byte c.rest_one-acts.result in
-    let small = one_if-small c.rest_one-acts.result in
+    let small = one_if-le_one c.rest_one-acts.result in
     let more = ToldApart-more c.args.bodies.now.items c.loop-id.bodies.items c.args.from c.loop-id.id c.loop-id.acting c.loop-id.count c.rest_one-acts.new.body told late made room
     (c.rest_one-acts.ensures.body ∙ ap (λ (b : Body). with_resting b (b.resting - 1)) read)
     c.rest_one-acts.result (c.rest_one-acts.ensures.acts ∙ ap (λ (b : Body). nat_eq b.resting 0) read) in (

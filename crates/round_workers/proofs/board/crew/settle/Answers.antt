@@ -19,48 +19,45 @@ pub open_book-requires-clause-unopened : goal.open_book-requires-clause-unopened
 open_book-requires-clause-unopened g c = ap (λ (v : View). v.opened) c.requires.laid.first
 
 pub open_book-requires-clause-stands : goal.open_book-requires-clause-stands
-open_book-requires-clause-stands g c = book-for c.args.field.now c.args.from c.args.to (board_window c.args.laid.board) c.requires.laid.window c.args.book c.requires.stands c.requires.from c.requires.to
+open_book-requires-clause-stands g c = book-for c.args.field.now c.args.turns.from c.args.turns.to (board_window c.args.laid.board) c.requires.laid.window c.args.book c.requires.book.stands c.requires.book.from c.requires.book.to
 
 pub open_book-requires-clause-begins : goal.open_book-requires-clause-begins
-open_book-requires-clause-begins g c = c.requires.next ∙ sym c.requires.from
+open_book-requires-clause-begins g c = c.requires.next ∙ sym c.requires.book.from
 
 pub hire-requires-clause-manned : goal.hire-requires-clause-manned
 hire-requires-clause-manned g c =
     let board = c.args.laid.board in let field = c.args.field.now in let laid = c.requires.laid in
-    let lent = lent-for field c.args.from c.args.to (board_window board) laid.window c.args.book c.requires.stands c.requires.from c.requires.to in
-    subst (IsManned board c.open_book.new.seat) (sym laid.bare) (manned-first board c.open_book.new.seat (basis_of board) c.open_book.ensures.board (c.open_book.ensures.opened ∙ ap has_seen laid.first))
+    let lent = lent-for field c.args.turns.from c.args.turns.to (board_window board) laid.window c.args.book c.requires.book.stands c.requires.book.from c.requires.book.to in
+    subst (IsManned board c.open_book.new.seat) (sym c.requires.stocked.bare) (manned-first board c.open_book.new.seat (basis_of board) c.open_book.ensures.board (c.open_book.ensures.opened ∙ ap has_seen laid.first))
 
 pub hire-requires-clause-hired : goal.hire-requires-clause-hired
-hire-requires-clause-hired g c = All-same (IsHired c.args.laid.board) c.args.laid.workers.items [] c.requires.laid.bare (All-nil (IsHired c.args.laid.board))
+hire-requires-clause-hired g c = All-same (IsHired c.args.laid.board) c.args.stock.now.workers.items [] c.requires.stocked.bare (All-nil (IsHired c.args.laid.board))
 
 pub hire-requires-clause-lists : goal.hire-requires-clause-lists
-hire-requires-clause-lists g c = subst (λ (w : Window). All (IsRoom (turns_in w)) c.args.laid.lists.items) (sym c.requires.laid.window) c.requires.laid.lists
+hire-requires-clause-lists g c = subst (λ (w : Window). All (IsRoom (turns_in w)) c.args.stock.now.lists.items) (sym c.requires.laid.window) c.requires.stocked.lists
 
 pub work_all-requires-clause-field : goal.work_all-requires-clause-field
 work_all-requires-clause-field g c κs within =
     let board = c.args.laid.board in let field = c.args.field.now in let laid = c.requires.laid in
-    let lent = lent-for field c.args.from c.args.to (board_window board) laid.window c.args.book c.requires.stands c.requires.from c.requires.to in
+    let lent = lent-for field c.args.turns.from c.args.turns.to (board_window board) laid.window c.args.book c.requires.book.stands c.requires.book.from c.requires.book.to in
     lent
 
 pub work_all-requires-clause-guesses : goal.work_all-requires-clause-guesses
-work_all-requires-clause-guesses g c κs within = c.requires.guesses ∙ ap guesses_for (sym c.requires.laid.window)
+work_all-requires-clause-guesses g c κs within = c.deref.ensures.value ∙ (c.requires.stocked.guesses ∙ ap guesses_for (sym c.requires.laid.window))
 
-pub settle_left-requires-clause-stands : goal.settle_left-requires-clause-stands
-settle_left-requires-clause-stands g c =
+pub settle_left-requires-clause-book : goal.settle_left-requires-clause-book
+settle_left-requires-clause-book g c =
     let board = c.args.laid.board in let field = c.args.field.now in let laid = c.requires.laid in
-    let lent = lent-for field c.args.from c.args.to (board_window board) laid.window c.args.book c.requires.stands c.requires.from c.requires.to in
-    on-for field (board_window board) lent c.take_apart-ended.result.book c.take_apart-ended.ensures.book
-
-pub settle_left-requires-clause-from : goal.settle_left-requires-clause-from
-settle_left-requires-clause-from g c = c.take_apart-ended.ensures.book.stands.from ∙ ap (λ (w : Window). w.from) c.requires.laid.window
-
-pub settle_left-requires-clause-to : goal.settle_left-requires-clause-to
-settle_left-requires-clause-to g c = c.take_apart-ended.ensures.book.stands.to ∙ ap (λ (w : Window). w.to) c.requires.laid.window
+    let lent = lent-for field c.args.turns.from c.args.turns.to (board_window board) laid.window c.args.book c.requires.book.stands c.requires.book.from c.requires.book.to in record {
+      stands = on-for field (board_window board) lent c.take_apart-ended.result.book c.take_apart-ended.ensures.book;
+      from = c.take_apart-ended.ensures.book.stands.from ∙ ap (λ (w : Window). w.from) laid.window;
+      to = c.take_apart-ended.ensures.book.stands.to ∙ ap (λ (w : Window). w.to) laid.window;
+    }
 
 pub settle_left-requires-clause-looks : goal.settle_left-requires-clause-looks
 settle_left-requires-clause-looks g c =
     let board = c.args.laid.board in let field = c.args.field.now in let laid = c.requires.laid in
-    let lent = lent-for field c.args.from c.args.to (board_window board) laid.window c.args.book c.requires.stands c.requires.from c.requires.to in
+    let lent = lent-for field c.args.turns.from c.args.turns.to (board_window board) laid.window c.args.book c.requires.book.stands c.requires.book.from c.requires.book.to in
     subst (λ (w : Window). AreLooks w c.take_apart-ended.result.places.items) laid.window (looks-left (board_window board) (known c.gather.new.first) c.take_apart-ended.result.places.items c.take_apart-ended.ensures.looks)
 
 pub gather-requires-clause-manned : goal.gather-requires-clause-manned

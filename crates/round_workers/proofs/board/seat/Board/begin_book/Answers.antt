@@ -24,7 +24,7 @@ returns-clause-table c = c.exchange.ensures.table ∙ c.take_book_step-found.ens
 pub returns-clause-stands : goal.returns-clause-stands
 returns-clause-stands c = let it = c.take_book_step-found.ensures.tells.home c.if-found-ne-HOME.false in
     let there = ap book_room (sym (lay-in _ _ 0 (TheBook (Some it.0)) _ _ _ it.2 c.exchange.ensures.lay)) in
-    subst (λ content. IsSomeAnd content (StandsFor (board_window c.args.self.now))) (sym (some-same _ _ _ c.book_room.ensures there)) (subst (λ z. StandsFor (window_about z) it.0) c.requires.knows it.1)
+    subst (λ content. IsSomeAnd content (StandsFor (board_window c.args.self.now))) (sym (some-same _ _ _ c.book_room.ensures there)) (subst (λ z. StandsFor (window_about z) it.0) c.requires.hand.knows it.1)
 
 pub returns-clause-takes : goal.returns-clause-takes
 returns-clause-takes c = let it = c.take_book_step-found.ensures.tells.home c.if-found-ne-HOME.false in swapped _ _ _ 0 _ Nothing c.args.hand.now.me.1 it.2 c.exchange.ensures.lies

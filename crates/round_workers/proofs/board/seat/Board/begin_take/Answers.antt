@@ -28,7 +28,7 @@ returns-clause-table c = c.exchange.ensures.table ∙ c.take_look_step-found.ens
 pub returns-clause-look : goal.returns-clause-look
 returns-clause-look c = let hit = c.take_look_step-found.ensures.tells.full c.if-found-ne-FULL.false in
     let there = ap look_room (sym (lay-in _ _ (c.args.ticket + 1) (OneLook (Some (look_at_ticket c.args.hand.now.me.0 c.args.ticket))) _ _ _ hit c.exchange.ensures.lay)) in
-    some-same _ _ _ c.look_room.ensures there ∙ ap (λ z. Some (look_for (window_about z) ((window_about z).from + c.args.ticket))) c.requires.knows
+    some-same _ _ _ c.look_room.ensures there ∙ ap (λ z. Some (look_for (window_about z) ((window_about z).from + c.args.ticket))) c.requires.hand.knows
 
 pub returns-clause-takes : goal.returns-clause-takes
 returns-clause-takes c = let hit = c.take_look_step-found.ensures.tells.full c.if-found-ne-FULL.false in

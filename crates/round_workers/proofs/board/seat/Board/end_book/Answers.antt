@@ -2,14 +2,14 @@ use Rattle.std.proofs.Common.{ap, ◌∙◌}
 use Rattle.atomic_table.specs.Table.{rest}
 use Rattle.round_workers.specs.declared.board.view.BoardSlot.TheVariants.{Nothing, TheBook}
 use Rattle.round_workers.specs.BoardPlays.{without_book}
-use Rattle.round_workers.proofs.BoardMoves.{At, slot-held}
+use Rattle.round_workers.proofs.BoardMoves.{At, hand_after, slot-held}
 use Rattle.round_workers.proofs.board.seat.Board.end_book.Goals as goal
 
 pub exchange-requires-clause-out : goal.exchange-requires-clause-out
 exchange-requires-clause-out c = (Nothing, c.requires.out)
 
-pub give_book_step-requires-clause-knows : goal.give_book_step-requires-clause-knows
-give_book_step-requires-clause-knows c = ap (λ (m : At). m.0.about) c.exchange.ensures.lies ∙ c.requires.knows
+pub give_book_step-requires-clause-hand : goal.give_book_step-requires-clause-hand
+give_book_step-requires-clause-hand c = hand_after _ _ _ c.exchange.ensures.table (ap (λ (m : At). m.0.about) c.exchange.ensures.lies) c.requires.hand
 
 pub give_book_step-requires-clause-holds : goal.give_book_step-requires-clause-holds
 give_book_step-requires-clause-holds c = ap (λ (m : At). m.0.holds) c.exchange.ensures.lies ∙ c.requires.holds

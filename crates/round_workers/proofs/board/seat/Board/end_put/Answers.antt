@@ -2,14 +2,14 @@ use Rattle.std.proofs.Common.{◌+◌, ◌∷◌, ap, ◌∙◌}
 use Rattle.atomic_table.specs.Table.{rest}
 use Rattle.round_workers.specs.declared.board.view.BoardSlot.TheVariants.{Nothing, OneLook}
 use Rattle.round_workers.specs.BoardPlays.{has_put}
-use Rattle.round_workers.proofs.BoardMoves.{At, slot-held}
+use Rattle.round_workers.proofs.BoardMoves.{At, hand_after, slot-held}
 use Rattle.round_workers.proofs.board.seat.Board.end_put.Goals as goal
 
 pub exchange-requires-clause-out : goal.exchange-requires-clause-out
 exchange-requires-clause-out c = (Nothing, c.requires.out)
 
-pub has_put_step-requires-clause-knows : goal.has_put_step-requires-clause-knows
-has_put_step-requires-clause-knows c = ap (λ (m : At). m.0.about) c.exchange.ensures.lies ∙ c.requires.knows
+pub has_put_step-requires-clause-hand : goal.has_put_step-requires-clause-hand
+has_put_step-requires-clause-hand c = hand_after _ _ _ c.exchange.ensures.table (ap (λ (m : At). m.0.about) c.exchange.ensures.lies) c.requires.hand
 
 pub has_put_step-requires-clause-putting : goal.has_put_step-requires-clause-putting
 has_put_step-requires-clause-putting c = ap (λ (m : At). m.0.phase) c.exchange.ensures.lies ∙ c.requires.putting

@@ -5,7 +5,7 @@ use Rattle.round_workers.specs.declared.board.view.BoardSlot.TheVariants.{Nothin
 use Rattle.round_workers.specs.Inner.BoardPlaces.{book_room}
 use Rattle.round_workers.specs.BoardSeats.{board_window}
 use Rattle.round_workers.specs.BoardView.{out_with}
-use Rattle.round_workers.proofs.BoardMoves.{At, lay-in, slot-held, some-there, swapped}
+use Rattle.round_workers.proofs.BoardMoves.{At, hand_after, lay-in, slot-held, some-there, swapped}
 use Rattle.round_workers.proofs.board.seat.Board.give_book.Goals as goal
 
 pub exchange-place-requires-clause-out : goal.exchange-place-requires-clause-out
@@ -16,12 +16,9 @@ pub book_room-room-requires : goal.book_room-room-requires
 book_room-room-requires c = let me = c.args.seat.now.hand.me in let out = c.args.seat.now.at_rest.out ∙ ap out_with c.requires.holds in
     some-there _ None (ap book_room (sym (lay-in _ me.0 0 (TheBook None) _ [] _ (λ i. (me.0, out i)) c.exchange-place.ensures.lay)))
 
-pub end_book-requires-clause-table : goal.end_book-requires-clause-table
-end_book-requires-clause-table c = c.exchange-place.ensures.table ∙ c.requires.board.table
-
-pub end_book-requires-clause-knows : goal.end_book-requires-clause-knows
-end_book-requires-clause-knows c = let me = c.args.seat.now.hand.me in let out = c.args.seat.now.at_rest.out ∙ ap out_with c.requires.holds in
-    ap (λ (m : At). m.0.about) (swapped _ _ me.0 0 (TheBook None) Nothing [] (λ i. (me.0, out i)) c.exchange-place.ensures.lies) ∙ c.requires.board.knows
+pub end_book-requires-clause-hand : goal.end_book-requires-clause-hand
+end_book-requires-clause-hand c = let me = c.args.seat.now.hand.me in let out = c.args.seat.now.at_rest.out ∙ ap out_with c.requires.holds in
+    hand_after _ _ _ c.exchange-place.ensures.table (ap (λ (m : At). m.0.about) (swapped _ _ me.0 0 (TheBook None) Nothing [] (λ i. (me.0, out i)) c.exchange-place.ensures.lies)) c.requires.board
 
 pub end_book-requires-clause-holds : goal.end_book-requires-clause-holds
 end_book-requires-clause-holds c = let me = c.args.seat.now.hand.me in let out = c.args.seat.now.at_rest.out ∙ ap out_with c.requires.holds in

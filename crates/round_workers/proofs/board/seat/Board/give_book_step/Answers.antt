@@ -11,8 +11,8 @@ use Rattle.round_workers.proofs.board.seat.Board.give_book_step.Goals as goal
 pub swap-requires : goal.swap-requires
 swap-requires c =
     let wide = c.args.self.now.words in let me = c.args.hand.now.me in let key = basis_of c.args.self.now in let slots = c.args.self.now.table.shared.table_id.slots in (
-      c.requires.table,
+      c.requires.hand.table,
       omega arith,
       subst (λ (out : List (ℕ × BoardSlot)). Allows (IsKept key) slots c.args.hand.now.id (me.0, out) 1 (λ _. 0) (tells_give_book (step slots 1 0 0 maybe.none) (me.0, out))) (sym c.requires.book.1)
-          (gives-room key slots c.args.hand.now.id me.0 c.requires.knows (rest me.1) c.requires.book.0 c.requires.book.2 c.requires.holds),
+          (gives-room key slots c.args.hand.now.id me.0 c.requires.hand.knows (rest me.1) c.requires.book.0 c.requires.book.2 c.requires.holds),
     )

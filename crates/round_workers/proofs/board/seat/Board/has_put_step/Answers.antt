@@ -12,10 +12,10 @@ pub swap-requires : goal.swap-requires
 swap-requires c =
     let wide = c.args.self.now.words in let me = c.args.hand.now.me in let key = basis_of c.args.self.now in let slots = c.args.self.now.table.shared.table_id.slots in
     let a = c.args.self.now.first in let b = c.args.self.now.last in let inside = c.requires.ticket in let j : ℕ = c.args.ticket in (
-      c.requires.table,
+      c.requires.hand.table,
       omega arith,
       subst (λ (out : List (ℕ × BoardSlot)). Allows (IsKept key) slots c.args.hand.now.id (me.0, out) (j + 2) (λ _. 2) (tells_has_put (step slots (j + 2) 2 0 maybe.none) (me.0, out))) (sym c.requires.look)
-          (has-put key slots c.args.hand.now.id me.0 c.requires.knows j inside (rest me.1) _ refl c.requires.putting),
+          (has-put key slots c.args.hand.now.id me.0 c.requires.hand.knows j inside (rest me.1) _ refl c.requires.putting),
     )
 
 pub returns-clause-has_put : goal.returns-clause-has_put

@@ -5,7 +5,7 @@ use Rattle.round_book.specs.Window.{Window, guess_for, look_for}
 use Rattle.round_book.proofs.SoloLemmas.{guess_for-le}
 use Rattle.round_workers.specs.BoardSeats.{basis_of, board_window}
 use Rattle.round_workers.proofs.BoardWorking.{look-so}
-use Rattle.round_workers.proofs.BoardMoves.{At, put-done, put-rests, slot-held}
+use Rattle.round_workers.proofs.BoardMoves.{At, hand_after, put-done, put-rests, slot-held}
 use Rattle.round_workers.proofs.board.seat.Board.look_and_put.Goals as goal
 
 pub look_at-requires-clause-id : goal.look_at-requires-clause-id
@@ -18,8 +18,8 @@ look_at-requires-clause-place c =
     let board = c.args.self.now in let few = guess_for-le (board_window board) ((basis_of board).from + c.args.ticket) in let at = c.requires.guess in
     let lasting = board.lasting in let inside = c.requires.ticket in let a = board.first in let b = board.last in omega arith
 
-pub end_put-requires-clause-knows : goal.end_put-requires-clause-knows
-end_put-requires-clause-knows c = ap (λ (m : At). m.0.about) c.begin_put-room.ensures.puts ∙ c.requires.board.knows
+pub end_put-requires-clause-hand : goal.end_put-requires-clause-hand
+end_put-requires-clause-hand c = hand_after _ _ _ c.begin_put-room.ensures.table (ap (λ (m : At). m.0.about) c.begin_put-room.ensures.puts) c.requires.board
 
 pub end_put-requires-clause-putting : goal.end_put-requires-clause-putting
 end_put-requires-clause-putting c = ap (λ (m : At). m.0.phase) c.begin_put-room.ensures.puts

@@ -2,7 +2,7 @@ use Rattle.std.proofs.Common.{◌∷◌, None, Some, sym, ap, ◌∙◌}
 use Rattle.round_workers.specs.declared.board.view.BoardSlot.TheVariants.{Nothing, TheBook}
 use Rattle.round_workers.specs.Inner.BoardPlaces.{book_room}
 use Rattle.round_workers.specs.BoardPlays.{opens_now}
-use Rattle.round_workers.proofs.BoardMoves.{At, lay-in, slot-held, some-there, swapped}
+use Rattle.round_workers.proofs.BoardMoves.{At, hand_after, lay-in, slot-held, some-there, swapped}
 use Rattle.round_workers.proofs.board.seat.Board.open_book.Goals as goal
 
 pub exchange-place-requires-clause-out : goal.exchange-place-requires-clause-out
@@ -15,10 +15,11 @@ pub exchange-requires-clause-out : goal.exchange-requires-clause-out
 exchange-requires-clause-out c =
     let held = swapped _ _ _ 0 (TheBook None) Nothing c.args.seat.now.hand.me.1 c.open_step.ensures.opens c.exchange-place.ensures.lies in (Nothing, slot-held _ _ 0 Nothing _ held)
 
-pub opened_step-requires-clause-knows : goal.opened_step-requires-clause-knows
-opened_step-requires-clause-knows c =
+pub opened_step-requires-clause-hand : goal.opened_step-requires-clause-hand
+opened_step-requires-clause-hand c =
     let me = c.args.seat.now.hand.me in let held = swapped _ _ _ 0 (TheBook None) Nothing me.1 c.open_step.ensures.opens c.exchange-place.ensures.lies in
-    ap (λ (m : At). m.0.about) (swapped _ _ _ 0 Nothing (TheBook c.put.new.self) me.1 held c.exchange.ensures.lies) ∙ c.requires.board.knows
+    hand_after _ _ _ (c.exchange.ensures.table ∙ (c.exchange-place.ensures.table ∙ c.open_step.ensures.table))
+    (ap (λ (m : At). m.0.about) (swapped _ _ _ 0 Nothing (TheBook c.put.new.self) me.1 held c.exchange.ensures.lies)) c.requires.board
 
 pub opened_step-requires-clause-first : goal.opened_step-requires-clause-first
 opened_step-requires-clause-first c =

@@ -5,7 +5,7 @@ use Rattle.round_workers.proofs.board.seat.Board.open_step.Goals as goal
 
 pub compare_exchange-requires : goal.compare_exchange-requires
 compare_exchange-requires c = let wide = c.args.self.now.words in let me = c.args.hand.now.me in (
-  c.requires.table,
+  c.requires.hand.table,
   omega arith,
-  opens (basis_of c.args.self.now) _ _ me.0 c.requires.knows me.1 c.requires.first c.requires.unopened c.requires.rests,
+  opens (basis_of c.args.self.now) _ _ me.0 c.requires.hand.knows me.1 c.requires.first c.requires.unopened c.requires.rests,
 )

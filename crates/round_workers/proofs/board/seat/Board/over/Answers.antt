@@ -7,5 +7,5 @@ pub new-requires : goal.new-requires
 new-requires c =
     let turns = ap₂ (λ (a b : ℕ). a - b) (sym c.basis-basis.ensures.to) (sym c.basis-basis.ensures.from) in
     starts-so c.basis-basis.result c.deref.result.now c.in_ok-slots.slots.items c.basis-basis.ensures.playable
-    (c.deref.ensures.value ∙ (c.in_ok-words.ensures.items_if_clones_equal (λ y e. e) ∙ ap (λ (n : ℕ). replicate (n + 2) 0) turns))
+    (c.deref.ensures.value ∙ (c.in_ok-fill.ensures.words ∙ ap (λ (n : ℕ). replicate (n + 2) 0) turns))
     (subst (λ (n : ℕ). AreBare n c.in_ok-slots.slots.items) turns c.in_ok-slots.ensures.bare)

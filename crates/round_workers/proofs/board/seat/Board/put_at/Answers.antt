@@ -1,10 +1,10 @@
 use Rattle.std.proofs.Common.{Some, ◌+◌, ap, ◌∙◌}
 use Rattle.round_workers.specs.declared.board.view.BoardSlot.TheVariants.{Nothing}
-use Rattle.round_workers.proofs.BoardMoves.{At, put-done, put-rests, slot-held}
+use Rattle.round_workers.proofs.BoardMoves.{At, hand_after, put-done, put-rests, slot-held}
 use Rattle.round_workers.proofs.board.seat.Board.put_at.Goals as goal
 
-pub end_put-requires-clause-knows : goal.end_put-requires-clause-knows
-end_put-requires-clause-knows c = ap (λ (m : At). m.0.about) c.begin_put-room.ensures.puts ∙ c.requires.board.knows
+pub end_put-requires-clause-hand : goal.end_put-requires-clause-hand
+end_put-requires-clause-hand c = hand_after _ _ _ c.begin_put-room.ensures.table (ap (λ (m : At). m.0.about) c.begin_put-room.ensures.puts) c.requires.board
 
 pub end_put-requires-clause-putting : goal.end_put-requires-clause-putting
 end_put-requires-clause-putting c = ap (λ (m : At). m.0.phase) c.begin_put-room.ensures.puts

@@ -5,7 +5,7 @@ use Rattle.round_workers.proofs.board.seat.Board.split_step.Goals as goal
 
 pub split_seat-requires : goal.split_seat-requires
 split_seat-requires c = let wide = c.args.self.now.words in (
-  c.requires.table,
+  c.requires.hand.table,
   omega arith,
-  splits (basis_of c.args.self.now) _ _ c.requires.knows c.requires.first c.requires.few,
+  splits (basis_of c.args.self.now) _ _ c.requires.hand.knows c.requires.first c.requires.few,
 )

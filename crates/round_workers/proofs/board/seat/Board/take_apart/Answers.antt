@@ -1,4 +1,4 @@
-use Rattle.std.proofs.Common.{◌≡◌, ℕ, ◌+◌, ◌-◌, ◌<◌, ◌≤◌, [], ◌∷◌, length, length-append, arith, sym, subst, ap, ◌∙◌}
+use Rattle.std.proofs.Common.{Some, ◌≡◌, ℕ, ◌+◌, ◌-◌, ◌<◌, ◌≤◌, [], ◌∷◌, length, length-append, arith, sym, subst, ap, ◌∙◌}
 use lib.ListN.{get_elem?}
 use Rattle.std.specs.Vec.{vec_capacity}
 use Rattle.std.specs.Mem.Slots.{slots_len}
@@ -6,6 +6,7 @@ use Rattle.round_workers.specs.BoardSeats.{basis_of, known, board_window}
 use Rattle.round_workers.specs.BoardLaws.{IsWhereClosed, Way}
 use Rattle.round_workers.specs.BoardTotals.{once_below}
 use Rattle.round_workers.proofs.BoardClosing.{book-at-slot, index-at, lasts, look-at-slot, places-more, stands-so}
+use Rattle.round_workers.proofs.BoardMoves.{some-same, some-there}
 use Rattle.round_workers.proofs.board.seat.Board.take_apart.Goals as goal
 
 pub overflow_cast-drawn : goal.overflow_cast-drawn
@@ -14,17 +15,23 @@ overflow_cast-drawn c =
     let last = lasts key c.args.seat.hand.id v c.requires.board.knows c.requires.first c.requires.whole c.args.seat.at_rest.resting c.requires.opened c.requires.free _ _ c.close_with-closed.ensures.values.2 in
     let small = last.small in let is = index-at _ 0 _ c.word-drawn.ensures in omega arith
 
+pub book_room-home-requires : goal.book_room-home-requires
+book_room-home-requires c =
+    let key = basis_of c.args.self in let v = known c.args.seat in
+    let last = lasts key c.args.seat.hand.id v c.requires.board.knows c.requires.first c.requires.whole c.args.seat.at_rest.resting c.requires.opened c.requires.free _ _ c.close_with-closed.ensures.values.2 in
+    let it = book-at-slot key v _ _ c.take_slot.result last c.take_slot.ensures.value in some-there _ (Some it.0) it.1
+
 pub unreachable-requires : goal.unreachable-requires
 unreachable-requires c =
     let key = basis_of c.args.self in let v = known c.args.seat in
     let last = lasts key c.args.seat.hand.id v c.requires.board.knows c.requires.first c.requires.whole c.args.seat.at_rest.resting c.requires.opened c.requires.free _ _ c.close_with-closed.ensures.values.2 in
-    let it = book-at-slot key v _ _ c.take_slot.result last c.take_slot.ensures.value in c.in_default.not-Some it.0 (c.book_in.ensures ∙ it.1)
+    let it = book-at-slot key v _ _ c.take_slot.result last c.take_slot.ensures.value in c.in_default.not-Some it.0 (c.take.ensures.value ∙ some-same _ _ _ c.book_room-home.ensures it.1)
 
 pub returns-clause-book : goal.returns-clause-book
 returns-clause-book c =
     let key = basis_of c.args.self in let v = known c.args.seat in
     let last = lasts key c.args.seat.hand.id v c.requires.board.knows c.requires.first c.requires.whole c.args.seat.at_rest.resting c.requires.opened c.requires.free _ _ c.close_with-closed.ensures.values.2 in
-    let it = book-at-slot key v _ _ c.take_slot.result last c.take_slot.ensures.value in stands-so (board_window c.args.self) c.book_in.result it.0 c.in-Some.book (c.book_in.ensures ∙ it.1) c.in-Some.is it.2
+    let it = book-at-slot key v _ _ c.take_slot.result last c.take_slot.ensures.value in stands-so (board_window c.args.self) c.take.result it.0 c.in-Some.book (c.take.ensures.value ∙ some-same _ _ _ c.book_room-home.ensures it.1) c.in-Some.is it.2
 
 pub returns-clause-drawn : goal.returns-clause-drawn
 returns-clause-drawn c =

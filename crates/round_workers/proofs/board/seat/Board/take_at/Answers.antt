@@ -2,11 +2,11 @@ use Rattle.std.proofs.Common.{ℕ, ◌+◌, ap, refl, ◌∙◌}
 use Rattle.atomic_table.specs.Table.{rest}
 use Rattle.round_workers.specs.declared.board.view.BoardSlot.TheVariants.{Nothing}
 use Rattle.round_workers.specs.BoardPlays.{has_taken, took_look}
-use Rattle.round_workers.proofs.BoardMoves.{At, at-rest-so, if-none, if-some, on-some, slot-held}
+use Rattle.round_workers.proofs.BoardMoves.{At, hand_after, at-rest-so, if-none, if-some, on-some, slot-held}
 use Rattle.round_workers.proofs.board.seat.Board.take_at.Goals as goal
 
-pub end_take-requires-clause-knows : goal.end_take-requires-clause-knows
-end_take-requires-clause-knows c = ap (λ (m : At). m.0.about) c.in-Some.ensures.takes ∙ c.requires.board.knows
+pub end_take-requires-clause-hand : goal.end_take-requires-clause-hand
+end_take-requires-clause-hand c = hand_after _ _ _ c.begin_take.ensures.table (ap (λ (m : At). m.0.about) c.in-Some.ensures.takes) c.requires.board
 
 pub end_take-requires-clause-taking : goal.end_take-requires-clause-taking
 end_take-requires-clause-taking c = ap (λ (m : At). m.0.phase) c.in-Some.ensures.takes

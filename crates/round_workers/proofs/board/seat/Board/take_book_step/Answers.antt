@@ -5,9 +5,9 @@ use Rattle.round_workers.proofs.board.seat.Board.take_book_step.Goals as goal
 
 pub compare_exchange-requires : goal.compare_exchange-requires
 compare_exchange-requires c = let wide = c.args.self.now.words in let me = c.args.hand.now.me in (
-  c.requires.table,
+  c.requires.hand.table,
   omega arith,
-  takes-book (basis_of c.args.self.now) _ _ me.0 c.requires.knows me.1 c.requires.opened c.requires.free,
+  takes-book (basis_of c.args.self.now) _ _ me.0 c.requires.hand.knows me.1 c.requires.opened c.requires.free,
 )
 
 pub returns-clause-tells : goal.returns-clause-tells

@@ -1,7 +1,7 @@
 use Rattle.std.proofs.Common.{◌≡◌, ◌++◌, false, sym, ap, ◌∙◌}
 use Rattle.std.proofs.lemmas.List.Elements.{All-more}
 use Rattle.tournament.proofs.PiecesLemmas.{played_more}
-use Rattle.tournament.proofs.pieces.gathered.Goals as goal
+use Rattle.tournament.proofs.pieces.gather.Goals as goal
 
 pub loop-piece-preserved : goal.loop-piece-preserved
 loop-piece-preserved c = (

@@ -1,7 +1,7 @@
 use Rattle.std.proofs.Common.{◌≡◌, ◌≤◌, ◌*◌, ◌/◌, length, take, take_all, sym, ap, ◌∙◌, arith}
 use Rattle.work_share.proofs.BordersLemmas.{border_rises, border_last}
 use Rattle.tournament.proofs.PiecesLemmas.{dealt_more}
-use Rattle.tournament.proofs.pieces.dealt.Goals as goal
+use Rattle.tournament.proofs.pieces.deal.Goals as goal
 
 pub loop-k-preserved : goal.loop-k-preserved
 loop-k-preserved c =

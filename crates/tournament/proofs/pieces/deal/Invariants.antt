@@ -1,6 +1,6 @@
 use Rattle.std.proofs.Common.{◌≡◌, ◌*◌, ◌/◌, take, All, []}
 use Rattle.tournament.specs.Inner.Pieces.{dealt_games}
-use Rattle.tournament.proofs.pieces.dealt.Given as goal
+use Rattle.tournament.proofs.pieces.deal.Given as goal
 
 -- the pieces so far are the games up to their border, and nothing of them was played
 abbrev pub invariant-loop-k : goal.invariant-loop-k
