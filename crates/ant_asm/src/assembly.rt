@@ -41,12 +41,12 @@ pub fn assemble(alloc: Global, text: &[u8]) -> Result<Assembled, AsmFault>
     ensures plays { PlaysText text.now result }
 {
     let bodies = read_bodies(alloc, text)?;
-    let made = expanded(alloc, &bodies)?;
+    let made = expand_main(alloc, &bodies)?;
     Ok(with_brain(made))
 }
 
 // The instructions of main, which is the last body, and their addresses.
-fn expanded(alloc: Global, bodies: &[Body]) -> Result<Expansion, OutOfMemory>
+fn expand_main(alloc: Global, bodies: &[Body]) -> Result<Expansion, OutOfMemory>
     requires { (text : List ℕ) × AreBodiesOf text bodies.now }
     ensures list { IfOk result (λ made. made.list.items ≡ emitted (tree_at bodies.now (last_of bodies.now)) (tree_at bodies.now (last_of bodies.now)) main_numbers 0) }
     ensures places { IfOk result (λ made. made.places.items ≡ places (tree_at bodies.now (last_of bodies.now))) }

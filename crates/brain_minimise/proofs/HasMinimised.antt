@@ -49,23 +49,29 @@ explored brain is (suc fuel) seen (next ∷ waiting) work explores =
           let rest : List ℕ = it.0 in
           let state : ℕ = it.1 in
           let cut : next ∷ waiting ≡ rest ++ state ∷ [] = it.2 in
+          let first : ℕ = first_next (instruction_at brain state) in
+          let last : ℕ = last_next (instruction_at brain state) in
+          let now : List Bool = slice_set seen first true in
           let size = explores.each in
           let sound = instruction-sound brain state is (Explores-below brain seen (next ∷ waiting) rest state explores cut) in
           let low = first-below (length brain) (instruction_at brain state) sound in
           let high = last-below (length brain) (instruction_at brain state) sound in
           let long : length (next ∷ waiting) ≡ length (rest ++ state ∷ []) = ap length cut in
-          let less = step-work seen rest state (first_next (instruction_at brain state)) (last_next (instruction_at brain state)) (omega (arith, low, size)) (omega (arith, high, size)) in
-          explored brain is fuel (slice_set (slice_set seen (first_next (instruction_at brain state)) true) (last_next (instruction_at brain state)) true)
-          (with_waiting (with_waiting rest (is_seen seen (first_next (instruction_at brain state))) (first_next (instruction_at brain state))) (is_seen (slice_set seen (first_next (instruction_at brain state)) true) (last_next (instruction_at brain state))) (last_next (instruction_at brain state)))
-          (omega (arith, less, long, work))
-          (Explores-more brain seen rest state (first_next (instruction_at brain state)) (last_next (instruction_at brain state)) (subst (Explores brain seen) cut explores) refl refl low high)
+          let less = step-work seen rest state first last (omega (arith, low, size)) (omega (arith, high, size)) in
+          explored brain is fuel (slice_set now last true) (with_waiting (with_waiting rest (is_seen seen first) first) (is_seen now last) last) (omega (arith, less, long, work))
+          (Explores-more brain seen rest state first last (subst (Explores brain seen) cut explores) refl refl low high)
     ]
 
 seen_of : (brain : List Instr) → IsBrain brain → Seen brain
 seen_of brain is =
-    let n = length brain in
-    explored brain is (2 * unseen (slice_set (replicate n false) 0 true) + length (with_waiting [] (is_seen (replicate n false) 0) 0)) (slice_set (replicate n false) 0 true) (with_waiting [] (is_seen (replicate n false) 0) 0)
-    (omega arith) (Explores-start brain n refl is.some)
+    let none : List Bool = replicate (length brain) false in
+    let seen : List Bool = slice_set none 0 true in
+    let waiting : List ℕ = with_waiting [] (is_seen none 0) 0 in
+    explored brain is (2 * unseen seen + length waiting) seen waiting (omega arith) (Explores-start brain (length brain) refl is.some)
+
+-- what stands at i + 1 stands at the next number
+one_more : (F : ℕ → Type 0) (i : ℕ) → F (i + 1) → F (suc i)
+one_more F i here = let next : i + 1 ≡ suc i = omega arith in subst F next here
 
 -- the states before one, in a round that parts classes
 record Round (brain : List Instr) (classes : List ℕ) (i : ℕ) : Type 0 where
@@ -101,8 +107,7 @@ round_to brain classes are (suc i) within =
     let before = round_to brain classes are i (omega arith) in
     let least : ℕ = slice_index classes i in
     let class : ℕ = unwrap_or (slice_index_or before.heirs least None) i in
-    let next : i + 1 ≡ suc i = omega arith in
-    subst (Round brain classes) next
+    one_more (Round brain classes) i
     (elim (cases_instruction (redirected (slice_index classes) (instruction_at brain i)) (redirected (slice_index classes) (instruction_at brain least))) [
       | inl alike ↦ record {
         heirs = before.heirs;
@@ -208,7 +213,7 @@ numbered_next classes seen i before =
 
 numbered_to : (classes : List ℕ) (seen : List Bool) (i : ℕ) → Numbered classes seen i
 numbered_to classes seen zero = record { keys = []; numbers = []; distinct = no_keys; numbering = IsNumbering-none classes seen }
-numbered_to classes seen (suc i) = (let next : i + 1 ≡ suc i = omega arith in subst (Numbered classes seen) next (numbered_next classes seen i (numbered_to classes seen i)))
+numbered_to classes seen (suc i) = one_more (Numbered classes seen) i (numbered_next classes seen i (numbered_to classes seen i))
 
 -- the table of the new numbers of the states before one
 record Tabled (numbers : List (Option ℕ)) (i : ℕ) : Type 0 where
@@ -220,8 +225,7 @@ tabled_to numbers zero = record { table = []; tabling = IsTabling-none numbers }
 tabled_to numbers (suc i) =
     let before = tabled_to numbers i in
     let entry : ℕ = unwrap_or (new_number numbers i) i in
-    let next : i + 1 ≡ suc i = omega arith in
-    subst (Tabled numbers) next (record { table = before.table ++ entry ∷ []; tabling = IsTabling-more numbers before.table i entry before.tabling refl })
+    one_more (Tabled numbers) i (record { table = before.table ++ entry ∷ []; tabling = IsTabling-more numbers before.table i entry before.tabling refl })
 
 -- the instructions that are kept of the states before one
 record Kept (brain : List Instr) (numbers : List (Option ℕ)) (table : List ℕ) (i : ℕ) : Type 0 where
@@ -233,8 +237,7 @@ kept_to brain numbers table rising zero = record { list = []; keeping = IsKeepin
 kept_to brain numbers table rising (suc i) =
     let before = kept_to brain numbers table rising i in
     let instruction : Instr = redirected (slice_index table) (instruction_at brain i) in
-    let next : i + 1 ≡ suc i = omega arith in
-    subst (Kept brain numbers table) next
+    one_more (Kept brain numbers table) i
     (elim (is_number (new_number numbers i) (length before.list)) [
       | inl has ↦ record { list = before.list ++ instruction ∷ []; keeping = IsKeeping-more brain numbers table before.list i instruction before.keeping has refl }
       | inr other ↦ record { list = before.list; keeping = IsKeeping-skip brain numbers table before.list i rising before.keeping other }

@@ -3,7 +3,7 @@ ghost use Rattle.std.specs.Prelude.{IfOk};
 ghost use Rattle.brain_minimise.specs.Minimised.{IsMinimised};
 
 use crate::classes::equivalence_classes;
-use crate::numbering::{kept, number_states, table_of};
+use crate::numbering::{kept_instructions, number_states, table_of};
 use crate::reach::reachable;
 use crate::state_map::StateMap;
 use brain_read::Brain;
@@ -36,7 +36,7 @@ pub fn minimise(alloc: Global, brain: &Brain) -> Result<Minimised, OutOfMemory>
     let classes = equivalence_classes(alloc, brain)?;
     let numbers = number_states(alloc, &classes, &seen)?;
     let table = table_of(alloc, &numbers)?;
-    let list = kept(alloc, brain, &numbers, &table)?;
+    let list = kept_instructions(alloc, brain, &numbers, &table)?;
     Ok(Minimised {
         brain: Brain::from_list(list),
         map: StateMap::from_list(numbers),

@@ -48,7 +48,7 @@ pub(crate) fn table_of(alloc: Global, numbers: &[Option<u16>]) -> Result<Vec<u16
 }
 
 // The instruction at each number: that of the first state that has it, with its successors renumbered.
-pub(crate) fn kept(
+pub(crate) fn kept_instructions(
     alloc: Global,
     brain: &Brain,
     numbers: &[Option<u16>],

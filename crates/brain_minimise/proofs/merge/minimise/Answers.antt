@@ -8,8 +8,8 @@ number_states-requires-clause-few c = omega (arith, c.in_ok-seen.ensures.seen.ea
 pub table_of-requires : goal.table_of-requires
 table_of-requires c = omega (arith, c.in_ok-seen.ensures.seen.each, c.in_ok-seen.ensures.brain.few, c.in_ok-numbers.ensures.each)
 
-pub kept-requires-clause-rising : goal.kept-requires-clause-rising
-kept-requires-clause-rising c = rw c.deref-4.ensures.value c.in_ok-numbers.ensures.rising
+pub kept_instructions-requires-clause-rising : goal.kept_instructions-requires-clause-rising
+kept_instructions-requires-clause-rising c = rw c.deref-4.ensures.value c.in_ok-numbers.ensures.rising
 
 pub from_list-requires : goal.from_list-requires
 from_list-requires c =

@@ -4,8 +4,8 @@ use Rattle.std.proofs.lemmas.Option.{get_or_from_slice_get}
 use Rattle.brain_read.specs.declared.instr.Instr.TheVariants.{Drop}
 use Rattle.ant_turn.specs.Renumber.{redirected}
 use Rattle.brain_minimise.proofs.Numbers.{IsKeeping, IsKeeping-all, IsKeeping-more, IsKeeping-skip}
-use Rattle.brain_minimise.proofs.numbering.kept.Goals.{then-has_number+in_ok-push, else-has_number}
-use Rattle.brain_minimise.proofs.numbering.kept.Goals as goal
+use Rattle.brain_minimise.proofs.numbering.kept_instructions.Goals.{then-has_number+in_ok-push, else-has_number}
+use Rattle.brain_minimise.proofs.numbering.kept_instructions.Goals as goal
 
 pub loop-state-preserved : goal.loop-state-preserved
 loop-state-preserved c =
