@@ -99,18 +99,15 @@ impl<'c, R: Threads + Sync, G: Gate> BoardCrew<'c, R, G> {
         ensures unchanged { OnErr result (field.new ≡ field.old) }
         ensures as_before { OnErr result (self.new ≡ self.old) }
     {
-        let mut stock = self.stock.take().unwrap_or_else(|| CrewStock::new(alloc));
-        let played = play(
+        let counts = play(
             self.rt,
             self.gate,
             alloc,
-            &mut stock,
+            &mut self.stock,
             self.workers,
             field,
             Turns { from, to },
-        );
-        self.stock = Some(stock);
-        let counts = played?;
+        )?;
         self.turns = self.turns.saturating_add(u64::from(to - from));
         Ok(counts)
     }
@@ -146,7 +143,7 @@ fn play<R: Threads + Sync, G: Gate>(
     rt: &R,
     gate: &G,
     alloc: Global,
-    stock: &mut CrewStock,
+    stock: &mut Option<CrewStock>,
     workers: u32,
     field: &mut Field<'_>,
     turns: Turns,
@@ -157,11 +154,14 @@ fn play<R: Threads + Sync, G: Gate>(
     ensures counts { IfOk result (λ counts. counts ≡ counts_of (books.window_of field.old turns.from turns.to)) }
     ensures unchanged { OnErr result (field.new ≡ field.old) }
 {
+    // A window of one worker is not to pay for a stock that it doesn't use.
     if workers.min(turns.to - turns.from) <= 1 {
-        play_window(gate, alloc, field, turns.from, turns.to)
-    } else {
-        play_on_board(rt, gate, alloc, stock, workers, field, turns)
+        return play_window(gate, alloc, field, turns.from, turns.to);
     }
+    let mut kept = stock.take().unwrap_or_else(|| CrewStock::new(alloc));
+    let played = play_on_board(rt, gate, alloc, &mut kept, workers, field, turns);
+    *stock = Some(kept);
+    played
 }
 
 // Plays a window on a board of its own.
