@@ -14,7 +14,7 @@ use Rattle.ant_turn.specs.Keeps.{Keeps}
 use Rattle.ant_turn.specs.Minds.{AreSound, Fits, Minds}
 use Rattle.ant_turn.specs.Rounds.{Moment, after_turn}
 use Rattle.ant_turn.specs.Turn.{Outcome, turn}
-use Rattle.spec_record.specs.Claims.{Claim, Sighting, with_cells_at, seen_positions}
+use Rattle.spec_record.specs.Claims.{Claim, Sighting, seen_cell, seen_parts, seen_place, seen_positions, with_cells_at}
 use Rattle.spec_record.specs.Holds.{Holds}
 use Rattle.spec_record.specs.Locality.{GoesOn, outcome_by}
 use Rattle.spec_record.specs.Look.{LookValue, look_of}
@@ -37,10 +37,10 @@ use Rattle.round_book.proofs.PassLemmas.{patched_cells-other}
 use Rattle.round_book.proofs.WindowLemmas.{GoesOn-Keeps, LookIsTurn-window}
 
 -- each can be patched
-each_patched : (now : World) (wanted : Cells) (writes : List Sighting) → Valid now → AllByRecursion (Makes now.cells wanted) writes → AllByRecursion (λ write. (now.cells write.0).rocky ≡ false) writes → AllByRecursion (CanPatchIn now) writes
+each_patched : (now : World) (wanted : Cells) (writes : List Sighting) → Valid now → AllByRecursion (Makes now.cells wanted) writes → AllByRecursion (λ write. (now.cells (seen_place write)).rocky ≡ false) writes → AllByRecursion (CanPatchIn now) writes
 each_patched now wanted [] valid makes clear = tt
 each_patched now wanted (write ∷ writes) valid makes clear =
-    ((clear_inside now write.0 valid clear.0, makes.0.can_patch), each_patched now wanted writes valid makes.1 clear.1)
+    ((clear_inside now (seen_place write) valid clear.0, makes.0.can_patch), each_patched now wanted writes valid makes.1 clear.1)
 
 -- the writes of a look that holds may be set
 pub look-CanTake : (minds : Minds) (seed : ℕ) (base : World) (guess : ℕ) (now : World) (place t : ℕ) → AreSound minds → Valid base → Valid now → Fits now minds → GoesOn base now t → Holds minds base guess now place t →
@@ -119,8 +119,8 @@ module _ (window : Window) (book : BookValue) (playable : IsPlayable window) (st
 apart_from : (writes : List Sighting) (p : Pos) → ¬ Contains (seen_positions writes) p → AllByRecursion (λ q. q ≢ p) (seen_positions writes)
 apart_from [] p none = tt
 apart_from (write ∷ writes) p none = (
-  λ same. none (subst (λ q. Contains (write.0 ∷ seen_positions writes) q) same (0, omega arith, refl)),
-  apart_from writes p (λ held. none (Contains-append_right (write.0 ∷ []) (seen_positions writes) p held)),
+  λ same. none (subst (λ q. Contains (seen_place write ∷ seen_positions writes) q) same (0, omega arith, refl)),
+  apart_from writes p (λ held. none (Contains-append_right (seen_place write ∷ []) (seen_positions writes) p held)),
 )
 
 -- a sighting among claims with their cells is one of them
@@ -139,7 +139,7 @@ find_claim cells (c ∷ claims) read held = ⊎_elim
     (Contains-cases (c.at, c.parts, cells c.at) read (with_cells_at cells claims) held)
 
 -- what agrees with all sightings agrees with all claims
-agree_claims : (v w : Cells) (claims : List Claim) → AllByRecursion (λ read. Agree read.1 read.2 (w read.0)) (with_cells_at v claims) → AllByRecursion (λ c. Agree c.parts (v c.at) (w c.at)) claims
+agree_claims : (v w : Cells) (claims : List Claim) → AllByRecursion (λ read. Agree (seen_parts read) (seen_cell read) (w (seen_place read))) (with_cells_at v claims) → AllByRecursion (λ c. Agree c.parts (v c.at) (w c.at)) claims
 agree_claims v w [] all = tt
 agree_claims v w (c ∷ claims) all = (all.0, agree_claims v w claims all.1)
 
@@ -148,13 +148,13 @@ pub IsVerdict-cause : (window : Window) (now : Moment) (t : ℕ) (found : Cause)
 unfolding look_for look_of
 IsVerdict-cause window now t (cause.Part at k) changed =
     let claimed = find_claim window.base.cells (reads window.minds window.base t) changed.read changed.is_read in
-    let here : claimed.claim.at ≡ at = sym (ap (λ (s : Sighting). s.0) claimed.seen) ∙ changed.here in
+    let here : claimed.claim.at ≡ at = sym (ap seen_place claimed.seen) ∙ changed.here in
     record {
       read = claimed.claim;
       is_read = claimed.is_read;
       here = here;
-      named = ap (λ (s : Sighting). has_part s.1 k) (sym claimed.seen) ∙ changed.named;
-      differs = λ alike. changed.differs (ap (λ (s : Sighting). part k s.2) claimed.seen ∙ ap (λ q. part k (window.base.cells q)) here ∙ alike);
+      named = ap (λ (s : Sighting). has_part (seen_parts s) k) (sym claimed.seen) ∙ changed.named;
+      differs = λ alike. changed.differs (ap (λ (s : Sighting). part k (seen_cell s)) claimed.seen ∙ ap (λ q. part k (window.base.cells q)) here ∙ alike);
     }
 IsVerdict-cause window now t (cause.Place guessed actual) moved = record {
   unchanged = agree_claims window.base.cells now.world.cells (reads window.minds window.base t) moved.unchanged;

@@ -23,7 +23,7 @@ use Rattle.cell_world.specs.Parts.{Agree, Alike, Identity, Posture, has_part, id
 use Rattle.cell_world.specs.World.{Cells}
 use Rattle.cell_world.proofs.Patches.{some_one}
 use Rattle.ant_turn.specs.Rounds.{Moment}
-use Rattle.spec_record.specs.Claims.{Claim, Sighting}
+use Rattle.spec_record.specs.Claims.{Claim, Sighting, seen_cell, seen_parts, seen_place}
 use Rattle.spec_record.specs.Holds.{LookHolds}
 use Rattle.spec_record.specs.Look.{LookValue}
 use Rattle.spec_record.specs.Reads.{reads}
@@ -134,12 +134,12 @@ parts-test parts c d = (
       ]
 
 -- of all that was read
-pub reads-test : (list : List Sighting) (cells : Cells) → (is_unchanged list cells ≡ true) ↔ AllByRecursion (λ read. Agree read.1 read.2 (cells read.0)) list
+pub reads-test : (list : List Sighting) (cells : Cells) → (is_unchanged list cells ≡ true) ↔ AllByRecursion (λ read. Agree (seen_parts read) (seen_cell read) (cells (seen_place read))) list
 reads-test [] cells = (λ e. tt, λ all. refl)
 reads-test (read ∷ list) cells = (
-  λ e. let both = and_parts (do_agree read.1 read.2 (cells read.0)) (is_unchanged list cells) e in
-      ((parts-test read.1 read.2 (cells read.0)).0 both.0, (reads-test list cells).0 both.1),
-  λ all. and_from (do_agree read.1 read.2 (cells read.0)) (is_unchanged list cells) ((parts-test read.1 read.2 (cells read.0)).1 all.0) ((reads-test list cells).1 all.1),
+  λ e. let both = and_parts (do_agree (seen_parts read) (seen_cell read) (cells (seen_place read))) (is_unchanged list cells) e in
+      ((parts-test (seen_parts read) (seen_cell read) (cells (seen_place read))).0 both.0, (reads-test list cells).0 both.1),
+  λ all. and_from (do_agree (seen_parts read) (seen_cell read) (cells (seen_place read))) (is_unchanged list cells) ((parts-test (seen_parts read) (seen_cell read) (cells (seen_place read))).1 all.0) ((reads-test list cells).1 all.1),
 )
 
 -- the test of a look is true exactly where the look holds

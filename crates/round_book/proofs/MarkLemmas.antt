@@ -1,28 +1,29 @@
 -- Positions that are marked, or whose marks are taken off, one after another.
 use Rattle.std.proofs.Common.{◌≡◌, ◌⊎◌, inl, inr, ⊎_elim, ◌↔◌, ℕ, zero, suc, ◌+◌, ◌*◌, ◌<◌, ◌≤◌, Bool, true, false, List, [], ◌∷◌, length, drop, slice_index_or, slice_set, sym, ◌∙◌, ap, subst, arith, Some, None}
 use Rattle.std.specs.List.{AllByRecursion, Contains}
-use Rattle.std.proofs.lemmas.Bool.{cases_eq, false≢true}
+use Rattle.std.proofs.lemmas.Bool.{cases_Bool, cases_eq, false≢true}
 use Rattle.std.proofs.lemmas.List.{at_drop_all, drop_more, get_or-set_other, get_or-set_same, length-set}
 use Rattle.std.proofs.lemmas.List.Elements.{Contains-get_or}
 use Rattle.list_lemmas.proofs.Elements.{Contains-cases, Contains-first, Contains-later, Contains-none}
 use Rattle.hex_geometry.specs.declared.position.Pos.{Pos}
 use Rattle.hex_geometry.specs.Position.{IsInside}
 use Rattle.cell_world.specs.Grid.{Grid}
-use Rattle.hex_geometry.proofs.RowLemmas.{index_of-inside}
-use Rattle.hex_geometry.specs.RowOrder.{index_of}
+use Rattle.hex_geometry.proofs.RowLemmas.{index_of-inside, index_of-pos_at, pos_at-inside}
+use Rattle.hex_geometry.specs.RowOrder.{index_of, pos_at}
 use Rattle.cell_world.specs.Parts.{Agree}
 use Rattle.cell_world.specs.World.{Cells}
-use Rattle.spec_record.specs.Claims.{Sighting, seen_positions}
+use Rattle.spec_record.specs.Claims.{Sighting, seen_cell, seen_parts, seen_place, seen_positions}
 use Rattle.round_book.specs.declared.verdict.Cause.{Cause}
 use Rattle.round_book.specs.declared.verdict.Cause.TheVariants as cause
 use Rattle.round_book.specs.Book.{Wrote}
 use Rattle.round_book.specs.Inner.Changes.{AgreesIfUnwritten, Changes, IsUnwritten}
 use Rattle.round_book.specs.Inner.Workspace.{AreMarked}
+use Rattle.round_book.proofs.WorkspaceLemmas.{marks_in-none}
 
-Contains-place : (writes : List Sighting) (i : ℕ) (d : Sighting) → i < length writes → Contains (seen_positions writes) (slice_index_or writes i d).0
+Contains-place : (writes : List Sighting) (i : ℕ) (d : Sighting) → i < length writes → Contains (seen_positions writes) (seen_place (slice_index_or writes i d))
 Contains-place [] i d early = absurd (omega arith)
-Contains-place (write ∷ writes) zero d early = Contains-first write.0 (seen_positions writes)
-Contains-place (write ∷ writes) (suc i) d early = Contains-later write.0 (slice_index_or writes i d).0 (seen_positions writes) (Contains-place writes i d (omega arith))
+Contains-place (write ∷ writes) zero d early = Contains-first (seen_place write) (seen_positions writes)
+Contains-place (write ∷ writes) (suc i) d early = Contains-later (seen_place write) (seen_place (slice_index_or writes i d)) (seen_positions writes) (Contains-place writes i d (omega arith))
 
 -- some of the writes are marked: all that was is still, nothing else but their positions is, and each of them is or is among those that are left
 pub record Marking (start : List Pos) (all : List Sighting) (now : List Pos) (left : List Sighting) : Type 0 where
@@ -34,7 +35,7 @@ pub Marking-none : (start : List Pos) (all : List Sighting) → Marking start al
 Marking-none start all = record { old = λ p held. held; from = λ p held. inl held; done = λ p held. inr held }
 
 pub Marking-step : (start : List Pos) (all : List Sighting) (now : List Pos) (i : ℕ) (d : Sighting) (new : List Pos) → i < length all →
-    ((q : Pos) → Contains new q ↔ (Contains now q ⊎ (q ≡ (slice_index_or all i d).0))) → Marking start all now (drop i all) → Marking start all new (drop (i + 1) all)
+    ((q : Pos) → Contains new q ↔ (Contains now q ⊎ (q ≡ (seen_place (slice_index_or all i d))))) → Marking start all now (drop i all) → Marking start all new (drop (i + 1) all)
 Marking-step start all now i d new early marks before = record {
   old = λ p held. (marks p).1 (inl (before.old p held));
   from = λ p held. ⊎_elim (λ old. before.from p old) (λ same. inr (subst (Contains (seen_positions all)) (sym same) (Contains-place all i d early))) ((marks p).0 held);
@@ -43,7 +44,7 @@ Marking-step start all now i d new early marks before = record {
       (λ left. ⊎_elim
       (λ same. inl ((marks p).1 (inr (sym same))))
       inr
-      (Contains-cases (slice_index_or all i d).0 p (seen_positions (drop (i + 1) all)) (subst (λ left. Contains (seen_positions left) p) (drop_more all i d early) left)))
+      (Contains-cases (seen_place (slice_index_or all i d)) p (seen_positions (drop (i + 1) all)) (subst (λ left. Contains (seen_positions left) p) (drop_more all i d early) left)))
       (before.done p held);
 }
 
@@ -95,26 +96,36 @@ Unmarking-end grid marked places i late left = record {
   inside = λ p held. absurd (Contains-none p held);
   listed = λ p within bit. subst (λ (ps : List Pos). Contains ps p) (at_drop_all (λ (ps : List Pos). ps) places i late) (left.listed p within bit);
   bear = λ p held. absurd (Contains-none p held);
-}
+  counted = marks_in-none marked unmarked;
+} where
+  unmarked : (k : ℕ) → k < length marked → slice_index_or marked k false ≡ false
+  unmarked k early = elim (cases_Bool (slice_index_or marked k false)) [
+    | inl bit ↦
+        let at : index_of grid.width (pos_at grid.width k) ≡ k = index_of-pos_at grid.width k in
+        let held : Contains (drop i places) (pos_at grid.width k) =
+        left.listed (pos_at grid.width k) (pos_at-inside grid.width grid.height k (subst (λ n. k < n) left.sized early)) (ap (λ n. slice_index_or marked n false) at ∙ bit) in
+        absurd (Contains-none (pos_at grid.width k) (subst (λ (ps : List Pos). Contains ps (pos_at grid.width k)) (at_drop_all (λ (ps : List Pos). ps) places i late) held))
+    | inr none ↦ none
+  ]
 
 -- what was read and is left to compare
 pub record Comparing (written : List Pos) (cells : Cells) (reads left : List Sighting) : Type 0 where
   pub unwritten : AllByRecursion (AgreesIfUnwritten written cells) left
-  pub rest : AllByRecursion (λ read. Agree read.1 read.2 (cells read.0)) left → AllByRecursion (λ read. Agree read.1 read.2 (cells read.0)) reads
+  pub rest : AllByRecursion (λ read. Agree (seen_parts read) (seen_cell read) (cells (seen_place read))) left → AllByRecursion (λ read. Agree (seen_parts read) (seen_cell read) (cells (seen_place read))) reads
 
 pub Comparing-item : (written : List Pos) (cells : Cells) (reads : List Sighting) (i : ℕ) (d : Sighting) → i < length reads → Comparing written cells reads (drop i reads) → AgreesIfUnwritten written cells (slice_index_or reads i d)
 Comparing-item written cells reads i d early before = (subst (AllByRecursion (AgreesIfUnwritten written cells)) (drop_more reads i d early) before.unwritten).0
 
-pub Comparing-step : (written : List Pos) (cells : Cells) (reads : List Sighting) (i : ℕ) (d : Sighting) → i < length reads → Agree (slice_index_or reads i d).1 (slice_index_or reads i d).2 (cells (slice_index_or reads i d).0) →
+pub Comparing-step : (written : List Pos) (cells : Cells) (reads : List Sighting) (i : ℕ) (d : Sighting) → i < length reads → Agree (seen_parts (slice_index_or reads i d)) (seen_cell (slice_index_or reads i d)) (cells (seen_place (slice_index_or reads i d))) →
     Comparing written cells reads (drop i reads) → Comparing written cells reads (drop (i + 1) reads)
 Comparing-step written cells reads i d early agrees before = record {
   unwritten = (subst (AllByRecursion (AgreesIfUnwritten written cells)) (drop_more reads i d early) before.unwritten).1;
-  rest = λ all. before.rest (subst (AllByRecursion (λ read. Agree read.1 read.2 (cells read.0))) (sym (drop_more reads i d early)) (agrees, all));
+  rest = λ all. before.rest (subst (AllByRecursion (λ read. Agree (seen_parts read) (seen_cell read) (cells (seen_place read)))) (sym (drop_more reads i d early)) (agrees, all));
 }
 
 pub Comparing-end : (written : List Pos) (cells : Cells) (reads : List Sighting) (i : ℕ) → length reads ≤ i → Comparing written cells reads (drop i reads) → Changes reads cells None
 Comparing-end written cells reads i late before =
-    before.rest (subst (AllByRecursion (λ read. Agree read.1 read.2 (cells read.0))) (sym (at_drop_all (λ (rs : List Sighting). rs) reads i late)) tt)
+    before.rest (subst (AllByRecursion (λ read. Agree (seen_parts read) (seen_cell read) (cells (seen_place read)))) (sym (at_drop_all (λ (rs : List Sighting). rs) reads i late)) tt)
 
 -- a change of one read is one of all
 pub Changes-among : (reads : List Sighting) (cells : Cells) (i : ℕ) (d : Sighting) (found : Cause) → i < length reads → Changes (slice_index_or reads i d ∷ []) cells (Some found) → Changes reads cells (Some found)

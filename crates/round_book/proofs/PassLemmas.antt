@@ -12,7 +12,7 @@ use Rattle.cell_world.specs.Parts.{CanPatch, patched}
 use Rattle.cell_world.specs.Valid.{CanSet}
 use Rattle.cell_world.specs.World.{Cells, World, put, put_cell, with_cells}
 use Rattle.cell_world.proofs.Puts.{cases_pos, put_cell-other, put_cell-same}
-use Rattle.spec_record.specs.Claims.{EachOnce, Sighting, seen_positions}
+use Rattle.spec_record.specs.Claims.{EachOnce, Sighting, seen_cell, seen_parts, seen_place, seen_positions}
 use Rattle.spec_record.specs.Patching.{CanSetHeavier, CanWrite, CanSetLighter, after_lighter, patched_by_write, patched_cells, raises, with_heavier, with_lighter, with_write}
 use Rattle.spec_record.proofs.Settling.{CanPatch-again, patched-again}
 use Rattle.round_book.specs.Book.{CanPatchIn, CanTake}
@@ -20,49 +20,49 @@ use Rattle.round_book.specs.Inner.Passes.{CanSetInPass, CanSetPass, after_pass, 
 
 -- what a pass makes of the cell of a write
 abbrev cell_after : Bool → Cell → Sighting → Cell
-cell_after heavier cell write = cond (is_in_pass heavier (nat_lt (cell_weight cell) (cell_weight (patched cell write.2 write.1)))) (patched cell write.2 write.1) cell
+cell_after heavier cell write = cond (is_in_pass heavier (nat_lt (cell_weight cell) (cell_weight (patched cell (seen_cell write) (seen_parts write))))) (patched cell (seen_cell write) (seen_parts write)) cell
 
 module _ (heavier : Bool) (w : World) (write : Sighting) where
   -- its own cell
-  with_pass-own : (with_pass heavier w write).cells write.0 ≡ cell_after heavier (w.cells write.0) write
+  with_pass-own : (with_pass heavier w write).cells (seen_place write) ≡ cell_after heavier (w.cells (seen_place write)) write
   with_pass-own =
-      cond_both (is_in_pass heavier (raises w.cells write)) (put w write.0 (patched_by_write w.cells write)) w
-      (λ v. v.cells write.0 ≡ cell_after heavier (w.cells write.0) write)
-      (λ yes'. put_cell-same w.cells write.0 (patched_by_write w.cells write) ∙ sym (cond-true _ _ _ yes'))
+      cond_both (is_in_pass heavier (raises w.cells write)) (put w (seen_place write) (patched_by_write w.cells write)) w
+      (λ v. v.cells (seen_place write) ≡ cell_after heavier (w.cells (seen_place write)) write)
+      (λ yes'. put_cell-same w.cells (seen_place write) (patched_by_write w.cells write) ∙ sym (cond-true _ _ _ yes'))
       (λ no'. sym (cond-false _ _ _ no'))
 
   -- every other cell stays
-  with_pass-other : (p : Pos) → write.0 ≢ p → (with_pass heavier w write).cells p ≡ w.cells p
+  with_pass-other : (p : Pos) → seen_place write ≢ p → (with_pass heavier w write).cells p ≡ w.cells p
   with_pass-other p apart =
-      cond_both (is_in_pass heavier (raises w.cells write)) (put w write.0 (patched_by_write w.cells write)) w
+      cond_both (is_in_pass heavier (raises w.cells write)) (put w (seen_place write) (patched_by_write w.cells write)) w
       (λ v. v.cells p ≡ w.cells p)
-      (λ yes'. put_cell-other w.cells write.0 (patched_by_write w.cells write) p apart)
+      (λ yes'. put_cell-other w.cells (seen_place write) (patched_by_write w.cells write) p apart)
       (λ no'. refl)
 
   -- so do the sizes
   with_pass-sizes : with_pass heavier w write ≡ with_cells w (with_pass heavier w write).cells
   with_pass-sizes =
-      cond_both (is_in_pass heavier (raises w.cells write)) (put w write.0 (patched_by_write w.cells write)) w
+      cond_both (is_in_pass heavier (raises w.cells write)) (put w (seen_place write) (patched_by_write w.cells write)) w
       (λ v. v ≡ with_cells w v.cells) (λ yes'. refl) (λ no'. refl)
 
   -- what can be patched elsewhere can be still
-  CanPatchIn-pass : (other : Sighting) → other.0 ≢ write.0 → CanPatchIn w other → CanPatchIn (with_pass heavier w write) other
+  CanPatchIn-pass : (other : Sighting) → seen_place other ≢ seen_place write → CanPatchIn w other → CanPatchIn (with_pass heavier w write) other
   CanPatchIn-pass other apart can =
-      cond_both (is_in_pass heavier (raises w.cells write)) (put w write.0 (patched_by_write w.cells write)) w
+      cond_both (is_in_pass heavier (raises w.cells write)) (put w (seen_place write) (patched_by_write w.cells write)) w
       (λ v. CanPatchIn v other)
-      (λ yes'. (can.0, subst (λ c. CanPatch c other.2 other.1) (sym (put_cell-other w.cells write.0 (patched_by_write w.cells write) other.0 (λ e. apart (sym e)))) can.1))
+      (λ yes'. (can.0, subst (λ c. CanPatch c (seen_cell other) (seen_parts other)) (sym (put_cell-other w.cells (seen_place write) (patched_by_write w.cells write) (seen_place other) (λ e. apart (sym e)))) can.1))
       (λ no'. can)
 
   -- and here too
   CanPatchIn-own : CanPatchIn w write → CanPatchIn (with_pass heavier w write) write
   CanPatchIn-own can =
-      cond_both (is_in_pass heavier (raises w.cells write)) (put w write.0 (patched_by_write w.cells write)) w
+      cond_both (is_in_pass heavier (raises w.cells write)) (put w (seen_place write) (patched_by_write w.cells write)) w
       (λ v. CanPatchIn v write)
-      (λ yes'. (can.0, subst (λ c. CanPatch c write.2 write.1) (sym (put_cell-same w.cells write.0 (patched_by_write w.cells write))) (CanPatch-again (w.cells write.0) write.2 write.1 can.1)))
+      (λ yes'. (can.0, subst (λ c. CanPatch c (seen_cell write) (seen_parts write)) (sym (put_cell-same w.cells (seen_place write) (patched_by_write w.cells write))) (CanPatch-again (w.cells (seen_place write)) (seen_cell write) (seen_parts write) can.1)))
       (λ no'. can)
 
 -- of all that is left
-each-next : (heavier : Bool) (w : World) (write : Sighting) (left : List Sighting) → AllByRecursion (λ q. q ≢ write.0) (seen_positions left) → AllByRecursion (CanPatchIn w) left → AllByRecursion (CanPatchIn (with_pass heavier w write)) left
+each-next : (heavier : Bool) (w : World) (write : Sighting) (left : List Sighting) → AllByRecursion (λ q. q ≢ seen_place write) (seen_positions left) → AllByRecursion (CanPatchIn w) left → AllByRecursion (CanPatchIn (with_pass heavier w write)) left
 each-next heavier w write [] apart each = tt
 each-next heavier w write (other ∷ left) apart each = (CanPatchIn-pass heavier w write other apart.0 each.0, each-next heavier w write left apart.1 each.1)
 
@@ -101,7 +101,7 @@ PassLeft-end heavier start writes now i late left = sym (at_drop_all (after_pass
 -- the first pass is that of the lighter writes, the second that of the heavier ones
 lighter-same : (w : World) (write : Sighting) → with_pass false w write ≡ with_lighter w write
 lighter-same w write = go (raises w.cells write) where
-  go : (b : Bool) → cond (not b) (put w write.0 (patched_by_write w.cells write)) w ≡ cond b w (put w write.0 (patched_by_write w.cells write))
+  go : (b : Bool) → cond (not b) (put w (seen_place write) (patched_by_write w.cells write)) w ≡ cond b w (put w (seen_place write) (patched_by_write w.cells write))
   go true = refl
   go false = refl
 
@@ -130,7 +130,7 @@ after_pass-other heavier (write ∷ writes) w p apart = after_pass-other heavier
 
 pub patched_cells-other : (writes : List Sighting) (cells : Cells) (p : Pos) → AllByRecursion (λ q. q ≢ p) (seen_positions writes) → patched_cells cells writes p ≡ cells p
 patched_cells-other [] cells p apart = refl
-patched_cells-other (write ∷ writes) cells p apart = patched_cells-other writes (with_write cells write) p apart.1 ∙ put_cell-other cells write.0 (patched_by_write cells write) p apart.0
+patched_cells-other (write ∷ writes) cells p apart = patched_cells-other writes (with_write cells write) p apart.1 ∙ put_cell-other cells (seen_place write) (patched_by_write cells write) p apart.0
 
 -- and the sizes
 after_pass-sizes : (heavier : Bool) (writes : List Sighting) (w : World) → after_pass heavier w writes ≡ with_cells w (after_pass heavier w writes).cells
@@ -141,13 +141,13 @@ after_pass-sizes heavier (write ∷ writes) w =
 -- the list has this write, and no other at its position
 abbrev Has : List Sighting → Sighting → Type 0
 Has [] x = ⊥
-Has (write ∷ writes) x = ((write ≡ x) × AllByRecursion (λ q. q ≢ x.0) (seen_positions writes)) ⊎ ((write.0 ≢ x.0) × Has writes x)
+Has (write ∷ writes) x = ((write ≡ x) × AllByRecursion (λ q. q ≢ seen_place x) (seen_positions writes)) ⊎ ((seen_place write ≢ seen_place x) × Has writes x)
 
 -- a position is written by no write, or by one
 record Writer (writes : List Sighting) (p : Pos) : Type 0 where
   pub write : Sighting
   pub has : Has writes write
-  pub here : write.0 ≡ p
+  pub here : seen_place write ≡ p
 
 find_writer : (writes : List Sighting) (p : Pos) → EachOnce (seen_positions writes) → AllByRecursion (λ q. q ≢ p) (seen_positions writes) ⊎ Writer writes p
 find_writer [] p once = inl tt
@@ -157,23 +157,23 @@ find_writer (write ∷ writes) p once = ⊎_elim
     (λ none. inl (apart, none))
     (λ found. inr (record { write = found.write; has = inr ((λ e. apart (e ∙ found.here)), found.has); here = found.here }))
     (find_writer writes p once.1))
-    (cases_pos write.0 p)
+    (cases_pos (seen_place write) p)
 
 -- what a pass makes of a written cell
-after_pass-at : (heavier : Bool) (writes : List Sighting) (w : World) (x : Sighting) → Has writes x → (after_pass heavier w writes).cells x.0 ≡ cell_after heavier (w.cells x.0) x
+after_pass-at : (heavier : Bool) (writes : List Sighting) (w : World) (x : Sighting) → Has writes x → (after_pass heavier w writes).cells (seen_place x) ≡ cell_after heavier (w.cells (seen_place x)) x
 after_pass-at heavier [] w x has = absurd has
 after_pass-at heavier (write ∷ writes) w x has = ⊎_elim
-    (λ here. after_pass-other heavier writes (with_pass heavier w write) x.0 here.1
-    ∙ subst (λ y. (with_pass heavier w y).cells x.0 ≡ cell_after heavier (w.cells x.0) x) (sym here.0) (with_pass-own heavier w x))
-    (λ later. after_pass-at heavier writes (with_pass heavier w write) x later.1 ∙ ap (λ c. cell_after heavier c x) (with_pass-other heavier w write x.0 later.0))
+    (λ here. after_pass-other heavier writes (with_pass heavier w write) (seen_place x) here.1
+    ∙ subst (λ y. (with_pass heavier w y).cells (seen_place x) ≡ cell_after heavier (w.cells (seen_place x)) x) (sym here.0) (with_pass-own heavier w x))
+    (λ later. after_pass-at heavier writes (with_pass heavier w write) x later.1 ∙ ap (λ c. cell_after heavier c x) (with_pass-other heavier w write (seen_place x) later.0))
     has
 
-patched_cells-at : (writes : List Sighting) (cells : Cells) (x : Sighting) → Has writes x → patched_cells cells writes x.0 ≡ patched (cells x.0) x.2 x.1
+patched_cells-at : (writes : List Sighting) (cells : Cells) (x : Sighting) → Has writes x → patched_cells cells writes (seen_place x) ≡ patched (cells (seen_place x)) (seen_cell x) (seen_parts x)
 patched_cells-at [] cells x has = absurd has
 patched_cells-at (write ∷ writes) cells x has = ⊎_elim
-    (λ here. patched_cells-other writes (with_write cells write) x.0 here.1
-    ∙ subst (λ (y : Sighting). put_cell cells y.0 (patched_by_write cells y) x.0 ≡ patched (cells x.0) x.2 x.1) (sym here.0) (put_cell-same cells x.0 (patched_by_write cells x)))
-    (λ later. patched_cells-at writes (with_write cells write) x later.1 ∙ ap (λ c. patched c x.2 x.1) (put_cell-other cells write.0 (patched_by_write cells write) x.0 later.0))
+    (λ here. patched_cells-other writes (with_write cells write) (seen_place x) here.1
+    ∙ subst (λ (y : Sighting). put_cell cells (seen_place y) (patched_by_write cells y) (seen_place x) ≡ patched (cells (seen_place x)) (seen_cell x) (seen_parts x)) (sym here.0) (put_cell-same cells (seen_place x) (patched_by_write cells x)))
+    (λ later. patched_cells-at writes (with_write cells write) x later.1 ∙ ap (λ c. patched c (seen_cell x) (seen_parts x)) (put_cell-other cells (seen_place write) (patched_by_write cells write) (seen_place x) later.0))
     has
 
 -- what holds of all writes holds of it
@@ -182,22 +182,22 @@ Has-all P [] x has all = absurd has
 Has-all P (write ∷ writes) x has all = ⊎_elim (λ here. subst P here.0 all.0) (λ later. Has-all P writes x later.1 all.1) has
 
 -- one pass after the other patches the cell
-passes_patch : (cell : Cell) (x : Sighting) → CanPatch cell x.2 x.1 → cell_after true (cell_after false cell x) x ≡ patched cell x.2 x.1
-passes_patch cell x can = go (nat_lt (cell_weight cell) (cell_weight (patched cell x.2 x.1))) refl where
+passes_patch : (cell : Cell) (x : Sighting) → CanPatch cell (seen_cell x) (seen_parts x) → cell_after true (cell_after false cell x) x ≡ patched cell (seen_cell x) (seen_parts x)
+passes_patch cell x can = go (nat_lt (cell_weight cell) (cell_weight (patched cell (seen_cell x) (seen_parts x)))) refl where
   new : Cell
-  new = patched cell x.2 x.1
+  new = patched cell (seen_cell x) (seen_parts x)
 
-  either : (b : Bool) → cond b (patched (patched cell x.2 x.1) x.2 x.1) (patched cell x.2 x.1) ≡ patched cell x.2 x.1
-  either true = patched-again cell x.2 x.1 can
+  either : (b : Bool) → cond b (patched (patched cell (seen_cell x) (seen_parts x)) (seen_cell x) (seen_parts x)) (patched cell (seen_cell x) (seen_parts x)) ≡ patched cell (seen_cell x) (seen_parts x)
+  either true = patched-again cell (seen_cell x) (seen_parts x) can
   either false = refl
 
-  go : (b : Bool) → nat_lt (cell_weight cell) (cell_weight (patched cell x.2 x.1)) ≡ b → cell_after true (cell_after false cell x) x ≡ patched cell x.2 x.1
+  go : (b : Bool) → nat_lt (cell_weight cell) (cell_weight (patched cell (seen_cell x) (seen_parts x))) ≡ b → cell_after true (cell_after false cell x) x ≡ patched cell (seen_cell x) (seen_parts x)
   go true heavy =
-      ap (λ c. cell_after true c x) (cond-false (not (nat_lt (cell_weight cell) (cell_weight (patched cell x.2 x.1)))) (patched cell x.2 x.1) cell (ap not heavy))
-      ∙ cond-true (nat_lt (cell_weight cell) (cell_weight (patched cell x.2 x.1))) (patched cell x.2 x.1) cell heavy
+      ap (λ c. cell_after true c x) (cond-false (not (nat_lt (cell_weight cell) (cell_weight (patched cell (seen_cell x) (seen_parts x))))) (patched cell (seen_cell x) (seen_parts x)) cell (ap not heavy))
+      ∙ cond-true (nat_lt (cell_weight cell) (cell_weight (patched cell (seen_cell x) (seen_parts x)))) (patched cell (seen_cell x) (seen_parts x)) cell heavy
   go false light =
-      ap (λ c. cell_after true c x) (cond-true (not (nat_lt (cell_weight cell) (cell_weight (patched cell x.2 x.1)))) (patched cell x.2 x.1) cell (ap not light))
-      ∙ either (nat_lt (cell_weight (patched cell x.2 x.1)) (cell_weight (patched (patched cell x.2 x.1) x.2 x.1)))
+      ap (λ c. cell_after true c x) (cond-true (not (nat_lt (cell_weight cell) (cell_weight (patched cell (seen_cell x) (seen_parts x))))) (patched cell (seen_cell x) (seen_parts x)) cell (ap not light))
+      ∙ either (nat_lt (cell_weight (patched cell (seen_cell x) (seen_parts x))) (cell_weight (patched (patched cell (seen_cell x) (seen_parts x)) (seen_cell x) (seen_parts x))))
 
 -- both passes make what the writes make
 passes_cells : (w : World) (writes : List Sighting) → EachOnce (seen_positions writes) → CanTake w writes → (p : Pos) → (after_pass true (after_pass false w writes) writes).cells p ≡ patched_cells w.cells writes p
@@ -206,7 +206,7 @@ passes_cells w writes once can p = ⊎_elim
     (λ found. subst (λ q. (after_pass true (after_pass false w writes) writes).cells q ≡ patched_cells w.cells writes q) found.here
     (after_pass-at true writes (after_pass false w writes) found.write found.has
     ∙ ap (λ c. cell_after true c found.write) (after_pass-at false writes w found.write found.has)
-    ∙ passes_patch (w.cells found.write.0) found.write (Has-all (CanPatchIn w) writes found.write found.has can.each).1
+    ∙ passes_patch (w.cells (seen_place found.write)) found.write (Has-all (CanPatchIn w) writes found.write found.has can.each).1
     ∙ sym (patched_cells-at writes w.cells found.write found.has)))
     (find_writer writes p once)
 
@@ -222,14 +222,14 @@ each_after : (heavier : Bool) (writes : List Sighting) (w : World) → EachOnce 
 each_after heavier [] w once each = tt
 each_after heavier (write ∷ writes) w once each =
     let own : CanPatchIn (with_pass heavier w write) write = CanPatchIn-own heavier w write each.0 in
-    let stays = after_pass-other heavier writes (with_pass heavier w write) write.0 once.0 in (
+    let stays = after_pass-other heavier writes (with_pass heavier w write) (seen_place write) once.0 in (
       CanPatchIn-same (with_pass heavier w write) (after_pass heavier (with_pass heavier w write) writes) write (after_pass-sizes heavier writes (with_pass heavier w write)) stays own,
       each_after heavier writes (with_pass heavier w write) once.1 (each-next heavier w write writes once.0 each.1),
     )
   where
-    CanPatchIn-same : (v u : World) (x : Sighting) → u ≡ with_cells v u.cells → u.cells x.0 ≡ v.cells x.0 → CanPatchIn v x → CanPatchIn u x
+    CanPatchIn-same : (v u : World) (x : Sighting) → u ≡ with_cells v u.cells → u.cells (seen_place x) ≡ v.cells (seen_place x) → CanPatchIn v x → CanPatchIn u x
     CanPatchIn-same v u x sizes same can =
-        (subst (λ (t : World). IsInside t.width t.height x.0) (sym sizes) can.0, subst (λ c. CanPatch c x.2 x.1) (sym same) can.1)
+        (subst (λ (t : World). IsInside t.width t.height (seen_place x)) (sym sizes) can.0, subst (λ c. CanPatch c (seen_cell x) (seen_parts x)) (sym same) can.1)
 
 pub second-each : (w first : World) (writes : List Sighting) → EachOnce (seen_positions writes) → CanTake w writes → first ≡ after_pass false w writes → AllByRecursion (CanPatchIn first) writes
 second-each w first writes once can one = subst (λ v. AllByRecursion (CanPatchIn v) writes) (sym one) (each_after false writes w once can.each)
@@ -245,11 +245,11 @@ one_alone (x ∷ []) d is = refl
 one_alone (x ∷ y ∷ xs) d is = absurd (cc)
 
 -- a write that is the only one may be set, whether it raises its cell's weight or not
-CanSet-either : (raised : Bool) (w : World) (write : Sighting) → raises w.cells write ≡ raised → CanTake w (write ∷ []) → CanSet w 9 write.0 (patched_by_write w.cells write)
+CanSet-either : (raised : Bool) (w : World) (write : Sighting) → raises w.cells write ≡ raised → CanTake w (write ∷ []) → CanSet w 9 (seen_place write) (patched_by_write w.cells write)
 CanSet-either false w write is may = (may.in_order.lighter.0 is).can_set
 CanSet-either true w write is may =
     let same : with_lighter w write ≡ w = cond-true _ _ _ is in
     ((subst (λ (v : World). raises v.cells write ≡ true → CanWrite v 9 write) same may.in_order.heavier.0) is).can_set
 
-pub CanSet-alone : (w : World) (write : Sighting) → CanTake w (write ∷ []) → CanSet w 9 write.0 (patched_by_write w.cells write)
+pub CanSet-alone : (w : World) (write : Sighting) → CanTake w (write ∷ []) → CanSet w 9 (seen_place write) (patched_by_write w.cells write)
 CanSet-alone w write may = CanSet-either (raises w.cells write) w write refl may

@@ -10,7 +10,7 @@ use Rattle.cell_world.specs.declared.part.Parts.{Parts}
 use Rattle.cell_world.specs.Parts.{Alike, has_part}
 use Rattle.cell_world.specs.World.{Cells}
 use Rattle.ant_turn.specs.Rounds.{Moment}
-use Rattle.spec_record.specs.Claims.{Sighting}
+use Rattle.spec_record.specs.Claims.{Sighting, seen_cell, seen_parts, seen_place}
 use Rattle.spec_record.specs.Look.{LookValue}
 use Rattle.spec_record.proofs.Flips.{Holds-LookHolds, LookHolds-Holds}
 use Rattle.round_book.specs.declared.verdict.Cause.{Cause}
@@ -70,10 +70,10 @@ record Change (reads : List Sighting) (cells : Cells) : Type 0 where
   pub which : Part
   pub is_changed : IsChanged reads cells at which
 
-first_change : (read : Sighting) (reads : List Sighting) (cells : Cells) → do_agree read.1 read.2 (cells read.0) ≡ false → Change (read ∷ reads) cells
+first_change : (read : Sighting) (reads : List Sighting) (cells : Cells) → do_agree (seen_parts read) (seen_cell read) (cells (seen_place read)) ≡ false → Change (read ∷ reads) cells
 first_change read reads cells fails =
-    let other = find_part read.1 read.2 (cells read.0) fails in
-    record { at = read.0; which = other.which; is_changed = record { read = read; is_read = (0, omega arith, refl); here = refl; named = other.named; differs = other.differs } }
+    let other = find_part (seen_parts read) (seen_cell read) (cells (seen_place read)) fails in
+    record { at = seen_place read; which = other.which; is_changed = record { read = read; is_read = (0, omega arith, refl); here = refl; named = other.named; differs = other.differs } }
 
 later_change : (read : Sighting) (reads : List Sighting) (cells : Cells) → Change reads cells → Change (read ∷ reads) cells
 later_change read reads cells change = record {
@@ -93,7 +93,7 @@ find_change [] cells fails = absurd (false≢true (sym fails))
 find_change (read ∷ reads) cells fails = ⊎_elim
     (first_change read reads cells)
     (λ later. later_change read reads cells (find_change reads cells later))
-    (and_fails (do_agree read.1 read.2 (cells read.0)) (is_unchanged reads cells) fails)
+    (and_fails (do_agree (seen_parts read) (seen_cell read) (cells (seen_place read))) (is_unchanged reads cells) fails)
 
 -- why a look doesn't hold
 find_move : (look : LookValue) (now : Moment) → is_unchanged look.reads now.world.cells ≡ true → (not look.drew || nat_eq now.place look.guess) ≡ false → (found : Cause) × IsCause look now found

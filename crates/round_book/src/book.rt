@@ -7,11 +7,12 @@ ghost use Rattle.cell_world.specs.Grid.{IsWorld, world_of};
 ghost use Rattle.cell_world.specs.Parts.{Agree};
 ghost use Rattle.cell_world.specs.World.{with_cells};
 ghost use Rattle.ant_turn.specs.Minds.{AreSound, Fits, minds_of};
+ghost use Rattle.spec_record.specs.Claims.{seen_cell, seen_parts, seen_place};
 ghost use Rattle.spec_record.specs.Patching.{patched_cells};
 ghost use Rattle.round_book.specs.Book.{AgreesUnwritten, BookValue, CanTake, HoldsInBook, IsCause, IsEnded, IsRedone, IsSameWindow, Settles, Wrote, moment_of};
 ghost use Rattle.round_book.specs.Counts.{is_taken_verdict};
 ghost use Rattle.round_book.specs.Inner.Kept.{IsWorkspaceReady};
-ghost use Rattle.round_book.specs.Inner.Workspace.{AreMarked};
+ghost use Rattle.round_book.specs.Inner.Workspace.{AreMarked, most_listed};
 
 use crate::verdict::{Cause, Verdict};
 use crate::workspace::Workspace;
@@ -61,7 +62,7 @@ impl Book {
         requires forwards { from ≤ to }
         requires ids { to ≤ work.world.ids }
         requires lasting { place + (to - from) < 2 ^ 63 }
-        requires write_room { vec_len work.written + 7 * (to - from) ≤ vec_capacity work.written }
+        requires write_room { most_listed work.world (vec_len work.written) (7 * (to - from)) ≤ vec_capacity work.written }
         requires verdict_room { vec_len work.verdicts + (to - from) ≤ vec_capacity work.verdicts }
         ensures { result ≡ record { seed = seed; from = from; to = to; next = from; world = work.world; place = place; written = []; verdicts = [] } }
     {
@@ -167,7 +168,7 @@ impl Book {
     // Why a look doesn't hold, if it doesn't, where all that it read is as it was.
     #[inline(always)]
     fn move_against(&self, look: &Look) -> Option<Cause>
-        requires { AllByRecursion (λ read. Agree read.1 read.2 ((world_of self.now.world).cells read.0)) look.now.reads }
+        requires { AllByRecursion (λ read. Agree (seen_parts read) (seen_cell read) ((world_of self.now.world).cells (seen_place read))) look.now.reads }
         ensures { MatchOption result (HoldsInBook self.now look.now) (λ cause. IsCause look.now (moment_of self.now) cause) }
     {
         if look.drew() && look.guess() != self.place {

@@ -36,8 +36,9 @@ fn set_one(world: &mut World, write: &(Pos, Parts, Cell))
     requires { CanTake (world_of world.old) (write.now ∷ []) }
     ensures { world_of world.new ≡ with_cells (world_of world.old) (patched_cells (world_of world.old).cells (write.now ∷ [])) }
 {
-    if is_mind_alone(write.1) {
-        set_posture(world, write.0, &write.2);
+    let (at, parts, source) = write;
+    if is_mind_alone(*parts) {
+        set_posture(world, *at, source);
     } else {
         set_parts(world, write);
     }
@@ -78,8 +79,9 @@ fn set_parts(world: &mut World, write: &(Pos, Parts, Cell))
     requires { CanTake (world_of world.old) (write.now ∷ []) }
     ensures { world_of world.new ≡ with_cells (world_of world.old) (patched_cells (world_of world.old).cells (write.now ∷ [])) }
 {
-    let cell = world.cell(write.0);
-    world.set(write.0, cell.patched(write.2, write.1));
+    let (at, parts, source) = write;
+    let cell = world.cell(*at);
+    world.set(*at, cell.patched(*source, *parts));
 }
 
 // Sets those writes that raise the weight of their cell, or those that don't.
@@ -101,10 +103,11 @@ fn set_in_pass(world: &mut World, write: &(Pos, Parts, Cell), heavier: bool)
     requires set { CanSetInPass heavier (world_of world.old) write.now }
     ensures { world_of world.new ≡ with_pass heavier (world_of world.old) write.now }
 {
-    let cell = world.cell(write.0);
-    let patched = cell.patched(write.2, write.1);
+    let (at, parts, source) = write;
+    let cell = world.cell(*at);
+    let patched = cell.patched(*source, *parts);
     if is_in_pass(heavier, weight(&patched) > weight(&cell)) {
-        world.set(write.0, patched);
+        world.set(*at, patched);
     }
 }
 

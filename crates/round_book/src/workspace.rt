@@ -1,17 +1,17 @@
 // What a book works on.
-ghost use Rattle.std.specs.Prelude.{◌≡◌, ◌⊎◌, ◌↔◌, ◌+◌, ◌*◌, ◌<◌, ◌≤◌, Bool, true, false, List, [], ◌∷◌, map, length, slice_index_or, IfOk, OnOk};
+ghost use Rattle.std.specs.Prelude.{◌≡◌, ◌⊎◌, ◌↔◌, ◌+◌, ◌*◌, ◌<◌, ◌≤◌, max, Bool, true, false, List, [], ◌∷◌, length, slice_index_or, IfOk, OnOk};
 ghost use Rattle.std.specs.List.{AllByRecursion, Contains};
 ghost use Rattle.std.specs.Vec.{vec_capacity, vec_len};
 ghost use Rattle.hex_geometry.specs.Position.{IsInside};
 ghost use Rattle.cell_world.specs.Grid.{Grid, IsWorld, world_of};
 ghost use Rattle.hex_geometry.specs.RowOrder.{index_of};
 ghost use Rattle.cell_world.specs.World.{with_cells};
-ghost use Rattle.spec_record.specs.Claims.{EachOnce, seen_positions};
+ghost use Rattle.spec_record.specs.Claims.{EachOnce, seen_place, seen_positions};
 ghost use Rattle.spec_record.specs.Patching.{patched_cells};
 ghost use Rattle.round_book.specs.Book.{CanTake, Wrote};
 ghost use Rattle.round_book.specs.Inner.Changes.{AgreesIfUnwritten, Changes, IsUnwritten};
 ghost use Rattle.round_book.specs.Inner.Kept.{IsWorkspaceReady};
-ghost use Rattle.round_book.specs.Inner.Workspace.{AreMarked};
+ghost use Rattle.round_book.specs.Inner.Workspace.{AreMarked, most_listed};
 
 use crate::passes::set_writes;
 use crate::verdict::{Cause, Verdict};
@@ -33,25 +33,26 @@ impl Workspace {
     pub(crate) fn over(alloc: Global, world: &World) -> Result<Workspace, OutOfMemory>
         ensures { IfOk result (λ it. IsWorkspaceReady world.now it) }
     {
-        let cells = world.width() as usize * world.height() as usize;
         Ok(Workspace {
             world: world.copy(alloc)?,
-            marked: vec![in alloc; false; cells]?,
+            marked: vec![in alloc; false; cell_count(world)]?,
             written: Vec::new(alloc),
             verdicts: Vec::new(alloc),
         })
     }
 
-    // Takes room for what so many turns write, and for their verdicts.
+    // Takes room for the positions that so many turns write, seven each and no more than there are cells, and for their verdicts.
     pub(crate) fn reserve(&mut self, turns: u32) -> Result<(), OutOfMemory>
         ensures world { self.new.world ≡ self.old.world }
         ensures marked { self.new.marked.items ≡ self.old.marked.items }
         ensures written { self.new.written.items ≡ self.old.written.items }
         ensures verdicts { self.new.verdicts.items ≡ self.old.verdicts.items }
-        ensures write_room { OnOk result (vec_len self.new.written + 7 * turns ≤ vec_capacity self.new.written) }
+        ensures write_room { OnOk result (most_listed self.new.world (vec_len self.new.written) (7 * turns) ≤ vec_capacity self.new.written) }
+        ensures no_more { OnOk result (vec_capacity self.new.written ≡ max (vec_capacity self.old.written) (vec_len self.old.written + most_listed self.old.world 0 (7 * turns))) }
         ensures verdict_room { OnOk result (vec_len self.new.verdicts + turns ≤ vec_capacity self.new.verdicts) }
     {
-        self.written.reserve(7 * turns as usize)?;
+        let most = cell_count(&self.world).min(7 * turns as usize);
+        self.written.reserve_exact(most)?;
         self.verdicts.reserve(turns as usize)?;
         Ok(())
     }
@@ -83,7 +84,7 @@ impl Workspace {
     pub(crate) fn mark(&mut self, p: Pos)
         requires marks { AreMarked self.old.world self.old.marked.items self.old.written.items }
         requires inside { IsInside self.old.world.width self.old.world.height p }
-        requires room { vec_len self.old.written < vec_capacity self.old.written }
+        requires room { most_listed self.old.world (vec_len self.old.written) 1 ≤ vec_capacity self.old.written }
         ensures marks { AreMarked self.new.world self.new.marked.items self.new.written.items }
         ensures written { (q : Pos) → Contains self.new.written.items q ↔ (Contains self.old.written.items q ⊎ (q ≡ p)) }
         ensures world { self.new.world ≡ self.old.world }
@@ -118,8 +119,8 @@ impl Workspace {
         requires { AreMarked self.now.world self.now.marked.items self.now.written.items }
         ensures { result ≡ true → AllByRecursion (IsUnwritten self.now.written.items) reads.now }
     {
-        for read in reads {
-            if self.is_marked(read.0) {
+        for (at, _, _) in reads {
+            if self.is_marked(*at) {
                 return false;
             }
         }
@@ -149,7 +150,8 @@ impl Workspace {
         requires unwritten { AgreesIfUnwritten self.now.written.items (world_of self.now.world).cells read.now }
         ensures { Changes (read.now ∷ []) (world_of self.now.world).cells result }
     {
-        if !self.is_marked(read.0) {
+        let (at, _, _) = read;
+        if !self.is_marked(*at) {
             return None;
         }
         self.difference_at(read)
@@ -158,11 +160,12 @@ impl Workspace {
     // The same of one position, which is compared. Few are, so it is a call.
     #[inline(never)]
     fn difference_at(&self, read: &(Pos, Parts, Cell)) -> Option<Cause>
-        requires { IsInside self.now.world.width self.now.world.height read.now.0 }
+        requires { IsInside self.now.world.width self.now.world.height (seen_place read.now) }
         ensures { Changes (read.now ∷ []) (world_of self.now.world).cells result }
     {
-        let part = read.2.difference(&self.world.cell(read.0), read.1)?;
-        Some(Cause::Part { at: read.0, part })
+        let (at, parts, cell) = read;
+        let part = cell.difference(&self.world.cell(*at), *parts)?;
+        Some(Cause::Part { at: *at, part })
     }
 
     // Sets the named parts of writes, and marks their cells.
@@ -171,10 +174,11 @@ impl Workspace {
         requires marks { AreMarked self.old.world self.old.marked.items self.old.written.items }
         requires once { EachOnce (seen_positions writes.now) }
         requires writes { CanTake (world_of self.old.world) writes.now }
-        requires room { vec_len self.old.written + length writes.now ≤ vec_capacity self.old.written }
+        requires room { most_listed self.old.world (vec_len self.old.written) (length writes.now) ≤ vec_capacity self.old.written }
         ensures world { world_of self.new.world ≡ with_cells (world_of self.old.world) (patched_cells (world_of self.old.world).cells writes.now) }
+        ensures cells { self.new.world.width * self.new.world.height ≡ self.old.world.width * self.old.world.height }
         ensures marks { AreMarked self.new.world self.new.marked.items self.new.written.items }
-        ensures written { Wrote self.old.written.items (map (λ write. write.0) writes.now) self.new.written.items }
+        ensures written { Wrote self.old.written.items (seen_positions writes.now) self.new.written.items }
         ensures verdicts { self.new.verdicts ≡ self.old.verdicts }
         ensures capacity { vec_capacity self.new.written ≡ vec_capacity self.old.written }
         ensures length { vec_len self.new.written ≤ vec_len self.old.written + length writes.now }
@@ -187,17 +191,17 @@ impl Workspace {
     #[inline(always)]
     fn mark_all(&mut self, writes: &[(Pos, Parts, Cell)])
         requires marks { AreMarked self.old.world self.old.marked.items self.old.written.items }
-        requires inside { AllByRecursion (λ write. IsInside self.old.world.width self.old.world.height write.0) writes.now }
-        requires room { vec_len self.old.written + length writes.now ≤ vec_capacity self.old.written }
+        requires inside { AllByRecursion (λ write. IsInside self.old.world.width self.old.world.height (seen_place write)) writes.now }
+        requires room { most_listed self.old.world (vec_len self.old.written) (length writes.now) ≤ vec_capacity self.old.written }
         ensures world { self.new.world ≡ self.old.world }
         ensures marks { AreMarked self.new.world self.new.marked.items self.new.written.items }
-        ensures written { Wrote self.old.written.items (map (λ write. write.0) writes.now) self.new.written.items }
+        ensures written { Wrote self.old.written.items (seen_positions writes.now) self.new.written.items }
         ensures verdicts { self.new.verdicts ≡ self.old.verdicts }
         ensures capacity { vec_capacity self.new.written ≡ vec_capacity self.old.written }
         ensures length { vec_len self.new.written ≤ vec_len self.old.written + length writes.now }
     {
-        for write in writes {
-            self.mark(write.0);
+        for (at, _, _) in writes {
+            self.mark(*at);
         }
     }
 
@@ -210,6 +214,13 @@ impl Workspace {
         self.written.clear();
         self.verdicts.clear();
     }
+}
+
+// How many cells a world has.
+fn cell_count(world: &World) -> usize
+    ensures { result ≡ world.now.width * world.now.height }
+{
+    world.width() as usize * world.height() as usize
 }
 
 // Whether the position is one of the world.

@@ -7,7 +7,7 @@ use Rattle.cell_world.specs.Grid.{Grid, world_of}
 use Rattle.ant_turn.specs.Minds.{Minds, AreSound, Fits}
 use Rattle.round_book.specs.declared.workspace.Workspace.{Workspace}
 use Rattle.round_book.specs.Counts.{is_taken_verdict}
-use Rattle.round_book.specs.Inner.Workspace.{AreMarked}
+use Rattle.round_book.specs.Inner.Workspace.{AreMarked, most_listed}
 
 -- a workspace that has an equal world, and in which nothing is written yet
 pub record IsWorkspaceReady (world : Grid) (work : Workspace) : Type 0 where
@@ -30,7 +30,7 @@ pub record IsWorkspaceKept (from to next place taken : ℕ) (work : Workspace) :
   pub ids : to ≤ work.world.ids
   pub lasting : place + (to - next) < 2 ^ 63
   pub marks : AreMarked work.world work.marked.items work.written.items
-  pub write_room : vec_len work.written + 7 * (to - next) ≤ vec_capacity work.written
+  pub write_room : most_listed work.world (vec_len work.written) (7 * (to - next)) ≤ vec_capacity work.written
   pub verdict_room : vec_len work.verdicts + (to - next) ≤ vec_capacity work.verdicts
   pub counted : taken ≡ count_by is_taken_verdict work.verdicts.items
   pub few : taken ≤ next - from

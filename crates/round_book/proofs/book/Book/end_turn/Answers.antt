@@ -3,7 +3,7 @@ use Rattle.cell_world.specs.Cell.{one_if}
 use Rattle.cell_world.specs.Grid.{world_of}
 use Rattle.cell_world.specs.World.{World, with_cells}
 use Rattle.ant_turn.specs.Rounds.{Moment}
-use Rattle.spec_record.specs.Claims.{Sighting}
+use Rattle.spec_record.specs.Claims.{Sighting, seen_positions}
 use Rattle.spec_record.specs.Patching.{patched_cells}
 use Rattle.round_book.specs.Book.{BookValue, IsEnded, Wrote}
 use Rattle.round_book.proofs.book.Book.end_turn.Goals as goal
@@ -28,7 +28,7 @@ returns-clause-ended c =
       now = ap₂ join
           (c.write.ensures.world ∙ ap (λ (list : List Sighting). with_cells w (patched_cells w.cells list)) writes)
           (ap (λ n. fields.place + n) (c.one_if.ensures ∙ ap one_if c.drew.ensures));
-      written = subst (λ (list : List Sighting). Wrote fields.work.written.items (map (λ write. write.0) list) c.write.new.self.written.items) writes c.write.ensures.written;
+      written = subst (λ (list : List Sighting). Wrote fields.work.written.items (seen_positions list) c.write.new.self.written.items) writes c.write.ensures.written;
       next = refl;
       verdicts = c.push_reserved.ensures.items ∙ ap (λ vs. vs.items ++ c.args.verdict ∷ []) c.write.ensures.verdicts;
     })

@@ -5,12 +5,12 @@ use Rattle.round_book.specs.Inner.Workspace.{AreMarked}
 use Rattle.round_book.proofs.MarkLemmas.{Marking}
 use Rattle.round_book.proofs.workspace.Workspace.mark_all.Given as goal
 
-abbrev pub invariant-loop-write : goal.invariant-loop-write
-invariant-loop-write l = record {
+abbrev pub invariant-loop-at : goal.invariant-loop-at
+invariant-loop-at l = record {
   world : l.self.world ≡ l.fn.self.world;
   marks : AreMarked l.self.world l.self.marked.items l.self.written.items;
-  marking : Marking l.fn.self.written.items l.writes l.self.written.items (drop l.write-index l.writes);
+  marking : Marking l.fn.self.written.items l.writes l.self.written.items (drop l.at-index l.writes);
   verdicts : l.self.verdicts ≡ l.fn.self.verdicts;
   capacity : vec_capacity l.self.written ≡ vec_capacity l.fn.self.written;
-  count : vec_len l.self.written ≤ vec_len l.fn.self.written + l.write-index;
+  count : vec_len l.self.written ≤ vec_len l.fn.self.written + l.at-index;
 }

@@ -6,11 +6,11 @@ use Rattle.spec_record.specs.Claims.{Sighting}
 use Rattle.round_book.specs.Inner.Changes.{IsUnwritten}
 use Rattle.round_book.proofs.workspace.Workspace.none_marked.Goals as goal
 
-pub loop-read-preserved : goal.loop-read-preserved
-loop-read-preserved c = λ rest.
-    c.loop-read.invariant (subst (AllByRecursion (IsUnwritten c.args.self.now.written.items)) (sym (drop_more c.args.reads.now c.loop-read.read-index _ c.loop-read-test.true))
+pub loop-at-preserved : goal.loop-at-preserved
+loop-at-preserved c = λ rest.
+    c.loop-at.invariant (subst (AllByRecursion (IsUnwritten c.args.self.now.written.items)) (sym (drop_more c.args.reads.now c.loop-at.at-index _ c.loop-at-test.true))
     ((λ held. false≢true (sym c.if-is_marked.false ∙ c.is_marked.ensures.1 held)), rest))
 
 pub returns : goal.returns
 returns c = λ is.
-    c.loop-read.invariant (subst (AllByRecursion (IsUnwritten c.args.self.now.written.items)) (sym (at_drop_all (λ (rs : List Sighting). rs) c.args.reads.now c.loop-read.read-index (omega (arith, c.loop-read-test.false)))) tt)
+    c.loop-at.invariant (subst (AllByRecursion (IsUnwritten c.args.self.now.written.items)) (sym (at_drop_all (λ (rs : List Sighting). rs) c.args.reads.now c.loop-at.at-index (omega (arith, c.loop-at-test.false)))) tt)

@@ -1,6 +1,12 @@
+use Rattle.std.proofs.Common.{◌*◌, ◌∙◌, ap}
+use Rattle.cell_world.specs.Grid.{Grid}
+use Rattle.cell_world.specs.World.{World}
 use Rattle.round_book.proofs.WorkspaceLemmas.{AreMarked-same}
 use Rattle.round_book.proofs.workspace.Workspace.write.Goals as goal
 
 pub returns-clause-marks : goal.returns-clause-marks
 returns-clause-marks c =
     AreMarked-same c.mark_all.new.self.world c.set_writes.new.world c.mark_all.new.self.marked.items c.mark_all.new.self.written.items _ c.set_writes.ensures c.mark_all.ensures.marks
+
+pub returns-clause-cells : goal.returns-clause-cells
+returns-clause-cells c = ap (λ (w : World). w.width * w.height) c.set_writes.ensures ∙ ap (λ (g : Grid). g.width * g.height) c.mark_all.ensures.world
