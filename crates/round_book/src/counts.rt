@@ -45,6 +45,7 @@ impl Field<'_> {
     /// Ends a window: the field is whole, with the world and the place to which the window's turns lead, and the answer counts the looks
     /// that were taken and the turns that were executed anew. The field is lent for the window of the book, which
     /// stands on it, and all its turns are settled.
+    #[inline(always)]
     pub fn finish(&mut self, book: Book) -> Counts
         requires stands { StandsOn self.old book }
         requires done { book.next ≡ book.to }

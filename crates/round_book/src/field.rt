@@ -120,6 +120,7 @@ impl<'b> Field<'b> {
     /// on it, with no turn settled yet. The field is whole, `from` is at most `to`, `to` at most the number of ids, and the place with the number
     /// of turns is below 2^63. It is refused for want of memory alone; the field is whole and as before then. No call on the book takes
     /// memory: there is room for the positions that the turns write, seven each and no more than the world has cells.
+    #[inline(always)]
     pub fn begin(&mut self, _alloc: Global, from: u32, to: u32) -> Result<Book, OutOfMemory>
         requires { CanBegin self.old from to }
         ensures lent { OnOk result (self.new ≡ lent_for self.old from to) }
@@ -168,7 +169,8 @@ impl<'b> Field<'b> {
         Ok(looks)
     }
 
-    // Lends the workspace, once it has room for the window.
+    // Lends the workspace, once it has room for the window. It gets the room where it lies, so that no call is lent one that is on its way.
+    #[inline(always)]
     fn lend(&mut self, from: u32, to: u32) -> Result<Book, OutOfMemory>
         requires { CanBegin self.old from to }
         ensures lent { OnOk result (self.new ≡ lent_for self.old from to) }
@@ -180,20 +182,21 @@ impl<'b> Field<'b> {
     {
         let ids = self.world.ant_count();
         prove!(to <= ids);
-        let Some(mut work) = self.workspace.take() else {
+        let Some(kept) = &mut self.workspace else {
             unreachable!()
         };
-        if work.reserve(to - from).is_err() {
-            self.workspace = Some(work);
-            return Err(OutOfMemory);
-        }
+        kept.reserve(to - from)?;
+        let Some(work) = self.workspace.take() else {
+            unreachable!()
+        };
         self.lent = Some((from, to));
         Ok(Book::over(work, self.seed, self.place, from, to))
     }
 
     // Takes back what was lent, with the world and the place to which the window led: the field's own world is brought up to it at the
     // positions that were written.
-    pub(crate) fn take_back(&mut self, mut work: Workspace, place: u64)
+    #[inline(always)]
+    pub(crate) fn take_back(&mut self, work: Workspace, place: u64)
         requires marks { AreMarked work.world work.marked.items work.written.items }
         requires width { self.old.world.width ≡ work.world.width }
         requires height { self.old.world.height ≡ work.world.height }
@@ -202,9 +205,11 @@ impl<'b> Field<'b> {
         requires fit { Fits (world_of work.world) self.old.minds }
         ensures { self.new ≡ record self.old { world = work.world; place = place; whole = true; lent = None } }
     {
-        self.world.catch_up(&work.world, &work.written);
-        work.clear();
         self.workspace = Some(work);
+        if let Some(kept) = &mut self.workspace {
+            self.world.catch_up(&kept.world, &kept.written);
+            kept.clear();
+        }
         self.lent = None;
         self.place = place;
     }
