@@ -4,6 +4,7 @@ use Rattle.std.specs.Prelude.{slice_get, if◌then◌else◌, ◌==◌, bytes_eq
 use Rattle.std.proofs.Math.Path.{fun_ext}
 use Rattle.std.proofs.lemmas.Bool.{eq-eqb, eqb-true, false_from_ne_true}
 use Rattle.line_tokens.specs.TokenLines.{lines_with_tokens}
+use Rattle.list_lemmas.proofs.Entries.{slice_get-front, slice_get-last}
 use Rattle.ant_asm.specs.declared.body.Body.{Body}
 use Rattle.ant_asm.specs.declared.fault.AsmFault.{AsmFault}
 use Rattle.ant_asm.specs.declared.fault.AsmFault.TheVariants.{Empty, EmptyBlock, Misplaced, NoLabel}
@@ -20,7 +21,7 @@ use Rattle.ant_asm.specs.Inner.ProgramView.{AreBodiesOf, AreGoodBlocks, FailsTex
 use Rattle.ant_asm.specs.Inner.Ranged.{AreRanged}
 use Rattle.ant_asm.specs.Inner.Scopes.{known_as}
 use Rattle.ant_asm.specs.Inner.View.{FailsWith, IsClosedAs, IsGoodOpen, open_items, open_seen, parameters_in}
-use Rattle.ant_asm.proofs.OpenLemmas.{AreGood-push, closed-good, closed-ranged, closed-some, closed-tree, get-front, get-last, length-append-one, length-open, open-push, open_seen-push, tree_at-before}
+use Rattle.ant_asm.proofs.OpenLemmas.{AreGood-push, closed-good, closed-ranged, closed-some, closed-tree, length-append-one, length-open, open-push, open_seen-push, tree_at-before}
 use Rattle.ant_asm.proofs.ReadingLemmas.{reading-leads}
 
 -- a body that has items becomes one of the bodies
@@ -78,13 +79,13 @@ module _ (p : Program) (number : ℕ) where
     block-last : block_in (p.bodies.items ++ body ∷ []) (Some (length p.bodies.items)) ≡ Some (block_of (open_seen (trees_of p.bodies.items) p.current))
     block-last =
         ap₂ (λ (a : ℕ) (i : Items). let b : Block = record { parameters = a; items = i } in Some b)
-        (ap parameters_in (get-last p.bodies.items body) ∙ closed.parameters) (closed-tree p.bodies.items p.current body good.current closed)
+        (ap parameters_in (slice_get-last p.bodies.items body) ∙ closed.parameters) (closed-tree p.bodies.items p.current body good.current closed)
 
     block-front : (o : Option ℕ) → ((n : ℕ) → o ≡ Some n → n < length p.bodies.items) → block_in (p.bodies.items ++ body ∷ []) o ≡ block_in p.bodies.items o
     block-front None inside = refl
     block-front (Some n) inside =
         ap₂ (λ (a : ℕ) (i : Items). let b : Block = record { parameters = a; items = i } in Some b)
-        (ap parameters_in (get-front p.bodies.items (body ∷ []) n (inside n refl))) (tree_at-before p.bodies.items body n (inside n refl))
+        (ap parameters_in (slice_get-front p.bodies.items (body ∷ []) n (inside n refl))) (tree_at-before p.bodies.items body n (inside n refl))
 
     blocks-with : (known : List ℕ → Option ℕ) → known ≡ with_name outer.name.now (length p.bodies.items) (known_as p.blocks.entries) →
         (name : List ℕ) → block_in (p.bodies.items ++ body ∷ []) (known name)
@@ -177,7 +178,7 @@ text-bodies text p main good read free closed = record {
     good = free;
     is = closed-tree p.bodies.items p.current main good.current closed ∙ ap (λ (o : Option Outer). items_of (open_seen (trees_of p.bodies.items) (main_of o p.current))) (sym none);
   });
-  plain = ap (λ (n : ℕ). parameters_in (slice_get (p.bodies.items ++ main ∷ []) n)) last ∙ ap parameters_in (get-last p.bodies.items main) ∙ closed.parameters
+  plain = ap (λ (n : ℕ). parameters_in (slice_get (p.bodies.items ++ main ∷ []) n)) last ∙ ap parameters_in (slice_get-last p.bodies.items main) ∙ closed.parameters
       ∙ sym (ap (λ (o : Option Outer). (main_of o p.current).parameters) none) ∙ good.main;
 }
   where

@@ -3,6 +3,7 @@ use Rattle.std.proofs.Common.{◌≡◌, ◌⊎◌, inl, inr, ℕ, suc, ◌<◌,
 use Rattle.std.specs.Prelude.{slice_get, bytes_eq, ◌==◌, option_map}
 use Rattle.std.proofs.lemmas.Bool.{cases_Bool, cond-true, cond-false, eq-eqb}
 use Rattle.std.proofs.lemmas.Option.{same_Some}
+use Rattle.list_lemmas.proofs.Entries.{same_entries}
 use Rattle.brain_read.specs.declared.instr.Instr.{Instr}
 use Rattle.line_tokens.specs.TokenLines.{TokenLine, lines_with_tokens}
 use Rattle.ant_asm.specs.declared.action.Label.{Label}
@@ -122,15 +123,6 @@ has_assembled text main is =
     let all = places_of-size main [] 0 in
     let sized = program-sized text main is in
     (emitted main main main_numbers 0, places main, emitted-assembled main (omega (arith, all, sized)))
-
-same_entries : {A : Type 0} (xs ys : List A) → length xs ≡ length ys → ((k : ℕ) → k < length xs → slice_get xs k ≡ slice_get ys k) → xs ≡ ys
-same_entries [] [] size same = refl
-same_entries [] (y ∷ ys) size same = absurd (omega (arith, size))
-same_entries (x ∷ xs) [] size same = absurd (omega (arith, size))
-same_entries (x ∷ xs) (y ∷ ys) size same =
-    let first : x ≡ y = same_Some x y (same 0 (omega arith)) in
-    let rest : xs ≡ ys = same_entries xs ys (omega (arith, size)) (λ k below. same (suc k) (omega (arith, below))) in
-    cc
 
 -- and is so in one way
 pub one-assembled : (main : Items) (a b : List Instr) (first second : List Address) → IsAssembled main a first → IsAssembled main b second → (a ≡ b) × (first ≡ second)

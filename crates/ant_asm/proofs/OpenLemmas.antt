@@ -3,6 +3,7 @@ use Rattle.std.proofs.Common.{◌≡◌, ◌⊎◌, inl, inr, ℕ, zero, suc, �
 use Rattle.std.specs.Prelude.{unwrap_or, slice_get, slice_index_or, bytes_eq}
 use Rattle.std.specs.List.{AllByRecursion, list_any}
 use Rattle.std.proofs.lemmas.Option.{same_Some}
+use Rattle.list_lemmas.proofs.Entries.{slice_get-front, slice_get-last}
 use Rattle.brain_read.specs.Forms.{IsInRange}
 use Rattle.ant_asm.specs.declared.action.Action.{Action}
 use Rattle.ant_asm.specs.declared.action.Action.TheVariants.{Sense, Mark, Unmark, PickUp, Drop, Turn, Move, Flip}
@@ -117,16 +118,6 @@ good-items : (bodies : List Body) (number parameters count : ℕ) (items : List 
 good-items bodies number parameters count [] good = tt
 good-items bodies number parameters count (item ∷ items) good = (good-item bodies number parameters count item good.0, good-items bodies number parameters count items good.1)
 
--- further bodies leave the ones before
-pub get-front : {A : Type 0} (list others : List A) (i : ℕ) → i < length list → slice_get (list ++ others) i ≡ slice_get list i
-get-front [] others i inside = absurd (omega arith)
-get-front (x ∷ list) others zero inside = refl
-get-front (x ∷ list) others (suc i) inside = get-front list others i (omega arith)
-
-pub get-last : {A : Type 0} (list : List A) (x : A) → slice_get (list ++ x ∷ []) (length list) ≡ Some x
-get-last [] x = refl
-get-last (y ∷ list) x = get-last list x
-
 action-good : {A : Type 0} (parameters count : ℕ) (f : A → Label) (each : (x : A) → IsGoodLabel parameters count (f x)) (action : Action A) → IsGoodAction parameters count (mapped f action)
 action-good parameters count f each (Sense sight met unmet condition) = (each met, each unmet)
 action-good parameters count f each (Mark i on) = each on
@@ -151,7 +142,7 @@ module _ (bodies more : List Body) (parameters count : ℕ) (way : Named → Lab
   kind-good size (OpenKind.Use block handed) good = (
     good.0,
     labels-good parameters count (λ label. way (seen label)) (λ label. each (seen label)) handed.items,
-    λ body at. length-map (λ label. way (seen label)) handed.items ∙ good.1 ∙ ap parameters_in (sym (get-front bodies more block good.0) ∙ at),
+    λ body at. length-map (λ label. way (seen label)) handed.items ∙ good.1 ∙ ap parameters_in (sym (slice_get-front bodies more block good.0) ∙ at),
   )
 
   resolved-good : (before : ℕ) (items : List OpenItem) (all : ℕ) → AreGoodItems bodies before items all → AllByRecursion (IsGoodFlat (bodies ++ more) (length bodies) parameters count) (map (flat_resolved way) items)
@@ -232,7 +223,7 @@ module _ (bodies : List Body) (body : Body) where
 
   item-push : (number parameters count : ℕ) (item : code_item.Item) → number ≤ length bodies → IsGoodItem bodies number parameters count item → IsGoodItem (bodies ++ body ∷ []) number parameters count item
   item-push number parameters count (code_item.Item.Do action) early good = good
-  item-push number parameters count (code_item.Item.Use block handed) early good = (good.0, good.1, λ other at. good.2 other (sym (get-front bodies (body ∷ []) block (let below = good.0 in omega (arith, below, early))) ∙ at))
+  item-push number parameters count (code_item.Item.Use block handed) early good = (good.0, good.1, λ other at. good.2 other (sym (slice_get-front bodies (body ∷ []) block (let below = good.0 in omega (arith, below, early))) ∙ at))
 
   items-push : (number parameters count : ℕ) (items : List code_item.Item) → number ≤ length bodies → AllByRecursion (IsGoodItem bodies number parameters count) items → AllByRecursion (IsGoodItem (bodies ++ body ∷ []) number parameters count) items
   items-push number parameters count [] early good = tt
@@ -263,9 +254,9 @@ module _ (bodies : List Body) (body : Body) where
   pub AreGood-push : AreGood bodies → IsGood (bodies ++ body ∷ []) (length bodies) body → AreGood (bodies ++ body ∷ [])
   AreGood-push good last = record {
     each = λ number other at. elim (before-or-last number other at) [
-      | inl inside ↦ good-push number other inside (good.each number other (sym (get-front bodies (body ∷ []) number inside) ∙ at))
+      | inl inside ↦ good-push number other inside (good.each number other (sym (slice_get-front bodies (body ∷ []) number inside) ∙ at))
       | inr same ↦
-          let is : body ≡ other = same_Some body other (sym (get-last bodies body) ∙ ap (slice_get (bodies ++ body ∷ [])) (sym same) ∙ at) in
+          let is : body ≡ other = same_Some body other (sym (slice_get-last bodies body) ∙ ap (slice_get (bodies ++ body ∷ [])) (sym same) ∙ at) in
           subst (λ (n : ℕ). IsGood (bodies ++ body ∷ []) n other) (sym same) (subst (IsGood (bodies ++ body ∷ []) (length bodies)) is last)
     ];
   }
@@ -275,7 +266,7 @@ module _ (bodies : List Body) (body : Body) where
   kind-push size (OpenKind.Do action) good = good
   kind-push size (OpenKind.Use block handed) good = (
     let below = good.0 in let more = length-append-one bodies body in omega (arith, below, more),
-    good.1 ∙ ap parameters_in (sym (get-front bodies (body ∷ []) block good.0)),
+    good.1 ∙ ap parameters_in (sym (slice_get-front bodies (body ∷ []) block good.0)),
     good.2 ∙ ap size_of (sym (tree_at-before block good.0)),
     good.3,
   )

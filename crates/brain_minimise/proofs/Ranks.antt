@@ -1,11 +1,12 @@
 -- The numbers of a minimised brain: each appears after all lower ones.
-use Rattle.std.proofs.Common.{◌≡◌, ◌⊎◌, inl, inr, ℕ, zero, suc, ◌<◌, ◌≤◌, List, [], ◌∷◌, map, length, slice_get, slice_index_or, Option, Some, None, IsSome, unwrap_or, refl, sym, ap, ◌∙◌, arith}
+use Rattle.std.proofs.Common.{◌≡◌, ◌⊎◌, inl, inr, ℕ, zero, suc, ◌<◌, ◌≤◌, List, [], ◌∷◌, map, length, slice_get, Option, Some, None, IsSome, unwrap_or, refl, sym, ap, ◌∙◌, arith}
 use Rattle.std.specs.Prelude.{option_map}
 use Rattle.std.proofs.lemmas.Bool.{cases_eq, cases_lt, cases_order}
-use Rattle.std.proofs.lemmas.List.{length-map, same_lists}
-use Rattle.std.proofs.lemmas.Option.{get_or_from_slice_get, none-some, same_Some, slice_get-get_or, slice_get-map, slice_get_within}
+use Rattle.std.proofs.lemmas.List.{length-map}
+use Rattle.std.proofs.lemmas.Option.{none-some, same_Some, slice_get-get_or, slice_get-map, slice_get_within}
 use Rattle.indexmap.proofs.IndexTableLemmas.Probe.{pigeonhole}
 use Rattle.list_lemmas.proofs.AllElements.{AllByRecursion-weaker}
+use Rattle.list_lemmas.proofs.Entries.{same_entries}
 use Rattle.brain_read.specs.declared.instr.Instr.{Instr}
 use Rattle.brain_read.specs.declared.instr.Instr.TheVariants.{Drop}
 use Rattle.brain_read.specs.Grammar.{states_of}
@@ -183,12 +184,6 @@ left_of-length [] brain each = refl
 left_of-length (o ∷ numbers) [] each = absurd (omega arith)
 left_of-length (None ∷ numbers) (x ∷ brain) each = left_of-length numbers brain (omega arith)
 left_of-length (Some k ∷ numbers) (x ∷ brain) each = ap suc (left_of-length numbers brain (omega arith))
-
--- lists with the same entries are one
-pub same_entries : (xs ys : List Instr) → length xs ≡ length ys → ((k : ℕ) → k < length xs → slice_get xs k ≡ slice_get ys k) → xs ≡ ys
-same_entries xs ys size same =
-    same_lists xs ys size (λ k d below.
-    get_or_from_slice_get xs k (slice_index_or ys k d) d (same k below ∙ slice_get-get_or ys k d (omega arith)))
 
 -- where each state has a number, as many as there are have one
 kept_before-all : (numbers : List (Option ℕ)) (n : ℕ) → ((state : ℕ) → state < n → IsSome (new_number numbers state)) → kept_before numbers n ≡ n

@@ -3,11 +3,12 @@ use Rattle.std.proofs.Common.{◌≡◌, inl, inr, ℕ, zero, suc, ◌<◌, List
 use Rattle.std.proofs.lemmas.Bool.{cases_lt, cases_order}
 use Rattle.std.proofs.lemmas.List.{ext_get_or}
 use Rattle.std.proofs.lemmas.Option.{same_Some}
+use Rattle.list_lemmas.proofs.Entries.{same_entries}
 use Rattle.brain_read.specs.declared.instr.Instr.{Instr}
 use Rattle.ant_turn.specs.Renumber.{state_number, redirected}
 use Rattle.ant_turn.specs.Turn.{instruction_at}
 use Rattle.brain_minimise.specs.Minimised.{IsMinimised, new_number}
-use Rattle.brain_minimise.proofs.Ranks.{IsRising-minimised, number-below, same_entries}
+use Rattle.brain_minimise.proofs.Ranks.{IsRising-minimised, number-below}
 
 module _ (old new other : List Instr) (numbers others : List (Option ℕ)) (first : IsMinimised old new numbers) (second : IsMinimised old other others) where
   -- a state whose number by the first map would be lower

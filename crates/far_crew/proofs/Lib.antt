@@ -1,5 +1,4 @@
--- Brains, cells and jobs that go to workers.
-pub mod BrainLemmas
+-- Cells and jobs that go to workers.
 pub mod CellLemmas
 pub mod JobLemmas
 -- An answer that agrees, and what a window picks of all.

@@ -1,9 +1,10 @@
 -- Picks: each names the look at its turn.
-use Rattle.std.proofs.Common.{◌≡◌, inl, inr, ℕ, zero, suc, ◌+◌, ◌<◌, ◌≤◌, true, List, [], ◌∷◌, ◌++◌, length, get_or, set, slice_get, Option, Some, None, refl, sym, ◌∙◌, ap, subst, arith}
+use Rattle.std.proofs.Common.{◌≡◌, inl, inr, ℕ, ◌+◌, ◌<◌, ◌≤◌, true, List, [], ◌∷◌, ◌++◌, length, get_or, set, slice_get, Option, Some, None, refl, sym, ◌∙◌, ap, subst, arith}
 use Rattle.std.specs.Option.{is_some}
 use Rattle.std.proofs.lemmas.Bool.{cases_eq}
 use Rattle.std.proofs.lemmas.List.{get_or-set_other, get_or-set_same}
-use Rattle.std.proofs.lemmas.Option.{slice_get_past, slice_get_read}
+use Rattle.std.proofs.lemmas.Option.{slice_get_past, slice_get_read, slice_get_within}
+use Rattle.list_lemmas.proofs.Entries.{slice_get-front, slice_get-last}
 use Rattle.cell_world.proofs.Patches.{some_one}
 use Rattle.round_book.specs.Window.{Window, look_for}
 use Rattle.spec_record.specs.Look.{LookValue}
@@ -13,20 +14,10 @@ use Rattle.far_crew.specs.declared.picking.Pick.TheVariants.{Theirs, Own}
 use Rattle.far_crew.specs.Inner.Picks.{AreFilled, AreNone, ArePicked, look_named, looks_in, looks_of_answer, looks_of_line}
 use Rattle.far_crew.specs.Jobs.{FoundValue}
 
--- what a list has it has with more behind
-slice_get-append : {X : Type 0} (xs ys : List X) (i : ℕ) (x : X) → slice_get xs i ≡ Some x → slice_get (xs ++ ys) i ≡ Some x
-slice_get-append [] ys i x is = absurd (cc)
-slice_get-append (y ∷ xs) ys zero x is = is
-slice_get-append (y ∷ xs) ys (suc i) x is = slice_get-append xs ys i x is
-
-slice_get-last : {X : Type 0} (xs : List X) (x : X) → slice_get (xs ++ x ∷ []) (length xs) ≡ Some x
-slice_get-last [] x = refl
-slice_get-last (y ∷ xs) x = slice_get-last xs x
-
 -- a pick of one look more among the own ones
 look_named-grown : (lines : List Line) (own more : List LookValue) (pick : Pick) (look : LookValue) → look_named lines own pick ≡ Some look → look_named lines (own ++ more) pick ≡ Some look
 look_named-grown lines own more (Theirs line at) look is = is
-look_named-grown lines own more (Own at) look is = slice_get-append own more at look is
+look_named-grown lines own more (Own at) look is = slice_get-front own more at (slice_get_within own at look is) ∙ is
 
 module _ (lines : List Line) (own : List LookValue) (window : Window) where
   -- no turn has a pick

@@ -73,7 +73,7 @@ impl OwnBrains {
 }
 
 // Whether two brains have the same instructions.
-#[tactic(auto, using(crate::proofs::BrainLemmas::same_lists))]
+#[tactic(auto, using(list_lemmas::proofs::Entries::same_entries))]
 fn is_same_brain(one: &Brain, other: &Brain) -> bool
     ensures { result ≡ true → one.now ≡ other.now }
 {

@@ -1,3 +1,4 @@
--- Elements of lists, and what holds of all of them.
+-- Elements of lists, at which number they stand, and what holds of all of them.
 pub mod Elements
+pub mod Entries
 pub mod AllElements

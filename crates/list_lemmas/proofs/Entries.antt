@@ -1,0 +1,23 @@
+-- What stands at each number of a list, counted from 0.
+use Rattle.std.proofs.Common.{◌≡◌, ℕ, zero, suc, ◌<◌, List, [], ◌∷◌, ◌++◌, length, Some, refl, ap₂, arith}
+use Rattle.std.specs.Prelude.{slice_get}
+use Rattle.std.proofs.lemmas.Option.{same_Some}
+
+-- what a list has it has with more behind
+pub slice_get-front : {X : Type 0} (xs more : List X) (i : ℕ) → i < length xs → slice_get (xs ++ more) i ≡ slice_get xs i
+slice_get-front [] more i inside = absurd (omega arith)
+slice_get-front (x ∷ xs) more zero inside = refl
+slice_get-front (x ∷ xs) more (suc i) inside = slice_get-front xs more i (omega arith)
+
+-- and then what is behind
+pub slice_get-last : {X : Type 0} (xs : List X) (x : X) → slice_get (xs ++ x ∷ []) (length xs) ≡ Some x
+slice_get-last [] x = refl
+slice_get-last (y ∷ xs) x = slice_get-last xs x
+
+-- lists of one length with the same entries are one
+pub same_entries : {X : Type 0} (xs ys : List X) → length xs ≡ length ys → ((i : ℕ) → i < length xs → slice_get xs i ≡ slice_get ys i) → xs ≡ ys
+same_entries [] [] long each = refl
+same_entries [] (y ∷ ys) long each = absurd (omega arith)
+same_entries (x ∷ xs) [] long each = absurd (omega arith)
+same_entries (x ∷ xs) (y ∷ ys) long each =
+    ap₂ (λ z zs. z ∷ zs) (same_Some x y (each 0 (omega arith))) (same_entries xs ys (omega arith) (λ i early. each (suc i) (omega arith)))
