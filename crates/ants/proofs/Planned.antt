@@ -1,39 +1,69 @@
--- The text and the save of a game by its plan are those by its words.
-use Rattle.std.proofs.Common.{◌≡◌, ℕ, Bool, List, ◌∙◌, ap}
+-- The text and the save of a game by its plan are those by its words; and what a game that was played comes to.
+use Rattle.std.proofs.Common.{◌≡◌, ℕ, Bool, List, refl, ◌∙◌, ap, subst, Result, None}
+use Rattle.std.specs.Prelude.{IsErrAnd}
+use Rattle.ant_base.specs.Shelf.{ShelfState}
+use Rattle.ant_base.specs.Sink.{PushedAll, SinkState}
 use Rattle.ant_turn.specs.Minds.{Minds}
-use Rattle.ant_turn.specs.Sheet.{Sheet, sheet_of}
-use Rattle.ant_turn.specs.declared.sheet.Sheet as code
-use Rattle.brain_read.specs.declared.instr.Instr.{Instr}
-use Rattle.cell_world.specs.Grid.{Grid, world_of}
+use Rattle.ant_turn.specs.Sheet.{Sheet}
+use Rattle.cell_world.specs.Grid.{world_of}
+use Rattle.command_words.specs.Command.PlainCommand.{RunCommand}
 use Rattle.command_words.specs.Command.{RunSetup}
-use Rattle.match_run.specs.declared.plan.Plan.{Plan}
+use Rattle.match_run.specs.declared.fault.PlayFault.{PlayFault}
 use Rattle.match_run.specs.Counts.{whole_text}
 use Rattle.match_run.specs.Dumps.{chooses}
+use Rattle.match_run.specs.Play.{StoppedBy}
 use Rattle.match_save.specs.Saved.{save_text}
 use Rattle.match_save.specs.Saving.{saved_after}
+use Rattle.ants.specs.declared.run.PlannedGame.{PlannedGame}
+use Rattle.ants.specs.declared.run.Setting.{Setting}
+use Rattle.ants.specs.declared.stop.CommandStop.{CommandStop}
 use Rattle.ants.specs.Files.FileContent.{BrainContent, WorldContent}
-use Rattle.ants.specs.Inner.Planning.{IsSheetOf, Plans}
-use Rattle.ants.specs.Outputs.{chosen_rounds, match_output, minds_named, save_output}
+use Rattle.ants.specs.Inner.Planning.{Plans, minds_in, setting_contents, stop_of, text_in}
+use Rattle.ants.specs.Inner.Reading.{CarriesOut, ReadsFiles, ending_of}
+use Rattle.ants.specs.Inner.Reading.ReadOutcome.{Contents}
+use Rattle.ants.specs.Outputs.{chosen_rounds, game_files, match_output, minds_named, save_output}
+use Rattle.ants.proofs.Readings.{carries_done, carries_fault}
 
-pub output_planned : (setup : RunSetup) (plan : Plan) (sheet : code.Sheet) (grid : Grid) (red black : List Instr) → Plans setup plan → IsSheetOf setup sheet →
-    whole_text (record { red = red; black = black; sheet = sheet_of sheet }) plan.seed plan.rounds (chooses plan.dumps) plan.window plan.stats (world_of grid) ≡ match_output setup (WorldContent grid) (BrainContent red) (BrainContent black)
-unfolding match_output
-output_planned setup plan sheet grid red black plans same =
-    let minds : Sheet → Minds = λ s. record { red = red; black = black; sheet = s } in
-    ap (λ s. whole_text (minds s) plan.seed plan.rounds (chooses plan.dumps) plan.window plan.stats (world_of grid)) same
-    ∙ ap (λ (seed : ℕ). whole_text (minds_named setup red black) seed plan.rounds (chooses plan.dumps) plan.window plan.stats (world_of grid)) plans.seed_is
-    ∙ ap (λ (rounds : ℕ). whole_text (minds_named setup red black) setup.seed rounds (chooses plan.dumps) plan.window plan.stats (world_of grid)) plans.rounds_are
-    ∙ ap (λ chosen. whole_text (minds_named setup red black) setup.seed setup.rounds chosen plan.window plan.stats (world_of grid)) plans.dumps_are
-    ∙ ap (λ (window : ℕ). whole_text (minds_named setup red black) setup.seed setup.rounds (chosen_rounds setup.dumps) window plan.stats (world_of grid)) plans.window_is
-    ∙ ap (λ (stats : Bool). whole_text (minds_named setup red black) setup.seed setup.rounds (chosen_rounds setup.dumps) setup.window stats (world_of grid)) plans.stats_are
+module _ (setup : RunSetup) (game : PlannedGame) (setting : Setting) (plans : Plans setup game) where
+  by_sheet : Sheet → Minds
+  by_sheet sheet = record { red = setting.red; black = setting.black; sheet = sheet }
 
--- the save of a game by its plan is the one by its words
-pub saved_planned : (setup : RunSetup) (plan : Plan) (sheet : code.Sheet) (grid : Grid) (red black : List Instr) → Plans setup plan → IsSheetOf setup sheet →
-    save_text (saved_after (record { red = red; black = black; sheet = sheet_of sheet }) plan.seed plan.window (world_of grid) plan.rounds) ≡ save_output setup (WorldContent grid) (BrainContent red) (BrainContent black)
-unfolding save_output
-saved_planned setup plan sheet grid red black plans same =
-    let minds : Sheet → Minds = λ s. record { red = red; black = black; sheet = s } in
-    ap (λ s. save_text (saved_after (minds s) plan.seed plan.window (world_of grid) plan.rounds)) same
-    ∙ ap (λ (seed : ℕ). save_text (saved_after (minds_named setup red black) seed plan.window (world_of grid) plan.rounds)) plans.seed_is
-    ∙ ap (λ (window : ℕ). save_text (saved_after (minds_named setup red black) setup.seed window (world_of grid) plan.rounds)) plans.window_is
-    ∙ ap (λ (rounds : ℕ). save_text (saved_after (minds_named setup red black) setup.seed setup.window (world_of grid) rounds)) plans.rounds_are
+  named : Minds
+  named = minds_named setup setting.red setting.black
+
+  -- the text of a game
+  output_planned : text_in setting game ≡ match_output setup (WorldContent setting.world) (BrainContent setting.red) (BrainContent setting.black)
+  unfolding match_output by_sheet named
+  output_planned =
+      ap (λ sheet. whole_text (by_sheet sheet) game.plan.seed game.plan.rounds (chooses game.plan.dumps) game.plan.window game.plan.stats (world_of setting.world)) plans.sheet_is
+      ∙ ap (λ (seed : ℕ). whole_text named seed game.plan.rounds (chooses game.plan.dumps) game.plan.window game.plan.stats (world_of setting.world)) plans.seed_is
+      ∙ ap (λ (rounds : ℕ). whole_text named setup.seed rounds (chooses game.plan.dumps) game.plan.window game.plan.stats (world_of setting.world)) plans.rounds_are
+      ∙ ap (λ chosen. whole_text named setup.seed setup.rounds chosen game.plan.window game.plan.stats (world_of setting.world)) plans.dumps_are
+      ∙ ap (λ (window : ℕ). whole_text named setup.seed setup.rounds (chosen_rounds setup.dumps) window game.plan.stats (world_of setting.world)) plans.window_is
+      ∙ ap (λ (stats : Bool). whole_text named setup.seed setup.rounds (chosen_rounds setup.dumps) setup.window stats (world_of setting.world)) plans.stats_are
+
+  -- the save of a game
+  pub saved_planned : save_text (saved_after (minds_in setting game) game.plan.seed game.plan.window (world_of setting.world) game.plan.rounds)
+      ≡ save_output setup (WorldContent setting.world) (BrainContent setting.red) (BrainContent setting.black)
+  unfolding save_output by_sheet named
+  saved_planned =
+      ap (λ sheet. save_text (saved_after (by_sheet sheet) game.plan.seed game.plan.window (world_of setting.world) game.plan.rounds)) plans.sheet_is
+      ∙ ap (λ (seed : ℕ). save_text (saved_after named seed game.plan.window (world_of setting.world) game.plan.rounds)) plans.seed_is
+      ∙ ap (λ (window : ℕ). save_text (saved_after named setup.seed window (world_of setting.world) game.plan.rounds)) plans.window_is
+      ∙ ap (λ (rounds : ℕ). save_text (saved_after named setup.seed setup.window (world_of setting.world) rounds)) plans.rounds_are
+
+  module _ (world red black : List ℕ) (shelf new_shelf : ShelfState) (out new_out : SinkState) (reads : ReadsFiles shelf new_shelf (game_files world red black) (Contents (setting_contents setting))) where
+    -- its files were read, and its whole text was written
+    pub carries_game : PushedAll out new_out (text_in setting game) → CarriesOut (RunCommand world red black setup) shelf new_shelf out new_out None
+    carries_game pushed =
+        carries_done (RunCommand world red black setup) shelf new_shelf out new_out (setting_contents setting) reads
+        (match_output setup (WorldContent setting.world) (BrainContent setting.red) (BrainContent setting.black)) refl
+        (subst (PushedAll out new_out) output_planned pushed)
+
+    -- its files were read, and its play stopped
+    pub carries_game_stopped : {U : Type 0} (result : Result U CommandStop) (fault : PlayFault) → IsErrAnd result (λ other. other ≡ stop_of fault) → StoppedBy out new_out (text_in setting game) fault
+        → CarriesOut (RunCommand world red black setup) shelf new_shelf out new_out (ending_of result)
+    carries_game_stopped result fault same pushed =
+        carries_fault (RunCommand world red black setup) shelf new_shelf out new_out (setting_contents setting) result fault same reads
+        (match_output setup (WorldContent setting.world) (BrainContent setting.red) (BrainContent setting.black)) refl
+        (subst (λ text. StoppedBy out new_out text fault) output_planned pushed) tt

@@ -6,13 +6,11 @@ ghost use Rattle.command_words.specs.Words.{plain_setup};
 ghost use Rattle.ants.specs.Inner.Planning.{CanPlay};
 ghost use Rattle.ants.specs.Inner.Reading.{CarriesOut, ending_of};
 
-use crate::run::{FileNames, plan_of, run};
+use crate::run::{FileNames, PlannedGame, planned_game, run_by};
 use crate::stop::CommandStop;
 use ant_base::{Gate, Shelf, Sink};
-use ant_turn::Sheet;
 use command_words::RunOptions;
 use far_crew::{Errand, with_far};
-use match_run::Plan;
 use round_book::Crew;
 use std::alloc::Global;
 use std::sync::Wait;
@@ -23,23 +21,22 @@ use std::thread::Threads;
 struct RunErrand<'s, 'o, 'w, S: Shelf, K: Sink> {
     alloc: Global,
     names: FileNames<'w>,
-    sheet: Sheet,
-    plan: Plan,
+    game: PlannedGame,
     shelf: &'s mut S,
     out: &'o mut K,
     went: Result<(), CommandStop<'w>>,
-    ghost planned: { CanPlay plan },
+    ghost planned: { CanPlay game.plan },
 }
 
 impl<'s, 'o, 'w, S: Shelf, K: Sink> Errand for RunErrand<'s, 'o, 'w, S, K> {
     ghost use Rattle.std.specs.Prelude.{◌≡◌};
-    ghost use Rattle.ants.specs.Inner.Planning.{IsSheetOf, Plans};
+    ghost use Rattle.ants.specs.Inner.Planning.{Plans};
     ghost use Rattle.ants.specs.Inner.Reading.{CarriesOut, ending_of};
     ghost use Rattle.command_words.specs.Command.{RunSetup};
     ghost use Rattle.command_words.specs.Command.PlainCommand.{RunCommand};
 
     ghost finished = { λ a b. (b.shelf.ghost_name ≡ a.shelf.ghost_name) × (b.out.ghost_name ≡ a.out.ghost_name)
-        × ((setup : RunSetup) → Plans setup a.plan → IsSheetOf setup a.sheet
+        × ((setup : RunSetup) → Plans setup a.game
         → CarriesOut (RunCommand a.names.world.now a.names.red.now a.names.black.now setup) (S.state a.shelf.now) (S.state b.shelf.now)
         (K.state a.out.now) (K.state b.out.now) (ending_of b.went)) };
 
@@ -47,18 +44,16 @@ impl<'s, 'o, 'w, S: Shelf, K: Sink> Errand for RunErrand<'s, 'o, 'w, S, K> {
         let RunErrand {
             alloc,
             names,
-            sheet,
-            plan,
+            game,
             shelf,
             out,
             went: _,
         } = self;
-        let went = run(alloc, crew, names, sheet, &plan, shelf, out);
+        let went = run_by(alloc, crew, names, &game, shelf, out);
         RunErrand {
             alloc,
             names,
-            sheet,
-            plan,
+            game,
             shelf,
             out,
             went,
@@ -86,14 +81,12 @@ pub fn run_far<'w, R: Threads + Wait + Sync, S: Shelf, K: Sink, G: Gate>(
     ensures { CarriesOut (RunCommand names.entry.world.now names.entry.red.now names.entry.black.now (plain_setup options.entry))
         (S.state shelf.old) (S.state shelf.new) (K.state out.old) (K.state out.new) (ending_of result) }
 {
-    let sheet = Sheet::new(options.surround, options.corpse, options.rest);
     let workers = options.workers;
-    let plan = plan_of(alloc, options)?;
+    let game = planned_game(alloc, options)?;
     let errand = RunErrand {
         alloc,
         names,
-        sheet,
-        plan,
+        game,
         shelf,
         out,
         went: Ok(()),
@@ -103,8 +96,7 @@ pub fn run_far<'w, R: Threads + Wait + Sync, S: Shelf, K: Sink, G: Gate>(
             let RunErrand {
                 alloc: _,
                 names: _names,
-                sheet: _,
-                plan: _plan,
+                game: _game,
                 shelf,
                 out,
                 went,
@@ -117,8 +109,7 @@ pub fn run_far<'w, R: Threads + Wait + Sync, S: Shelf, K: Sink, G: Gate>(
             let RunErrand {
                 alloc: _,
                 names: _names,
-                sheet: _,
-                plan: _plan,
+                game: _game,
                 shelf,
                 out,
                 went: _went,

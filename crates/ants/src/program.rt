@@ -1,13 +1,12 @@
 // The whole program, over any shelf and any sinks.
-ghost use Rattle.std.specs.Prelude.{◌≡◌, ◌↔◌, ◌≤◌};
+ghost use Rattle.std.specs.Prelude.{◌≡◌, ◌↔◌};
 ghost use Rattle.command_words.specs.Far.{words_without_far};
-ghost use Rattle.command_words.specs.Command.PlainCommand.{CupCommand, ResumeCommand, RunCommand, SaveCommand, WorkloadCommand};
-ghost use Rattle.command_words.specs.Laws.{CommandWithin, CupWithin, IsWithin, ResumeWithin, SetupWithin};
+ghost use Rattle.command_words.specs.Laws.{CommandWithin, IsWithin};
 ghost use Rattle.command_words.specs.declared.limits.NumberKind.TheVariants.{WorkerCount};
-ghost use Rattle.command_words.specs.Words.{plain, plain_resume, plain_setup, texts};
-ghost use Rattle.match_run.specs.Run.{most_rounds};
+ghost use Rattle.command_words.specs.Words.{plain, texts};
 ghost use Rattle.round_book.specs.Book.{CanBegin};
 ghost use Rattle.round_book.specs.Led.{IsWindow};
+ghost use Rattle.ants.specs.Inner.Planning.{workers_named};
 ghost use Rattle.ants.specs.Inner.Reading.{CarriesOut, CarriesOutWords, ending_of};
 ghost use Rattle.ants.specs.Outside.{outside_of};
 ghost use Rattle.ants.specs.Run.{GotLine, IsComplete, IsCrowding, IsNoCommand, IsOrderly, NeverUnread, IsRefusing, IsRun, IsRunTo, Reports};
@@ -24,7 +23,7 @@ use crate::generating::gen_world;
 use crate::help::{help, version};
 use crate::minimise::minimise;
 use crate::resume::resume;
-use crate::run::{FileNames, dumps_of, plan_of, run, run_alone};
+use crate::run::{FileNames, run};
 use crate::save::save;
 use crate::show::show;
 use crate::status::Status;
@@ -32,161 +31,25 @@ use crate::stop::{CommandStop, Ended};
 use crate::view::view;
 use crate::workload::workload;
 use ant_base::{Gate, Layout, Shelf, Sink, layout};
-use ant_turn::Sheet;
-use command_words::{
-    Command, ResumeOptions, RunOptions, is_far_run, read_words, read_words_without_far,
-};
-use match_run::{OutOfMemory, Plan};
-use round_book::{Counts, Field, Led};
+use command_words::{Command, is_far_run, read_words, read_words_without_far};
+use match_run::OutOfMemory;
+use round_book::{Counts, Crew, Field, Led};
 use round_workers::BoardCrew;
 use std::alloc::Global;
 use std::process::ExitCode;
 use std::sync::Wait;
 use std::thread::Threads;
 
-// Plays the game that the words ask for: by as many workers as they say, or, where one is to play and no counts are asked for, turn by turn.
-fn carry_out_run<'w, R: Threads + Sync, S: Shelf, K: Sink, G: Gate>(
+// Carries out a command by a crew, where it plays in windows.
+fn carry_out_by<'w, R: Threads + Sync, C: Crew, S: Shelf, K: Sink>(
     rt: &R,
     alloc: Global,
-    names: FileNames<'w>,
-    options: RunOptions<'w>,
-    shelf: &mut S,
-    out: &mut K,
-    gate: &G,
-) -> Result<(), CommandStop<'w>>
-    requires within { SetupWithin (plain_setup options) }
-    ensures { CarriesOut (RunCommand names.entry.world.now names.entry.red.now names.entry.black.now (plain_setup options.entry))
-        (S.state shelf.old) (S.state shelf.new) (K.state out.old) (K.state out.new) (ending_of result) }
-{
-    let sheet = Sheet::new(options.surround, options.corpse, options.rest);
-    let alone = options.workers == 1;
-    let mut board = BoardCrew::new(rt, options.workers, gate);
-    let plan = plan_of(alloc, options)?;
-    if alone && !plan.stats {
-        return run_alone(alloc, names, sheet, &plan, shelf, out);
-    }
-    let mut crew = Led::by(
-        |field: &mut Field<'_>, from: u32, to: u32| -> Result<Counts, OutOfMemory>
-            requires { CanBegin field.now from to }
-            ensures { IsWindow result field.entry.now from to field.exit.now }
-        { board.window(alloc, field, from, to) },
-    );
-    run(alloc, &mut crew, names, sheet, &plan, shelf, out)
-}
-
-// Saves the game that the words ask for, which as many workers play as they say.
-fn carry_out_save<'w, R: Threads + Sync, S: Shelf, K: Sink, G: Gate>(
-    rt: &R,
-    alloc: Global,
-    names: FileNames<'w>,
-    options: RunOptions<'w>,
-    shelf: &mut S,
-    out: &mut K,
-    gate: &G,
-) -> Result<(), CommandStop<'w>>
-    requires within { SetupWithin (plain_setup options) }
-    ensures { CarriesOut (SaveCommand names.entry.world.now names.entry.red.now names.entry.black.now (plain_setup options.entry))
-        (S.state shelf.old) (S.state shelf.new) (K.state out.old) (K.state out.new) (ending_of result) }
-{
-    let sheet = Sheet::new(options.surround, options.corpse, options.rest);
-    let mut board = BoardCrew::new(rt, options.workers, gate);
-    let plan = plan_of(alloc, options)?;
-    let mut crew = Led::by(
-        |field: &mut Field<'_>, from: u32, to: u32| -> Result<Counts, OutOfMemory>
-            requires { CanBegin field.now from to }
-            ensures { IsWindow result field.entry.now from to field.exit.now }
-        { board.window(alloc, field, from, to) },
-    );
-    save(alloc, &mut crew, names, sheet, &plan, shelf, out)
-}
-
-// Goes on with the game of the save that the words name, by as many workers as they say.
-fn carry_out_resume<'w, R: Threads + Sync, S: Shelf, K: Sink, G: Gate>(
-    rt: &R,
-    alloc: Global,
-    name: &'w str,
-    options: ResumeOptions<'w>,
-    shelf: &mut S,
-    out: &mut K,
-    gate: &G,
-) -> Result<(), CommandStop<'w>>
-    requires within { ResumeWithin (plain_resume options) }
-    ensures { CarriesOut (ResumeCommand name.now (plain_resume options.entry)) (S.state shelf.old) (S.state shelf.new) (K.state out.old) (K.state out.new)
-        (ending_of result) }
-{
-    let mut board = BoardCrew::new(rt, options.workers, gate);
-    let rounds = options.rounds;
-    let stats = options.stats;
-    let dumps = dumps_of(alloc, options.dumps)?;
-    let mut crew = Led::by(
-        |field: &mut Field<'_>, from: u32, to: u32| -> Result<Counts, OutOfMemory>
-            requires { CanBegin field.now from to }
-            ensures { IsWindow result field.entry.now from to field.exit.now }
-        { board.window(alloc, field, from, to) },
-    );
-    resume(alloc, &mut crew, name, rounds, &dumps, stats, shelf, out)
-}
-
-// Plays the workload that the words ask for, by as many workers as they say.
-fn carry_out_workload<'w, R: Threads + Sync, S: Shelf, K: Sink, G: Gate>(
-    rt: &R,
-    alloc: Global,
-    seed: u32,
-    rounds: u32,
-    workers: u32,
-    shelf: &mut S,
-    out: &mut K,
-    gate: &G,
-) -> Result<(), CommandStop<'w>>
-    requires few_rounds { rounds ≤ most_rounds }
-    requires workers { IsWithin WorkerCount workers }
-    ensures { CarriesOut (WorkloadCommand seed rounds workers) (S.state shelf.old) (S.state shelf.new) (K.state out.old) (K.state out.new) (ending_of result) }
-{
-    let mut board = BoardCrew::new(rt, workers, gate);
-    let mut crew = Led::by(
-        |field: &mut Field<'_>, from: u32, to: u32| -> Result<Counts, OutOfMemory>
-            requires { CanBegin field.now from to }
-            ensures { IsWindow result field.entry.now from to field.exit.now }
-        { board.window(alloc, field, from, to) },
-    );
-    workload(alloc, &mut crew, seed, rounds, shelf, out)
-}
-
-// Plays the games of the cup that the words ask for.
-fn carry_out_cup<'w, R: Threads + Sync, S: Shelf, K: Sink>(
-    rt: &R,
-    alloc: Global,
-    worlds: &'w [String],
-    brains: &'w [String],
-    seed: u32,
-    rounds: u32,
-    workers: u32,
-    shelf: &mut S,
-    out: &mut K,
-) -> Result<(), CommandStop<'w>>
-    requires { CupWithin (texts worlds.now) (texts brains.now) seed rounds workers }
-    ensures { CarriesOut (CupCommand (texts worlds.now) (texts brains.now) seed rounds workers)
-        (S.state shelf.old) (S.state shelf.new) (K.state out.old) (K.state out.new) (ending_of result) }
-{
-    let entry = Entry {
-        worlds,
-        brains,
-        seed,
-        rounds,
-        workers,
-    };
-    cup(rt, alloc, entry, shelf, out)
-}
-
-// Carries out a command, whose numbers and names are within their limits.
-fn carry_out_command<'w, R: Threads + Sync, S: Shelf, K: Sink, G: Gate>(
-    rt: &R,
-    alloc: Global,
+    crew: &mut C,
     command: Command<'w>,
     shelf: &mut S,
     out: &mut K,
-    gate: &G,
 ) -> Result<(), CommandStop<'w>>
+    requires ready { C.ready crew.old }
     requires within { CommandWithin (plain command) }
     ensures { CarriesOut (plain command.entry) (S.state shelf.old) (S.state shelf.new) (K.state out.old) (K.state out.new) (ending_of result) }
 {
@@ -202,7 +65,7 @@ fn carry_out_command<'w, R: Threads + Sync, S: Shelf, K: Sink, G: Gate>(
             options,
         } => {
             let names = FileNames { world, red, black };
-            carry_out_run(rt, alloc, names, options, shelf, out, gate)
+            run(alloc, crew, names, options, shelf, out)
         }
         Command::Cup {
             worlds,
@@ -210,7 +73,16 @@ fn carry_out_command<'w, R: Threads + Sync, S: Shelf, K: Sink, G: Gate>(
             seed,
             rounds,
             workers,
-        } => carry_out_cup(rt, alloc, worlds, brains, seed, rounds, workers, shelf, out),
+        } => {
+            let entry = Entry {
+                worlds,
+                brains,
+                seed,
+                rounds,
+                workers,
+            };
+            cup(rt, alloc, entry, shelf, out)
+        }
         Command::View {
             world,
             red,
@@ -225,8 +97,8 @@ fn carry_out_command<'w, R: Threads + Sync, S: Shelf, K: Sink, G: Gate>(
         Command::Workload {
             seed,
             rounds,
-            workers,
-        } => carry_out_workload(rt, alloc, seed, rounds, workers, shelf, out, gate),
+            workers: _,
+        } => workload(alloc, crew, seed, rounds, shelf, out),
         Command::Help => help(shelf, out),
         Command::Version => version(shelf, out),
         Command::Asm { file } => asm(alloc, file, shelf, out),
@@ -237,12 +109,51 @@ fn carry_out_command<'w, R: Threads + Sync, S: Shelf, K: Sink, G: Gate>(
             options,
         } => {
             let names = FileNames { world, red, black };
-            carry_out_save(rt, alloc, names, options, shelf, out, gate)
+            save(alloc, crew, names, options, shelf, out)
         }
-        Command::Resume { save, options } => {
-            carry_out_resume(rt, alloc, save, options, shelf, out, gate)
-        }
+        Command::Resume {
+            save: name,
+            options,
+        } => resume(alloc, crew, name, options, shelf, out),
     }
+}
+
+// How many workers a command names for its windows; one where it plays none.
+fn workers_in(command: &Command<'_>) -> u32
+    requires { CommandWithin (plain command.now) }
+    ensures named { result ≡ workers_named (plain command.now) }
+    ensures within { IsWithin WorkerCount result }
+{
+    match command {
+        Command::Run { options, .. } => options.workers,
+        Command::Save { options, .. } => options.workers,
+        Command::Resume { options, .. } => options.workers,
+        Command::Workload { workers, .. } => *workers,
+        _ => 1,
+    }
+}
+
+// Carries out a command, whose numbers and names are within their limits. A crew takes no memory before its first window, so that each
+// command may have one.
+fn carry_out_command<'w, R: Threads + Sync, S: Shelf, K: Sink, G: Gate>(
+    rt: &R,
+    alloc: Global,
+    command: Command<'w>,
+    shelf: &mut S,
+    out: &mut K,
+    gate: &G,
+) -> Result<(), CommandStop<'w>>
+    requires within { CommandWithin (plain command) }
+    ensures { CarriesOut (plain command.entry) (S.state shelf.old) (S.state shelf.new) (K.state out.old) (K.state out.new) (ending_of result) }
+{
+    let mut board = BoardCrew::new(rt, workers_in(&command), gate);
+    let mut crew = Led::by(
+        |field: &mut Field<'_>, from: u32, to: u32| -> Result<Counts, OutOfMemory>
+            requires { CanBegin field.now from to }
+            ensures { IsWindow result field.entry.now from to field.exit.now }
+        { board.window(alloc, field, from, to) },
+    );
+    carry_out_by(rt, alloc, &mut crew, command, shelf, out)
 }
 
 // Carries out the command that the words are, where `--far` is no option.
@@ -318,7 +229,7 @@ fn carry_out_far<'w, R: Threads + Wait + Sync, S: Shelf, K: Sink, G: Gate>(
 /// - `Input`: the last file that was fetched is too long or not in its grammar, and each before it was accepted; or an element of the world
 ///   to be generated has no room; the output got nothing.
 /// - `Memory`: memory could not be had; no fetch failed or was too long. Either each file but perhaps the last was accepted, and the output
-///   got nothing; or all files of a `run` or a `resume`, which write while they play, were accepted, and the output got a front of the text.
+///   got nothing; or all files of a `run` or a `resume`, which write while they play, were accepted, and the output got a proper prefix of the text.
 ///
 /// At each but `Done` the errors got one line, which names the word (from 1) or the file and the place in it; or a front of that line,
 /// where they failed. The shelf keeps its contents and all of which it is sure, its log grows by the fetches, and its count of faults rises

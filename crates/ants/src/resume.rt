@@ -1,21 +1,21 @@
 // The command `resume`.
-ghost use Rattle.std.specs.Prelude.{◌≡◌, ◌≤◌, ◌∷◌, [], ℕ, length};
+ghost use Rattle.std.specs.Prelude.{◌≡◌, ◌≤◌, ◌∷◌, [], length};
 ghost use Rattle.ant_base.specs.Shelf.{longest};
 ghost use Rattle.command_words.specs.Command.PlainCommand.{ResumeCommand};
-ghost use Rattle.command_words.specs.Slots.{DumpChoice};
-ghost use Rattle.match_run.specs.Dumps.{chooses};
-ghost use Rattle.match_run.specs.Run.{most_rounds};
+ghost use Rattle.command_words.specs.Laws.{ResumeWithin};
+ghost use Rattle.command_words.specs.Words.{plain_resume};
 ghost use Rattle.ants.specs.Files.FileContent.{SaveContent};
 ghost use Rattle.ants.specs.Files.FileKind.{SaveFile};
 ghost use Rattle.ants.specs.Inner.Reading.{CarriesOut, ReadsFiles, ReadsText, ending_of, outcome_of, save_reason};
 ghost use Rattle.ants.specs.Inner.Planning.{IsUpTo};
-ghost use Rattle.ants.specs.Outputs.{chosen_rounds, save_file};
+ghost use Rattle.ants.specs.Outputs.{save_file};
 ghost use Rattle.ants.specs.FaultLines.{reason_of};
 
 use crate::fetching::fetch_file;
+use crate::run::dumps_of;
 use crate::stop::{CommandStop, FileFault};
 use ant_base::{Shelf, Sink};
-use match_run::Dumps;
+use command_words::ResumeOptions;
 use match_save::{SaveFault, Saved, read_saved, resume as go_on};
 use round_book::Crew;
 use std::alloc::Global;
@@ -70,25 +70,25 @@ fn saved_in<'w, S: Shelf>(
     read_save(alloc, name, rounds, &bytes)
 }
 
-/// Goes on with the game of a save by a crew until so many rounds are done in all, at most 1,000,000, and writes the rest of its text. A save of
-/// which more rounds are done is refused.
+/// Goes on with the game of a save by a crew until so many rounds are done in all, and writes the rest of its text. A save of which more
+/// rounds are done is refused.
 pub fn resume<'w, C: Crew, S: Shelf, K: Sink>(
     alloc: Global,
     crew: &mut C,
     name: &'w str,
-    rounds: u32,
-    dumps: &Dumps,
-    stats: bool,
+    options: ResumeOptions<'w>,
     shelf: &mut S,
     out: &mut K,
 ) -> Result<(), CommandStop<'w>>
     requires ready { C.ready crew.old }
-    requires few_rounds { rounds ≤ most_rounds }
-    ensures { (choice : DumpChoice) (workers : ℕ) → chooses dumps.now ≡ chosen_rounds choice
-        → CarriesOut (ResumeCommand name.now (record { rounds = rounds; dumps = choice; workers = workers; stats = stats })) (S.state shelf.old) (S.state shelf.new)
-        (K.state out.old) (K.state out.new) (ending_of result) }
+    requires within { ResumeWithin (plain_resume options) }
+    ensures { CarriesOut (ResumeCommand name.now (plain_resume options.entry)) (S.state shelf.old) (S.state shelf.new) (K.state out.old) (K.state out.new)
+        (ending_of result) }
 {
+    let rounds = options.rounds;
+    let stats = options.stats;
+    let dumps = dumps_of(alloc, options.dumps)?;
     let saved = saved_in(alloc, shelf, name, rounds)?;
-    go_on(alloc, crew, &saved, rounds, dumps, stats, out)?;
+    go_on(alloc, crew, &saved, rounds, &dumps, stats, out)?;
     Ok(())
 }

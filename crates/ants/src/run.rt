@@ -1,15 +1,14 @@
 // The command `run`.
 ghost use Rattle.std.specs.Prelude.{◌≡◌, IfOk, false};
 ghost use Rattle.ant_turn.specs.Minds.{Fits};
-ghost use Rattle.ant_turn.specs.Sheet.{sheet_of};
 ghost use Rattle.cell_world.specs.Grid.{world_of};
 ghost use Rattle.command_words.specs.Command.PlainCommand.{RunCommand};
 ghost use Rattle.command_words.specs.Command.{RunSetup};
+ghost use Rattle.command_words.specs.Laws.{SetupWithin};
 ghost use Rattle.command_words.specs.Words.{plain_dumps, plain_setup};
-ghost use Rattle.match_run.specs.Counts.{whole_text};
 ghost use Rattle.match_run.specs.Dumps.{chooses};
 ghost use Rattle.match_run.specs.Play.{PushedBy};
-ghost use Rattle.ants.specs.Inner.Planning.{CanPlay, IsPlanned, IsSheetOf, Plans, setting_contents};
+ghost use Rattle.ants.specs.Inner.Planning.{CanPlay, IsPlanned, Plans, minds_in, setting_contents, text_in};
 ghost use Rattle.ants.specs.Inner.Reading.{CarriesOut, ReadsFiles, ending_of, outcome_of};
 ghost use Rattle.ants.specs.Outputs.{chosen_rounds, game_files};
 
@@ -40,6 +39,13 @@ pub struct Setting {
     pub black: Brain,
 }
 
+// What a game is asked to do, by the words.
+#[derive(Drop)]
+pub struct PlannedGame {
+    pub sheet: Sheet,
+    pub plan: Plan,
+}
+
 // The rounds of a list.
 fn rounds_of(alloc: Global, numbers: Numbers<'_>) -> Result<Rounds, OutOfMemory>
     ensures { IfOk result (λ rounds. rounds.numbers ≡ numbers.entry) }
@@ -66,18 +72,25 @@ pub fn dumps_of(alloc: Global, word: DumpWord<'_>) -> Result<Dumps, OutOfMemory>
     }
 }
 
-/// What a game is asked to do.
-pub fn plan_of<'w>(alloc: Global, options: RunOptions<'_>) -> Result<Plan, CommandStop<'w>>
+/// What a game is asked to do, and by which sheet. The chosen rounds become a list, which takes memory, before any file is fetched: its lack
+/// leaves all untouched then.
+pub fn planned_game<'w>(
+    alloc: Global,
+    options: RunOptions<'_>,
+) -> Result<PlannedGame, CommandStop<'w>>
+    requires { SetupWithin (plain_setup options) }
     ensures { IsPlanned (plain_setup options.entry) result }
 {
+    let sheet = Sheet::new(options.surround, options.corpse, options.rest);
     let dumps = dumps_of(alloc, options.dumps)?;
-    Ok(Plan {
+    let plan = Plan {
         seed: options.seed,
         rounds: options.rounds,
         dumps,
         window: options.window,
         stats: options.stats,
-    })
+    };
+    Ok(PlannedGame { sheet, plan })
 }
 
 // The files of a game, in the order in which its words name them: each is read before the next one is fetched, and both brains are fetched
@@ -103,24 +116,21 @@ fn play_setting<C: Crew, K: Sink>(
     alloc: Global,
     crew: &mut C,
     setting: Setting,
-    sheet: Sheet,
-    plan: &Plan,
+    game: &PlannedGame,
     out: &mut K,
 ) -> Result<(), PlayFault>
     requires ready { C.ready crew.old }
-    requires fit { Fits (world_of setting.world) (record { red = setting.red; black = setting.black; sheet = sheet_of sheet }) }
-    requires planned { CanPlay plan.now }
-    ensures { PushedBy (K.state out.old) (K.state out.new)
-        (whole_text (record { red = setting.red; black = setting.black; sheet = sheet_of sheet }) plan.now.seed plan.now.rounds
-        (chooses plan.now.dumps) plan.now.window plan.now.stats (world_of setting.world)) result }
+    requires fit { Fits (world_of setting.world) (minds_in setting game.now) }
+    requires planned { CanPlay game.now.plan }
+    ensures { PushedBy (K.state out.old) (K.state out.new) (text_in setting game.now) result }
 {
     let Setting { world, red, black } = setting;
     let brains = Brains {
         red: &red,
         black: &black,
-        sheet,
+        sheet: game.sheet,
     };
-    match play(alloc, crew, world, brains, plan, out) {
+    match play(alloc, crew, world, brains, &game.plan, out) {
         Ok(_) => Ok(()),
         Err(fault) => Err(fault),
     }
@@ -129,65 +139,83 @@ fn play_setting<C: Crew, K: Sink>(
 // Plays a game that asks for no counts turn by turn, and pushes its text.
 fn play_setting_alone<K: Sink>(
     setting: Setting,
-    sheet: Sheet,
-    plan: &Plan,
+    game: &PlannedGame,
     out: &mut K,
 ) -> Result<(), PlayFault>
-    requires fit { Fits (world_of setting.world) (record { red = setting.red; black = setting.black; sheet = sheet_of sheet }) }
-    requires planned { CanPlay plan.now }
-    requires uncounted { plan.now.stats ≡ false }
-    ensures { PushedBy (K.state out.old) (K.state out.new)
-        (whole_text (record { red = setting.red; black = setting.black; sheet = sheet_of sheet }) plan.now.seed plan.now.rounds
-        (chooses plan.now.dumps) plan.now.window plan.now.stats (world_of setting.world)) result }
+    requires fit { Fits (world_of setting.world) (minds_in setting game.now) }
+    requires planned { CanPlay game.now.plan }
+    requires uncounted { game.now.plan.stats ≡ false }
+    ensures { PushedBy (K.state out.old) (K.state out.new) (text_in setting game.now) result }
 {
     let Setting { world, red, black } = setting;
     let brains = Brains {
         red: &red,
         black: &black,
-        sheet,
+        sheet: game.sheet,
     };
-    play_alone(world, brains, plan, out)?;
+    play_alone(world, brains, &game.plan, out)?;
     Ok(())
 }
 
-/// Plays a game of at most 1,000,000 rounds that asks for no counts, turn by turn, and writes its text. It makes no looks, since nobody asked
-/// for their counts, and takes no memory for a second world.
+/// Plays a game that asks for no counts turn by turn, and writes its text. It makes no looks, since nobody asked for their counts, and takes
+/// no memory for a second world.
 pub fn run_alone<'w, S: Shelf, K: Sink>(
     alloc: Global,
     names: FileNames<'w>,
-    sheet: Sheet,
-    plan: &Plan,
+    game: &PlannedGame,
     shelf: &mut S,
     out: &mut K,
 ) -> Result<(), CommandStop<'w>>
-    requires planned { CanPlay plan.now }
-    requires uncounted { plan.now.stats ≡ false }
-    ensures { (setup : RunSetup) → Plans setup plan.now → IsSheetOf setup sheet
+    requires planned { CanPlay game.now.plan }
+    requires uncounted { game.now.plan.stats ≡ false }
+    ensures { (setup : RunSetup) → Plans setup game.now
         → CarriesOut (RunCommand names.entry.world.now names.entry.red.now names.entry.black.now setup) (S.state shelf.old) (S.state shelf.new)
         (K.state out.old) (K.state out.new) (ending_of result) }
 {
     let setting = setting_of(alloc, names, shelf)?;
-    play_setting_alone(setting, sheet, plan, out)?;
+    play_setting_alone(setting, game, out)?;
     Ok(())
 }
 
-/// Plays a game of at most 1,000,000 rounds by a crew, in windows of at least one turn, and writes its text.
-pub fn run<'w, C: Crew, S: Shelf, K: Sink>(
+/// Plays a game by a crew, and writes its text.
+pub fn run_by<'w, C: Crew, S: Shelf, K: Sink>(
     alloc: Global,
     crew: &mut C,
     names: FileNames<'w>,
-    sheet: Sheet,
-    plan: &Plan,
+    game: &PlannedGame,
     shelf: &mut S,
     out: &mut K,
 ) -> Result<(), CommandStop<'w>>
     requires ready { C.ready crew.old }
-    requires planned { CanPlay plan.now }
-    ensures { (setup : RunSetup) → Plans setup plan.now → IsSheetOf setup sheet
+    requires planned { CanPlay game.now.plan }
+    ensures { (setup : RunSetup) → Plans setup game.now
         → CarriesOut (RunCommand names.entry.world.now names.entry.red.now names.entry.black.now setup) (S.state shelf.old) (S.state shelf.new)
         (K.state out.old) (K.state out.new) (ending_of result) }
 {
     let setting = setting_of(alloc, names, shelf)?;
-    play_setting(alloc, crew, setting, sheet, plan, out)?;
+    play_setting(alloc, crew, setting, game, out)?;
     Ok(())
+}
+
+/// Plays the game that the words ask for, and writes its text: turn by turn where one worker is to play and no counts are asked for, else by
+/// the crew.
+pub fn run<'w, C: Crew, S: Shelf, K: Sink>(
+    alloc: Global,
+    crew: &mut C,
+    names: FileNames<'w>,
+    options: RunOptions<'w>,
+    shelf: &mut S,
+    out: &mut K,
+) -> Result<(), CommandStop<'w>>
+    requires ready { C.ready crew.old }
+    requires within { SetupWithin (plain_setup options) }
+    ensures { CarriesOut (RunCommand names.entry.world.now names.entry.red.now names.entry.black.now (plain_setup options.entry))
+        (S.state shelf.old) (S.state shelf.new) (K.state out.old) (K.state out.new) (ending_of result) }
+{
+    let alone = options.workers == 1;
+    let game = planned_game(alloc, options)?;
+    if alone && !game.plan.stats {
+        return run_alone(alloc, names, &game, shelf, out);
+    }
+    run_by(alloc, crew, names, &game, shelf, out)
 }

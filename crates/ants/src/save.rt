@@ -1,21 +1,22 @@
 // The command `save`.
 ghost use Rattle.std.specs.Prelude.{◌≡◌, ◌≤◌, IfOk};
 ghost use Rattle.ant_turn.specs.Minds.{Fits, minds_of};
-ghost use Rattle.ant_turn.specs.Sheet.{sheet_of};
 ghost use Rattle.cell_world.specs.Grid.{world_of};
 ghost use Rattle.command_words.specs.Command.PlainCommand.{SaveCommand};
-ghost use Rattle.command_words.specs.Command.{RunSetup};
+ghost use Rattle.command_words.specs.Laws.{SetupWithin};
+ghost use Rattle.command_words.specs.Words.{plain_setup};
 ghost use Rattle.match_save.specs.Saving.{saved_after};
 ghost use Rattle.world_read.specs.Opened.{IsOpeningWorld};
-ghost use Rattle.ants.specs.Inner.Planning.{CanPlay, IsSheetOf, Plans};
+ghost use Rattle.ants.specs.Inner.Planning.{CanPlay, minds_in};
 ghost use Rattle.ants.specs.Inner.Reading.{CarriesOut, ending_of};
 
 use crate::played::play_game;
-use crate::run::{FileNames, Setting, setting_of};
+use crate::run::{FileNames, PlannedGame, Setting, planned_game, setting_of};
 use crate::stop::CommandStop;
 use ant_base::{Shelf, Sink};
-use ant_turn::{Brains, Sheet};
+use ant_turn::Brains;
 use cell_world::World;
+use command_words::RunOptions;
 use match_run::{OutOfMemory, Plan};
 use match_save::{Saved, save_of, write_saved};
 use round_book::{Crew, Field};
@@ -48,49 +49,45 @@ fn saved_setting<C: Crew>(
     alloc: Global,
     crew: &mut C,
     setting: Setting,
-    sheet: Sheet,
-    plan: &Plan,
+    game: &PlannedGame,
 ) -> Result<Saved, OutOfMemory>
     requires ready { C.ready crew.old }
     requires opened { IsOpeningWorld setting.world }
-    requires fit { Fits (world_of setting.world) (record { red = setting.red; black = setting.black; sheet = sheet_of sheet }) }
-    requires planned { CanPlay plan.now }
-    requires narrow { plan.now.window ≤ 16384 }
-    ensures { IfOk result (λ saved. saved ≡ saved_after (record { red = setting.red; black = setting.black; sheet = sheet_of sheet })
-        plan.now.seed plan.now.window (world_of setting.world) plan.now.rounds) }
+    requires fit { Fits (world_of setting.world) (minds_in setting game.now) }
+    requires planned { CanPlay game.now.plan }
+    requires narrow { game.now.plan.window ≤ 16384 }
+    ensures { IfOk result (λ saved. saved ≡ saved_after (minds_in setting game.now) game.now.plan.seed game.now.plan.window (world_of setting.world)
+        game.now.plan.rounds) }
 {
     let Setting { world, red, black } = setting;
     let brains = Brains {
         red: &red,
         black: &black,
-        sheet,
+        sheet: game.sheet,
     };
-    match saved_game(alloc, crew, world, brains, plan) {
+    match saved_game(alloc, crew, world, brains, &game.plan) {
         Ok(saved) => Ok(saved),
         Err(fault) => Err(fault),
     }
 }
 
-/// Plays a game of at most 1,000,000 rounds by a crew, in windows of 1 to 16,384 turns, and writes its save. Nothing is written before the last
-/// round is played.
+/// Plays the game that the words ask for by a crew, and writes its save. Nothing is written before the last round is played.
 pub fn save<'w, C: Crew, S: Shelf, K: Sink>(
     alloc: Global,
     crew: &mut C,
     names: FileNames<'w>,
-    sheet: Sheet,
-    plan: &Plan,
+    options: RunOptions<'w>,
     shelf: &mut S,
     out: &mut K,
 ) -> Result<(), CommandStop<'w>>
     requires ready { C.ready crew.old }
-    requires planned { CanPlay plan.now }
-    requires narrow { plan.now.window ≤ 16384 }
-    ensures { (setup : RunSetup) → Plans setup plan.now → IsSheetOf setup sheet
-        → CarriesOut (SaveCommand names.entry.world.now names.entry.red.now names.entry.black.now setup) (S.state shelf.old) (S.state shelf.new)
-        (K.state out.old) (K.state out.new) (ending_of result) }
+    requires within { SetupWithin (plain_setup options) }
+    ensures { CarriesOut (SaveCommand names.entry.world.now names.entry.red.now names.entry.black.now (plain_setup options.entry))
+        (S.state shelf.old) (S.state shelf.new) (K.state out.old) (K.state out.new) (ending_of result) }
 {
+    let game = planned_game(alloc, options)?;
     let setting = setting_of(alloc, names, shelf)?;
-    let saved = saved_setting(alloc, crew, setting, sheet, plan)?;
+    let saved = saved_setting(alloc, crew, setting, &game)?;
     write_saved(&saved, out)?;
     Ok(())
 }

@@ -1,18 +1,21 @@
 -- What the private functions that plan a game ensure.
 use Rattle.std.specs.Prelude.{◌≡◌, ℕ, ◌<◌, ◌≤◌, List, [], ◌∷◌, Result, Ok, Err}
-use Rattle.ant_turn.specs.declared.sheet.Sheet.{Sheet}
+use Rattle.ant_turn.specs.Minds.{Minds}
 use Rattle.ant_turn.specs.Sheet.{sheet_of}
-use Rattle.command_words.specs.Command.{RunSetup}
-use Rattle.cell_world.specs.Grid.{Grid}
+use Rattle.command_words.specs.Command.{PlainCommand, RunSetup}
+use Rattle.command_words.specs.Command.PlainCommand.{ResumeCommand, RunCommand, SaveCommand, WorkloadCommand}
+use Rattle.cell_world.specs.Grid.{Grid, world_of}
 use Rattle.match_run.specs.declared.fault.PlayFault.{PlayFault}
 use Rattle.match_run.specs.declared.fault.PlayFault.TheVariants as play
 use Rattle.match_run.specs.declared.plan.Plan.{Plan}
+use Rattle.match_run.specs.Counts.{whole_text}
 use Rattle.match_run.specs.Dumps.{chooses}
 use Rattle.match_run.specs.Run.{most_rounds}
 use Rattle.match_save.specs.Saved.{SavedValue}
 use Rattle.world_gen.specs.declared.shape.Shape.{Shape}
 use Rattle.world_gen.specs.Painting.{IsGenerated}
 use Rattle.world_gen.specs.Placing.{HasNoRoom}
+use Rattle.ants.specs.declared.run.PlannedGame.{PlannedGame}
 use Rattle.ants.specs.declared.run.Setting.{Setting}
 use Rattle.ants.specs.declared.stop.FileFault.TheVariants.{AlreadyAt}
 use Rattle.ants.specs.declared.stop.CommandStop.{CommandStop}
@@ -23,31 +26,28 @@ use Rattle.ants.specs.Outputs.{chosen_rounds, sheet_named}
 use Rattle.ants.specs.FaultLines.{reason_of}
 use Rattle.ants.specs.FaultLines.Reason.{AtInput}
 
--- the plan is what the words say
-pub record Plans (setup : RunSetup) (plan : Plan) : Type 0 where
-  pub seed_is : plan.seed ≡ setup.seed
-  pub rounds_are : plan.rounds ≡ setup.rounds
-  pub dumps_are : chooses plan.dumps ≡ chosen_rounds setup.dumps
-  pub window_is : plan.window ≡ setup.window
-  pub stats_are : plan.stats ≡ setup.stats
+-- the sheet and the plan are what the words say
+pub record Plans (setup : RunSetup) (game : PlannedGame) : Type 0 where
+  pub sheet_is : sheet_of game.sheet ≡ sheet_named setup
+  pub seed_is : game.plan.seed ≡ setup.seed
+  pub rounds_are : game.plan.rounds ≡ setup.rounds
+  pub dumps_are : chooses game.plan.dumps ≡ chosen_rounds setup.dumps
+  pub window_is : game.plan.window ≡ setup.window
+  pub stats_are : game.plan.stats ≡ setup.stats
 
 -- a plan that can be played: its rounds are no more than a game has, and its windows have turns
 pub record CanPlay (plan : Plan) : Type 0 where
   pub few : plan.rounds ≤ most_rounds
   pub sized : 1 ≤ plan.window
 
--- the sheet has the numbers that the words name
-abbrev pub IsSheetOf : RunSetup → Sheet → Type 0
-IsSheetOf setup sheet = sheet_of sheet ≡ sheet_named setup
-
 -- the stop of a play that stopped
 abbrev pub stop_of : PlayFault → CommandStop
 stop_of play.WriteFault = stop.Write
 stop_of play.OutOfMemory = stop.Memory
 
--- a plan was made; only memory can be wanting
-abbrev pub IsPlanned : RunSetup → Result Plan CommandStop → Type 0
-IsPlanned setup (Ok plan) = Plans setup plan
+-- a game was planned; only memory can be wanting
+abbrev pub IsPlanned : RunSetup → Result PlannedGame CommandStop → Type 0
+IsPlanned setup (Ok game) = Plans setup game
 IsPlanned setup (Err reason) = reason ≡ stop.Memory
 
 -- the save, of which at most so many rounds are done; or that more are
@@ -65,3 +65,20 @@ IsGenerating seed shape (Err other) = ⊥
 -- what the files of a game were read as
 abbrev pub setting_contents : Setting → List FileContent
 setting_contents setting = WorldContent setting.world ∷ BrainContent setting.red ∷ BrainContent setting.black ∷ []
+
+-- the brains of a game that were read, and the numbers of its rules
+abbrev pub minds_in : Setting → PlannedGame → Minds
+minds_in setting game = record { red = setting.red; black = setting.black; sheet = sheet_of game.sheet }
+
+-- the text of a game by its plan
+abbrev pub text_in : Setting → PlannedGame → List ℕ
+text_in setting game =
+    whole_text (minds_in setting game) game.plan.seed game.plan.rounds (chooses game.plan.dumps) game.plan.window game.plan.stats (world_of setting.world)
+
+-- how many workers a command names for its windows; one where it plays none
+abbrev pub workers_named : PlainCommand → ℕ
+workers_named (RunCommand world red black setup) = setup.workers
+workers_named (SaveCommand world red black setup) = setup.workers
+workers_named (ResumeCommand save setup) = setup.workers
+workers_named (WorkloadCommand seed rounds workers) = workers
+workers_named command = 1

@@ -187,11 +187,6 @@ const BROKEN_OFF: Stage = Stage {
     played: 3,
 };
 
-// Asserts that a game is played in windows of three turns, by the numbers of the seed.
-fn check_made<R: Abort>(rt: &R, game: &Game<'_>) {
-    assert_eq!(rt; (game.window(), game.field().seed()), (3, SEED));
-}
-
 #[test]
 fn a_game_is_played_by_any_crew(rt: HostRuntime) -> Result<(), Fail> {
     let players = killing_players(&rt, rt.alloc())?;
@@ -199,7 +194,6 @@ fn a_game_is_played_by_any_crew(rt: HostRuntime) -> Result<(), Fail> {
     let mut crew = SoloCrew::new();
     check_round(&rt, rt.alloc(), &mut game, &mut crew, Ok(()), FIRST);
     check_round(&rt, rt.alloc(), &mut game, &mut crew, Ok(()), SECOND);
-    check_made(&rt, &game);
     Ok(())
 }
 
@@ -212,7 +206,9 @@ fn check_dead<R: Abort>(rt: &R, game: &Game<'_>) {
 fn check_killed<R: Abort>(rt: &R, alloc: Global, game: &Game<'_>) -> Result<(), Fail> {
     let mut sink = MemSink::with_room(alloc, ROOM, Calls::new(alloc))?;
     push_dump(game.world(), 1, &mut sink)?;
-    assert!(rt; KILLED.contains(str::from_utf8(sink.held())?));
+    let dump = str::from_utf8(sink.held())?;
+    let whole = format!(in alloc; "random seed: {SEED}\n{dump}\nscore: red 3 black 0\n")?;
+    assert_eq!(rt; whole.as_str(), KILLED);
     Ok(())
 }
 

@@ -28,11 +28,40 @@ const TWO_TURNS: &str =
 const REST: &str =
     "\nAfter round 2...\ncell (0, 0): rock\ncell (1, 0): rock\ncell (2, 0): rock\ncell (0, 1): rock\ncell (1, 1): red hill; red ant of id 0, dir 4, food 0, state 0, resting 0\ncell (2, 1): rock\ncell (0, 2): rock\ncell (1, 2): rock\ncell (2, 2): rock\n\nscore: red 0 black 0\nturns 2 taken 2 redone 0\n";
 
+// It at the start, by another sheet and in other windows.
+const BEGUN: &str =
+    "ants save 1\nseed 7\nsheet 4 2 9\nwindow 50\nround 0\nplace 0\ntaken 0 redone 0\nsize 3 3\nred 1\nTurn Left 0\nblack 1\nTurn Left 0\n###\n#+#\n###\n000\n000\n000\n000\n000\n000\n000\n000\n000\nant 0 red 1 1 0 0 0 0\nend\n";
+
 // Words that save the game.
-const SAVES: [(&str, &str); 2] = [
+const SAVES: [(&str, &str); 3] = [
     ("save w r b --seed 12345 --rounds 1", SAVED),
     ("save w r b --rounds 1 --workers 3 --seed 12345", SAVED),
+    (
+        "save w r b --rest 9 --corpse 2 --surround 4 --window 50 --rounds 0 --seed 7",
+        BEGUN,
+    ),
 ];
+
+// Red brains, and the game of each after one round.
+const FIRST_ROUNDS: [(&str, &str); 2] = [
+    (
+        "Mark 3 0",
+        "ants save 1\nseed 12345\nsheet 5 3 14\nwindow 16384\nround 1\nplace 0\ntaken 1 redone 0\nsize 3 3\nred 1\nMark 3 0\nblack 1\nTurn Left 0\n###\n#+#\n###\n000\n080\n000\n000\n000\n000\n000\n000\n000\nant 0 red 1 1 0 0 0 0\nend\n",
+    ),
+    (
+        "Flip 1 1 0\nTurn Right 0",
+        "ants save 1\nseed 12345\nsheet 5 3 14\nwindow 16384\nround 1\nplace 1\ntaken 1 redone 0\nsize 3 3\nred 2\nFlip 1 1 0\nTurn Right 0\nblack 1\nTurn Left 0\n###\n#+#\n###\n000\n000\n000\n000\n000\n000\n000\n000\n000\nant 0 red 1 1 0 0 1 0\nend\n",
+    ),
+];
+
+// A game of two ants after its second round, with every part of a save, and the rest of its text up to round 3.
+pub const STANDING: &str =
+    "ants save 1\nseed 7\nsheet 4 2 9\nwindow 50\nround 2\nplace 1\ntaken 3 redone 1\nsize 4 3\nred 1\nTurn Left 0\nblack 2\nDrop 1\nTurn Right 0\n####\n#+-#\n####\n0000\n0800\n0000\n0000\n00Q0\n0000\n0000\n0no0\n0000\nfood 2 1 63\nant 0 red 1 1 0 0 0 0\nant 1 black 2 1 3 1 1 2\nend\n";
+
+const STOOD: [(&str, &str); 1] = [(
+    "resume k --rounds 3 --dump 2,3 --stats",
+    "\nAfter round 3...\ncell (0, 0): rock\ncell (1, 0): rock\ncell (2, 0): rock\ncell (3, 0): rock\ncell (0, 1): rock\ncell (1, 1): 62 food; red hill; red marks: 3; red ant of id 0, dir 5, food 0, state 0, resting 0\ncell (2, 1): 63 food; black hill; black marks: 05; black ant of id 1, dir 3, food 1, state 1, resting 1\ncell (3, 1): rock\ncell (0, 2): rock\ncell (1, 2): rock\ncell (2, 2): rock\ncell (3, 2): rock\n\nscore: red 62 black 63\nturns 6 taken 5 redone 1\n",
+)];
 
 // Words that go on with it.
 const RESUMES: [(&str, &str); 3] = [
@@ -70,6 +99,21 @@ fn a_game_is_saved_and_gone_on_with(rt: HostRuntime) -> Result<(), Fail> {
     check_rows(&rt, rt.alloc(), TURNING, Given::Line, Status::Done, &SAVES)?;
     let saved = TURNING.with(Given::Breaks, SAVED);
     check_rows(&rt, rt.alloc(), saved, Given::Line, Status::Done, &RESUMES)
+}
+
+#[test]
+fn each_part_of_a_game_is_saved_and_gone_on_with(rt: HostRuntime) -> Result<(), Fail> {
+    let saving = TURNING.with(Given::Line, "save w r b --seed 12345 --rounds 1");
+    check_rows(
+        &rt,
+        rt.alloc(),
+        saving,
+        Given::Red,
+        Status::Done,
+        &FIRST_ROUNDS,
+    )?;
+    let standing = TURNING.with(Given::Breaks, STANDING);
+    check_rows(&rt, rt.alloc(), standing, Given::Line, Status::Done, &STOOD)
 }
 
 #[test]

@@ -2,6 +2,7 @@
 use crate::status::Status;
 use crate::tests::games::{killing_field, killing_players};
 use crate::tests::runs::{KILLED, KILLING};
+use crate::tests::saves::STANDING;
 use crate::tests::{Given, Job, NO_JOB, answer_over, check_over, done, files_of};
 use ant_base::{Gate, NoGate};
 use round_book::Counts;
@@ -272,11 +273,10 @@ fn a_run_by_one_worker_announces_each_turn_once(rt: HostRuntime) -> Result<(), F
 fn check_meeting<R: Threads + Wait + Sync + Abort>(
     rt: &R,
     alloc: Global,
-    line: &str,
+    job: &Job<'_>,
     meeting: &Meeting,
 ) -> Result<(), Fail> {
-    let job = Job { line, ..NO_JOB };
-    let outcome = answer_over(rt, alloc, &job, files_of(alloc, &job)?, meeting)?;
+    let outcome = answer_over(rt, alloc, job, files_of(alloc, job)?, meeting)?;
     assert_eq!(rt; outcome.status, Status::Done);
     meeting.check(rt, 0);
     Ok(())
@@ -285,7 +285,24 @@ fn check_meeting<R: Threads + Wait + Sync + Abort>(
 #[test]
 fn sixteen_workers_of_a_workload_look_at_the_same_time(rt: HostRuntime) -> Result<(), Fail> {
     let meeting = Meeting::of(rt.alloc(), 16, 254)?;
-    check_meeting(&rt, rt.alloc(), "workload 12345 1 16", &meeting)
+    let workload = NO_JOB.with(Given::Line, "workload 12345 1 16");
+    check_meeting(&rt, rt.alloc(), &workload, &meeting)
+}
+
+#[test]
+fn workers_of_a_game_that_is_saved_and_goes_on_look_at_the_same_time(
+    rt: HostRuntime,
+) -> Result<(), Fail> {
+    let meeting = Meeting::of(rt.alloc(), 3, TURNS)?;
+    let saving = KILLING.with(
+        Given::Line,
+        "save w r b --seed 12345 --rounds 1 --workers 3",
+    );
+    check_meeting(&rt, rt.alloc(), &saving, &meeting)?;
+    let meeting = Meeting::of(rt.alloc(), 2, 2)?;
+    let standing = KILLING.with(Given::Breaks, STANDING);
+    let going_on = standing.with(Given::Line, "resume k --rounds 3 --workers 2");
+    check_meeting(&rt, rt.alloc(), &going_on, &meeting)
 }
 
 #[test]

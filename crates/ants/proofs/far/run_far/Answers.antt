@@ -8,10 +8,10 @@ use Rattle.ants.proofs.Readings.{carries_wanting}
 use Rattle.ants.proofs.Untouched.{carries_untouched}
 use Rattle.ants.proofs.far.run_far.Goals as goal
 
-pub returns-in_err-plan : goal.returns-in_err-plan
-returns-in_err-plan g c =
+pub returns-in_err-game : goal.returns-in_err-game
+returns-in_err-game g c =
     carries_wanting (RunCommand c.args.names.world.now c.args.names.red.now c.args.names.black.now (plain_setup c.args.options)) (g.S.Shelf.state c.args.shelf.now) (g.K.Sink.state c.args.out.now)
-    c.from_residual.result (subst (λ (why : CommandStop). IsErrAnd c.from_residual.result (λ other. other ≡ why)) c.in_err-plan.ensures c.from_residual.ensures.1)
+    c.from_residual.result (subst (λ (why : CommandStop). IsErrAnd c.from_residual.result (λ other. other ≡ why)) c.in_err-game.ensures c.from_residual.ensures.1)
 
 pub returns-in-Err : goal.returns-in-Err
 returns-in-Err g c = carries_untouched _ _ _ _ _ (search rules) (search rules)

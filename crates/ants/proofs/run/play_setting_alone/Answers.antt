@@ -20,12 +20,12 @@ uncounted minds plan w none =
 
 pub returns-in_err-play_alone : goal.returns-in_err-play_alone
 returns-in_err-play_alone g c =
-    let minds : Minds = record { red = c.args.setting.red; black = c.args.setting.black; sheet = sheet_of c.args.sheet } in
+    let minds : Minds = record { red = c.args.setting.red; black = c.args.setting.black; sheet = sheet_of c.args.game.now.sheet } in
     let p = err_from_is_err_and c.from_residual.result c.from_residual.ensures.1 in
     rw (p.1, p.2)
-    (subst (λ (text : List ℕ). PushedFront (g.K.Sink.state c.args.out.now) (g.K.Sink.state c.play_alone.new.sink) text) (sym (uncounted minds c.args.plan.now (world_of c.args.setting.world) c.requires.uncounted)) c.in_err-play_alone.ensures.text)
+    (subst (λ (text : List ℕ). PushedFront (g.K.Sink.state c.args.out.now) (g.K.Sink.state c.play_alone.new.sink) text) (sym (uncounted minds c.args.game.now.plan (world_of c.args.setting.world) c.requires.uncounted)) c.in_err-play_alone.ensures.text)
 
 pub returns : goal.returns
 returns g c =
-    let minds : Minds = record { red = c.args.setting.red; black = c.args.setting.black; sheet = sheet_of c.args.sheet } in
-    subst (λ (text : List ℕ). PushedAll (g.K.Sink.state c.args.out.now) (g.K.Sink.state c.play_alone.new.sink) text) (sym (uncounted minds c.args.plan.now (world_of c.args.setting.world) c.requires.uncounted)) c.in_ok-play_alone.ensures.text
+    let minds : Minds = record { red = c.args.setting.red; black = c.args.setting.black; sheet = sheet_of c.args.game.now.sheet } in
+    subst (λ (text : List ℕ). PushedAll (g.K.Sink.state c.args.out.now) (g.K.Sink.state c.play_alone.new.sink) text) (sym (uncounted minds c.args.game.now.plan (world_of c.args.setting.world) c.requires.uncounted)) c.in_ok-play_alone.ensures.text

@@ -1,31 +1,13 @@
--- the files were accepted, and their game was played
-use Rattle.std.proofs.Common.{refl, subst}
-use Rattle.ant_base.specs.Sink.{PushedAll}
-use Rattle.ant_turn.specs.Sheet.{sheet_of}
+-- memory was wanting for the chosen rounds, before a file was fetched
+use Rattle.std.proofs.Common.{◌≡◌, subst}
+use Rattle.std.specs.Prelude.{IsErrAnd}
 use Rattle.command_words.specs.Command.PlainCommand.{RunCommand}
-use Rattle.match_run.specs.Play.{StoppedBy}
-use Rattle.ants.specs.Inner.Planning.{setting_contents}
-use Rattle.ants.specs.Files.FileContent.{BrainContent, WorldContent}
-use Rattle.ants.specs.Outputs.{match_output}
-use Rattle.ants.proofs.Accepted.{fits_accepted}
-use Rattle.ants.proofs.Planned.{output_planned}
-use Rattle.ants.proofs.Readings.{carries_done, carries_fault}
+use Rattle.command_words.specs.Words.{plain_setup}
+use Rattle.ants.specs.declared.stop.CommandStop.{CommandStop}
+use Rattle.ants.proofs.Readings.{carries_wanting}
 use Rattle.ants.proofs.run.run.Goals as goal
 
-pub play_setting-requires-clause-fit : goal.play_setting-requires-clause-fit
-play_setting-requires-clause-fit g c =
-    fits_accepted c.args.names.world.now c.args.names.red.now c.args.names.black.now c.in_ok-setting.ensures.fetches c.in_ok-setting.setting.world c.in_ok-setting.setting.red c.in_ok-setting.setting.black (sheet_of c.args.sheet) c.in_ok-setting.ensures.comes
-
-pub returns-in_err-play_setting : goal.returns-in_err-play_setting
-returns-in_err-play_setting g c = λ setup plans same.
-    carries_fault (RunCommand c.args.names.world.now c.args.names.red.now c.args.names.black.now setup) (g.S.Shelf.state c.args.shelf.now) (g.S.Shelf.state c.setting_of.new.shelf) (g.K.Sink.state c.args.out.now) (g.K.Sink.state c.play_setting.new.out) (setting_contents c.in_ok-setting.setting)
-    c.from_residual-in_err-play_setting.result c.in_err-play_setting.field-0.0 c.from_residual-in_err-play_setting.ensures.1 c.in_ok-setting.ensures
-    (match_output setup (WorldContent c.in_ok-setting.setting.world) (BrainContent c.in_ok-setting.setting.red) (BrainContent c.in_ok-setting.setting.black)) refl
-    (subst (λ text. StoppedBy (g.K.Sink.state c.args.out.now) (g.K.Sink.state c.play_setting.new.out) text c.in_err-play_setting.field-0.0) (output_planned setup c.args.plan.now c.args.sheet c.in_ok-setting.setting.world c.in_ok-setting.setting.red c.in_ok-setting.setting.black plans same) c.in_err-play_setting.ensures) tt
-
-pub returns : goal.returns
-returns g c = λ setup plans same.
-    carries_done (RunCommand c.args.names.world.now c.args.names.red.now c.args.names.black.now setup) (g.S.Shelf.state c.args.shelf.now) (g.S.Shelf.state c.setting_of.new.shelf) (g.K.Sink.state c.args.out.now) (g.K.Sink.state c.play_setting.new.out) (setting_contents c.in_ok-setting.setting)
-    c.in_ok-setting.ensures
-    (match_output setup (WorldContent c.in_ok-setting.setting.world) (BrainContent c.in_ok-setting.setting.red) (BrainContent c.in_ok-setting.setting.black)) refl
-    (subst (PushedAll (g.K.Sink.state c.args.out.now) (g.K.Sink.state c.play_setting.new.out)) (output_planned setup c.args.plan.now c.args.sheet c.in_ok-setting.setting.world c.in_ok-setting.setting.red c.in_ok-setting.setting.black plans same) c.in_ok-play_setting.ensures)
+pub returns-in_err-game : goal.returns-in_err-game
+returns-in_err-game g c =
+    carries_wanting (RunCommand c.args.names.world.now c.args.names.red.now c.args.names.black.now (plain_setup c.args.options)) (g.S.Shelf.state c.args.shelf.now) (g.K.Sink.state c.args.out.now)
+    c.from_residual.result (subst (λ (why : CommandStop). IsErrAnd c.from_residual.result (λ other. other ≡ why)) c.in_err-game.ensures c.from_residual.ensures.1)
