@@ -1,5 +1,5 @@
 // One turn of an ant.
-ghost use Rattle.std.specs.Prelude.{◌≡◌, ◌+◌, ◌<◌, ◌≤◌, ◌^◌, ℕ, [], false, None, Some, IfSome, option_map};
+ghost use Rattle.std.specs.Prelude.{◌≡◌, ◌+◌, ◌<◌, ◌≤◌, ◌^◌, ℕ, [], false};
 ghost use Rattle.cell_world.specs.Cell.{HasMarksOfSix, one_if};
 ghost use Rattle.cell_world.specs.Valid.{Valid, CanThink};
 ghost use Rattle.cell_world.specs.Inner.Replaces.{Replaces};
@@ -22,7 +22,7 @@ use crate::sheet::Sheet;
 use ant_random::Stream;
 use arrayvec::ArrayVec;
 use brain_read::Instr;
-use cell_world::{Ant, Cell, Ground, PlacedAnt};
+use cell_world::{Ant, Cell, Ground};
 use hex_geometry::{Pos, adjacent, sensed};
 
 /// What a turn did besides changing the ground (this project's own; the draw and the kills are the task's number generation and martial
@@ -193,50 +193,6 @@ fn execute<G: Ground>(
     }
 }
 
-// The ant that was found, where it rests.
-#[inline(always)]
-fn at_rest(found: Option<PlacedAnt>) -> Option<PlacedAnt>
-    ensures rests { IfSome result (λ it. 1 ≤ it.ant.resting) }
-    ensures same { IfSome result (λ it. found ≡ Some it) }
-    ensures up { result ≡ None → IfSome found (λ it. it.ant.resting ≡ 0) }
-{
-    let it = found?;
-    if it.ant.resting > 0 { Some(it) } else { None }
-}
-
-// Takes the turn of the ant that was found, which doesn't rest: executes the instruction at its state in its colour's brain.
-#[inline(always)]
-fn act<G: Ground>(
-    ground: &mut G,
-    brains: Brains<'_>,
-    stream: &mut Stream,
-    found: Option<PlacedAnt>,
-) -> Deed
-    requires fit { Fits (G.world ground.old) (minds_of brains) }
-    requires valid { Valid (G.world ground.old) }
-    requires found { IfSome found (λ it. ((G.world ground.old).cells it.place).ant ≡ Some it.ant) }
-    requires up { IfSome found (λ it. it.ant.resting ≡ 0) }
-    requires place { stream.old.place + 1 < 2 ^ 63 }
-    requires room { 9 ≤ G.room ground.old }
-    ensures world { G.world ground.new ≡ with_cells (G.world ground.old)
-        (turn.turn_from (minds_of brains.entry) stream.old.seed (G.world ground.old).cells stream.old.place (option_map (λ it. it.place) found)).cells }
-    ensures stream { stream.new ≡ record stream.old {
-      place = stream.old.place + one_if (turn.turn_from (minds_of brains.entry) stream.old.seed (G.world ground.old).cells stream.old.place (option_map (λ it. it.place) found)).drew;
-    } }
-    ensures drew { result.drew ≡ (turn.turn_from (minds_of brains.entry) stream.old.seed (G.world ground.old).cells stream.old.place (option_map (λ it. it.place) found)).drew }
-    ensures killed { result.killed.items ≡ (turn.turn_from (minds_of brains.entry) stream.old.seed (G.world ground.old).cells stream.old.place (option_map (λ it. it.place) found)).killed }
-    ensures room { G.room ground.old ≤ G.room ground.new + 9 }
-    ensures valid { Valid (G.world ground.new) }
-    ensures fit { Fits (G.world ground.new) (minds_of brains.entry) }
-{
-    let Some(standing) = found else {
-        return idle();
-    };
-    let (p, ant) = (standing.place, standing.ant);
-    let instruction = brains.of(ant.colour).at(ant.state);
-    execute(ground, brains.sheet, stream, p, ant, instruction)
-}
-
 /// Takes the turn of the ant of this id: nothing where it is dead; one turn less to rest where it rests; else the instruction at its
 /// state in its colour's brain, by the rules with the numbers of the brains' sheet (the task's kinetics).
 ///
@@ -264,11 +220,15 @@ pub fn take_turn<G: Ground>(
     ensures valid { Valid (G.world ground.new) }
     ensures fit { Fits (G.world ground.new) (minds_of brains.entry) }
 {
-    let found = ground.ant_of(id);
-    let Some(tired) = at_rest(found) else {
-        return act(ground, brains, stream, found);
+    let Some(standing) = ground.ant_of(id) else {
+        return idle();
     };
-    think(ground, tired.place, ant_after_rest(tired.ant))
+    let (p, ant) = (standing.place, standing.ant);
+    if ant.resting > 0 {
+        return think(ground, p, ant_after_rest(ant));
+    }
+    let instruction = brains.of(ant.colour).at(ant.state);
+    execute(ground, brains.sheet, stream, p, ant, instruction)
 }
 
 /// Takes the turn of the ant of this id, which doesn't rest, if it is alive: what `take_turn` does, without asking whether it rests (the
@@ -296,8 +256,12 @@ pub fn take_acting_turn<G: Ground>(
     ensures valid { Valid (G.world ground.new) }
     ensures fit { Fits (G.world ground.new) (minds_of brains.entry) }
 {
-    let found = ground.ant_of(id);
-    act(ground, brains, stream, found)
+    let Some(standing) = ground.ant_of(id) else {
+        return idle();
+    };
+    let (p, ant) = (standing.place, standing.ant);
+    let instruction = brains.of(ant.colour).at(ant.state);
+    execute(ground, brains.sheet, stream, p, ant, instruction)
 }
 
 #[cfg(test)]

@@ -1,78 +1,106 @@
--- the turn of an ant that rests, and of one that acts
-use Rattle.std.proofs.Common.{◌≡◌, ◌≤◌, ◌-◌, ◌+◌, Option, Some, refl, sym, ◌∙◌, ap, subst, arith}
+-- the turn of a dead ant, of one that rests, and of one that executes its instruction
+use Rattle.std.proofs.Common.{◌≡◌, ◌+◌, ◌-◌, Option, Some, slice_get, refl, sym, ◌∙◌, ap, subst, arith, add-zero}
 use Rattle.std.specs.Prelude.{IfSome, option_map}
+use Rattle.hex_geometry.specs.declared.position.Pos.{Pos}
 use Rattle.cell_world.specs.declared.ant.PlacedAnt.{PlacedAnt}
 use Rattle.cell_world.specs.Valid.{Valid}
-use Rattle.cell_world.specs.World.{place_in, with_cells}
+use Rattle.cell_world.specs.World.{World, place_in, with_cells}
+use Rattle.ant_random.specs.Stream.{SeedAndPlace}
 use Rattle.brain_read.specs.declared.instr.Instr.TheVariants.{Drop}
-use Rattle.ant_turn.specs.Minds.{minds_of}
-use Rattle.ant_turn.specs.Turn.{ant_becomes, with_ant}
-use Rattle.ant_turn.proofs.KeptByTurns.{Keeps-stays}
+use Rattle.ant_turn.specs.Minds.{minds_of, mind_of}
+use Rattle.ant_turn.specs.Sheet.{sheet_of}
+use Rattle.ant_turn.specs.Turn.{ant_becomes, execute, with_ant}
+use Rattle.ant_turn.proofs.KeptByTurns.{Keeps-stays, Keeps-execute}
 use Rattle.ant_turn.proofs.OwnCells.{rest_stays}
 use Rattle.ant_turn.proofs.StandsLemmas.{StandsAt-at, own_thinks}
-use Rattle.ant_turn.proofs.Turns.{found_there, turn-found, turn-rests, undrawn}
+use Rattle.ant_turn.proofs.Turns.{turn-dead, turn-rests, turn-executes}
 use Rattle.ant_turn.proofs.turn.take_turn.Goals as goal
 
-pub act-requires-clause-fit : goal.act-requires-clause-fit
-act-requires-clause-fit g c = rw c.ant_of-found.ensures.world c.requires.fit
+-- a stream of which nothing was drawn
+undrawn : (s : SeedAndPlace) → s ≡ record s { place = s.place + 0 }
+undrawn s = ap (λ n. record s { place = n }) (sym (add-zero s.place))
 
-pub act-requires-clause-found : goal.act-requires-clause-found
-act-requires-clause-found g c = rw c.ant_of-found.ensures.world c.ant_of-found.ensures.ant
+-- where the ant is that was found
+found : (place : Option Pos) (result : Option PlacedAnt) (it : PlacedAnt) → option_map (λ (s : PlacedAnt). s.place) result ≡ place → result ≡ Some it → place ≡ Some it.place
+found place result it told is = sym told ∙ ap (option_map (λ (s : PlacedAnt). s.place)) is
 
-pub act-requires-clause-up : goal.act-requires-clause-up
-act-requires-clause-up g c = c.at_rest.ensures.up c.in_default.is
+-- and that it is there
+holds : (w : World) (result : Option PlacedAnt) (it : PlacedAnt) → IfSome result (λ s. (w.cells s.place).ant ≡ Some s.ant) → result ≡ Some it → (w.cells it.place).ant ≡ Some it.ant
+holds w result it told is = subst (λ o. IfSome o (λ s. (w.cells s.place).ant ≡ Some s.ant)) is told
 
 pub returns-in_default : goal.returns-in_default
 returns-in_default g c =
+    let w = g.G.Ground.world c.args.ground.now in
     let s = c.args.stream.now in
-    let same = c.ant_of-found.ensures.world in
-    let is = turn-found (minds_of c.args.brains) s.seed (g.G.Ground.world c.args.ground.now) s.place c.args.id c.ant_of-found.result c.ant_of-found.ensures.place in
+    let dead = turn-dead (minds_of c.args.brains) s.seed w s.place c.args.id (sym c.ant_of.ensures.place ∙ ap (option_map (λ (it : PlacedAnt). it.place)) c.in_default.is) in
     record {
-      world = rw (is, ← same) c.act.ensures.world;
-      stream = rw (is, ← same) c.act.ensures.stream;
-      drew = rw (is, ← same) c.act.ensures.drew;
-      killed = rw (is, ← same) c.act.ensures.killed;
-      room = omega (arith, c.ant_of-found.ensures.room, c.act.ensures.room);
-      valid = c.act.ensures.valid;
-      fit = c.act.ensures.fit;
+      world = rw dead c.ant_of.ensures.world;
+      stream = rw dead (undrawn s);
+      drew = rw dead c.idle.ensures.drew;
+      killed = rw dead c.idle.ensures.killed;
+      room = omega (arith, c.ant_of.ensures.room);
+      valid = c.ant_of.ensures.valid;
+      fit = rw c.ant_of.ensures.world c.requires.fit;
     }
-
--- the ant that rests was found
-pub tired_found : (found result : Option PlacedAnt) (it : PlacedAnt) → IfSome result (λ at. found ≡ Some at) → result ≡ Some it → found ≡ Some it
-tired_found found result it same is = subst (λ o. IfSome o (λ at. found ≡ Some at)) is same
 
 pub think-requires : goal.think-requires
 think-requires g c =
     let w = g.G.Ground.world c.args.ground.now in
-    let it = c.in-Some.tired in
-    let here = found_there w c.ant_of-found.result it c.ant_of-found.ensures.ant (tired_found c.ant_of-found.result c.at_rest.result it c.at_rest.ensures.same c.in-Some.is) in
-    rw (c.ant_after_rest.ensures, c.ant_of-found.ensures.world)
-    (own_thinks (StandsAt-at w it.place it.ant (subst Valid c.ant_of-found.ensures.world c.ant_of-found.ensures.valid) here) _ (record it.ant { resting = it.ant.resting - 1 }) (omega (arith, c.ant_of-found.ensures.room, c.requires.room)) refl refl refl)
+    let it = c.in-Some.standing in
+    rw (c.ant_after_rest.ensures, c.ant_of.ensures.world)
+    (own_thinks (StandsAt-at w it.place it.ant (subst Valid c.ant_of.ensures.world c.ant_of.ensures.valid) (holds w c.ant_of.result it c.ant_of.ensures.ant c.in-Some.is)) _ (record it.ant { resting = it.ant.resting - 1 }) (omega (arith, c.ant_of.ensures.room, c.requires.room)) refl refl refl)
 
-pub returns : goal.returns
-returns g c =
+pub returns-then-ant-gt0 : goal.returns-then-ant-gt0
+returns-then-ant-gt0 g c =
     let w = g.G.Ground.world c.args.ground.now in
     let s = c.args.stream.now in
-    let minds = minds_of c.args.brains in
-    let p = c.in-Some.tired.place in
-    let ant = c.in-Some.tired.ant in
-    let same : g.G.Ground.world c.ant_of-found.new.self ≡ w = c.ant_of-found.ensures.world in
-    let is : c.ant_of-found.result ≡ Some c.in-Some.tired = tired_found c.ant_of-found.result c.at_rest.result c.in-Some.tired c.at_rest.ensures.same c.in-Some.is in
-    let here : (w.cells p).ant ≡ Some ant = found_there w c.ant_of-found.result c.in-Some.tired c.ant_of-found.ensures.ant is in
-    let placed : place_in w c.args.id ≡ Some p = sym c.ant_of-found.ensures.place ∙ ap (option_map (λ (it : PlacedAnt). it.place)) is in
-    let rests : 1 ≤ ant.resting = subst (λ o. IfSome o (λ it. 1 ≤ it.ant.resting)) c.in-Some.is c.at_rest.ensures.rests in
-    let less : ant.resting ≡ ant.resting - 1 + 1 = omega (arith, rests) in
-    let tired = turn-rests minds s.seed w s.place c.args.id p ant (ant.resting - 1) placed here less in
+    let p = c.in-Some.standing.place in
+    let ant = c.in-Some.standing.ant in
+    let same : g.G.Ground.world c.ant_of.new.self ≡ w = c.ant_of.ensures.world in
+    let here : (w.cells p).ant ≡ Some ant = holds w c.ant_of.result c.in-Some.standing c.ant_of.ensures.ant c.in-Some.is in
+    let less : ant.resting ≡ ant.resting - 1 + 1 = omega (arith, c.if-ant-gt0.true) in
+    let tired = turn-rests (minds_of c.args.brains) s.seed w s.place c.args.id p ant (ant.resting - 1) (found (place_in w c.args.id) c.ant_of.result c.in-Some.standing c.ant_of.ensures.place c.in-Some.is) here less in
     let now : g.G.Ground.world c.think.new.ground ≡ with_cells w (ant_becomes w.cells p (record ant { resting = ant.resting - 1 })).cells =
     rw (c.think.ensures.world, same, c.ant_after_rest.ensures) refl in
-    let kept = Keeps-stays minds w p ant (Drop 0) (with_ant (w.cells p) (record ant { resting = ant.resting - 1 })) (subst Valid same c.ant_of-found.ensures.valid) c.requires.fit here
+    let kept = Keeps-stays (minds_of c.args.brains) w p ant (Drop 0) (with_ant (w.cells p) (record ant { resting = ant.resting - 1 })) (subst Valid same c.ant_of.ensures.valid) c.requires.fit here
     (omega (arith, c.requires.fit.below p ant here)) (rest_stays (Drop 0) (w.cells p) ant (ant.resting - 1)) in
     record {
       world = rw tired now;
       stream = rw tired (undrawn s);
       drew = rw tired c.think.ensures.drew;
       killed = rw tired c.think.ensures.killed;
-      room = omega (arith, c.ant_of-found.ensures.room, c.think.ensures.room);
+      room = omega (arith, c.ant_of.ensures.room, c.think.ensures.room);
       valid = c.think.ensures.valid;
+      fit = rw now kept.fits;
+    }
+
+pub execute-requires-clause-stands : goal.execute-requires-clause-stands
+execute-requires-clause-stands g c =
+    let w = g.G.Ground.world c.args.ground.now in
+    let it = c.in-Some.standing in
+    rw c.ant_of.ensures.world
+    (StandsAt-at w it.place it.ant (subst Valid c.ant_of.ensures.world c.ant_of.ensures.valid) (holds w c.ant_of.result it c.ant_of.ensures.ant c.in-Some.is))
+
+pub returns : goal.returns
+returns g c =
+    let w = g.G.Ground.world c.args.ground.now in
+    let s = c.args.stream.now in
+    let p = c.in-Some.standing.place in
+    let ant = c.in-Some.standing.ant in
+    let same : g.G.Ground.world c.ant_of.new.self ≡ w = c.ant_of.ensures.world in
+    let here : (w.cells p).ant ≡ Some ant = holds w c.ant_of.result c.in-Some.standing c.ant_of.ensures.ant c.in-Some.is in
+    let ready : ant.resting ≡ 0 = omega (arith, c.if-ant-gt0.false) in
+    let at : slice_get (mind_of (minds_of c.args.brains) ant.colour) ant.state ≡ Some c.at-instruction.result = rw (← c.of.ensures) c.at-instruction.ensures.instruction in
+    let does = turn-executes (minds_of c.args.brains) s.seed w s.place c.args.id p ant c.at-instruction.result (found (place_in w c.args.id) c.ant_of.result c.in-Some.standing c.ant_of.ensures.place c.in-Some.is) here ready at in
+    let now : g.G.Ground.world c.execute.new.ground ≡ with_cells w (execute (sheet_of c.args.brains.sheet) s.seed w.cells s.place p ant c.at-instruction.result).cells =
+    rw (← same) c.execute.ensures.world in
+    let kept = Keeps-execute (minds_of c.args.brains) s.seed w s.place p ant c.at-instruction.result c.args.brains.sheet.light (subst Valid same c.ant_of.ensures.valid) c.requires.fit here (rw (← c.of.ensures) c.at-instruction.ensures.sound) in
+    record {
+      world = rw does now;
+      stream = rw (does, ← same) c.execute.ensures.stream;
+      drew = rw (does, ← same) c.execute.ensures.drew;
+      killed = rw (does, ← same) c.execute.ensures.killed;
+      room = omega (arith, c.ant_of.ensures.room, c.execute.ensures.room);
+      valid = c.execute.ensures.valid;
       fit = rw now kept.fits;
     }
