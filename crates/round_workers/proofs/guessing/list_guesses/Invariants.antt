@@ -1,7 +1,6 @@
 -- the guesses so far are listed, and the next is known
 use Rattle.std.proofs.Common.{◌≡◌, ◌-◌, ◌≤◌, ◌++◌}
 use Rattle.std.specs.Vec.{vec_capacity, vec_len}
-use Rattle.cell_world.specs.Grid.{world_of}
 use Rattle.round_book.specs.Book.{window_of}
 use Rattle.round_book.specs.Window.{guess_for, guesses_for}
 use Rattle.spec_record.specs.Guess.{guesses_of}
