@@ -16,7 +16,7 @@ use Rattle.cell_world.specs.Parts.{only, union}
 use Rattle.cell_world.specs.Valid.{Valid}
 use Rattle.cell_world.specs.World.{Cells, World}
 use Rattle.ant_turn.specs.Kills.{places_around}
-use Rattle.spec_record.specs.Claims.{Sighting}
+use Rattle.spec_record.specs.Claims.{Sighting, seen_place}
 use Rattle.spec_record.specs.Reads.{ant_and_food, load_and_food, whole_ant}
 use Rattle.spec_record.specs.Inner.Going.{beyond, fallen, fallen_at, going_reads, going_writes, has_fallen, is_manned, seen_from}
 use Rattle.spec_record.specs.Inner.Sightings.{all_sighted, sightings_of}
@@ -91,8 +91,8 @@ going_reads-fit w last p q d valid p_left p_top left top ahead =
     let checks : List Sighting = sightings_of w.cells (only part.Who) (seen_from w.cells p q) in
     let corpses : List Sighting = sightings_of w.cells load_and_food (fallen w.cells last p q) in
     let own : among p (ring q) ≡ true = ring-around q p (from-beside p q d p_left p_top ahead) in
-    let all : AllByRecursion (λ (s : Sighting). among s.0 (ring q) ≡ true) ((p, whole_ant, w.cells p) ∷ (checks ++ corpses)) =
-    (own, AllByRecursion-append (λ (s : Sighting). In s.0) checks corpses (sightings_of-all In w.cells (only part.Who) (seen_from w.cells p q) (seen-ring w p q valid left top)) (sightings_of-all In w.cells load_and_food (fallen w.cells last p q) (fallen-all In w.cells last p q (around-ring q)))) in
+    let all : AllByRecursion (λ (s : Sighting). among (seen_place s) (ring q) ≡ true) ((p, whole_ant, w.cells p) ∷ (checks ++ corpses)) =
+    (own, AllByRecursion-append (λ (s : Sighting). In (seen_place s)) checks corpses (sightings_of-all In w.cells (only part.Who) (seen_from w.cells p q) (seen-ring w p q valid left top)) (sightings_of-all In w.cells load_and_food (fallen w.cells last p q) (fallen-all In w.cells last p q (around-ring q)))) in
     let fits = all_sighted-fits ((p, whole_ant, w.cells p) ∷ (checks ++ corpses)) (ring q) all in
     let same = ap length (all_sighted-append ((p, whole_ant, w.cells p) ∷ []) checks corpses) in
     omega (arith, fits, same, ring-length q)
@@ -102,7 +102,7 @@ pub going_writes-fit : (cells last : Cells) (p q : Pos) (d : Dir) → 1 ≤ p.x 
 going_writes-fit cells last p q d p_left p_top other ahead =
     let In : Pos → Type 0 = λ r. among r (places_around q) ≡ true in
     let corpses : List Sighting = sightings_of last ant_and_food (fallen cells last p q) in
-    let all : AllByRecursion (λ (s : Sighting). among s.0 (places_around q) ≡ true) ((p, whole_ant, last p) ∷ (q, whole_ant, last q) ∷ corpses) =
+    let all : AllByRecursion (λ (s : Sighting). among (seen_place s) (places_around q) ≡ true) ((p, whole_ant, last p) ∷ (q, whole_ant, last q) ∷ corpses) =
     (from-beside p q d p_left p_top ahead, (among-self q, sightings_of-all In last ant_and_food (fallen cells last p q) (fallen-all In cells last p q (around-all q)))) in
     let fits = all_sighted-fits ((p, whole_ant, last p) ∷ (q, whole_ant, last q) ∷ corpses) (places_around q) all in
     let same : length (all_sighted [] ((p, whole_ant, last p) ∷ (q, whole_ant, last q) ∷ corpses)) ≡ length (going_writes cells last p q) = ap (λ (list : List Sighting). length (all_sighted list corpses)) (cond-false (same_pos p q) ((p, union whole_ant whole_ant, last p) ∷ []) ((p, whole_ant, last p) ∷ (q, whole_ant, last q) ∷ []) (same_pos_apart p q other)) in

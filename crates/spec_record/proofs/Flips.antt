@@ -11,7 +11,7 @@ use Rattle.brain_read.specs.declared.instr.Instr.TheVariants.{Sense, Mark, Unmar
 use Rattle.ant_turn.specs.Minds.{Minds, mind_of}
 use Rattle.ant_turn.specs.Sheet.{Sheet}
 use Rattle.ant_turn.specs.Turn.{Outcome, acts, ant_becomes, checked, execute, in_state, instruction_at, is_blocked, stepped, turn, turn_from, turn_at}
-use Rattle.spec_record.specs.Claims.{Claim, with_cells_at}
+use Rattle.spec_record.specs.Claims.{Claim, seen_cell, seen_parts, seen_place, with_cells_at}
 use Rattle.spec_record.specs.Guess.{ant_flips, flips, flips_from, flips_now, is_flip}
 use Rattle.spec_record.specs.Holds.{Holds, LookHolds}
 use Rattle.spec_record.specs.Look.{look_of}
@@ -57,7 +57,7 @@ unfolding look_of
 look-drew minds seed base guess t = turn-drew minds seed base guess t
 
 -- what holds of claims with their cells holds of them
-all_of_claims : (P : Claim → Type 0) (v w : Cells) (claims : List Claim) → AllByRecursion (λ read. Agree read.1 read.2 (w read.0)) (with_cells_at v claims) → AllByRecursion (λ c. Agree c.parts (v c.at) (w c.at)) claims
+all_of_claims : (P : Claim → Type 0) (v w : Cells) (claims : List Claim) → AllByRecursion (λ read. Agree (seen_parts read) (seen_cell read) (w (seen_place read))) (with_cells_at v claims) → AllByRecursion (λ c. Agree c.parts (v c.at) (w c.at)) claims
 all_of_claims P v w [] all = tt
 all_of_claims P v w (c ∷ claims) all = (all.0, all_of_claims P v w claims all.1)
 
@@ -65,7 +65,7 @@ all_of_claims P v w (c ∷ claims) all = (all.0, all_of_claims P v w claims all.
 pub Holds-LookHolds : (minds : Minds) (seed : ℕ) (base : World) (guess : ℕ) (now : World) (place t : ℕ) → Holds minds base guess now place t → LookHolds (look_of minds seed base guess t) now.cells place
 unfolding look_of
 Holds-LookHolds minds seed base guess now place t holds = record {
-  unchanged = all_with_cells (λ read. Agree read.1 read.2 (now.cells read.0)) base.cells (reads minds base t) holds.unchanged;
+  unchanged = all_with_cells (λ read. Agree (seen_parts read) (seen_cell read) (now.cells (seen_place read))) base.cells (reads minds base t) holds.unchanged;
   guessed = λ drew. holds.guessed (sym (turn-drew minds seed base guess t) ∙ drew);
 }
 

@@ -18,7 +18,7 @@ use Rattle.cell_world.specs.declared.part.Part.TheVariants as part
 use Rattle.cell_world.specs.declared.part.Parts.{Parts}
 use Rattle.cell_world.specs.Parts.{only, union}
 use Rattle.spec_record.proofs.Sighting.{or_rest}
-use Rattle.spec_record.specs.Claims.{Sighting}
+use Rattle.spec_record.specs.Claims.{Sighting, seen_cell, seen_parts, seen_place}
 use Rattle.spec_record.specs.Inner.Near.{AreSeen, IsWithin, is_seen, number_near}
 use Rattle.spec_record.specs.Inner.Sightings.{sighted}
 
@@ -77,28 +77,28 @@ number_near-one q r s first second same =
     pos_same (omega (arith, a, b, d, e, f, g, h, i, same)) (omega (arith, a, b, d, e, f, g, h, i, same))
 
 -- a position is in a list with one more where it is that one's, or was in it
-is_seen-more : (list : List Sighting) (new : Sighting) (p : Pos) → is_seen p (list ++ new ∷ []) ≡ (is_seen p list || same_pos new.0 p)
-is_seen-more [] new p = or-false (same_pos new.0 p)
-is_seen-more (old ∷ list) new p = ap (λ b. same_pos old.0 p || b) (is_seen-more list new p) ∙ assoc (same_pos old.0 p) (is_seen p list) (same_pos new.0 p)
+is_seen-more : (list : List Sighting) (new : Sighting) (p : Pos) → is_seen p (list ++ new ∷ []) ≡ (is_seen p list || same_pos (seen_place new) p)
+is_seen-more [] new p = or-false (same_pos (seen_place new) p)
+is_seen-more (old ∷ list) new p = ap (λ b. same_pos (seen_place old) p || b) (is_seen-more list new p) ∙ assoc (same_pos (seen_place old) p) (is_seen p list) (same_pos (seen_place new) p)
   where
     assoc : (x y z : Bool) → (x || (y || z)) ≡ ((x || y) || z)
     assoc true y z = refl
     assoc false y z = refl
 
 -- a position that isn't in the list comes last
-pub sighted-unseen : (list : List Sighting) (new : Sighting) → is_seen new.0 list ≡ false → sighted list new ≡ list ++ new ∷ []
+pub sighted-unseen : (list : List Sighting) (new : Sighting) → is_seen (seen_place new) list ≡ false → sighted list new ≡ list ++ new ∷ []
 sighted-unseen [] new none = refl
 sighted-unseen (old ∷ list) new none =
-    let both = or_parts (same_pos old.0 new.0) (is_seen new.0 list) none in
+    let both = or_parts (same_pos (seen_place old) (seen_place new)) (is_seen (seen_place new) list) none in
     cond-false _ _ _ both.0 ∙ ap (λ more. old ∷ more) (sighted-unseen list new both.1)
 
 -- one that is in the list, where the parts were named before, changes nothing
-pub sighted-seen : (list : List Sighting) (p : Pos) (parts : Parts) (cell : Cell) → is_seen p list ≡ true → AllByRecursion (λ (s : Sighting). union s.1 parts ≡ s.1) list → sighted list (p, parts, cell) ≡ list
+pub sighted-seen : (list : List Sighting) (p : Pos) (parts : Parts) (cell : Cell) → is_seen p list ≡ true → AllByRecursion (λ (s : Sighting). union (seen_parts s) parts ≡ seen_parts s) list → sighted list (p, parts, cell) ≡ list
 sighted-seen [] p parts cell is named = absurd (cc)
 sighted-seen (old ∷ list) p parts cell is named =
-    elim (cases_Bool (same_pos old.0 p)) [
-      | inl same ↦ cond-true _ _ _ same ∙ ap (λ (both : Parts). (old.0, both, old.2) ∷ list) named.0
-      | inr apart ↦ cond-false _ _ _ apart ∙ ap (λ more. old ∷ more) (sighted-seen list p parts cell (or_rest (same_pos old.0 p) (is_seen p list) apart is) named.1)
+    elim (cases_Bool (same_pos (seen_place old) p)) [
+      | inl same ↦ cond-true _ _ _ same ∙ ap (λ (both : Parts). (seen_place old, both, seen_cell old) ∷ list) named.0
+      | inr apart ↦ cond-false _ _ _ apart ∙ ap (λ more. old ∷ more) (sighted-seen list p parts cell (or_rest (same_pos (seen_place old) p) (is_seen p list) apart is) named.1)
     ]
 
 -- one more is marked and listed
@@ -117,7 +117,7 @@ AreSeen-more q seen list r parts cell near named before = record {
       ∙ before.marks s within
       ∙ sym (is_seen-more list (r, parts, cell) s ∙ ap (λ b. is_seen s list || b) (same_pos_apart r s (λ e. other (ap (number_near q) (sym e)))) ∙ or-false (is_seen s list)))
       (cases_eq (number_near q s) (number_near q r));
-  named = AllByRecursion-append (λ (s : Sighting). union s.1 (only part.Who) ≡ s.1) list ((r, parts, cell) ∷ []) before.named (named, tt);
+  named = AllByRecursion-append (λ (s : Sighting). union (seen_parts s) (only part.Who) ≡ seen_parts s) list ((r, parts, cell) ∷ []) before.named (named, tt);
 }
 
 -- who is at a position is noted where it wasn't

@@ -13,7 +13,7 @@ use Rattle.cell_world.proofs.Patches.{patched-only}
 use Rattle.cell_world.proofs.Puts.{cases_pos, put_cell-other, put_cell-same}
 use Rattle.ant_turn.specs.Minds.{Minds}
 use Rattle.ant_turn.specs.Turn.{Outcome, turn}
-use Rattle.spec_record.specs.Claims.{Claim, EachOnce, with_cells_at}
+use Rattle.spec_record.specs.Claims.{Claim, EachOnce, seen_cell, seen_parts, seen_place, with_cells_at}
 use Rattle.spec_record.specs.Holds.{Holds}
 use Rattle.spec_record.specs.Locality.{GoesOn, IsLater, IsLookedAt, outcome_by}
 use Rattle.spec_record.specs.Look.{look_of}
@@ -80,7 +80,7 @@ module _ (minds : Minds) (seed : ℕ) (base : World) (guess : ℕ) (now : World)
       ∙ ap₂ (made (patched_cells now.cells (with_cells_at (turn minds seed base guess t).cells (writes minds base t)))) (sym both.drew) (sym both.killed)
 
 -- the parts that no claim of a position has
-pub unclaimed : (claims : List Claim) (after : Cells) (p : Pos) (k : Part) → AllByRecursion (λ write. write.0 ≡ p → has_part write.1 k ≡ false) (with_cells_at after claims) → has_part (parts_at claims p) k ≡ false
+pub unclaimed : (claims : List Claim) (after : Cells) (p : Pos) (k : Part) → AllByRecursion (λ write. seen_place write ≡ p → has_part (seen_parts write) k ≡ false) (with_cells_at after claims) → has_part (parts_at claims p) k ≡ false
 unclaimed [] after p k none = has_part-none k
 unclaimed (c ∷ claims) after p k none =
     has_part-union (parts_there c p) (parts_at claims p) k
@@ -92,12 +92,12 @@ unclaimed (c ∷ claims) after p k none =
     (unclaimed claims after p k none.1)
 
 -- what holds of each claim whose parts are among those of a list
-claimed_all : (claims : List Claim) (v w : Cells) → ((r : Pos) → Agree (parts_at claims r) (v r) (w r)) → AllByRecursion (λ write. Agree write.1 (w write.0) write.2) (with_cells_at v claims)
+claimed_all : (claims : List Claim) (v w : Cells) → ((r : Pos) → Agree (parts_at claims r) (v r) (w r)) → AllByRecursion (λ write. Agree (seen_parts write) (w (seen_place write)) (seen_cell write)) (with_cells_at v claims)
 claimed_all claims v w agree = go claims (λ r k named. named_by r k named) where
   named_by : (r : Pos) (k : Part) → has_part (parts_at claims r) k ≡ true → Alike k (v r) (w r)
   named_by r k named = agree r k named
 
-  go : (more : List Claim) → ((r : Pos) (k : Part) → has_part (parts_at more r) k ≡ true → Alike k (v r) (w r)) → AllByRecursion (λ write. Agree write.1 (w write.0) write.2) (with_cells_at v more)
+  go : (more : List Claim) → ((r : Pos) (k : Part) → has_part (parts_at more r) k ≡ true → Alike k (v r) (w r)) → AllByRecursion (λ write. Agree (seen_parts write) (w (seen_place write)) (seen_cell write)) (with_cells_at v more)
   go [] alike = tt
   go (c ∷ more) alike = (
     λ k named. sym (alike c.at k (has_part-union (parts_there c c.at) (parts_at more c.at) k ∙ or_left (has_part (parts_there c c.at) k) (has_part (parts_at more c.at) k) (ap (λ parts. has_part parts k) (parts_there-here c c.at refl) ∙ named))),

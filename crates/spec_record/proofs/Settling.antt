@@ -16,13 +16,13 @@ use Rattle.cell_world.proofs.Patches.{CanPatch-alike, patched-named, patched-oth
 use Rattle.cell_world.proofs.Places.{clear_inside, holds_id-own}
 use Rattle.cell_world.proofs.Puts.{cases_pos, put_cell-other, put_cell-same}
 use Rattle.cell_world.proofs.ValidLemmas.{CanSet-replaces, Valid-put}
-use Rattle.spec_record.specs.Claims.{EachOnce, Sighting, seen_positions}
+use Rattle.spec_record.specs.Claims.{EachOnce, Sighting, seen_cell, seen_parts, seen_place, seen_positions}
 use Rattle.spec_record.specs.Patching.{CanSetHeavier, CanSetLighter, CanSetWrites, CanWrite, after_heavier, after_lighter, patched_by_write, raises, with_heavier, with_lighter}
 
 -- a write makes of its cell the one that is wanted there
 pub record Makes (cells wanted : Cells) (write : Sighting) : Type 0 where
-  pub can_patch : CanPatch (cells write.0) write.2 write.1
-  pub makes : patched_by_write cells write ≡ wanted write.0
+  pub can_patch : CanPatch (cells (seen_place write)) (seen_cell write) (seen_parts write)
+  pub makes : patched_by_write cells write ≡ wanted (seen_place write)
 
 -- a patched cell can be patched again, and that changes nothing
 pub CanPatch-again : (cell source : Cell) (parts : Parts) → CanPatch cell source parts → CanPatch (patched cell source parts) source parts
@@ -37,45 +37,45 @@ patched-again cell source parts can =
     patched-unchanged (patched cell source parts) source parts (CanPatch-again cell source parts can) (patched-named cell source parts can)
 
 -- where a write is set it makes the same again
-Makes-again : (cells now wanted : Cells) (write : Sighting) → Makes cells wanted write → now write.0 ≡ wanted write.0 → Makes now wanted write
+Makes-again : (cells now wanted : Cells) (write : Sighting) → Makes cells wanted write → now (seen_place write) ≡ wanted (seen_place write) → Makes now wanted write
 Makes-again cells now wanted write made is =
-    let after : Cell = patched (cells write.0) write.2 write.1 in
-    let at : now write.0 ≡ after = is ∙ sym made.makes in
+    let after : Cell = patched (cells (seen_place write)) (seen_cell write) (seen_parts write) in
+    let at : now (seen_place write) ≡ after = is ∙ sym made.makes in
     record {
-      can_patch = subst (λ c. CanPatch c write.2 write.1) (sym at) (CanPatch-again (cells write.0) write.2 write.1 made.can_patch);
-      makes = ap (λ c. patched c write.2 write.1) at ∙ patched-again (cells write.0) write.2 write.1 made.can_patch ∙ made.makes;
+      can_patch = subst (λ c. CanPatch c (seen_cell write) (seen_parts write)) (sym at) (CanPatch-again (cells (seen_place write)) (seen_cell write) (seen_parts write) made.can_patch);
+      makes = ap (λ c. patched c (seen_cell write) (seen_parts write)) at ∙ patched-again (cells (seen_place write)) (seen_cell write) (seen_parts write) made.can_patch ∙ made.makes;
     }
 
 -- a write depends on its own cell alone
-Makes-same : (cells now wanted : Cells) (write : Sighting) → now write.0 ≡ cells write.0 → Makes cells wanted write → Makes now wanted write
-Makes-same cells now wanted write same made = record { can_patch = rw same made.can_patch; makes = ap (λ c. patched c write.2 write.1) same ∙ made.makes }
+Makes-same : (cells now wanted : Cells) (write : Sighting) → now (seen_place write) ≡ cells (seen_place write) → Makes cells wanted write → Makes now wanted write
+Makes-same cells now wanted write same made = record { can_patch = rw same made.can_patch; makes = ap (λ c. patched c (seen_cell write) (seen_parts write)) same ∙ made.makes }
 
-raises-same : (cells now : Cells) (write : Sighting) → now write.0 ≡ cells write.0 → raises now write ≡ raises cells write
-raises-same cells now write same = ap (λ c. nat_lt (cell_weight c) (cell_weight (patched c write.2 write.1))) same
+raises-same : (cells now : Cells) (write : Sighting) → now (seen_place write) ≡ cells (seen_place write) → raises now write ≡ raises cells write
+raises-same cells now write same = ap (λ c. nat_lt (cell_weight c) (cell_weight (patched c (seen_cell write) (seen_parts write)))) same
 
 -- what a write that doesn't raise its cell's weight needs
 pub record Eases (cells wanted : Cells) (write : Sighting) : Type 0 where
   pub makes : Makes cells wanted write
-  pub clear : (cells write.0).rocky ≡ false
-  pub replaces : cell_weight (wanted write.0) ≤ cell_weight (cells write.0) → Replaces (cells write.0) (wanted write.0)
-  pub six : HasMarksOfSix (wanted write.0)
+  pub clear : (cells (seen_place write)).rocky ≡ false
+  pub replaces : cell_weight (wanted (seen_place write)) ≤ cell_weight (cells (seen_place write)) → Replaces (cells (seen_place write)) (wanted (seen_place write))
+  pub six : HasMarksOfSix (wanted (seen_place write))
 
-Eases-same : (cells now wanted : Cells) (write : Sighting) → now write.0 ≡ cells write.0 → Eases cells wanted write → Eases now wanted write
+Eases-same : (cells now wanted : Cells) (write : Sighting) → now (seen_place write) ≡ cells (seen_place write) → Eases cells wanted write → Eases now wanted write
 Eases-same cells now wanted write same eases = record {
   makes = Makes-same cells now wanted write same eases.makes;
   clear = ap (λ (c : Cell). c.rocky) same ∙ eases.clear;
   six = eases.six;
-  replaces = λ light. rw same (eases.replaces (subst (λ (c : Cell). cell_weight (wanted write.0) ≤ cell_weight c) same light));
+  replaces = λ light. rw same (eases.replaces (subst (λ (c : Cell). cell_weight (wanted (seen_place write)) ≤ cell_weight c) same light));
 }
 
 -- a write that doesn't raise its cell's weight may be set
 lighter_can : (w : World) (room : ℕ) (wanted : Cells) (write : Sighting) → 1 ≤ room → Valid w → Eases w.cells wanted write → raises w.cells write ≡ false → CanWrite w room write
 lighter_can w room wanted write left valid eases light =
-    let no_more : cell_weight (patched_by_write w.cells write) ≤ cell_weight (w.cells write.0) = ltb-false (cell_weight (w.cells write.0)) (cell_weight (patched_by_write w.cells write)) light in
-    let wanted_light : cell_weight (wanted write.0) ≤ cell_weight (w.cells write.0) = subst (λ (c : Cell). cell_weight c ≤ cell_weight (w.cells write.0)) eases.makes.makes no_more in
+    let no_more : cell_weight (patched_by_write w.cells write) ≤ cell_weight (w.cells (seen_place write)) = ltb-false (cell_weight (w.cells (seen_place write))) (cell_weight (patched_by_write w.cells write)) light in
+    let wanted_light : cell_weight (wanted (seen_place write)) ≤ cell_weight (w.cells (seen_place write)) = subst (λ (c : Cell). cell_weight c ≤ cell_weight (w.cells (seen_place write))) eases.makes.makes no_more in
     record {
       can_patch = eases.makes.can_patch;
-      can_set = subst (λ c. CanSet w room write.0 c) (sym eases.makes.makes) (CanSet-replaces w room write.0 (wanted write.0) valid left eases.clear (eases.replaces wanted_light) eases.six);
+      can_set = subst (λ c. CanSet w room (seen_place write) c) (sym eases.makes.makes) (CanSet-replaces w room (seen_place write) (wanted (seen_place write)) valid left eases.clear (eases.replaces wanted_light) eases.six);
     }
 
 -- what comes of the writes that don't raise their cell's weight: each of these cells is as wanted, and all others are as they were
@@ -83,10 +83,10 @@ pub record Eased (w : World) (wanted : Cells) (writes : List Sighting) (now : Wo
   pub valid : Valid now
   pub sizes : with_cells now w.cells ≡ w
   pub others : (p : Pos) → AllByRecursion (λ q. q ≢ p) (seen_positions writes) → now.cells p ≡ w.cells p
-  pub each : AllByRecursion (λ write. (raises w.cells write ≡ false → now.cells write.0 ≡ wanted write.0) × (raises w.cells write ≡ true → now.cells write.0 ≡ w.cells write.0)) writes
+  pub each : AllByRecursion (λ write. (raises w.cells write ≡ false → now.cells (seen_place write) ≡ wanted (seen_place write)) × (raises w.cells write ≡ true → now.cells (seen_place write) ≡ w.cells (seen_place write))) writes
 
 -- what holds of each write, where the world changed at none of their positions
-all_apart : (P Q : Sighting → Type 0) (writes : List Sighting) (p : Pos) → AllByRecursion (λ q. q ≢ p) (seen_positions writes) → ((write : Sighting) → write.0 ≢ p → P write → Q write) → AllByRecursion P writes → AllByRecursion Q writes
+all_apart : (P Q : Sighting → Type 0) (writes : List Sighting) (p : Pos) → AllByRecursion (λ q. q ≢ p) (seen_positions writes) → ((write : Sighting) → seen_place write ≢ p → P write → Q write) → AllByRecursion P writes → AllByRecursion Q writes
 all_apart P Q [] p apart f all = tt
 all_apart P Q (write ∷ writes) p apart f all = (f write apart.0 all.0, all_apart P Q writes p apart.1 f all.1)
 
@@ -95,10 +95,10 @@ module _ (w : World) (write : Sighting) where
   pub with_lighter-raises : raises w.cells write ≡ true → with_lighter w write ≡ w
   with_lighter-raises heavy = cond-true _ _ _ heavy
 
-  pub with_lighter-sets : raises w.cells write ≡ false → with_lighter w write ≡ put w write.0 (patched_by_write w.cells write)
+  pub with_lighter-sets : raises w.cells write ≡ false → with_lighter w write ≡ put w (seen_place write) (patched_by_write w.cells write)
   with_lighter-sets light = cond-false _ _ _ light
 
-  pub with_heavier-sets : raises w.cells write ≡ true → with_heavier w write ≡ put w write.0 (patched_by_write w.cells write)
+  pub with_heavier-sets : raises w.cells write ≡ true → with_heavier w write ≡ put w (seen_place write) (patched_by_write w.cells write)
   with_heavier-sets heavy = cond-true _ _ _ heavy
 
   pub with_heavier-light : raises w.cells write ≡ false → with_heavier w write ≡ w
@@ -119,31 +119,31 @@ lighter_all room wanted (write ∷ writes) w left valid once eases =
               valid = it.valid;
               sizes = it.sizes;
               others = λ p apart. it.others p apart.1;
-              each = ((λ light. absurd (both_ways (raises w.cells write) light heavy), λ _. it.others write.0 once.0), it.each);
+              each = ((λ light. absurd (both_ways (raises w.cells write) light heavy), λ _. it.others (seen_place write) once.0), it.each);
             }),
           )
       | inr light ↦
           let can : CanWrite w room write = lighter_can w room wanted write left valid eases.0 light in
-          let next : World = put w write.0 (patched_by_write w.cells write) in
+          let next : World = put w (seen_place write) (patched_by_write w.cells write) in
           let sets : next ≡ with_lighter w write = sym (with_lighter-sets w write light) in
-          let still : Valid next = Valid-put w room write.0 (patched_by_write w.cells write) valid can.can_set in
-          let same : (other : Sighting) → other.0 ≢ write.0 → next.cells other.0 ≡ w.cells other.0 = λ other apart. put_cell-other w.cells write.0 (patched_by_write w.cells write) other.0 (λ e. apart (sym e)) in
-          let later : AllByRecursion (Eases next.cells wanted) writes = all_apart (Eases w.cells wanted) (Eases next.cells wanted) writes write.0 once.0 (λ other apart it. Eases-same w.cells next.cells wanted other (same other apart) it) eases.1 in
+          let still : Valid next = Valid-put w room (seen_place write) (patched_by_write w.cells write) valid can.can_set in
+          let same : (other : Sighting) → seen_place other ≢ seen_place write → next.cells (seen_place other) ≡ w.cells (seen_place other) = λ other apart. put_cell-other w.cells (seen_place write) (patched_by_write w.cells write) (seen_place other) (λ e. apart (sym e)) in
+          let later : AllByRecursion (Eases next.cells wanted) writes = all_apart (Eases w.cells wanted) (Eases next.cells wanted) writes (seen_place write) once.0 (λ other apart it. Eases-same w.cells next.cells wanted other (same other apart) it) eases.1 in
           let rest : CanSetLighter next room writes × Eased next wanted writes (after_lighter next writes) = lighter_all room wanted writes next left still once.1 later in
           let it : Eased next wanted writes (after_lighter next writes) = rest.1 in
-          let Now : Sighting → Type 0 = λ other. (raises w.cells other ≡ false → (after_lighter next writes).cells other.0 ≡ wanted other.0) × (raises w.cells other ≡ true → (after_lighter next writes).cells other.0 ≡ w.cells other.0) in
-          let Then : Sighting → Type 0 = λ other. (raises next.cells other ≡ false → (after_lighter next writes).cells other.0 ≡ wanted other.0) × (raises next.cells other ≡ true → (after_lighter next writes).cells other.0 ≡ next.cells other.0) in (
+          let Now : Sighting → Type 0 = λ other. (raises w.cells other ≡ false → (after_lighter next writes).cells (seen_place other) ≡ wanted (seen_place other)) × (raises w.cells other ≡ true → (after_lighter next writes).cells (seen_place other) ≡ w.cells (seen_place other)) in
+          let Then : Sighting → Type 0 = λ other. (raises next.cells other ≡ false → (after_lighter next writes).cells (seen_place other) ≡ wanted (seen_place other)) × (raises next.cells other ≡ true → (after_lighter next writes).cells (seen_place other) ≡ next.cells (seen_place other)) in (
             (λ _. can, subst (λ (u : World). CanSetLighter u room writes) sets rest.0),
             subst (Eased w wanted (write ∷ writes)) (ap (λ (u : World). after_lighter u writes) sets) (record {
               valid = it.valid;
               sizes = ap (λ (u : World). with_cells u w.cells) it.sizes;
-              others = λ p apart. it.others p apart.1 ∙ put_cell-other w.cells write.0 (patched_by_write w.cells write) p apart.0;
+              others = λ p apart. it.others p apart.1 ∙ put_cell-other w.cells (seen_place write) (patched_by_write w.cells write) p apart.0;
               each = (
                 (
-                  λ _. it.others write.0 once.0 ∙ put_cell-same w.cells write.0 (patched_by_write w.cells write) ∙ eases.0.makes.makes,
+                  λ _. it.others (seen_place write) once.0 ∙ put_cell-same w.cells (seen_place write) (patched_by_write w.cells write) ∙ eases.0.makes.makes,
                   λ heavy. absurd (both_ways (raises w.cells write) light heavy),
                 ),
-                all_apart Then Now writes write.0 once.0
+                all_apart Then Now writes (seen_place write) once.0
                     (λ other apart each. (
                       λ easy. each.0 (raises-same w.cells next.cells other (same other apart) ∙ easy),
                       λ heavy. each.1 (raises-same w.cells next.cells other (same other apart) ∙ heavy) ∙ same other apart,
@@ -154,11 +154,11 @@ lighter_all room wanted (write ∷ writes) w left valid once eases =
     ]
 
 -- a write that is set doesn't raise its cell's weight again
-settled-light : (cells now wanted : Cells) (write : Sighting) → Makes cells wanted write → now write.0 ≡ wanted write.0 → raises now write ≡ false
+settled-light : (cells now wanted : Cells) (write : Sighting) → Makes cells wanted write → now (seen_place write) ≡ wanted (seen_place write) → raises now write ≡ false
 settled-light cells now wanted write made is =
     let again : Makes now wanted write = Makes-again cells now wanted write made is in
-    let same : patched_by_write now write ≡ now write.0 = again.makes ∙ sym is in
-    ap (λ c. nat_lt (cell_weight (now write.0)) (cell_weight c)) same ∙ le-ltb (cell_weight (now write.0)) (cell_weight (now write.0)) (omega arith)
+    let same : patched_by_write now write ≡ now (seen_place write) = again.makes ∙ sym is in
+    ap (λ c. nat_lt (cell_weight (now (seen_place write))) (cell_weight c)) same ∙ le-ltb (cell_weight (now (seen_place write))) (cell_weight (now (seen_place write))) (omega arith)
 
 -- writes of which none raises its cell's weight
 heavier_none : (room : ℕ) (writes : List Sighting) (w : World) → AllByRecursion (λ write. raises w.cells write ≡ false) writes → CanSetHeavier w room writes
@@ -169,18 +169,18 @@ heavier_none room (write ∷ writes) w light = (
 )
 
 -- writes of which one at most raises its cell's weight, and may be set
-heavier_one : (room : ℕ) (q : Pos) (writes : List Sighting) (w : World) → EachOnce (seen_positions writes) → AllByRecursion (λ write. write.0 ≢ q → raises w.cells write ≡ false) writes →
-    AllByRecursion (λ write. write.0 ≡ q → raises w.cells write ≡ true → CanWrite w room write) writes → CanSetHeavier w room writes
+heavier_one : (room : ℕ) (q : Pos) (writes : List Sighting) (w : World) → EachOnce (seen_positions writes) → AllByRecursion (λ write. seen_place write ≢ q → raises w.cells write ≡ false) writes →
+    AllByRecursion (λ write. seen_place write ≡ q → raises w.cells write ≡ true → CanWrite w room write) writes → CanSetHeavier w room writes
 heavier_one room q [] w once light can = tt
 heavier_one room q (write ∷ writes) w once light can =
     elim (cases_Bool (raises w.cells write)) [
       | inl heavy ↦
-          elim (cases_pos write.0 q) [
+          elim (cases_pos (seen_place write) q) [
             | inl here ↦
-                let next : World = put w write.0 (patched_by_write w.cells write) in
+                let next : World = put w (seen_place write) (patched_by_write w.cells write) in
                 let easy : AllByRecursion (λ other. raises next.cells other ≡ false) writes =
-                all_apart (λ other. other.0 ≢ q → raises w.cells other ≡ false) (λ other. raises next.cells other ≡ false) writes write.0 once.0
-                (λ other apart it. raises-same w.cells next.cells other (put_cell-other w.cells write.0 (patched_by_write w.cells write) other.0 (λ e. apart (sym e))) ∙ it (λ at. apart (at ∙ sym here))) light.1 in
+                all_apart (λ other. seen_place other ≢ q → raises w.cells other ≡ false) (λ other. raises next.cells other ≡ false) writes (seen_place write) once.0
+                (λ other apart it. raises-same w.cells next.cells other (put_cell-other w.cells (seen_place write) (patched_by_write w.cells write) (seen_place other) (λ e. apart (sym e))) ∙ it (λ at. apart (at ∙ sym here))) light.1 in
                 (can.0 here, subst (λ (u : World). CanSetHeavier u room writes) (sym (with_heavier-sets w write heavy)) (heavier_none room writes next easy))
             | inr other ↦ absurd (both_ways (raises w.cells write) (light.0 other) heavy)
           ]
@@ -194,7 +194,7 @@ heavier_one room q (write ∷ writes) w once light can =
 record Raised (w : World) (wanted : Cells) (writes : List Sighting) (now : World) : Type 0 where
   sizes : with_cells now w.cells ≡ w
   others : (p : Pos) → AllByRecursion (λ q. q ≢ p) (seen_positions writes) → now.cells p ≡ w.cells p
-  each : AllByRecursion (λ write. (raises w.cells write ≡ true → now.cells write.0 ≡ wanted write.0) × (raises w.cells write ≡ false → now.cells write.0 ≡ w.cells write.0)) writes
+  each : AllByRecursion (λ write. (raises w.cells write ≡ true → now.cells (seen_place write) ≡ wanted (seen_place write)) × (raises w.cells write ≡ false → now.cells (seen_place write) ≡ w.cells (seen_place write))) writes
 
 heavier_all : (wanted : Cells) (writes : List Sighting) (w : World) → EachOnce (seen_positions writes) → AllByRecursion (Makes w.cells wanted) writes → Raised w wanted writes (after_heavier w writes)
 heavier_all wanted [] w once made = record { sizes = refl; others = λ p _. refl; each = tt }
@@ -205,25 +205,25 @@ heavier_all wanted (write ∷ writes) w once made =
           subst (Raised w wanted (write ∷ writes)) (ap (λ (u : World). after_heavier u writes) (sym (with_heavier-light w write light))) (record {
             sizes = it.sizes;
             others = λ p apart. it.others p apart.1;
-            each = ((λ heavy. absurd (both_ways (raises w.cells write) light heavy), λ _. it.others write.0 once.0), it.each);
+            each = ((λ heavy. absurd (both_ways (raises w.cells write) light heavy), λ _. it.others (seen_place write) once.0), it.each);
           })
       | inl heavy ↦
-          let next : World = put w write.0 (patched_by_write w.cells write) in
-          let same : (other : Sighting) → other.0 ≢ write.0 → next.cells other.0 ≡ w.cells other.0 = λ other apart. put_cell-other w.cells write.0 (patched_by_write w.cells write) other.0 (λ e. apart (sym e)) in
-          let later : AllByRecursion (Makes next.cells wanted) writes = all_apart (Makes w.cells wanted) (Makes next.cells wanted) writes write.0 once.0 (λ other apart it. Makes-same w.cells next.cells wanted other (same other apart) it) made.1 in
+          let next : World = put w (seen_place write) (patched_by_write w.cells write) in
+          let same : (other : Sighting) → seen_place other ≢ seen_place write → next.cells (seen_place other) ≡ w.cells (seen_place other) = λ other apart. put_cell-other w.cells (seen_place write) (patched_by_write w.cells write) (seen_place other) (λ e. apart (sym e)) in
+          let later : AllByRecursion (Makes next.cells wanted) writes = all_apart (Makes w.cells wanted) (Makes next.cells wanted) writes (seen_place write) once.0 (λ other apart it. Makes-same w.cells next.cells wanted other (same other apart) it) made.1 in
           let it : Raised next wanted writes (after_heavier next writes) = heavier_all wanted writes next once.1 later in
           let now : World = after_heavier next writes in
-          let Now : Sighting → Type 0 = λ other. (raises w.cells other ≡ true → now.cells other.0 ≡ wanted other.0) × (raises w.cells other ≡ false → now.cells other.0 ≡ w.cells other.0) in
-          let Then : Sighting → Type 0 = λ other. (raises next.cells other ≡ true → now.cells other.0 ≡ wanted other.0) × (raises next.cells other ≡ false → now.cells other.0 ≡ next.cells other.0) in
+          let Now : Sighting → Type 0 = λ other. (raises w.cells other ≡ true → now.cells (seen_place other) ≡ wanted (seen_place other)) × (raises w.cells other ≡ false → now.cells (seen_place other) ≡ w.cells (seen_place other)) in
+          let Then : Sighting → Type 0 = λ other. (raises next.cells other ≡ true → now.cells (seen_place other) ≡ wanted (seen_place other)) × (raises next.cells other ≡ false → now.cells (seen_place other) ≡ next.cells (seen_place other)) in
           subst (Raised w wanted (write ∷ writes)) (ap (λ (u : World). after_heavier u writes) (sym (with_heavier-sets w write heavy))) (record {
             sizes = ap (λ (u : World). with_cells u w.cells) it.sizes;
-            others = λ p apart. it.others p apart.1 ∙ put_cell-other w.cells write.0 (patched_by_write w.cells write) p apart.0;
+            others = λ p apart. it.others p apart.1 ∙ put_cell-other w.cells (seen_place write) (patched_by_write w.cells write) p apart.0;
             each = (
               (
-                λ _. it.others write.0 once.0 ∙ put_cell-same w.cells write.0 (patched_by_write w.cells write) ∙ made.0.makes,
+                λ _. it.others (seen_place write) once.0 ∙ put_cell-same w.cells (seen_place write) (patched_by_write w.cells write) ∙ made.0.makes,
                 λ light. absurd (both_ways (raises w.cells write) light heavy),
               ),
-              all_apart Then Now writes write.0 once.0
+              all_apart Then Now writes (seen_place write) once.0
                   (λ other apart each. (
                     λ more. each.0 (raises-same w.cells next.cells other (same other apart) ∙ more),
                     λ easy. each.1 (raises-same w.cells next.cells other (same other apart) ∙ easy) ∙ same other apart,
@@ -233,10 +233,10 @@ heavier_all wanted (write ∷ writes) w once made =
     ]
 
 -- what holds at each write, and at each other position, holds everywhere
-everywhere : (P : Pos → Type 0) (writes : List Sighting) (p : Pos) → (AllByRecursion (λ q. q ≢ p) (seen_positions writes) → P p) → AllByRecursion (λ write. P write.0) writes → P p
+everywhere : (P : Pos → Type 0) (writes : List Sighting) (p : Pos) → (AllByRecursion (λ q. q ≢ p) (seen_positions writes) → P p) → AllByRecursion (λ write. P (seen_place write)) writes → P p
 everywhere P [] p outside each = outside tt
 everywhere P (write ∷ writes) p outside each =
-    elim (cases_pos write.0 p) [
+    elim (cases_pos (seen_place write) p) [
       | inl here ↦ subst P here each.0
       | inr apart ↦ everywhere P writes p (λ fresh. outside (apart, fresh)) each.1
     ]
@@ -252,7 +252,7 @@ pub record Settles (w : World) (wanted : Cells) (writes : List Sighting) (q : Po
   pub still : Valid (with_cells w wanted)
   pub once : EachOnce (seen_positions writes)
   pub made : AllByRecursion (Makes w.cells wanted) writes
-  pub clear : AllByRecursion (λ write. (w.cells write.0).rocky ≡ false) writes
+  pub clear : AllByRecursion (λ write. (w.cells (seen_place write)).rocky ≡ false) writes
   pub rocks : (p : Pos) → (wanted p).rocky ≡ (w.cells p).rocky
   pub hills : (p : Pos) → (wanted p).hill ≡ (w.cells p).hill
   pub others : (p : Pos) → AllByRecursion (λ r. r ≢ p) (seen_positions writes) → wanted p ≡ w.cells p
@@ -262,14 +262,14 @@ pub record Settles (w : World) (wanted : Cells) (writes : List Sighting) (q : Po
 module _ {w : World} {wanted : Cells} {writes : List Sighting} {q : Pos} (settles : Settles w wanted writes q) (room : ℕ) (left : 1 ≤ room) where
   -- each write that doesn't raise its cell's weight may be set
   eased : AllByRecursion (Eases w.cells wanted) writes
-  eased = zip_all (Makes w.cells wanted) (λ write. (w.cells write.0).rocky ≡ false) (Eases w.cells wanted) writes
+  eased = zip_all (Makes w.cells wanted) (λ write. (w.cells (seen_place write)).rocky ≡ false) (Eases w.cells wanted) writes
       (λ write makes clear. record {
         makes = makes;
         clear = clear;
-        six = settles.still.six write.0;
-        replaces = λ light. elim (cases_pos write.0 q) [
+        six = settles.still.six (seen_place write);
+        replaces = λ light. elim (cases_pos (seen_place write) q) [
           | inl here ↦ subst (λ p. Replaces (w.cells p) (wanted p)) (sym here) (settles.raised (subst (λ p. cell_weight (wanted p) ≤ cell_weight (w.cells p)) here light))
-          | inr other ↦ settles.replaced write.0 other
+          | inr other ↦ settles.replaced (seen_place write) other
         ];
       }) settles.made settles.clear
 
@@ -284,22 +284,22 @@ module _ {w : World} {wanted : Cells} {writes : List Sighting} {q : Pos} (settle
   -- there each write makes what is wanted
   made_between : AllByRecursion (Makes between.cells wanted) writes
   unfolding between
-  made_between = zip_all (Makes w.cells wanted) (λ write. (raises w.cells write ≡ false → between.cells write.0 ≡ wanted write.0) × (raises w.cells write ≡ true → between.cells write.0 ≡ w.cells write.0)) (Makes between.cells wanted) writes
+  made_between = zip_all (Makes w.cells wanted) (λ write. (raises w.cells write ≡ false → between.cells (seen_place write) ≡ wanted (seen_place write)) × (raises w.cells write ≡ true → between.cells (seen_place write) ≡ w.cells (seen_place write))) (Makes between.cells wanted) writes
       (λ write makes each. elim (cases_Bool (raises w.cells write)) [
         | inl heavy ↦ Makes-same w.cells between.cells wanted write (each.1 heavy) makes
         | inr light ↦ Makes-again w.cells between.cells wanted write makes (each.0 light)
       ]) settles.made first.1.each
 
   -- away from the one, all is as wanted
-  write_light : (write : Sighting) → write.0 ≢ q → Makes w.cells wanted write → raises w.cells write ≡ false
+  write_light : (write : Sighting) → seen_place write ≢ q → Makes w.cells wanted write → raises w.cells write ≡ false
   write_light write other makes =
-      ap (λ c. nat_lt (cell_weight (w.cells write.0)) (cell_weight c)) makes.makes ∙ le-ltb (cell_weight (w.cells write.0)) (cell_weight (wanted write.0)) (settles.replaced write.0 other).no_heavier
+      ap (λ c. nat_lt (cell_weight (w.cells (seen_place write))) (cell_weight c)) makes.makes ∙ le-ltb (cell_weight (w.cells (seen_place write))) (cell_weight (wanted (seen_place write))) (settles.replaced (seen_place write) other).no_heavier
 
   wanted_between : (p : Pos) → p ≢ q → between.cells p ≡ wanted p
   unfolding between
   wanted_between p apart =
       everywhere (λ r. r ≢ q → between.cells r ≡ wanted r) writes p (λ fresh _. first.1.others p fresh ∙ sym (settles.others p fresh))
-      (zip_all (Makes w.cells wanted) (λ write. (raises w.cells write ≡ false → between.cells write.0 ≡ wanted write.0) × (raises w.cells write ≡ true → between.cells write.0 ≡ w.cells write.0)) (λ write. write.0 ≢ q → between.cells write.0 ≡ wanted write.0) writes
+      (zip_all (Makes w.cells wanted) (λ write. (raises w.cells write ≡ false → between.cells (seen_place write) ≡ wanted (seen_place write)) × (raises w.cells write ≡ true → between.cells (seen_place write) ≡ w.cells (seen_place write))) (λ write. seen_place write ≢ q → between.cells (seen_place write) ≡ wanted (seen_place write)) writes
       (λ write makes each other. each.0 (write_light write other makes)) settles.made first.1.each) apart
 
   -- with the one set too, it is the wanted world
@@ -312,7 +312,7 @@ module _ {w : World} {wanted : Cells} {writes : List Sighting} {q : Pos} (settle
       ap (with_cells between) cells ∙ ap (λ (u : World). with_cells u wanted) first.1.sizes
 
   -- so the one may be set
-  CanSet-last : (write : Sighting) → write.0 ≡ q → raises between.cells write ≡ true → Makes w.cells wanted write → (w.cells write.0).rocky ≡ false → (raises w.cells write ≡ false → between.cells write.0 ≡ wanted write.0) × (raises w.cells write ≡ true → between.cells write.0 ≡ w.cells write.0) → CanSet between room q (wanted q)
+  CanSet-last : (write : Sighting) → seen_place write ≡ q → raises between.cells write ≡ true → Makes w.cells wanted write → (w.cells (seen_place write)).rocky ≡ false → (raises w.cells write ≡ false → between.cells (seen_place write) ≡ wanted (seen_place write)) × (raises w.cells write ≡ true → between.cells (seen_place write) ≡ w.cells (seen_place write)) → CanSet between room q (wanted q)
   CanSet-last write here heavy makes clear each =
       let as_it_was : between.cells q ≡ w.cells q = elim (cases_Bool (raises w.cells write)) [
         | inl more ↦ subst (λ p. between.cells p ≡ w.cells p) here (each.1 more)
@@ -337,20 +337,20 @@ module _ {w : World} {wanted : Cells} {writes : List Sighting} {q : Pos} (settle
   pub CanSetWrites-all : CanSetWrites w room writes
   unfolding between
   CanSetWrites-all =
-      let Each : Sighting → Type 0 = λ write. (raises w.cells write ≡ false → between.cells write.0 ≡ wanted write.0) × (raises w.cells write ≡ true → between.cells write.0 ≡ w.cells write.0) in
-      let light : AllByRecursion (λ write. write.0 ≢ q → raises between.cells write ≡ false) writes =
-      zip_all (Makes w.cells wanted) Each (λ write. write.0 ≢ q → raises between.cells write ≡ false) writes
+      let Each : Sighting → Type 0 = λ write. (raises w.cells write ≡ false → between.cells (seen_place write) ≡ wanted (seen_place write)) × (raises w.cells write ≡ true → between.cells (seen_place write) ≡ w.cells (seen_place write)) in
+      let light : AllByRecursion (λ write. seen_place write ≢ q → raises between.cells write ≡ false) writes =
+      zip_all (Makes w.cells wanted) Each (λ write. seen_place write ≢ q → raises between.cells write ≡ false) writes
       (λ write makes each other. settled-light w.cells between.cells wanted write makes (each.0 (write_light write other makes))) settles.made first.1.each in
-      let Fits : Sighting → Type 0 = λ write. Makes w.cells wanted write × ((w.cells write.0).rocky ≡ false) in
-      let both : AllByRecursion Fits writes = zip_all (Makes w.cells wanted) (λ write. (w.cells write.0).rocky ≡ false) Fits writes (λ write makes clear. (makes, clear)) settles.made settles.clear in
-      let can : AllByRecursion (λ write. write.0 ≡ q → raises between.cells write ≡ true → CanSet between room q (wanted q)) writes =
-      zip_all Fits Each (λ write. write.0 ≡ q → raises between.cells write ≡ true → CanSet between room q (wanted q)) writes
+      let Fits : Sighting → Type 0 = λ write. Makes w.cells wanted write × ((w.cells (seen_place write)).rocky ≡ false) in
+      let both : AllByRecursion Fits writes = zip_all (Makes w.cells wanted) (λ write. (w.cells (seen_place write)).rocky ≡ false) Fits writes (λ write makes clear. (makes, clear)) settles.made settles.clear in
+      let can : AllByRecursion (λ write. seen_place write ≡ q → raises between.cells write ≡ true → CanSet between room q (wanted q)) writes =
+      zip_all Fits Each (λ write. seen_place write ≡ q → raises between.cells write ≡ true → CanSet between room q (wanted q)) writes
       (λ write fits each here heavy. CanSet-last write here heavy fits.0 fits.1 each) both first.1.each in
-      let writable : AllByRecursion (λ write. write.0 ≡ q → raises between.cells write ≡ true → CanWrite between room write) writes =
-      zip_all (Makes between.cells wanted) (λ write. write.0 ≡ q → raises between.cells write ≡ true → CanSet between room q (wanted q)) (λ write. write.0 ≡ q → raises between.cells write ≡ true → CanWrite between room write) writes
+      let writable : AllByRecursion (λ write. seen_place write ≡ q → raises between.cells write ≡ true → CanWrite between room write) writes =
+      zip_all (Makes between.cells wanted) (λ write. seen_place write ≡ q → raises between.cells write ≡ true → CanSet between room q (wanted q)) (λ write. seen_place write ≡ q → raises between.cells write ≡ true → CanWrite between room write) writes
       (λ write makes may here heavy. record {
         can_patch = makes.can_patch;
-        can_set = subst (λ c. CanSet between room write.0 c) (sym (makes.makes ∙ ap wanted here)) (subst (λ p. CanSet between room p (wanted q)) (sym here) (may here heavy));
+        can_set = subst (λ c. CanSet between room (seen_place write) c) (sym (makes.makes ∙ ap wanted here)) (subst (λ p. CanSet between room p (wanted q)) (sym here) (may here heavy));
       }) made_between can in
       record { lighter = first.0; heavier = heavier_one room q writes between settles.once light writable }
 
@@ -363,8 +363,8 @@ module _ {w : World} {wanted : Cells} {writes : List Sighting} {q : Pos} (settle
       let cells : now.cells ≡ wanted = fun_ext λ p.
       everywhere (λ r. now.cells r ≡ wanted r) writes p
       (λ fresh. second.others p fresh ∙ first.1.others p fresh ∙ sym (settles.others p fresh))
-      (zip_all (λ write. (raises w.cells write ≡ false → between.cells write.0 ≡ wanted write.0) × (raises w.cells write ≡ true → between.cells write.0 ≡ w.cells write.0))
-      (λ write. (raises between.cells write ≡ true → now.cells write.0 ≡ wanted write.0) × (raises between.cells write ≡ false → now.cells write.0 ≡ between.cells write.0)) (λ write. now.cells write.0 ≡ wanted write.0) writes
+      (zip_all (λ write. (raises w.cells write ≡ false → between.cells (seen_place write) ≡ wanted (seen_place write)) × (raises w.cells write ≡ true → between.cells (seen_place write) ≡ w.cells (seen_place write)))
+      (λ write. (raises between.cells write ≡ true → now.cells (seen_place write) ≡ wanted (seen_place write)) × (raises between.cells write ≡ false → now.cells (seen_place write) ≡ between.cells (seen_place write))) (λ write. now.cells (seen_place write) ≡ wanted (seen_place write)) writes
       (λ write before each. elim (cases_Bool (raises between.cells write)) [
         | inl heavy ↦ each.0 heavy
         | inr light ↦ each.1 light ∙ elim (cases_Bool (raises w.cells write)) [

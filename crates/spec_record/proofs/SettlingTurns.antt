@@ -10,7 +10,7 @@ use Rattle.cell_world.proofs.Patches.{patched-only}
 use Rattle.ant_turn.specs.Minds.{AreSound, Fits, Minds}
 use Rattle.ant_turn.specs.Turn.{Outcome, turn}
 use Rattle.ant_turn.proofs.KeptByTurns.{Keeps-turn}
-use Rattle.spec_record.specs.Claims.{Claim, EachOnce, Sighting, with_cells_at}
+use Rattle.spec_record.specs.Claims.{Claim, EachOnce, Sighting, seen_place, seen_positions, with_cells_at}
 use Rattle.spec_record.specs.Holds.{Holds}
 use Rattle.spec_record.specs.Locality.{GoesOn}
 use Rattle.spec_record.specs.Look.{look_of}
@@ -29,7 +29,7 @@ all_with_cells P after [] all = tt
 all_with_cells P after (c ∷ claims) all = (all.0, all_with_cells P after claims all.1)
 
 -- of their positions too
-pub all_at_places : (P : Pos → Type 0) (after : Cells) (claims : List Claim) → AllByRecursion P (positions claims) → AllByRecursion (λ write. P write.0) (with_cells_at after claims)
+pub all_at_places : (P : Pos → Type 0) (after : Cells) (claims : List Claim) → AllByRecursion P (positions claims) → AllByRecursion (λ write. P (seen_place write)) (with_cells_at after claims)
 all_at_places P after [] all = tt
 all_at_places P after (c ∷ claims) all = (all.0, all_at_places P after claims all.1)
 

@@ -10,7 +10,7 @@ use Rattle.hex_geometry.proofs.Places.{same_pos_true}
 use Rattle.cell_world.specs.declared.part.Parts.{Parts}
 use Rattle.cell_world.specs.Parts.{union}
 use Rattle.cell_world.specs.World.{Cells}
-use Rattle.spec_record.specs.Claims.{Claim, Sighting, claim, with_claim, merged, merged_onto, with_cells_at}
+use Rattle.spec_record.specs.Claims.{Claim, Sighting, claim, merged, merged_onto, seen_cell, seen_parts, seen_place, with_cells_at, with_claim}
 use Rattle.spec_record.specs.Inner.Sightings.{all_sighted, seen_number, sighted, sightings_of}
 
 -- the sighting of a claim
@@ -46,9 +46,9 @@ all_sighted-append list (new ∷ some) more = all_sighted-append (sighted list n
 sighted-grows : (list : List Sighting) (new : Sighting) → length list ≤ length (sighted list new)
 sighted-grows [] new = omega arith
 sighted-grows (old ∷ list) new =
-    elim (cases_Bool (same_pos old.0 new.0)) [
-      | inl same ↦ let e = ap length (cond-true _ ((old.0, union old.1 new.1, old.2) ∷ list) (old ∷ sighted list new) same) in omega (arith, e)
-      | inr apart ↦ let e = ap length (cond-false _ ((old.0, union old.1 new.1, old.2) ∷ list) (old ∷ sighted list new) apart) in let more = sighted-grows list new in omega (arith, e, more)
+    elim (cases_Bool (same_pos (seen_place old) (seen_place new))) [
+      | inl same ↦ let e = ap length (cond-true _ ((seen_place old, union (seen_parts old) (seen_parts new), seen_cell old) ∷ list) (old ∷ sighted list new) same) in omega (arith, e)
+      | inr apart ↦ let e = ap length (cond-false _ ((seen_place old, union (seen_parts old) (seen_parts new), seen_cell old) ∷ list) (old ∷ sighted list new) apart) in let more = sighted-grows list new in omega (arith, e, more)
     ]
 
 pub all_sighted-grows : (list more : List Sighting) → length list ≤ length (all_sighted list more)
@@ -60,18 +60,18 @@ all_sighted-grows list (new ∷ more) =
 
 -- a sighting in which the position of the one seen before gets more parts
 abbrev pub widened : Sighting → Sighting → Sighting
-widened old new = (old.0, union old.1 new.1, old.2)
+widened old new = (seen_place old, union (seen_parts old) (seen_parts new), seen_cell old)
 
 -- a position that is in the list: its parts are more
-pub sighted-again : (list : List Sighting) (new z : Sighting) → seen_number new.0 list < length list →
-    sighted list new ≡ slice_set list (seen_number new.0 list) (widened (slice_index_or list (seen_number new.0 list) z) new)
+pub sighted-again : (list : List Sighting) (new z : Sighting) → seen_number (seen_place new) list < length list →
+    sighted list new ≡ slice_set list (seen_number (seen_place new) list) (widened (slice_index_or list (seen_number (seen_place new) list) z) new)
 sighted-again [] new z below = absurd (omega arith)
 sighted-again (old ∷ list) new z below =
     let At : ℕ → Type 0 = λ k. sighted (old ∷ list) new ≡ slice_set (old ∷ list) k (widened (slice_index_or (old ∷ list) k z) new) in
-    elim (cases_Bool (same_pos old.0 new.0)) [
-      | inl same ↦ subst At (sym (cond-true _ zero (suc (seen_number new.0 list)) same)) (cond-true _ (widened old new ∷ list) (old ∷ sighted list new) same)
+    elim (cases_Bool (same_pos (seen_place old) (seen_place new))) [
+      | inl same ↦ subst At (sym (cond-true _ zero (suc (seen_number (seen_place new) list)) same)) (cond-true _ (widened old new ∷ list) (old ∷ sighted list new) same)
       | inr apart ↦
-          let e = cond-false _ zero (suc (seen_number new.0 list)) apart in
+          let e = cond-false _ zero (suc (seen_number (seen_place new) list)) apart in
           subst At (sym e) (cond-false _ (widened old new ∷ list) (old ∷ sighted list new) apart ∙ ap (λ more. old ∷ more) (sighted-again list new z (omega (arith, e))))
     ]
 
@@ -85,23 +85,23 @@ refill-whole list new e =
     ∙ take-length new
 
 -- the list in which that sighting is written
-pub sighted-written : (items now other : List Sighting) (k : ℕ) (both : Parts) (new z : Sighting) → now ≡ items → other ≡ items → k ≡ seen_number new.0 items → both ≡ union (slice_index_or other k z).1 new.1 → seen_number new.0 items < length items →
+pub sighted-written : (items now other : List Sighting) (k : ℕ) (both : Parts) (new z : Sighting) → now ≡ items → other ≡ items → k ≡ seen_number (seen_place new) items → both ≡ union (slice_index_or other k z).1 (seen_parts new) → seen_number (seen_place new) items < length items →
     refill (length items) items (slice_set now k ((slice_index_or other k z).0, both, (slice_index_or other k z).2)) ≡ sighted items new
 sighted-written items now other k both new z at_now at_other here with_claim below =
     ap (λ list. refill (length items) items (slice_set list k ((slice_index_or other k z).0, both, (slice_index_or other k z).2))) at_now
     ∙ ap (λ parts. refill (length items) items (slice_set items k ((slice_index_or other k z).0, parts, (slice_index_or other k z).2))) with_claim
     ∙ ap (λ list. refill (length items) items (slice_set items k (widened (slice_index_or list k z) new))) at_other
     ∙ ap (λ n. refill (length items) items (slice_set items n (widened (slice_index_or items n z) new))) here
-    ∙ refill-whole items (slice_set items (seen_number new.0 items) (widened (slice_index_or items (seen_number new.0 items) z) new)) (length-set items _ _)
+    ∙ refill-whole items (slice_set items (seen_number (seen_place new) items) (widened (slice_index_or items (seen_number (seen_place new) items) z) new)) (length-set items _ _)
     ∙ sym (sighted-again items new z below)
 
 -- one that isn't comes last
-pub sighted-first : (list : List Sighting) (new : Sighting) → length list ≤ seen_number new.0 list → sighted list new ≡ list ++ new ∷ []
+pub sighted-first : (list : List Sighting) (new : Sighting) → length list ≤ seen_number (seen_place new) list → sighted list new ≡ list ++ new ∷ []
 sighted-first [] new beyond = refl
 sighted-first (old ∷ list) new beyond =
-    elim (cases_Bool (same_pos old.0 new.0)) [
-      | inl same ↦ let e = cond-true _ zero (suc (seen_number new.0 list)) same in absurd (omega (arith, e))
-      | inr apart ↦ let e = cond-false _ zero (suc (seen_number new.0 list)) apart in cond-false _ _ _ apart ∙ ap (λ more. old ∷ more) (sighted-first list new (omega (arith, e)))
+    elim (cases_Bool (same_pos (seen_place old) (seen_place new))) [
+      | inl same ↦ let e = cond-true _ zero (suc (seen_number (seen_place new) list)) same in absurd (omega (arith, e))
+      | inr apart ↦ let e = cond-false _ zero (suc (seen_number (seen_place new) list)) apart in cond-false _ _ _ apart ∙ ap (λ more. old ∷ more) (sighted-first list new (omega (arith, e)))
     ]
 
 -- the number of a position from a place of the list on
@@ -112,10 +112,10 @@ seen_number-drop p list k z below =
     ∙ ap (λ n. cond (same_pos (slice_index_or list k z).0 p) zero (suc (seen_number p (drop n list)))) (sym (add-one k))
 
 -- what holds of the positions of a list and of a new one holds then
-pub sighted-all : (P : Pos → Type 0) (list : List Sighting) (new : Sighting) → AllByRecursion (λ s. P s.0) list → P new.0 → AllByRecursion (λ s. P s.0) (sighted list new)
+pub sighted-all : (P : Pos → Type 0) (list : List Sighting) (new : Sighting) → AllByRecursion (λ s. P (seen_place s)) list → P (seen_place new) → AllByRecursion (λ s. P (seen_place s)) (sighted list new)
 sighted-all P [] new all one = (one, tt)
 sighted-all P (old ∷ list) new all one =
-    elim (cases_Bool (same_pos old.0 new.0)) [
+    elim (cases_Bool (same_pos (seen_place old) (seen_place new))) [
       | inl same ↦ rw (cond-true _ _ _ same) all
       | inr apart ↦ rw (cond-false _ _ _ apart) (all.0, sighted-all P list new all.1 one)
     ]
@@ -123,21 +123,21 @@ sighted-all P (old ∷ list) new all one =
 -- no position is twice in the list
 abbrev pub Apart : List Sighting → Type 0
 Apart [] = Unit {0}
-Apart (old ∷ list) = AllByRecursion (λ s. same_pos old.0 s.0 ≡ false) list × Apart list
+Apart (old ∷ list) = AllByRecursion (λ s. same_pos (seen_place old) (seen_place s) ≡ false) list × Apart list
 
 sighted-apart : (list : List Sighting) (new : Sighting) → Apart list → Apart (sighted list new)
 sighted-apart [] new apart = (tt, tt)
 sighted-apart (old ∷ list) new apart =
-    elim (cases_Bool (same_pos old.0 new.0)) [
+    elim (cases_Bool (same_pos (seen_place old) (seen_place new))) [
       | inl same ↦ rw (cond-true _ _ _ same) apart
-      | inr other ↦ rw (cond-false _ _ _ other) (sighted-all (λ p. same_pos old.0 p ≡ false) list new apart.0 other, sighted-apart list new apart.1)
+      | inr other ↦ rw (cond-false _ _ _ other) (sighted-all (λ p. same_pos (seen_place old) p ≡ false) list new apart.0 other, sighted-apart list new apart.1)
     ]
 
 pub all_sighted-apart : (list more : List Sighting) → Apart list → Apart (all_sighted list more)
 all_sighted-apart list [] apart = apart
 all_sighted-apart list (new ∷ more) apart = all_sighted-apart (sighted list new) more (sighted-apart list new apart)
 
-pub all_sighted-all : (P : Pos → Type 0) (list more : List Sighting) → AllByRecursion (λ s. P s.0) list → AllByRecursion (λ s. P s.0) more → AllByRecursion (λ s. P s.0) (all_sighted list more)
+pub all_sighted-all : (P : Pos → Type 0) (list more : List Sighting) → AllByRecursion (λ s. P (seen_place s)) list → AllByRecursion (λ s. P (seen_place s)) more → AllByRecursion (λ s. P (seen_place s)) (all_sighted list more)
 all_sighted-all P list [] all rest = all
 all_sighted-all P list (new ∷ more) all rest = all_sighted-all P (sighted list new) more (sighted-all P list new all rest.0) rest.1
 
@@ -179,20 +179,20 @@ without-among p r (q ∷ places) other is =
       ])
     ]
 
-all_without : (p : Pos) (places : List Pos) (list : List Sighting) → AllByRecursion (λ s. same_pos p s.0 ≡ false) list → AllByRecursion (λ s. among s.0 places ≡ true) list → AllByRecursion (λ s. among s.0 (without p places) ≡ true) list
+all_without : (p : Pos) (places : List Pos) (list : List Sighting) → AllByRecursion (λ s. same_pos p (seen_place s) ≡ false) list → AllByRecursion (λ s. among (seen_place s) places ≡ true) list → AllByRecursion (λ s. among (seen_place s) (without p places) ≡ true) list
 all_without p places [] others all = tt
-all_without p places (s ∷ list) others all = (without-among p s.0 places others.0 all.0, all_without p places list others.1 all.1)
+all_without p places (s ∷ list) others all = (without-among p (seen_place s) places others.0 all.0, all_without p places list others.1 all.1)
 
 -- positions that are pairwise two and among these are no more than these
-apart-fits : (list : List Sighting) (places : List Pos) → Apart list → AllByRecursion (λ s. among s.0 places ≡ true) list → length list ≤ length places
+apart-fits : (list : List Sighting) (places : List Pos) → Apart list → AllByRecursion (λ s. among (seen_place s) places ≡ true) list → length list ≤ length places
 apart-fits [] places apart all = omega arith
 apart-fits (s ∷ list) places apart all =
-    let rest = apart-fits list (without s.0 places) apart.1 (all_without s.0 places list apart.0 all.1) in
-    let one = without-length s.0 places all.0 in
+    let rest = apart-fits list (without (seen_place s) places) apart.1 (all_without (seen_place s) places list apart.0 all.1) in
+    let one = without-length (seen_place s) places all.0 in
     omega (arith, rest, one)
 
 -- sightings at these positions are no more, however often each is made
-pub all_sighted-fits : (more : List Sighting) (places : List Pos) → AllByRecursion (λ s. among s.0 places ≡ true) more → length (all_sighted [] more) ≤ length places
+pub all_sighted-fits : (more : List Sighting) (places : List Pos) → AllByRecursion (λ s. among (seen_place s) places ≡ true) more → length (all_sighted [] more) ≤ length places
 all_sighted-fits more places all =
     apart-fits (all_sighted [] more) places (all_sighted-apart [] more tt) (all_sighted-all (λ p. among p places ≡ true) [] more tt all)
 
@@ -225,7 +225,7 @@ sightings_of-room list whole cells parts more n is fits =
     omega (arith, grows, same)
 
 -- a property of positions is one of sightings there
-pub sightings_of-all : (P : Pos → Type 0) (cells : Cells) (parts : Parts) (places : List Pos) → AllByRecursion P places → AllByRecursion (λ s. P s.0) (sightings_of cells parts places)
+pub sightings_of-all : (P : Pos → Type 0) (cells : Cells) (parts : Parts) (places : List Pos) → AllByRecursion P places → AllByRecursion (λ s. P (seen_place s)) (sightings_of cells parts places)
 sightings_of-all P cells parts [] all = tt
 sightings_of-all P cells parts (r ∷ places) all = (all.0, sightings_of-all P cells parts places all.1)
 

@@ -21,7 +21,7 @@ use Rattle.ant_turn.specs.Turn.{arrived, has_ant, left_by_ant, stepped, with_ant
 use Rattle.ant_turn.proofs.Checks.{check_at-spared, killed_at-spared}
 use Rattle.ant_turn.proofs.Foes.{ants_among-cons}
 use Rattle.spec_record.proofs.CheckSteps.{all_of_flat_map, all_split}
-use Rattle.spec_record.specs.Claims.{EachOnce, Sighting, seen_positions}
+use Rattle.spec_record.specs.Claims.{EachOnce, Sighting, seen_cell, seen_place, seen_positions}
 use Rattle.spec_record.specs.Reads.{neighbours_if_manned, seen_around}
 use Rattle.spec_record.specs.Inner.Sightings.{all_sighted, sighted, sightings_of}
 use Rattle.spec_record.proofs.Sighting.{Apart}
@@ -36,35 +36,35 @@ all-then P Q so (r ∷ places) all = (so r all.0, all-then P Q so places all.1)
 
 -- sightings of these cells
 abbrev AreTrue : Cells → List Sighting → Type 0
-AreTrue cells list = AllByRecursion (λ (s : Sighting). s.2 ≡ cells s.0) list
+AreTrue cells list = AllByRecursion (λ (s : Sighting). seen_cell s ≡ cells (seen_place s)) list
 
-sighted-true : (cells : Cells) (list : List Sighting) (new : Sighting) → new.2 ≡ cells new.0 → AreTrue cells list → AreTrue cells (sighted list new)
+sighted-true : (cells : Cells) (list : List Sighting) (new : Sighting) → seen_cell new ≡ cells (seen_place new) → AreTrue cells list → AreTrue cells (sighted list new)
 sighted-true cells [] new is all = (is, tt)
 sighted-true cells (old ∷ list) new is all =
-    elim (cases_Bool (same_pos old.0 new.0)) [
+    elim (cases_Bool (same_pos (seen_place old) (seen_place new))) [
       | inl same ↦ rw (cond-true _ _ _ same) all
       | inr apart ↦ rw (cond-false _ _ _ apart) (all.0, sighted-true cells list new is all.1)
     ]
 
 -- what holds of the cells of a list with one more holds of the list's, and of that one
-sighted-each : (P : Cell → Type 0) (cells : Cells) (list : List Sighting) (new : Sighting) → new.2 ≡ cells new.0 → AreTrue cells list → AllByRecursion (λ (s : Sighting). P s.2) (sighted list new) →
-    AllByRecursion (λ (s : Sighting). P s.2) list × P new.2
+sighted-each : (P : Cell → Type 0) (cells : Cells) (list : List Sighting) (new : Sighting) → seen_cell new ≡ cells (seen_place new) → AreTrue cells list → AllByRecursion (λ (s : Sighting). P (seen_cell s)) (sighted list new) →
+    AllByRecursion (λ (s : Sighting). P (seen_cell s)) list × P (seen_cell new)
 sighted-each P cells [] new is are all = (tt, all.0)
 sighted-each P cells (old ∷ list) new is are all =
-    elim (cases_Bool (same_pos old.0 new.0)) [
+    elim (cases_Bool (same_pos (seen_place old) (seen_place new))) [
       | inl same ↦
-          let it = subst (AllByRecursion (λ (s : Sighting). P s.2)) (cond-true _ _ _ same) all in
-          let one : old.2 ≡ new.2 = are.0 ∙ ap cells (same_pos_true old.0 new.0 same) ∙ sym is in
+          let it = subst (AllByRecursion (λ (s : Sighting). P (seen_cell s))) (cond-true _ _ _ same) all in
+          let one : seen_cell old ≡ (seen_cell new) = are.0 ∙ ap cells (same_pos_true (seen_place old) (seen_place new) same) ∙ sym is in
           (it, subst P one it.0)
       | inr apart ↦
-          let it = subst (AllByRecursion (λ (s : Sighting). P s.2)) (cond-false _ _ _ apart) all in
+          let it = subst (AllByRecursion (λ (s : Sighting). P (seen_cell s))) (cond-false _ _ _ apart) all in
           let rest = sighted-each P cells list new is are.1 it.1 in
           ((it.0, rest.0), rest.1)
     ]
 
 -- what holds of the cells of all sightings holds at each position
-sightings-each : (P : Cell → Type 0) (cells : Cells) (parts : Parts) (places : List Pos) (list : List Sighting) → AreTrue cells list → AllByRecursion (λ (s : Sighting). P s.2) (all_sighted list (sightings_of cells parts places)) →
-    AllByRecursion (λ (s : Sighting). P s.2) list × AllByRecursion (λ r. P (cells r)) places
+sightings-each : (P : Cell → Type 0) (cells : Cells) (parts : Parts) (places : List Pos) (list : List Sighting) → AreTrue cells list → AllByRecursion (λ (s : Sighting). P (seen_cell s)) (all_sighted list (sightings_of cells parts places)) →
+    AllByRecursion (λ (s : Sighting). P (seen_cell s)) list × AllByRecursion (λ r. P (cells r)) places
 sightings-each P cells parts [] list are all = (all, tt)
 sightings-each P cells parts (r ∷ places) list are all =
     let new : Sighting = (r, parts, cells r) in
@@ -73,7 +73,7 @@ sightings-each P cells parts (r ∷ places) list are all =
     (one.0, (one.1, rest.1))
 
 pub seen-none : (colour : Colour) (cells : Cells) (p : Pos) (own parts : Parts) (places : List Pos) →
-    AllByRecursion (λ (s : Sighting). is_ant_of colour s.2.ant ≡ false) (all_sighted ((p, own, cells p) ∷ []) (sightings_of cells parts places)) → AllByRecursion (NoneAt colour cells) places
+    AllByRecursion (λ (s : Sighting). is_ant_of colour (seen_cell s).ant ≡ false) (all_sighted ((p, own, cells p) ∷ []) (sightings_of cells parts places)) → AllByRecursion (NoneAt colour cells) places
 seen-none colour cells p own parts places all =
     (sightings-each (λ (cell : Cell). is_ant_of colour cell.ant ≡ false) cells parts places ((p, own, cells p) ∷ []) (refl, tt) all).1
 
@@ -170,9 +170,9 @@ pub apart-once : (list : List Sighting) → Apart list → EachOnce (seen_positi
 apart-once [] apart = tt
 apart-once (old ∷ list) apart = (go list apart.0, apart-once list apart.1)
   where
-    go : (more : List Sighting) → AllByRecursion (λ (s : Sighting). same_pos old.0 s.0 ≡ false) more → AllByRecursion (λ r. r ≢ old.0) (seen_positions more)
+    go : (more : List Sighting) → AllByRecursion (λ (s : Sighting). same_pos (seen_place old) (seen_place s) ≡ false) more → AllByRecursion (λ r. r ≢ seen_place old) (seen_positions more)
     go [] all = tt
-    go (s ∷ more) all = ((λ e. same_pos_false old.0 s.0 all.0 (sym e)), go more all.1)
+    go (s ∷ more) all = ((λ e. same_pos_false (seen_place old) (seen_place s) all.0 (sym e)), go more all.1)
 
 -- where no foe of the ant that goes is seen, nobody is surrounded after its step
 module _ (sheet : Sheet) (cells : Cells) (p : Pos) (ant : Ant) (q : Pos) (next : ℕ) (left : 1 ≤ q.x) (top : 1 ≤ q.y) (some : 1 ≤ sheet.surround) (none : AllByRecursion (NoneAt (foe_of ant.colour) cells) (seen_around (stepped sheet cells p ant q next) q)) where

@@ -5,7 +5,7 @@ use Rattle.cell_world.specs.Parts.{Agree, has_part}
 use Rattle.cell_world.specs.Valid.{Valid}
 use Rattle.cell_world.specs.World.{Cells, World}
 use Rattle.ant_turn.specs.Minds.{Minds}
-use Rattle.spec_record.specs.Claims.{Claim}
+use Rattle.spec_record.specs.Claims.{Claim, seen_parts, seen_place}
 use Rattle.spec_record.specs.Holds.{Holds}
 use Rattle.spec_record.specs.Locality.{GoesOn, WritesAlone}
 use Rattle.spec_record.specs.Reads.{reads}
@@ -31,7 +31,7 @@ pub turn-WritesAlone : (minds : Minds) (seed : ℕ) (w : World) (place t : ℕ) 
 turn-WritesAlone minds seed w place t valid =
     let step = look_step minds seed w place w place t (GoesOn-itself w t valid) (Holds-itself minds w place t) in
     record {
-      parts = λ p k none. (step.each p).now_others k (unclaimed (writes minds w t) w.cells p k (all_with_cells (λ write. write.0 ≡ p → has_part write.1 k ≡ false) w.cells (writes minds w t) none));
+      parts = λ p k none. (step.each p).now_others k (unclaimed (writes minds w t) w.cells p k (all_with_cells (λ write. seen_place write ≡ p → has_part (seen_parts write) k ≡ false) w.cells (writes minds w t) none));
       rocks = λ p. (step.each p).same_kind;
       hills = λ p. (step.each p).same_hill;
     }

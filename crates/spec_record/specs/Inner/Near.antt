@@ -7,7 +7,7 @@ use Rattle.cell_world.specs.declared.ant.Colour.{Colour}
 use Rattle.cell_world.specs.declared.part.Part.TheVariants as part
 use Rattle.cell_world.specs.Cell.{is_ant_of}
 use Rattle.cell_world.specs.Parts.{only, union}
-use Rattle.spec_record.specs.Claims.{Sighting, seen_cell, seen_parts}
+use Rattle.spec_record.specs.Claims.{Sighting, seen_cell, seen_parts, seen_place}
 
 -- at most n columns and n rows apart
 pub record IsWithin (n : ℕ) (q r : Pos) : Type 0 where
@@ -23,7 +23,7 @@ number_near q r = (r.y + 2 - q.y) * 5 + (r.x + 2 - q.x)
 -- whether a position is in the list
 abbrev pub is_seen : Pos → List Sighting → Bool
 is_seen p [] = false
-is_seen p (old ∷ sightings) = same_pos old.0 p || is_seen p sightings
+is_seen p (old ∷ sightings) = same_pos (seen_place old) p || is_seen p sightings
 
 -- the marks of the cells near q are those of the positions that were seen, and of each of these it is seen who is there
 pub record AreSeen (q : Pos) (seen : List Bool) (list : List Sighting) : Type 0 where
