@@ -16,6 +16,7 @@ use Rattle.ant_turn.specs.Conditions.{meets}
 use Rattle.ant_turn.specs.Minds.{Minds, mind_of}
 use Rattle.ant_turn.specs.Renumber.{redirected, renumbered_ant, renumbered_cells, renumbered_world, with_mind}
 use Rattle.ant_turn.specs.Turn.{has_ant, instruction_at, is_blocked, turn}
+use Rattle.ant_turn.proofs.OtherAnts.{has_ant-mapped}
 use Rattle.ant_turn.proofs.RenumberLemmas.{after, meets-renumbered}
 use Rattle.ant_turn.proofs.RenumberedTurns.{redirected-self, turn-alike, with_mind-sheet}
 use Rattle.ant_asm.specs.declared.action.Action.{Action}
@@ -72,10 +73,6 @@ with_address-other addresses t address u apart = cond-false (t == u) address (ad
 
 -- no choice of a label hangs on the states
 module _ (f : Colour → ℕ → ℕ) where
-  has_ant-states : (o : Option Ant) → has_ant (option_map (renumbered_ant f) o) ≡ has_ant o
-  has_ant-states None = refl
-  has_ant-states (Some ant) = refl
-
   label_taken-states : (seed : ℕ) (cells : Cells) (place : ℕ) (p : Pos) (ant : Ant) (instruction : Action Label) →
       label_taken seed (renumbered_cells f cells) place p (renumbered_ant f ant) instruction ≡ label_taken seed cells place p ant instruction
   label_taken-states seed cells place p ant (Sense sight met unmet condition) =
@@ -87,7 +84,7 @@ module _ (f : Colour → ℕ → ℕ) where
   label_taken-states seed cells place p ant (Turn side on) = refl
   label_taken-states seed cells place p ant (Move met unmet) =
       let ahead : Cell = cells (adjacent_pos p ant.facing) in
-      ap (λ (b : Bool). if ahead.rocky || b then unmet else met) (has_ant-states ahead.ant)
+      ap (λ (b : Bool). if ahead.rocky || b then unmet else met) (has_ant-mapped (λ other. f other.colour other.state) (λ other. other.resting) ahead.ant)
   label_taken-states seed cells place p ant (Flip bound met unmet) = refl
 
   address_acted-states : (n seed : ℕ) (cells : Cells) (place : ℕ) (p : Pos) (ant : Ant) (at : Placed) (address : Address) →

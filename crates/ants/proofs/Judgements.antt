@@ -13,11 +13,7 @@ use Rattle.ants.specs.Verdict.{AreThere, IsJudged, IsRefusedAs, Judged, JudgesOn
 use Rattle.ants.specs.Verdict.FilesVerdict.{AllAccepted, FirstRefused}
 use Rattle.ants.proofs.Readings.{refused_text}
 use Rattle.ants.proofs.Texts.{one_refusal, some_reading}
-use Rattle.ants.proofs.Verdicts.{accepted_never_refused, never_bytes, one_bytes, one_content, one_verdict}
-
--- the contents of each name
-abbrev At : Type 0
-At = List ℕ → Option (List ℕ)
+use Rattle.ants.proofs.Verdicts.{At, accepted_never_refused, never_bytes, one_bytes, one_content, one_verdict}
 
 one_text_fault : (at : At) (file : File) (first second : Fetched) (a b : FileFault) → IsTold (Some at) first → IsTold (Some at) second → IsNoText file first a → IsNoText file second b → a ≡ b
 one_text_fault at file first second a b one two is also =

@@ -2,6 +2,7 @@
 use Rattle.std.proofs.Common.{◌≡◌, ℕ, ◌≤◌, Bool, true, false, List, [], ◌∷◌, ◌++◌, refl, sym, ap, subst, arith, inl, inr, Result, Ok, Err, Option, None, Some}
 use Rattle.std.specs.Prelude.{IsErrAnd, Vec}
 use Rattle.ant_base.proofs.Fetching.{fetches_none, fetches_one, fetches_then}
+use Rattle.ant_base.proofs.Pushing.{rose_later}
 use Rattle.ant_base.specs.Faults.{Rose}
 use Rattle.ant_base.specs.Fetched.{Fetched}
 use Rattle.ant_base.specs.Shelf.{Fetches, FetchesEach, ShelfState}
@@ -94,17 +95,13 @@ unsure_before first second fetches name each unsure = go (first.sure name) refl
     go true is = let still : second.sure name ≡ true = each.sure name is in cc
     go false is = is
 
--- a count that rose since later rose since before
-rose_before : (first second third : ℕ) → first ≤ second → Rose second third → Rose first third
-rose_before first second third later rose = omega arith
-
 reading_stops_later : (first second third : ShelfState) (a b : List File) (fetches more : List Fetched) (contents : List FileContent) (reason : Reason) → FetchesEach first second fetches → AreAccepted a fetches contents
     → ReadingStops second third b more reason → ReadingStops first third (a ++ b) (fetches ++ more) reason
 reading_stops_later first second third a b fetches more contents (AtFile name) each accepted stops =
     record {
       stopped = stops_later (IsUnsure first name) a b fetches more contents accepted
           (stops_weaker (IsUnsure second name) (IsUnsure first name) b more (λ file fetch is. record { named = is.named; failed = is.failed; unsure = unsure_before first second fetches name each is.unsure }) stops.stopped);
-      rose = rose_before first.faults second.faults third.faults each.later stops.rose;
+      rose = rose_later first.faults second.faults third.faults each.later stops.rose;
     }
 reading_stops_later first second third a b fetches more contents AtOutput each accepted stops = stops
 reading_stops_later first second third a b fetches more contents (AtInput name fault) each accepted stops = stops_later (IsRefusedAs name fault) a b fetches more contents accepted stops

@@ -29,7 +29,7 @@ use Rattle.ants.specs.FaultLines.Reason.{AtFile, AtOutput, AtInput, AtRoom, AtMe
 use Rattle.ants.proofs.Texts.{never_both, one_reading}
 
 -- the contents of each name
-abbrev At : Type 0
+abbrev pub At : Type 0
 At = List ℕ → Option (List ℕ)
 
 some_same : (a b : List ℕ) → Some a ≡ Some b → a ≡ b

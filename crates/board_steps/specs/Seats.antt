@@ -34,10 +34,6 @@ first_at basis = made_one (has_seen (first_seat basis))
 abbrev pub second_at : Basis → View
 second_at basis = newcomer (has_seen (first_seat basis))
 
--- a seat that took the look of a ticket
-abbrev pub view_taking : View → ℕ → View
-view_taking v ticket = record v { phase = Resting; took = v.took ++ ticket ∷ [] }
-
 -- a board is for the turns 0 to 6 of a field, which is lent for them
 pub record IsFor (field : FieldValue) (board : Board) : Type 0 where
   pub lent : IsLentFor field (board_window board)

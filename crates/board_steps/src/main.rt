@@ -13,10 +13,10 @@ ghost use Rattle.std.specs.Prelude.{◌≡◌, ◌≢◌, ℕ, ◌+◌, ◌<◌,
 ghost use Rattle.round_book.specs.Book.{CanBegin, StandsFor, StandsOn, window_of};
 ghost use Rattle.round_book.specs.Machine.{times};
 ghost use Rattle.round_book.specs.Window.{guesses_for, look_for};
-ghost use Rattle.round_workers.specs.BoardPlays.{drew, has_put, views_joined};
+ghost use Rattle.round_workers.specs.BoardPlays.{drew, has_put, has_taken, views_joined};
 ghost use Rattle.round_workers.specs.BoardSeats as seats;
 ghost use Rattle.round_workers.specs.BoardSeats.{IsSeatOf, basis_of, known};
-ghost use Rattle.board_steps.specs.Seats.{AreLeft, CanWork, IsFirst, IsFor, IsLaid, IsSecond, Shows, calm, first_at, second_at, view_taking};
+ghost use Rattle.board_steps.specs.Seats.{AreLeft, CanWork, IsFirst, IsFor, IsLaid, IsSecond, Shows, calm, first_at, second_at};
 
 use ant_base::{LONGEST, NoGate};
 use ant_turn::{Brains, Sheet};
@@ -193,7 +193,7 @@ fn settle_look<R: Print>(
     requires stands { StandsFor (seats.board_window board.now) book.old }
     requires left { book.old.next < 7 }
     ensures board { OnSome result (IsSeatOf board.now seat.new) }
-    ensures took { OnSome result (calm (known seat.new) ≡ view_taking (calm (known seat.old)) book.old.next) }
+    ensures took { OnSome result (calm (known seat.new) ≡ has_taken (calm (known seat.old)) book.old.next) }
     ensures stands { OnSome result (StandsFor (seats.board_window board.now) book.new) }
     ensures next { OnSome result (book.new.next ≡ book.old.next + 1) }
 {
@@ -218,7 +218,7 @@ fn settle_both<R: Print>(
     requires a { Shows board.now (drew (first_at (basis_of board.now)) 0) a.old }
     requires b { Shows board.now (has_put (drew (second_at (basis_of board.now)) 1) 1) b.old }
     ensures a { OnSome result (Shows board.now (has_put (drew (first_at (basis_of board.now)) 0) 0) a.new) }
-    ensures b { OnSome result (Shows board.now (view_taking (view_taking (has_put (drew (second_at (basis_of board.now)) 1) 1) 0) 1) b.new) }
+    ensures b { OnSome result (Shows board.now (has_taken (has_taken (has_put (drew (second_at (basis_of board.now)) 1) 1) 0) 1) b.new) }
 {
     put(board, field, a, 0);
     println!(rt; "a puts the look of turn 0: done").ok()?;
@@ -275,7 +275,7 @@ fn close_first<R: Print>(rt: &R, board: Board, a: Seat, b: Seat) -> Option<Close
     requires from { (basis_of board).from ≡ 0 }
     requires to { (basis_of board).to ≡ 7 }
     requires a { Shows board (has_put (drew (first_at (basis_of board)) 0) 0) a }
-    requires b { Shows board (view_taking (view_taking (has_put (drew (second_at (basis_of board)) 1) 1) 0) 1) b }
+    requires b { Shows board (has_taken (has_taken (has_put (drew (second_at (basis_of board)) 1) 1) 0) 1) b }
     ensures book { IfSome result (λ closed. StandsFor (seats.board_window board) closed.book) }
     ensures drawn { IfSome result (λ closed. closed.drawn ≡ 2) }
     ensures looks { IfSome result (λ closed. (k : ℕ) → k < 7 → slice_index_or closed.looks.items k None ≡ None) }

@@ -50,12 +50,6 @@ put-keeps w p cell inside hill food colour =
     let same : hill_food_in colour cell ≡ hill_food_in colour (w.cells p) = ap₂ (λ (h : Option Colour) (f : ℕ). cond (is_hill_of colour h) f 0) hill food in
     omega (arith, counted, same)
 
--- the cell that a stepping ant leaves
-pub stepped-left : (sheet : Sheet) (cells : Cells) (p : Pos) (ant : Ant) (q : Pos) (next : ℕ) → p ≢ q → stepped sheet cells p ant q next p ≡ left_by_ant (cells p)
-unfolding stepped
-stepped-left sheet cells p ant q next apart =
-    put_cell-other (put_cell cells p (left_by_ant (cells p))) q (with_ant (cells q) (arrived sheet ant next)) p (λ (e : q ≡ p). apart (sym e)) ∙ put_cell-same cells p (left_by_ant (cells p))
-
 -- an ant steps to another cell
 step-counts : (sheet : Sheet) (w : World) (p : Pos) (ant : Ant) (q : Pos) (next : ℕ) → IsInside w.width w.height p → IsInside w.width w.height q → p ≢ q → CountsAt w p (stepped sheet w.cells p ant q next)
 unfolding stepped

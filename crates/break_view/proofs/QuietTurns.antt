@@ -23,12 +23,14 @@ use Rattle.ant_turn.specs.Turn.{Outcome, has_ant, instruction_at, stepped, turn}
 use Rattle.ant_turn.proofs.KeptByTurns.{free_apart}
 use Rattle.ant_turn.proofs.OwnCells.{Stays}
 use Rattle.ant_turn.proofs.TurnParts.{Does, Stayed, turn_parts}
+use Rattle.spec_record.proofs.Stepping.{stepped-from}
+use Rattle.round_book.proofs.CountLemmas.{same_colour-true}
 use Rattle.break_view.specs.declared.breaks.Break.{Break}
 use Rattle.break_view.specs.declared.breaks.Break.TheVariants.{Round, State, Stand, Food, Killed, Score}
 use Rattle.break_view.specs.Inner.Counting.{cell_at}
 use Rattle.break_view.specs.Met.{ant_at, clear_cell, first_met, has_ant_of, if_clear, is_fed, is_in_state, is_met}
 use Rattle.break_view.specs.Inner.Watching.{IsNamed, IsQuietButStates, LooksSame, food_in, is_left, names, names_ant}
-use Rattle.break_view.proofs.HillFood.{put-keeps, spared, stepped-left}
+use Rattle.break_view.proofs.HillFood.{put-keeps, spared}
 
 -- a test of a clear cell gives the same after a change of the cell that it doesn't tell
 clear_same : (old new : Cell) (test : Option Cell → Bool) → new.rocky ≡ old.rocky → test (Some new) ≡ test (Some old) → test (if_clear new) ≡ test (if_clear old)
@@ -67,7 +69,7 @@ does_stay instruction sheet cells p ant outcome is (inr went) none there =
     let spares = spared sheet (places_around q) (stepped sheet cells p ant q went.next) (ap (λ (o : Outcome). o.killed) (sym went.is) ∙ none) in
     let gone : has_ant (outcome.cells p).ant ≡ false =
     ap (λ (o : Outcome). has_ant (o.cells p).ant) went.is ∙ ap (λ (now : Cells). has_ant (now p).ant) spares
-    ∙ ap (λ (c : Cell). has_ant c.ant) (stepped-left sheet cells p ant q went.next (free_apart cells p ant q is went.free)) in
+    ∙ ap (λ (c : Cell). has_ant c.ant) (stepped-from sheet cells p ant q went.next (free_apart cells p ant q is went.free)) in
     absurd (let both : false ≡ true = sym gone ∙ there in cc)
 
 -- so its turn changes no break but those of states
@@ -112,15 +114,9 @@ state_away red black colour state None named away = refl
 state_away red black colour state (Some ant) named away = false_from_ne_true (same_colour colour ant.colour && (ant.state == state)) λ both.
     let parts = and_parts (same_colour colour ant.colour) (ant.state == state) both in
     let here : names red black ant.colour ant.state ≡ names red black colour state =
-    ap (names red black ant.colour) (eqb-true ant.state state parts.1) ∙ ap (λ (c : Colour). names red black c state) (sym (one_colour colour ant.colour parts.0)) in
+    ap (names red black ant.colour) (eqb-true ant.state state parts.1) ∙ ap (λ (c : Colour). names red black c state) (sym (same_colour-true colour ant.colour parts.0)) in
     let never : false ≡ true = sym away ∙ here ∙ named in
     absurd (cc)
-  where
-    one_colour : (a b : Colour) → same_colour a b ≡ true → a ≡ b
-    one_colour Red Red e = refl
-    one_colour Red Black e = absurd (let never : false ≡ true = e in cc)
-    one_colour Black Red e = absurd (let never : false ≡ true = e in cc)
-    one_colour Black Black e = refl
 
 module _ (w v : World) (r t u : ℕ) (looks : LooksSame w v) (red black : List Bool) (away : names_ant red black (ant_at v (place_in v u)) ≡ false) where
   item_unmet : (item : Break) → IsNamed red black item → is_met item w r t ≡ false → is_met item v r u ≡ false

@@ -26,6 +26,7 @@ use Rattle.command_words.specs.Inner.Fronts.{words_before}
 use Rattle.list_lemmas.proofs.AllElements.{AllByRecursion-append}
 use Rattle.command_words.proofs.ReadLemmas.{IsBeginning-take}
 use Rattle.command_words.proofs.WalkSteps.{texts-front, texts-past, texts-rest}
+use Rattle.command_words.proofs.WalkNames.{all-between}
 
 -- a word has a byte
 abbrev IsSome : List ℕ → Type 0
@@ -108,13 +109,8 @@ command-some words command is =
           (joined-some (places_of (kind_in command)) is.front is.form.places) (given-some (kind_in command) is.given is.form.options),
     )
 
--- what holds of all holds of one between
-AllByRecursion-between : {X : Type 0} (P : X → Type 0) (xs : List X) (y : X) (ys : List X) → AllByRecursion P (xs ++ y ∷ ys) → P y
-AllByRecursion-between P [] y ys all = all.0
-AllByRecursion-between P (x ∷ xs) y ys all = AllByRecursion-between P xs y ys all.1
-
 no_empty : (front back : List (List ℕ)) (command : PlainCommand) → ¬ IsCommand (front ++ [] ∷ back) command
-no_empty front back command is = AllByRecursion-between IsSome front [] back (command-some (front ++ [] ∷ back) command is)
+no_empty front back command is = all-between IsSome front [] back (command-some (front ++ [] ∷ back) command is)
 
 not_begun : (front : List (List ℕ)) → ¬ IsBeginning (front ++ [] ∷ [])
 not_begun front is = no_empty front is.more is.command (subst (λ (words : List (List ℕ)). IsCommand words is.command) (append_assoc front ([] ∷ []) is.more) is.whole)

@@ -162,7 +162,7 @@ run-more kind list due words names before word is_name may =
     ∙ ap (λ b. go_on (cond b (Some (Names list ∷ due)) None) (length before + 1) (λ later. walk kind words later (names ++ word ∷ []) (before ++ word ∷ []))) may
 
 -- what holds of each holds of the one between
-all-between : {X : Type 0} (P : X → Type 0) (xs : List X) (x : X) (ys : List X) → AllByRecursion P (xs ++ x ∷ ys) → P x
+pub all-between : {X : Type 0} (P : X → Type 0) (xs : List X) (x : X) (ys : List X) → AllByRecursion P (xs ++ x ∷ ys) → P x
 all-between P [] x ys all = all.0
 all-between P (first ∷ xs) x ys all = all-between P xs x ys all.1
 

@@ -1,14 +1,11 @@
 -- The looks of a job.
 use Rattle.std.proofs.Common.{◌≡◌, ℕ, zero, suc, ◌+◌, ◌-◌, ◌<◌, ◌≤◌, List, [], ◌∷◌, ◌++◌, length, slice_index_or, take, drop, refl, sym, subst, ap, ◌∙◌, arith}
 use Rattle.std.specs.List.{AllByRecursion}
+use Rattle.list_lemmas.proofs.AllElements.{AllByRecursion-push}
 use Rattle.cell_world.specs.Grid.{Grid, world_of}
 use Rattle.ant_turn.specs.Minds.{Minds}
 use Rattle.spec_record.specs.Look.{LookValue, look_of}
 use Rattle.far_crew.specs.Jobs.{IsLookOf, JobValue, looks_of}
-
-all_snoc : {X : Type 0} (P : X → Type 0) (xs : List X) (x : X) → AllByRecursion P xs → P x → AllByRecursion P (xs ++ x ∷ [])
-all_snoc P [] y all holds = (holds, tt)
-all_snoc P (x ∷ xs) y all holds = (all.0, all_snoc P xs y all.1 holds)
 
 pub all_at : {X : Type 0} (P : X → Type 0) (xs : List X) (i : ℕ) (d : X) → AllByRecursion P xs → i < length xs → P (slice_index_or xs i d)
 all_at P [] i d all early = absurd (omega arith)
@@ -23,7 +20,7 @@ is_look_of minds seed base guess t below = record { below = below; is = refl }
 looks_of-each : (job : JobValue) (n : ℕ) → job.from + n ≤ job.base.ids → AllByRecursion (IsLookOf job.minds job.seed job.base) (looks_of job n)
 looks_of-each job zero within = tt
 looks_of-each job (suc n) within =
-    all_snoc (IsLookOf job.minds job.seed job.base) (looks_of job n) (look_of job.minds job.seed (world_of job.base) (slice_index_or job.guesses n 0) (job.from + n))
+    AllByRecursion-push (IsLookOf job.minds job.seed job.base) (looks_of job n) (look_of job.minds job.seed (world_of job.base) (slice_index_or job.guesses n 0) (job.from + n))
     (looks_of-each job n (omega arith)) (is_look_of job.minds job.seed job.base (slice_index_or job.guesses n 0) (job.from + n) (omega arith))
 
 pub looked-each : (job : JobValue) (looks : List LookValue) → job.from ≤ job.to → job.to ≤ job.base.ids → looks ≡ looks_of job (job.to - job.from) → AllByRecursion (IsLookOf job.minds job.seed job.base) looks

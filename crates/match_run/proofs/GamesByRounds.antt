@@ -5,6 +5,7 @@ use Rattle.ant_turn.specs.Rounds.{Moment, after_rounds, start_of}
 use Rattle.ant_turn.proofs.HillsKept.{games_keep_hills}
 use Rattle.cell_world.specs.Grid.{Grid, world_of}
 use Rattle.round_book.specs.Book.{FieldValue, field_moment}
+use Rattle.round_book.proofs.BookLemmas.{moment_at}
 use Rattle.match_run.specs.Counts.{totals_of}
 use Rattle.match_run.specs.GameLaws.{AreRounds, GamesFollowTheRules, GamesGoOnByRounds, GamesKeepTheirHills, IsRoundAtLast}
 use Rattle.match_run.specs.Game.{GameValue, GoesOnFor, IsRoundPlayed, IsRoundRefused, beginning}
@@ -38,9 +39,7 @@ games_go_on_by_rounds old new (suc r) sized ends (mid, rounds, (refusals, last))
 
 -- a field at place 0 stands where a game of its world starts
 field-start : (field : FieldValue) → field.place ≡ 0 → field_moment field ≡ start_of (world_of field.world)
-field-start field first = ap (λ (place : ℕ). moment_at place) first where
-  moment_at : ℕ → Moment
-  moment_at place = record { world = world_of field.world; place = place }
+field-start field first = ap (moment_at (world_of field.world)) first
 
 pub games_follow_the_rules : GamesFollowTheRules
 unfolding world_after

@@ -11,12 +11,9 @@ use Rattle.ant_turn.specs.Rounds.{Moment, after_turn, after_turns, after_round, 
 use Rattle.ant_turn.specs.Turn.{turn}
 use Rattle.ant_turn.proofs.KeptByRounds.{IsWithin, after_rounds-more, after_turn-place, after_turns-ids, after_turns-more, after_turns-place, after_turns-then}
 use Rattle.ant_turn.proofs.RestingChunks.{AreUp-next}
+use Rattle.round_book.proofs.BookLemmas.{moment_at}
 use Rattle.match_run.specs.Run.{world_after}
 use Rattle.match_run.specs.Inner.Sequential.{RoundTaken, moment_from}
-
--- the moment of a world and a place
-abbrev moment_at : World → ℕ → Moment
-moment_at w place = record { world = w; place = place }
 
 -- a world and a stream are those after so many turns of a round that starts with others
 pub record IsTaken (minds : Minds) (first : Grid) (start : SeedAndPlace) (turns : ℕ) (grid : Grid) (stream : SeedAndPlace) : Type 0 where

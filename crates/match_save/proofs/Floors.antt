@@ -20,6 +20,7 @@ use Rattle.hex_geometry.specs.RowOrder.{pos_at}
 use Rattle.cell_world.proofs.GridLemmas.{cell_in-beyond, cell_in-column}
 use Rattle.hex_geometry.proofs.RowLemmas.{pos_at-index_of}
 use Rattle.cell_world.proofs.GridSums.{cell_in-pos_at, weight-list}
+use Rattle.ant_turn.specs.Turn.{left_by_ant}
 use Rattle.match_save.specs.declared.soil.Soil.{Soil}
 use Rattle.match_save.specs.declared.soil.Soil.TheVariants.{Rock, Clear, RedHill, BlackHill}
 use Rattle.match_save.specs.Draft.{Draft, IsAnt, IsInForm}
@@ -133,10 +134,6 @@ rock-rocky = refl
 empty-rock : is_empty_cell rock ≡ true
 unfolding rock
 empty-rock = refl
-
--- a cell without its ant
-abbrev emptied : Cell → Cell
-emptied cell = record cell { ant = None }
 
 module _ (d : Draft) (ok : IsInForm d) where
   floor : Grid
@@ -298,13 +295,13 @@ module _ (d : Draft) (ok : IsInForm d) where
     pub sound-state : are_sound_cells d.head.width d.head.height 0 (floor_of d).cells ≡ true
     unfolding grid_of_draft
     sound-state = all-sound d.head.width d.head.height (floor_of d).cells 0 one where
-      there : (i : ℕ) → emptied (get_or (with_ants d.head.width d.ants (floor_of d).cells) i rock) ≡ emptied (get_or (floor_of d).cells i rock)
+      there : (i : ℕ) → left_by_ant (get_or (with_ants d.head.width d.ants (floor_of d).cells) i rock) ≡ left_by_ant (get_or (floor_of d).cells i rock)
       there i =
-          sym (get_or-mapped emptied (with_ants d.head.width d.ants (floor_of d).cells) i rock)
-          ∙ ap (λ l. get_or l i (emptied rock)) (map-with_ants d.head.width emptied (λ c ant. refl) d.ants (floor_of d).cells)
-          ∙ get_or-mapped emptied (floor_of d).cells i rock
+          sym (get_or-mapped left_by_ant (with_ants d.head.width d.ants (floor_of d).cells) i rock)
+          ∙ ap (λ l. get_or l i (left_by_ant rock)) (map-with_ants d.head.width left_by_ant (λ c ant. refl) d.ants (floor_of d).cells)
+          ∙ get_or-mapped left_by_ant (floor_of d).cells i rock
 
-      plain : (i : ℕ) → emptied (get_or (floor_of d).cells i rock) ≡ get_or (floor_of d).cells i rock
+      plain : (i : ℕ) → left_by_ant (get_or (floor_of d).cells i rock) ≡ get_or (floor_of d).cells i rock
       plain i = ap (λ (o : Option Ant). record (get_or (floor_of d).cells i rock) { ant = o }) (sym (bare-none d.soils d.red_marks d.black_marks d.foods i))
 
       one : (k : ℕ) → k < length (floor_of d).cells → is_sound_cell d.head.width d.head.height (0 + k) (get_or (floor_of d).cells k rock) ≡ true
@@ -321,5 +318,5 @@ module _ (d : Draft) (ok : IsInForm d) where
         go : (b : Bool) → (get_or (floor_of d).cells k rock).rocky ≡ b → cond b (is_empty_cell (get_or (floor_of d).cells k rock)) (not (is_on_rim d.head.width d.head.height (pos_at d.head.width k))) ≡ true
         go true is =
             let bare : cell_in (grid_of_draft d) p ≡ rock = state.world.valid.bare p (ap (λ (c : Cell). c.rocky) read ∙ same_rock ∙ is) in
-            ap is_empty_cell (sym (plain k) ∙ sym (there k) ∙ ap emptied (sym read ∙ bare)) ∙ empty-rock
+            ap is_empty_cell (sym (plain k) ∙ sym (there k) ∙ ap left_by_ant (sym read ∙ bare)) ∙ empty-rock
         go false is = ap not (inner-off_rim d.head.width d.head.height p (state.world.valid.rim p (ap (λ (c : Cell). c.rocky) read ∙ same_rock ∙ is)))

@@ -57,7 +57,7 @@ pub own-CanTake : (minds : Minds) (seed : ℕ) (w : World) (place t : ℕ) → A
 own-CanTake minds seed w place t sound valid fits =
     look-CanTake minds seed w place w place t sound valid valid fits (GoesOn-itself w t valid) (Holds-itself minds w place t)
 
-abbrev moment_at : World → ℕ → Moment
+abbrev pub moment_at : World → ℕ → Moment
 moment_at w place = record { world = w; place = place }
 
 own-turn : (minds : Minds) (seed : ℕ) (w : World) (place t : ℕ) → Valid w →

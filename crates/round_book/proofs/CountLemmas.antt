@@ -35,7 +35,7 @@ use Rattle.round_book.specs.declared.verdict.Verdict.TheVariants.{Taken, Redone}
 use Rattle.round_book.specs.Counts.{counts_of, do_agree, is_alike, is_alike_if, is_taken, is_taken_verdict, is_unchanged, look_holds, same_identity, same_if_any, same_load, same_posture, taken_among}
 use Rattle.round_book.specs.Window.{AreVerdicts, HoldsIn, IsVerdict, Window, guess_for, look_for, moment_before}
 
-same_colour-true : (a b : Colour) → same_colour a b ≡ true → a ≡ b
+pub same_colour-true : (a b : Colour) → same_colour a b ≡ true → a ≡ b
 same_colour-true Red Red same = refl
 same_colour-true Red Black same = absurd (false≢true same)
 same_colour-true Black Red same = absurd (false≢true same)

@@ -7,11 +7,11 @@ use Rattle.spec_record.specs.Guess.{guess, guesses_of}
 use Rattle.round_book.specs.Window.{Window, guess_for, guesses_for}
 use Rattle.round_book.proofs.SoloLemmas.{guess_for-le}
 
-guesses_of-length : (minds : Minds) (w : World) (place from t n : ℕ) → length (guesses_of minds w place from t n) ≡ n
+pub guesses_of-length : (minds : Minds) (w : World) (place from t n : ℕ) → length (guesses_of minds w place from t n) ≡ n
 guesses_of-length minds w place from t zero = refl
 guesses_of-length minds w place from t (suc n) = ap suc (guesses_of-length minds w place from (suc t) n)
 
-guesses_of-at : (minds : Minds) (w : World) (place from t n k d : ℕ) → k < n → slice_index_or (guesses_of minds w place from t n) k d ≡ guess minds w place from (t + k)
+pub guesses_of-at : (minds : Minds) (w : World) (place from t n k d : ℕ) → k < n → slice_index_or (guesses_of minds w place from t n) k d ≡ guess minds w place from (t + k)
 guesses_of-at minds w place from t zero k d h = absurd (omega arith)
 guesses_of-at minds w place from t (suc n) zero d h = ap (guess minds w place from) (let e : t ≡ t + 0 = omega arith in e)
 guesses_of-at minds w place from t (suc n) (suc k) d h = guesses_of-at minds w place from (suc t) n k d (omega arith) ∙ ap (guess minds w place from) (let e : suc t + k ≡ t + suc k = omega arith in e)

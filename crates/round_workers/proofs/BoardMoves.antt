@@ -8,12 +8,10 @@ use Rattle.round_workers.specs.declared.board.view.BoardSlot.{BoardSlot}
 use Rattle.round_workers.specs.declared.board.view.BoardSlot.TheVariants.{Nothing}
 use Rattle.round_workers.specs.declared.board.view.View.{View}
 use Rattle.round_workers.specs.BoardPlays.{has_put, puts_now}
+pub use Rattle.round_workers.specs.BoardPlays.{At}
 use Rattle.round_workers.specs.BoardSeats.{IsHandOf}
 use Rattle.round_workers.specs.BoardView.{IsAtRest, out_with}
 use Rattle.round_workers.specs.declared.board.view.Phase.TheVariants.{Resting}
-
-abbrev pub At : Type 0
-At = Me BoardSlot View
 
 -- a hand of a board after a step: it is of the same table, and knows the window still
 pub hand_after : (board : Board) (hand new : Hand BoardSlot View) → new.table_id ≡ hand.table_id → new.me.0.about ≡ hand.me.0.about → IsHandOf board hand → IsHandOf board new

@@ -15,7 +15,7 @@ use Rattle.round_workers.specs.declared.board.view.View.{View}
 use Rattle.round_workers.specs.BoardView.{book_home, book_out, look_emptied, look_empty, look_full, look_in_hand, window_about}
 
 -- a seat as the table sees it: its view, and what it has in hand
-abbrev At : Type 0
+abbrev pub At : Type 0
 At = Me BoardSlot View
 
 -- a step with these numbers, and one on this word with them. A load, and what writes one number, has 0 for the second; only a compare-exchange

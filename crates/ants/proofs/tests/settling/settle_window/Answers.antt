@@ -6,20 +6,9 @@ use Rattle.cell_world.specs.World.{World}
 use Rattle.spec_record.specs.Guess.{guess, guesses_of}
 use Rattle.round_book.specs.Book.{BookValue, FieldValue, IsSameWindow, StandsOn}
 use Rattle.round_book.specs.Window.{guess_for}
+use Rattle.round_book.proofs.GuessLemmas.{guesses_of-at, guesses_of-length}
 use Rattle.round_book.proofs.SoloLemmas.{Going, going-guess, going-look}
 use Rattle.ants.proofs.tests.settling.settle_window.Goals as goal
-
--- how many there are
-length-guesses_of : (minds : Minds) (base : World) (place from t n : ℕ) → length (guesses_of minds base place from t n) ≡ n
-length-guesses_of minds base place from t zero = refl
-length-guesses_of minds base place from t (suc n) = ap suc (length-guesses_of minds base place from (suc t) n)
-
--- the guess in place k
-guesses_of-at : (minds : Minds) (base : World) (place from t n k d : ℕ) → k < n → slice_index_or (guesses_of minds base place from t n) k d ≡ guess minds base place from (t + k)
-guesses_of-at minds base place from t zero k d below = absurd (omega (arith, below))
-guesses_of-at minds base place from t (suc n) zero d below = ap (guess minds base place from) (let same : t ≡ t + 0 = omega arith in same)
-guesses_of-at minds base place from t (suc n) (suc k) d below =
-    guesses_of-at minds base place from (suc t) n k d (omega (arith, below)) ∙ ap (guess minds base place from) (let same : suc t + k ≡ t + suc k = omega arith in same)
 
 -- the guesses of a window
 abbrev AreGuesses : FieldValue → BookValue → List ℕ → Type 0
@@ -27,7 +16,7 @@ AreGuesses field book guesses = guesses ≡ guesses_of field.minds (world_of fie
 
 -- a window has a guess for each turn
 length-given : (field : FieldValue) (book : BookValue) (guesses : List ℕ) → AreGuesses field book guesses → length guesses ≡ book.to - book.from
-length-given field book guesses given = ap length given ∙ length-guesses_of field.minds (world_of field.world) field.place book.from book.from (book.to - book.from)
+length-given field book guesses given = ap length given ∙ guesses_of-length field.minds (world_of field.world) field.place book.from book.from (book.to - book.from)
 
 -- where a window stands after some turns
 going-at : (field : FieldValue) (old book : BookValue) (guesses : List ℕ) (k id : ℕ) → AreGuesses field old guesses → k < length guesses → StandsOn field book → IsSameWindow old book → book.next ≡ old.from + k → id ≡ book.next
