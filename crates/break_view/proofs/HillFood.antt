@@ -28,6 +28,7 @@ use Rattle.ant_turn.specs.Sheet.{Sheet}
 use Rattle.ant_turn.specs.Turn.{acts, ant_becomes, arrived, checked, execute, in_state, instruction_at, is_blocked, left_by_ant, stepped, turn, turn_from, turn_at, with_ant}
 use Rattle.ant_turn.proofs.Checks.{check_at-cases}
 use Rattle.ant_turn.proofs.KeptByTurns.{free_apart, free_clear}
+use Rattle.spec_record.proofs.Stepping.{stepped-from}
 use Rattle.break_view.specs.Inner.Counting.{cell_at, score_in_any, IsCounted, CanCount}
 
 -- the food that the cell at a position gives, where there is a position
@@ -58,7 +59,7 @@ step-counts sheet w p ant q next inside beyond apart colour =
     let there : left q ≡ w.cells q = put_cell-other w.cells p (left_by_ant (w.cells p)) q apart in
     let second = put-keeps (put w p (left_by_ant (w.cells p))) q (with_ant (w.cells q) (arrived sheet ant next)) beyond (ap (λ (c : Cell). c.hill) (sym there)) (ap (λ (c : Cell). c.food) (sym there)) colour in
     let first = put-keeps w p (left_by_ant (w.cells p)) inside refl refl colour in
-    let own : hill_food_in colour (put_cell left q (with_ant (w.cells q) (arrived sheet ant next)) p) ≡ hill_food_in colour (w.cells p) = ap (hill_food_in colour) (stepped-left sheet w.cells p ant q next apart) in
+    let own : hill_food_in colour (put_cell left q (with_ant (w.cells q) (arrived sheet ant next)) p) ≡ hill_food_in colour (w.cells p) = ap (hill_food_in colour) (stepped-from sheet w.cells p ant q next apart) in
     omega (arith, first, second, own)
 
 -- checks that kill nobody change nothing

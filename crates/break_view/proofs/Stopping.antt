@@ -78,7 +78,7 @@ module _ {minds : Minds} {seed : ℕ} {w : World} {items : List Break} {round : 
       → later.seed ≡ stream.seed → later.place ≤ stream.place + most_ants → Fits (world_of next) minds → now ≡ score_of (world_of next) → IsWatched minds seed w items (round + 1) next later now
   watched-more next later now passes same few fits scored = record {
     scored = scored;
-    after = IsAfter-more watched.after next later passes.moment same few fits;
+    after = IsAfter-more watched.after next later (record { moment = passes.moment; seed = same; place = few; fit = fits });
     quiet = λ r t turn. go r t turn (nat_lt r (round + 1)) refl;
   }
     where
