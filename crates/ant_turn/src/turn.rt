@@ -22,7 +22,7 @@ use crate::sheet::Sheet;
 use ant_random::Stream;
 use arrayvec::ArrayVec;
 use brain_read::Instr;
-use cell_world::{Ant, Cell, Ground};
+use cell_world::{Ant, Cell, Ground, PlacedAnt};
 use hex_geometry::{Pos, adjacent, sensed};
 
 /// What a turn did besides changing the ground (this project's own; the draw and the kills are the task's number generation and martial
@@ -79,28 +79,28 @@ fn think<G: Ground>(ground: &mut G, p: Pos, ant: Ant) -> Deed
     idle()
 }
 
-// The ant of `p` steps onto `q`, and surrounded ants are checked around `q`.
+// The ant steps from its place onto `q`, and surrounded ants are checked around `q`.
 #[inline(always)]
 fn step<G: Ground>(
     ground: &mut G,
     sheet: Sheet,
-    p: Pos,
-    ant: Ant,
+    standing: PlacedAnt,
     q: Pos,
     there: &Cell,
     next: u16,
 ) -> Deed
-    requires stands { StandsAt (G.world ground.old) p ((G.world ground.old).cells p) ant }
+    requires stands { StandsAt (G.world ground.old) standing.place ((G.world ground.old).cells standing.place) standing.ant }
     requires there { there.now ≡ (G.world ground.old).cells q }
     requires free { turn.is_blocked there.now ≡ false }
     requires room { 9 ≤ G.room ground.old }
     ensures world { G.world ground.new ≡ with_cells (G.world ground.old)
-        (turn.checked (sheet_of sheet) (turn.stepped (sheet_of sheet) (G.world ground.old).cells p ant q next) q).cells }
+        (turn.checked (sheet_of sheet) (turn.stepped (sheet_of sheet) (G.world ground.old).cells standing.place standing.ant q next) q).cells }
     ensures drew { result.drew ≡ false }
-    ensures killed { result.killed.items ≡ (turn.checked (sheet_of sheet) (turn.stepped (sheet_of sheet) (G.world ground.old).cells p ant q next) q).killed }
+    ensures killed { result.killed.items ≡ (turn.checked (sheet_of sheet) (turn.stepped (sheet_of sheet) (G.world ground.old).cells standing.place standing.ant q next) q).killed }
     ensures room { G.room ground.old ≤ G.room ground.new + 9 }
     ensures valid { Valid (G.world ground.new) }
 {
+    let (p, ant) = (standing.place, standing.ant);
     let cell = ground.cell_at(p);
     ground.set(p, cell_without_ant(&cell));
     ground.set(q, cell_after_arrival(sheet, there, ant, next));
@@ -110,50 +110,51 @@ fn step<G: Ground>(
     }
 }
 
-// A Move of the ant of `p`.
+// A Move of the ant.
 #[inline(always)]
-fn go<G: Ground>(ground: &mut G, sheet: Sheet, p: Pos, ant: Ant, met: u16, unmet: u16) -> Deed
-    requires stands { StandsAt (G.world ground.old) p ((G.world ground.old).cells p) ant }
+fn go<G: Ground>(ground: &mut G, sheet: Sheet, standing: PlacedAnt, met: u16, unmet: u16) -> Deed
+    requires stands { StandsAt (G.world ground.old) standing.place ((G.world ground.old).cells standing.place) standing.ant }
     requires room { 9 ≤ G.room ground.old }
     ensures world { (seed place : ℕ) → G.world ground.new ≡ with_cells (G.world ground.old)
-        (turn.execute (sheet_of sheet) seed (G.world ground.old).cells place p ant (Instr.Move met unmet)).cells }
+        (turn.execute (sheet_of sheet) seed (G.world ground.old).cells place standing.place standing.ant (Instr.Move met unmet)).cells }
     ensures drew { result.drew ≡ false }
-    ensures killed { (seed place : ℕ) → result.killed.items ≡ (turn.execute (sheet_of sheet) seed (G.world ground.old).cells place p ant (Instr.Move met unmet)).killed }
+    ensures killed { (seed place : ℕ) → result.killed.items ≡ (turn.execute (sheet_of sheet) seed (G.world ground.old).cells place standing.place standing.ant (Instr.Move met unmet)).killed }
     ensures room { G.room ground.old ≤ G.room ground.new + 9 }
     ensures valid { Valid (G.world ground.new) }
 {
+    let (p, ant) = (standing.place, standing.ant);
     let ahead = adjacent(p, ant.facing);
     let there = ground.cell_at(ahead);
     if is_blocked(&there) {
         return think(ground, p, in_state(ant, unmet));
     }
-    step(ground, sheet, p, ant, ahead, &there, met)
+    step(ground, sheet, standing, ahead, &there, met)
 }
 
-// Executes the instruction of the ant of `p`.
+// Executes the instruction of the ant.
 #[inline(always)]
 fn execute<G: Ground>(
     ground: &mut G,
     sheet: Sheet,
     stream: &mut Stream,
-    p: Pos,
-    ant: Ant,
+    standing: PlacedAnt,
     instruction: Instr,
 ) -> Deed
-    requires stands { StandsAt (G.world ground.old) p ((G.world ground.old).cells p) ant }
+    requires stands { StandsAt (G.world ground.old) standing.place ((G.world ground.old).cells standing.place) standing.ant }
     requires sound { (states : ℕ) × IsSound states instruction }
     requires place { stream.old.place + 1 < 2 ^ 63 }
     requires room { 9 ≤ G.room ground.old }
     ensures world { G.world ground.new ≡ with_cells (G.world ground.old)
-        (turn.execute (sheet_of sheet) stream.old.seed (G.world ground.old).cells stream.old.place p ant instruction).cells }
+        (turn.execute (sheet_of sheet) stream.old.seed (G.world ground.old).cells stream.old.place standing.place standing.ant instruction).cells }
     ensures stream { stream.new ≡ record stream.old {
-      place = stream.old.place + one_if (turn.execute (sheet_of sheet) stream.old.seed (G.world ground.old).cells stream.old.place p ant instruction).drew;
+      place = stream.old.place + one_if (turn.execute (sheet_of sheet) stream.old.seed (G.world ground.old).cells stream.old.place standing.place standing.ant instruction).drew;
     } }
-    ensures drew { result.drew ≡ (turn.execute (sheet_of sheet) stream.old.seed (G.world ground.old).cells stream.old.place p ant instruction).drew }
-    ensures killed { result.killed.items ≡ (turn.execute (sheet_of sheet) stream.old.seed (G.world ground.old).cells stream.old.place p ant instruction).killed }
+    ensures drew { result.drew ≡ (turn.execute (sheet_of sheet) stream.old.seed (G.world ground.old).cells stream.old.place standing.place standing.ant instruction).drew }
+    ensures killed { result.killed.items ≡ (turn.execute (sheet_of sheet) stream.old.seed (G.world ground.old).cells stream.old.place standing.place standing.ant instruction).killed }
     ensures room { G.room ground.old ≤ G.room ground.new + 9 }
     ensures valid { Valid (G.world ground.new) }
 {
+    let (p, ant) = (standing.place, standing.ant);
     match instruction {
         Instr::Sense {
             sight,
@@ -182,7 +183,7 @@ fn execute<G: Ground>(
             stay(ground, p, cell_after_drop(&cell, ant, next))
         }
         Instr::Turn { side, next } => think(ground, p, ant_after_turn(ant, side, next)),
-        Instr::Move { yes, no } => go(ground, sheet, p, ant, yes, no),
+        Instr::Move { yes, no } => go(ground, sheet, standing, yes, no),
         Instr::Flip { bound, yes, no } => {
             let number = stream.draw(bound);
             Deed {
@@ -228,7 +229,7 @@ pub fn take_turn<G: Ground>(
         return think(ground, p, ant_after_rest(ant));
     }
     let instruction = brains.of(ant.colour).at(ant.state);
-    execute(ground, brains.sheet, stream, p, ant, instruction)
+    execute(ground, brains.sheet, stream, standing, instruction)
 }
 
 /// Takes the turn of the ant of this id, which doesn't rest, if it is alive: what `take_turn` does, without asking whether it rests (the
@@ -261,7 +262,7 @@ pub fn take_acting_turn<G: Ground>(
     };
     let (p, ant) = (standing.place, standing.ant);
     let instruction = brains.of(ant.colour).at(ant.state);
-    execute(ground, brains.sheet, stream, p, ant, instruction)
+    execute(ground, brains.sheet, stream, standing, instruction)
 }
 
 #[cfg(test)]

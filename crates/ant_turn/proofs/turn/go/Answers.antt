@@ -3,4 +3,4 @@ use Rattle.hex_geometry.proofs.Beside.{adjacent_pos_inside}
 use Rattle.ant_turn.proofs.turn.go.Goals as goal
 
 pub cell_at-there-requires : goal.cell_at-there-requires
-cell_at-there-requires g c = rw c.adjacent-ahead.ensures.neighbour (adjacent_pos_inside c.args.ant.facing c.requires.stands.inner)
+cell_at-there-requires g c = rw c.adjacent-ahead.ensures.neighbour (adjacent_pos_inside c.args.standing.ant.facing c.requires.stands.inner)
