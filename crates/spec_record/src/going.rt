@@ -19,6 +19,13 @@ use brain_read::Instr;
 use cell_world::{Cell, Colour, Part, Parts, World};
 use hex_geometry::{Pos, neighbours};
 
+// The step of an ant that goes: from its cell onto the one ahead.
+#[derive(Clone, Copy)]
+pub(crate) struct Step {
+    pub(crate) from: Pos,
+    pub(crate) to: Pos,
+}
+
 // Notes that it is read whose ants decide the checks around `q`, when the ant of `p`, which alone is noted, went there. A mark for each cell near
 // `q` tells those that are noted, so that nothing is searched.
 #[inline]
@@ -168,32 +175,31 @@ fn has_ant(cell: &Cell) -> bool
     cell.ant.is_some()
 }
 
-// Notes what is read and written of the killed around `q`, when the turn of the ant of `p`, which went there, was executed on the trail.
+// Notes what is read and written of the killed around the cell to which an ant went, when its turn was executed on the trail.
 pub(crate) fn note_fallen(
     reads: &mut ArrayVec<(Pos, Parts, Cell), 19>,
     writes: &mut ArrayVec<(Pos, Parts, Cell), 7>,
     base: &World,
     trail: &Trail<'_>,
-    p: Pos,
-    q: Pos,
+    step: Step,
 )
-    requires inner { IsInner base.now.width base.now.height q }
-    requires near { HasNeighbours q }
+    requires inner { IsInner base.now.width base.now.height step.to }
+    requires near { HasNeighbours step.to }
     requires wide { (trail_world trail.now).width ≡ base.now.width }
     requires high { (trail_world trail.now).height ≡ base.now.height }
     requires reads { length (all_sighted reads.old.items
-        (sightings_of (world_of base.now).cells load_and_food (going.fallen (world_of base.now).cells (trail_world trail.now).cells p q))) ≤ 19 }
+        (sightings_of (world_of base.now).cells load_and_food (going.fallen (world_of base.now).cells (trail_world trail.now).cells step.from step.to))) ≤ 19 }
     requires writes { length (all_sighted writes.old.items
-        (sightings_of (trail_world trail.now).cells ant_and_food (going.fallen (world_of base.now).cells (trail_world trail.now).cells p q))) ≤ 7 }
+        (sightings_of (trail_world trail.now).cells ant_and_food (going.fallen (world_of base.now).cells (trail_world trail.now).cells step.from step.to))) ≤ 7 }
     ensures reads { reads.new.items ≡ all_sighted reads.old.items
-        (sightings_of (world_of base.now).cells load_and_food (going.fallen (world_of base.now).cells (trail_world trail.now).cells p q)) }
+        (sightings_of (world_of base.now).cells load_and_food (going.fallen (world_of base.now).cells (trail_world trail.now).cells step.from step.to)) }
     ensures writes { writes.new.items ≡ all_sighted writes.old.items
-        (sightings_of (trail_world trail.now).cells ant_and_food (going.fallen (world_of base.now).cells (trail_world trail.now).cells p q)) }
+        (sightings_of (trail_world trail.now).cells ant_and_food (going.fallen (world_of base.now).cells (trail_world trail.now).cells step.from step.to)) }
 {
-    note_if_fallen(reads, writes, base, trail, p, q, q);
-    let around = neighbours(q);
+    note_if_fallen(reads, writes, base, trail, step, step.to);
+    let around = neighbours(step.to);
     for r in around {
-        note_if_fallen(reads, writes, base, trail, p, q, r);
+        note_if_fallen(reads, writes, base, trail, step, r);
     }
 }
 
@@ -204,46 +210,45 @@ fn note_if_fallen(
     writes: &mut ArrayVec<(Pos, Parts, Cell), 7>,
     base: &World,
     trail: &Trail<'_>,
-    p: Pos,
-    q: Pos,
+    step: Step,
     r: Pos,
 )
     requires inside { IsInside base.now.width base.now.height r }
     requires wide { (trail_world trail.now).width ≡ base.now.width }
     requires high { (trail_world trail.now).height ≡ base.now.height }
     requires reads { length (all_sighted reads.old.items
-        (sightings_of (world_of base.now).cells load_and_food (going.fallen_at (world_of base.now).cells (trail_world trail.now).cells p q r))) ≤ 19 }
+        (sightings_of (world_of base.now).cells load_and_food (going.fallen_at (world_of base.now).cells (trail_world trail.now).cells step.from step.to r))) ≤ 19 }
     requires writes { length (all_sighted writes.old.items
-        (sightings_of (trail_world trail.now).cells ant_and_food (going.fallen_at (world_of base.now).cells (trail_world trail.now).cells p q r))) ≤ 7 }
+        (sightings_of (trail_world trail.now).cells ant_and_food (going.fallen_at (world_of base.now).cells (trail_world trail.now).cells step.from step.to r))) ≤ 7 }
     ensures reads { reads.new.items ≡ all_sighted reads.old.items
-        (sightings_of (world_of base.now).cells load_and_food (going.fallen_at (world_of base.now).cells (trail_world trail.now).cells p q r)) }
+        (sightings_of (world_of base.now).cells load_and_food (going.fallen_at (world_of base.now).cells (trail_world trail.now).cells step.from step.to r)) }
     ensures writes { writes.new.items ≡ all_sighted writes.old.items
-        (sightings_of (trail_world trail.now).cells ant_and_food (going.fallen_at (world_of base.now).cells (trail_world trail.now).cells p q r)) }
+        (sightings_of (trail_world trail.now).cells ant_and_food (going.fallen_at (world_of base.now).cells (trail_world trail.now).cells step.from step.to r)) }
 {
-    if has_fallen(base, trail, p, q, r) {
+    if has_fallen(base, trail, step, r) {
         note_read(reads, r, load_and_food(), base.cell(r));
         note_write(writes, r, ant_and_food(), trail.cell(r));
     }
 }
 
-// Whether an ant was on `r` when the ant of `p` had gone to `q`, and none is at last.
+// Whether an ant was on `r` when the step was made, and none is at last.
 #[inline]
-fn has_fallen(base: &World, trail: &Trail<'_>, p: Pos, q: Pos, r: Pos) -> bool
+fn has_fallen(base: &World, trail: &Trail<'_>, step: Step, r: Pos) -> bool
     requires inside { IsInside base.now.width base.now.height r }
     requires wide { (trail_world trail.now).width ≡ base.now.width }
     requires high { (trail_world trail.now).height ≡ base.now.height }
-    ensures { result ≡ going.has_fallen (world_of base.now).cells (trail_world trail.now).cells p q r }
+    ensures { result ≡ going.has_fallen (world_of base.now).cells (trail_world trail.now).cells step.from step.to r }
 {
-    was_manned(base, p, q, r) && !has_ant(&trail.cell(r))
+    was_manned(base, step, r) && !has_ant(&trail.cell(r))
 }
 
-// Whether an ant was on `r` when the ant of `p` had gone to `q`.
+// Whether an ant was on `r` when the step was made.
 #[inline]
-fn was_manned(base: &World, p: Pos, q: Pos, r: Pos) -> bool
+fn was_manned(base: &World, step: Step, r: Pos) -> bool
     requires { IsInside base.now.width base.now.height r }
-    ensures { result ≡ (same_pos r q || going.is_manned (world_of base.now).cells p r) }
+    ensures { result ≡ (same_pos r step.to || going.is_manned (world_of base.now).cells step.from r) }
 {
-    is_same(r, q) || is_manned(base, p, r)
+    is_same(r, step.to) || is_manned(base, step.from, r)
 }
 
 // What an ant carries and what lies there.

@@ -8,6 +8,14 @@ use arrayvec::ArrayVec;
 use cell_world::{Cell, Part, Parts};
 use hex_geometry::Pos;
 
+// Parts of the cell at a position, as a turn sees them.
+#[derive(Clone, Copy)]
+pub(crate) struct Seen<'c> {
+    pub(crate) at: Pos,
+    pub(crate) parts: Parts,
+    pub(crate) cell: &'c Cell,
+}
+
 // Notes that these parts of the cell at `p` are read: where the position is in the list the parts go there, else it comes last.
 #[inline]
 pub(crate) fn note_read(
@@ -47,24 +55,25 @@ pub(crate) fn note_alone<const N: usize>(
     }
 }
 
-// Makes a list that of these parts of the cell at `p`, and then of more parts of the one at `q`, which may be the same position.
+// Makes a list that of what was seen first, and then of what was seen second, maybe at the same position.
 #[inline]
 pub(crate) fn note_two(
     list: &mut ArrayVec<(Pos, Parts, Cell), 19>,
-    p: Pos,
-    parts: Parts,
-    cell: &Cell,
-    q: Pos,
-    more: Parts,
-    there: &Cell,
+    first: Seen<'_>,
+    second: Seen<'_>,
 )
-    ensures { list.new.items ≡ sighting.sighted ((p, parts, cell.now) ∷ []) (q, more, there.now) }
+    ensures { list.new.items ≡ sighting.sighted ((first.entry.at, first.entry.parts, first.entry.cell.now) ∷ []) (second.entry.at, second.entry.parts, second.entry.cell.now) }
 {
-    if is_same(p, q) {
-        note_alone(list, p, union(parts, more), *cell);
+    if is_same(first.at, second.at) {
+        note_alone(
+            list,
+            first.at,
+            union(first.parts, second.parts),
+            *first.cell,
+        );
     } else {
-        note_alone(list, p, parts, *cell);
-        list.push((q, more, *there));
+        note_alone(list, first.at, first.parts, *first.cell);
+        list.push((second.at, second.parts, *second.cell));
     }
 }
 

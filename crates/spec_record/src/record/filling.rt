@@ -17,10 +17,10 @@ ghost use Rattle.spec_record.specs.Look.{look_of, look_with};
 ghost use Rattle.spec_record.specs.Reads.{who_and_mind};
 ghost use Rattle.spec_record.specs.Trail.{trail_world};
 
-use crate::going::{are_none_of, note_checks, note_fallen, state_gone, whole_ant};
+use crate::going::{Step, are_none_of, note_checks, note_fallen, state_gone, whole_ant};
 use crate::guess::instruction;
 use crate::record::Look;
-use crate::sightings::{note_alone, note_two, union};
+use crate::sightings::{Seen, note_alone, note_two, union};
 use crate::staying::{destination, read_at, read_parts, written_besides};
 use crate::trail::Trail;
 use ant_random::Stream;
@@ -29,6 +29,14 @@ use arrayvec::ArrayVec;
 use brain_read::Instr;
 use cell_world::{Ant, Cell, Part, Parts, World};
 use hex_geometry::Pos;
+
+// An ant that acts, and its cell.
+#[derive(Clone, Copy)]
+struct Actor<'c> {
+    place: Pos,
+    cell: &'c Cell,
+    ant: &'c Ant,
+}
 
 impl Look {
     // A look in which nothing is recorded yet.
@@ -72,7 +80,12 @@ impl Look {
         if ant.resting > 0 {
             self.record_rest(id, guess, p, &cell, ant);
         } else {
-            self.act(base, brains, stream, id, p, &cell, &ant);
+            let actor = Actor {
+                place: p,
+                cell: &cell,
+                ant: &ant,
+            };
+            self.act(base, brains, stream, id, actor);
         }
     }
 
@@ -119,7 +132,7 @@ impl Look {
         note_alone(&mut self.writes, p, mind(), cell_after);
     }
 
-    // Records the ant of `p`, which executes its instruction.
+    // Records the ant that acts, which executes its instruction.
     #[inline]
     fn act(
         &mut self,
@@ -127,96 +140,104 @@ impl Look {
         brains: Brains<'_>,
         stream: &mut Stream,
         id: u32,
-        p: Pos,
-        cell: &Cell,
-        ant: &Ant,
+        actor: Actor<'_>,
     )
         requires fit { Fits (world_of base.now) (minds_of brains) }
         requires id { id < base.now.ids }
         requires place { stream.old.place + 1 < 2 ^ 63 }
         requires valid { Valid (world_of base.now) }
-        requires found { place_in (world_of base.now) id ≡ Some p }
-        requires own { cell.now ≡ (world_of base.now).cells p }
-        requires holds { ((world_of base.now).cells p).ant ≡ Some ant.now }
-        requires ready { ant.now.resting ≡ 0 }
+        requires found { place_in (world_of base.now) id ≡ Some actor.place }
+        requires own { actor.cell.now ≡ (world_of base.now).cells actor.place }
+        requires holds { ((world_of base.now).cells actor.place).ant ≡ Some actor.ant.now }
+        requires ready { actor.ant.now.resting ≡ 0 }
         ensures look { self.new ≡ look_of (minds_of brains.entry) stream.old.seed (world_of base.now) stream.old.place id }
         ensures stream { stream.new ≡ record stream.old { place = stream.old.place + one_if self.new.drew } }
     {
-        let instruction = instruction(brains, ant);
-        match destination(base, p, ant, instruction) {
-            Some(q) => self.go(base, brains, stream, id, p, q),
-            None => self.stay(base, stream, id, p, cell, ant, instruction),
+        let instruction = instruction(brains, actor.ant);
+        match destination(base, actor.place, actor.ant, instruction) {
+            Some(to) => {
+                let from = actor.place;
+                self.go(base, brains, stream, id, Step { from, to });
+            }
+            None => self.stay(base, stream, id, actor, instruction),
         }
     }
 
-    // Records the ant of `p`, which stays there, and executes its instruction on its own cell.
+    // Records the ant that acts, which stays there, and executes its instruction on its own cell.
     #[inline]
     fn stay(
         &mut self,
         base: &World,
         stream: &mut Stream,
         id: u32,
-        p: Pos,
-        cell: &Cell,
-        ant: &Ant,
+        actor: Actor<'_>,
         instruction: Instr,
     )
         requires place { stream.old.place + 1 < 2 ^ 63 }
         requires valid { Valid (world_of base.now) }
-        requires inner { IsInner base.now.width base.now.height p }
-        requires near { HasNeighbours p }
-        requires own { cell.now ≡ (world_of base.now).cells p }
+        requires inner { IsInner base.now.width base.now.height actor.place }
+        requires near { HasNeighbours actor.place }
+        requires own { actor.cell.now ≡ (world_of base.now).cells actor.place }
         requires sound { (states : ℕ) × IsSound states instruction }
-        requires stays { destination (world_of base.now).cells p ant.now instruction ≡ None }
-        requires reads_once { EachOnce (seen_positions (staying_reads (world_of base.now).cells p ant.now instruction)) }
+        requires stays { destination (world_of base.now).cells actor.place actor.ant.now instruction ≡ None }
+        requires reads_once { EachOnce (seen_positions (staying_reads (world_of base.now).cells actor.place actor.ant.now instruction)) }
         ensures look { (sheet : Sheet) →
-            let outcome = turn.execute sheet stream.old.seed (world_of base.now).cells stream.old.place p ant.now instruction in
+            let outcome = turn.execute sheet stream.old.seed (world_of base.now).cells stream.old.place actor.entry.place actor.entry.ant.now instruction in
             self.new ≡ look_with id stream.old.place outcome
-            (staying_reads (world_of base.now).cells p ant.now instruction) (staying_writes outcome.cells p ant.now instruction) }
+            (staying_reads (world_of base.now).cells actor.entry.place actor.entry.ant.now instruction) (staying_writes outcome.cells actor.entry.place actor.entry.ant.now instruction) }
         ensures stream { stream.new ≡ record stream.old { place = stream.old.place + one_if self.new.drew } }
     {
         let guess = stream.place();
-        let at = read_at(p, ant, instruction);
+        let at = read_at(actor.place, actor.ant, instruction);
         let there = base.cell(at);
-        let after = turn_in_place(cell, &there, *ant, instruction, stream);
+        let after = turn_in_place(actor.cell, &there, *actor.ant, instruction, stream);
         self.turn = id;
         self.guess = guess;
         self.drew = after.drew;
         self.killed.clear();
-        let parts = read_parts(ant.colour, instruction);
-        note_two(&mut self.reads, p, who_and_mind(), cell, at, parts, &there);
-        let written = union(mind(), written_besides(ant.colour, instruction));
-        note_alone(&mut self.writes, p, written, after.cell);
+        let own = Seen {
+            at: actor.place,
+            parts: who_and_mind(),
+            cell: actor.cell,
+        };
+        let other = Seen {
+            at,
+            parts: read_parts(actor.ant.colour, instruction),
+            cell: &there,
+        };
+        note_two(&mut self.reads, own, other);
+        let written = union(mind(), written_besides(actor.ant.colour, instruction));
+        note_alone(&mut self.writes, actor.place, written, after.cell);
     }
 
-    // Records the ant of `p`, which goes to `q`. Few turns go, so it is a call; it reads the cell again, so that the caller's stays where it is.
+    // Records the ant that makes this step. Few turns go, so it is a call; it reads the cell again, so that the caller's stays where it is.
     #[inline(never)]
-    fn go(&mut self, base: &World, brains: Brains<'_>, stream: &mut Stream, id: u32, p: Pos, q: Pos)
+    fn go(&mut self, base: &World, brains: Brains<'_>, stream: &mut Stream, id: u32, step: Step)
         requires fit { Fits (world_of base.now) (minds_of brains) }
         requires id { id < base.now.ids }
         requires place { stream.old.place + 1 < 2 ^ 63 }
         requires valid { Valid (world_of base.now) }
-        requires goes { GoesTo (minds_of brains) (world_of base.now) id p q }
+        requires goes { GoesTo (minds_of brains) (world_of base.now) id step.from step.to }
         ensures look { self.new ≡ look_of (minds_of brains.entry) stream.old.seed (world_of base.now) stream.old.place id }
         ensures stream { stream.new ≡ record stream.old { place = stream.old.place + one_if self.new.drew } }
     {
         self.begin(id, stream.place());
-        let cell = base.cell(p);
+        let cell = base.cell(step.from);
         let Some(ant) = cell.ant else { unreachable!() };
-        self.reads.push((p, whole_ant(), cell));
-        note_checks(&mut self.reads, base, p, q);
+        self.reads.push((step.from, whole_ant(), cell));
+        note_checks(&mut self.reads, base, step.from, step.to);
         if !are_none_of(ant.colour.foe(), self.reads.as_slice()) {
-            self.fight(base, brains, stream, id, p, q);
+            self.fight(base, brains, stream, id, step);
             return;
         }
         // nobody is near whom the ant that goes could help to kill, or who could kill one of its own
         let state = state_gone(instruction(brains, &ant));
         let resting = brains.sheet.rest();
-        let there = base.cell(q);
+        let there = base.cell(step.to);
         self.writes
-            .push((p, whole_ant(), Cell { ant: None, ..cell }));
+            .push((step.from, whole_ant(), Cell { ant: None, ..cell }));
         self.writes.push((
-            q,
+            step.to,
             whole_ant(),
             Cell {
                 ant: Some(Ant {
@@ -232,26 +253,18 @@ impl Look {
     // The same where foes are near, who may be killed or kill, by a trail on which the ant takes its turn; what it reads but of the killed is
     // recorded. A trail is large: so it is a call.
     #[inline(never)]
-    fn fight(
-        &mut self,
-        base: &World,
-        brains: Brains<'_>,
-        stream: &mut Stream,
-        id: u32,
-        p: Pos,
-        q: Pos,
-    )
+    fn fight(&mut self, base: &World, brains: Brains<'_>, stream: &mut Stream, id: u32, step: Step)
         requires fit { Fits (world_of base.now) (minds_of brains) }
         requires id { id < base.now.ids }
         requires place { stream.old.place + 1 < 2 ^ 63 }
         requires valid { Valid (world_of base.now) }
-        requires goes { GoesTo (minds_of brains) (world_of base.now) id p q }
-        requires begun { self.old ≡ record (blank_look id stream.old.place) { reads = calm_reads (world_of base.now).cells p q } }
+        requires goes { GoesTo (minds_of brains) (world_of base.now) id step.from step.to }
+        requires begun { self.old ≡ record (blank_look id stream.old.place) { reads = calm_reads (world_of base.now).cells step.from step.to } }
         ensures look { self.new ≡ look_of (minds_of brains.entry) stream.old.seed (world_of base.now) stream.old.place id }
         ensures stream { stream.new ≡ record stream.old { place = stream.old.place + one_if self.new.drew } }
     {
         let trail = self.execute(base, brains, stream, id);
-        self.record_fight(base, &trail, p, q);
+        self.record_fight(base, &trail, step);
     }
 
     // Executes the turn of this id on a trail, and records whether it draws and whom it kills.
@@ -283,30 +296,32 @@ impl Look {
         trail
     }
 
-    // Records what the ant of `p`, which goes to `q`, by a trail on which its turn was executed, writes, and reads of the killed.
+    // Records what the ant that makes this step writes, and reads of the killed, by a trail on which its turn was executed.
     #[inline]
-    fn record_fight(&mut self, base: &World, trail: &Trail<'_>, p: Pos, q: Pos)
-        requires reads { self.old.reads ≡ calm_reads (world_of base.now).cells p q }
+    fn record_fight(&mut self, base: &World, trail: &Trail<'_>, step: Step)
+        requires reads { self.old.reads ≡ calm_reads (world_of base.now).cells step.from step.to }
         requires writes { self.old.writes ≡ [] }
-        requires inside { IsInside base.now.width base.now.height p }
-        requires inner { IsInner base.now.width base.now.height q }
-        requires near { HasNeighbours q }
+        requires inside { IsInside base.now.width base.now.height step.from }
+        requires inner { IsInner base.now.width base.now.height step.to }
+        requires near { HasNeighbours step.to }
         requires wide { (trail_world trail.now).width ≡ base.now.width }
         requires high { (trail_world trail.now).height ≡ base.now.height }
-        requires reads_room { length (going_reads (world_of base.now).cells (trail_world trail.now).cells p q) ≤ 19 }
-        requires reads_once { EachOnce (seen_positions (going_reads (world_of base.now).cells (trail_world trail.now).cells p q)) }
-        requires writes_once { EachOnce (seen_positions (going_writes (world_of base.now).cells (trail_world trail.now).cells p q)) }
-        requires writes_room { length (going_writes (world_of base.now).cells (trail_world trail.now).cells p q) ≤ 7 }
-        requires spared { self.old.killed ≡ [] → fallen (world_of base.now).cells (trail_world trail.now).cells p q ≡ [] }
+        requires reads_room { length (going_reads (world_of base.now).cells (trail_world trail.now).cells step.from step.to) ≤ 19 }
+        requires reads_once { EachOnce (seen_positions (going_reads (world_of base.now).cells (trail_world trail.now).cells step.from step.to)) }
+        requires writes_once { EachOnce (seen_positions (going_writes (world_of base.now).cells (trail_world trail.now).cells step.from step.to)) }
+        requires writes_room { length (going_writes (world_of base.now).cells (trail_world trail.now).cells step.from step.to) ≤ 7 }
+        requires spared { self.old.killed ≡ [] → fallen (world_of base.now).cells (trail_world trail.now).cells step.from step.to ≡ [] }
         ensures { self.new ≡ record self.old {
-          reads = going_reads (world_of base.now).cells (trail_world trail.now).cells p q;
-          writes = going_writes (world_of base.now).cells (trail_world trail.now).cells p q;
+          reads = going_reads (world_of base.now).cells (trail_world trail.now).cells step.from step.to;
+          writes = going_writes (world_of base.now).cells (trail_world trail.now).cells step.from step.to;
         } }
     {
-        self.writes.push((p, whole_ant(), trail.cell(p)));
-        self.writes.push((q, whole_ant(), trail.cell(q)));
+        self.writes
+            .push((step.from, whole_ant(), trail.cell(step.from)));
+        self.writes
+            .push((step.to, whole_ant(), trail.cell(step.to)));
         if !self.killed.is_empty() {
-            note_fallen(&mut self.reads, &mut self.writes, base, trail, p, q);
+            note_fallen(&mut self.reads, &mut self.writes, base, trail, step);
         }
     }
 }

@@ -13,8 +13,8 @@ abbrev pub invariant-loop-r : goal.invariant-loop-r
 invariant-loop-r l =
     let cells = (world_of l.base).cells in
     let last = (trail_world l.trail).cells in
-    let left = flat_map (fallen_at cells last l.fn.p l.fn.q) (drop l.r-index (neighbours_of l.fn.q)) in
+    let left = flat_map (fallen_at cells last l.fn.step.from l.fn.step.to) (drop l.r-index (neighbours_of l.fn.step.to)) in
     record {
-      reads : all_sighted l.reads.items (sightings_of cells load_and_food left) ≡ all_sighted l.fn.reads.items (sightings_of cells load_and_food (fallen cells last l.fn.p l.fn.q));
-      writes : all_sighted l.writes.items (sightings_of last ant_and_food left) ≡ all_sighted l.fn.writes.items (sightings_of last ant_and_food (fallen cells last l.fn.p l.fn.q));
+      reads : all_sighted l.reads.items (sightings_of cells load_and_food left) ≡ all_sighted l.fn.reads.items (sightings_of cells load_and_food (fallen cells last l.fn.step.from l.fn.step.to));
+      writes : all_sighted l.writes.items (sightings_of last ant_and_food left) ≡ all_sighted l.fn.writes.items (sightings_of last ant_and_food (fallen cells last l.fn.step.from l.fn.step.to));
     }

@@ -17,7 +17,7 @@ outcome c = turn (minds_of c.args.brains) c.args.stream.now.seed (world_of c.arg
 
 -- the ant acts
 acting : (c : After-instruction-instruction) →
-    Acting (minds_of c.args.brains) c.args.stream.now.seed (world_of c.args.base.now) c.args.stream.now.place c.args.id c.args.p c.args.ant.now c.instruction-instruction.result (outcome c)
+    Acting (minds_of c.args.brains) c.args.stream.now.seed (world_of c.args.base.now) c.args.stream.now.place c.args.id c.args.actor.place c.args.actor.ant.now c.instruction-instruction.result (outcome c)
 acting c = record {
   valid = c.requires.valid;
   found = c.requires.found;
@@ -35,11 +35,11 @@ destination-requires-clause-near c = acting-near (acting (goal.at.destination-re
 
 pub go-requires-clause-goes : goal.go-requires-clause-goes
 go-requires-clause-goes c = record {
-  ant = c.args.ant.now;
+  ant = c.args.actor.ant.now;
   found = c.requires.found;
   holds = c.requires.holds;
   ready = c.requires.ready;
-  way = ap (destination (world_of c.args.base.now).cells c.args.p c.args.ant.now) (sym c.instruction-instruction.ensures.instruction) ∙ sym c.destination.ensures ∙ c.in-Some.is;
+  way = ap (destination (world_of c.args.base.now).cells c.args.actor.place c.args.actor.ant.now) (sym c.instruction-instruction.ensures.instruction) ∙ sym c.destination.ensures ∙ c.in-Some.is;
 }
 
 pub stay-requires-clause-inner : goal.stay-requires-clause-inner
@@ -59,5 +59,5 @@ returns-in-None-clause-look c =
     let cells : Cells = (world_of c.args.base.now).cells in
     let i = c.instruction-instruction.result in
     c.stay.ensures.look (minds_of c.args.brains).sheet
-    ∙ ap (λ (o : Outcome). look_with c.args.id c.args.stream.now.place o (staying_reads cells c.args.p c.args.ant.now i) (staying_writes o.cells c.args.p c.args.ant.now i)) (sym (acting-executes (acting at)))
+    ∙ ap (λ (o : Outcome). look_with c.args.id c.args.stream.now.place o (staying_reads cells c.args.actor.place c.args.actor.ant.now i) (staying_writes o.cells c.args.actor.place c.args.actor.ant.now i)) (sym (acting-executes (acting at)))
     ∙ sym (look-stays (acting at) (outcome at).cells refl (sym c.destination.ensures ∙ c.in-None.is))

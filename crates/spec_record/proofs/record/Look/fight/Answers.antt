@@ -18,7 +18,7 @@ outcome c = turn (minds_of c.args.brains) c.args.stream.now.seed (world_of c.arg
 
 -- the ant acts
 acting : (c : Start) →
-    Acting (minds_of c.args.brains) c.args.stream.now.seed (world_of c.args.base.now) c.args.stream.now.place c.args.id c.args.p c.requires.goes.ant
+    Acting (minds_of c.args.brains) c.args.stream.now.seed (world_of c.args.base.now) c.args.stream.now.place c.args.id c.args.step.from c.requires.goes.ant
     (instruction_at (mind_of (minds_of c.args.brains) c.requires.goes.ant.colour) c.requires.goes.ant.state) (outcome c)
 acting c = record {
   valid = c.requires.valid;
@@ -42,7 +42,7 @@ recorded : (c : After-execute-trail) → c.execute-trail.new.self ≡ record {
   turn = c.args.id;
   guess = c.args.stream.now.place;
   drew = (executed c).drew;
-  reads = calm_reads (world_of c.args.base.now).cells c.args.p c.args.q;
+  reads = calm_reads (world_of c.args.base.now).cells c.args.step.from c.args.step.to;
   writes = [];
   killed = (executed c).killed;
 }
@@ -86,5 +86,5 @@ returns-clause-look c =
     let cells : Cells = (world_of c.args.base.now).cells in
     let last : Cells = (trail_world c.execute-trail.result).cells in
     c.record_fight.ensures
-    ∙ ap (λ (l : LookValue). record l { reads = going_reads cells last c.args.p c.args.q; writes = going_writes cells last c.args.p c.args.q }) (recorded at)
+    ∙ ap (λ (l : LookValue). record l { reads = going_reads cells last c.args.step.from c.args.step.to; writes = going_writes cells last c.args.step.from c.args.step.to }) (recorded at)
     ∙ sym (look-goes (acting (goal.at.returns-clause-look c).Start) c.requires.goes.way last (left at))

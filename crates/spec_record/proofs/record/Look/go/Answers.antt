@@ -28,7 +28,7 @@ outcome c = turn (minds_of c.args.brains) c.args.stream.now.seed (world_of c.arg
 
 -- the ant acts
 acting : (c : Start) →
-    Acting (minds_of c.args.brains) c.args.stream.now.seed (world_of c.args.base.now) c.args.stream.now.place c.args.id c.args.p c.requires.goes.ant
+    Acting (minds_of c.args.brains) c.args.stream.now.seed (world_of c.args.base.now) c.args.stream.now.place c.args.id c.args.step.from c.requires.goes.ant
     (instruction_at (mind_of (minds_of c.args.brains) c.requires.goes.ant.colour) c.requires.goes.ant.state) (outcome c)
 acting c = record {
   valid = c.requires.valid;
@@ -44,16 +44,16 @@ found : (c : After-push) → c.in-Some.ant ≡ c.requires.goes.ant
 found c = let same : Some c.in-Some.ant ≡ Some c.requires.goes.ant = sym c.in-Some.is ∙ ap (λ (cell : Cell). cell.ant) c.cell-cell.ensures.content ∙ c.requires.goes.holds in some_one same
 
 -- what is recorded of its own cell
-own : (c : After-push) → c.push.new.self.items ≡ (c.args.p, whole_ant, (world_of c.args.base.now).cells c.args.p) ∷ []
+own : (c : After-push) → c.push.new.self.items ≡ (c.args.step.from, whole_ant, (world_of c.args.base.now).cells c.args.step.from) ∷ []
 own c =
     let blank : c.self.inside.reads.items ≡ [] = ap (λ (l : LookValue). l.reads) (c.self.view_is ∙ c.begin.ensures) in
     rw (c.push.ensures.items, blank, c.whole_ant.ensures, c.cell-cell.ensures.content) refl
 
 -- and of those whose ants decide the checks
-noted : (c : After-note_checks) → c.note_checks.new.list.items ≡ calm_reads (world_of c.args.base.now).cells c.args.p c.args.q
+noted : (c : After-note_checks) → c.note_checks.new.list.items ≡ calm_reads (world_of c.args.base.now).cells c.args.step.from c.args.step.to
 noted c =
     let cells : Cells = (world_of c.args.base.now).cells in
-    c.note_checks.ensures ∙ ap (λ list. all_sighted list (sightings_of cells (only part.Who) (seen_from cells c.args.p c.args.q))) (own (goal.at.After-note_checks c).After-push)
+    c.note_checks.ensures ∙ ap (λ list. all_sighted list (sightings_of cells (only part.Who) (seen_from cells c.args.step.from c.args.step.to))) (own (goal.at.After-note_checks c).After-push)
 
 pub cell-cell-requires : goal.cell-cell-requires
 cell-cell-requires c = inner_inside (acting-inner (acting (goal.at.cell-cell-requires c).Start))
@@ -74,7 +74,7 @@ invariant_of-self c =
     let at = (goal.at.invariant_of-self c).After-note_checks in
     let before = (goal.at.invariant_of-self c).After-push in
     record {
-      reads = subst (λ list. EachOnce (seen_positions list)) (sym (noted at)) (calm-once (world_of c.args.base.now).cells c.args.p c.args.q);
+      reads = subst (λ list. EachOnce (seen_positions list)) (sym (noted at)) (calm-once (world_of c.args.base.now).cells c.args.step.from c.args.step.to);
       writes = subst (λ list. EachOnce (seen_positions list)) (sym (unwritten before)) tt;
     }
 
@@ -84,7 +84,7 @@ state c ant = state_gone (instruction_at (mind_of (minds_of c.args.brains) ant.c
 
 -- what is recorded of what it writes
 written : (c : After-push-3) →
-    c.push-3.new.self.items ≡ calm_writes (minds_of c.args.brains).sheet (world_of c.args.base.now).cells c.args.p c.requires.goes.ant c.args.q (state (goal.at.After-push-3 c).Start c.requires.goes.ant)
+    c.push-3.new.self.items ≡ calm_writes (minds_of c.args.brains).sheet (world_of c.args.base.now).cells c.args.step.from c.requires.goes.ant c.args.step.to (state (goal.at.After-push-3 c).Start c.requires.goes.ant)
 written c =
     let before = (goal.at.After-push-3 c).After-push in
     let begin = (goal.at.After-push-3 c).Start in
@@ -99,7 +99,7 @@ written c =
       c.rest-resting.ensures,
       c.cell-cell.ensures.content,
       c.cell-there.ensures.content,
-    ) (ap (λ (ant : Ant). calm_writes (minds_of c.args.brains).sheet (world_of c.args.base.now).cells c.args.p ant c.args.q (state begin ant)) (found before))
+    ) (ap (λ (ant : Ant). calm_writes (minds_of c.args.brains).sheet (world_of c.args.base.now).cells c.args.step.from ant c.args.step.to (state begin ant)) (found before))
 
 pub invariant_of-self-2 : goal.invariant_of-self-2
 invariant_of-self-2 c =
@@ -107,7 +107,7 @@ invariant_of-self-2 c =
     let after = (goal.at.invariant_of-self-2 c).After-push-3 in
     let begin = (goal.at.invariant_of-self-2 c).Start in
     record {
-      reads = subst (λ list. EachOnce (seen_positions list)) (sym (noted at)) (calm-once (world_of c.args.base.now).cells c.args.p c.args.q);
+      reads = subst (λ list. EachOnce (seen_positions list)) (sym (noted at)) (calm-once (world_of c.args.base.now).cells c.args.step.from c.args.step.to);
       writes = subst (λ list. EachOnce (seen_positions list)) (sym (written after)) (calm-writes_once (acting begin) c.requires.goes.way (state begin c.requires.goes.ant));
     }
 
@@ -120,8 +120,8 @@ returns-clause-look c =
     let cells : Cells = (world_of c.args.base.now).cells in
     let made : List Sighting → List Sighting → LookValue = λ reads writes. record { turn = c.args.id; guess = c.args.stream.now.place; drew = false; reads = reads; writes = writes; killed = [] } in
     let foe : c.foe.result ≡ foe_of c.requires.goes.ant.colour = c.foe.ensures ∙ ap (λ (ant : Ant). foe_of ant.colour) (found before) in
-    let none : AreNoneOf (foe_of c.requires.goes.ant.colour) (calm_reads cells c.args.p c.args.q) =
-    subst (λ colour. AreNoneOf colour (calm_reads cells c.args.p c.args.q)) foe
+    let none : AreNoneOf (foe_of c.requires.goes.ant.colour) (calm_reads cells c.args.step.from c.args.step.to) =
+    subst (λ colour. AreNoneOf colour (calm_reads cells c.args.step.from c.args.step.to)) foe
     (subst (AreNoneOf c.foe.result) (c.as_slice.ensures.value ∙ noted at) (c.are_none_of.ensures c.if-not-are_none_of.false)) in
     let some : 4 ≤ c.args.brains.sheet.surround = c.args.brains.sheet.enough in
     ap (λ (l : LookValue). record l { reads = c.note_checks.new.list.items; writes = c.push-3.new.self.items }) (c.self.view_is ∙ c.begin.ensures ∙ ap (blank_look c.args.id) c.place.ensures)

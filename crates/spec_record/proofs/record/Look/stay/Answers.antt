@@ -18,23 +18,23 @@ use Rattle.spec_record.proofs.record.Look.stay.Goals as goal
 pub cell-there-requires : goal.cell-there-requires
 cell-there-requires c =
     subst (λ (q : Pos). IsInside c.args.base.now.width c.args.base.now.height q) (sym c.read_at-at.ensures)
-    (read_at-inside c.args.p c.args.ant.now c.args.instruction c.requires.inner)
+    (read_at-inside c.args.actor.place c.args.actor.ant.now c.args.instruction c.requires.inner)
 
 pub turn_in_place-after-requires-clause-light : goal.turn_in_place-after-requires-clause-light
 turn_in_place-after-requires-clause-light c =
-    subst (λ (cell : Cell). cell.food ≤ most_weight) (sym c.requires.own) (food-light (world_of c.args.base.now) c.args.p c.requires.valid)
+    subst (λ (cell : Cell). cell.food ≤ most_weight) (sym c.requires.own) (food-light (world_of c.args.base.now) c.args.actor.place c.requires.valid)
 
 pub returns-clause-look : goal.returns-clause-look
 returns-clause-look c sheet =
     let cells : Cells = (world_of c.args.base.now).cells in
     let seen = c.cell-there.ensures.content ∙ ap cells c.read_at-at.ensures in
-    let is = c.turn_in_place-after.ensures.outcome sheet cells c.args.p c.requires.own (stays-seeing cells c.args.p c.args.ant.now c.cell-there.result c.args.instruction seen c.requires.stays) in
+    let is = c.turn_in_place-after.ensures.outcome sheet cells c.args.actor.place c.requires.own (stays-seeing cells c.args.actor.place c.args.actor.ant.now c.cell-there.result c.args.instruction seen c.requires.stays) in
     let done : LookValue = record {
       turn = c.args.id;
       guess = c.args.stream.now.place;
       drew = c.turn_in_place-after.result.drew;
-      reads = staying_reads cells c.args.p c.args.ant.now c.args.instruction;
-      writes = (c.args.p, union (only part.Mind) (written_besides c.args.ant.now.colour c.args.instruction), c.turn_in_place-after.result.cell) ∷ [];
+      reads = staying_reads cells c.args.actor.place c.args.actor.ant.now c.args.instruction;
+      writes = (c.args.actor.place, union (only part.Mind) (written_besides c.args.actor.ant.now.colour c.args.instruction), c.turn_in_place-after.result.cell) ∷ [];
       killed = [];
     } in
     rw (
@@ -46,9 +46,9 @@ returns-clause-look c sheet =
       c.written_besides.ensures,
       c.who_and_mind.ensures,
       c.place-guess.ensures,
-      c.read_parts-parts.ensures,
+      c.read_parts.ensures,
       seen,
       c.read_at-at.ensures,
       c.requires.own,
-      put_cell-same cells c.args.p c.turn_in_place-after.result.cell,
+      put_cell-same cells c.args.actor.place c.turn_in_place-after.result.cell,
     ) (ap (λ (killed : List ℕ). record done { killed = killed }) c.clear.ensures)
