@@ -40,7 +40,7 @@ pub fn play_window<G: Gate>(
     }
     let mut book = field.begin(alloc, from, to)?;
     if from < to {
-        settle_alone(&mut book, field, &mut looks[0], &mut stream, gate, from, to);
+        settle_alone(&mut book, field, &mut looks[0], &mut stream, gate);
     }
     let counts = field.finish(book);
     field.keep(stream, looks);
@@ -67,20 +67,17 @@ fn settle_alone<G: Gate>(
     look: &mut Look,
     stream: &mut Stream,
     gate: &G,
-    from: u32,
-    to: u32,
 )
     requires stands { StandsOn field.now book.old }
-    requires from { book.old.from ≡ from }
-    requires next { book.old.next ≡ from }
-    requires to { book.old.to ≡ to }
-    requires some { from ≤ to }
+    requires next { book.old.next ≡ book.old.from }
     requires seed { stream.old.seed ≡ field.now.seed }
     requires place { stream.old.place ≡ field.now.place }
     ensures stands { StandsOn field.now book.new }
-    ensures next { book.new.next ≡ to }
+    ensures next { book.new.next ≡ book.old.to }
     ensures same { IsSameWindow book.old book.new }
 {
+    let from = book.next();
+    let to = book.to();
     for id in from..to {
         gate.before_look(ALONE, id);
         look.renew(field.world(), field.brains(), stream, id);

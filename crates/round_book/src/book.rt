@@ -87,6 +87,14 @@ impl Book {
         self.next
     }
 
+    // The end of the window: the id behind its last turn.
+    #[inline]
+    pub(crate) fn to(&self) -> u32
+        ensures { result ≡ self.now.to }
+    {
+        self.to
+    }
+
     // How many turns the window has.
     #[inline]
     pub(crate) fn turns(&self) -> u32

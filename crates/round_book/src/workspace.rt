@@ -51,9 +51,42 @@ impl Workspace {
         ensures no_more { OnOk result (vec_capacity self.new.written ≡ max (vec_capacity self.old.written) (vec_len self.old.written + most_listed self.old.world 0 (7 * turns))) }
         ensures verdict_room { OnOk result (vec_len self.new.verdicts + turns ≤ vec_capacity self.new.verdicts) }
     {
-        let most = cell_count(&self.world).min(7 * turns as usize);
+        self.reserve_written(7 * turns as usize)?;
+        self.reserve_verdicts(turns as usize)
+    }
+
+    // Takes room for so many written positions more, and no more than there are cells. Most windows find the room of an earlier one, so the
+    // cells are counted only where that is too small.
+    #[inline]
+    fn reserve_written(&mut self, more: usize) -> Result<(), OutOfMemory>
+        ensures world { self.new.world ≡ self.old.world }
+        ensures marked { self.new.marked.items ≡ self.old.marked.items }
+        ensures written { self.new.written.items ≡ self.old.written.items }
+        ensures verdicts { self.new.verdicts ≡ self.old.verdicts }
+        ensures room { OnOk result (most_listed self.new.world (vec_len self.new.written) more ≤ vec_capacity self.new.written) }
+        ensures no_more { OnOk result (vec_capacity self.new.written ≡ max (vec_capacity self.old.written) (vec_len self.old.written + most_listed self.old.world 0 more)) }
+    {
+        if more <= self.written.capacity() - self.written.len() {
+            return Ok(());
+        }
+        let most = cell_count(&self.world).min(more);
         self.written.reserve_exact(most)?;
-        self.verdicts.reserve(turns as usize)?;
+        Ok(())
+    }
+
+    // Takes room for so many verdicts more.
+    #[inline]
+    fn reserve_verdicts(&mut self, more: usize) -> Result<(), OutOfMemory>
+        ensures world { self.new.world ≡ self.old.world }
+        ensures marked { self.new.marked ≡ self.old.marked }
+        ensures written { self.new.written ≡ self.old.written }
+        ensures verdicts { self.new.verdicts.items ≡ self.old.verdicts.items }
+        ensures room { OnOk result (vec_len self.new.verdicts + more ≤ vec_capacity self.new.verdicts) }
+    {
+        if more <= self.verdicts.capacity() - self.verdicts.len() {
+            return Ok(());
+        }
+        self.verdicts.reserve(more)?;
         Ok(())
     }
 

@@ -6,7 +6,7 @@ use Rattle.round_book.proofs.alone.settle_alone.Given as goal
 
 abbrev pub invariant-loop-id : goal.invariant-loop-id
 invariant-loop-id g l = record {
-  going : Going l.field l.from l.to l.id l.book l.stream.place;
+  going : Going l.field l.fn.book.from l.fn.book.to l.id l.book l.stream.place;
   seed : l.stream.seed ≡ l.field.seed;
   same : IsSameWindow l.fn.book l.book;
 }
