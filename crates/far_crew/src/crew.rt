@@ -58,7 +58,7 @@ impl<'c, R: Wait, G: Gate> FarCrew<'c, R, G> {
     /// Plays the turns of the ids from `from` up to, and not including, `to`. The field is whole, `from` is at most `to`, `to` at most the
     /// number of ids, and the place with the number of turns is below 2^63. The field is whole afterwards, its world and place are those to
     /// which the turns lead in order, and the answer counts the looks that were taken and the turns that were executed anew. It is refused
-    /// for want of memory alone; the field is as before then. All memory but that of the book is taken before the first job is sent.
+    /// only when out of memory; the field is as before then. All memory but that of the book is taken before the first job is sent.
     ///
     /// Each worker that has started and whose channels are open gets a job, and one answer is awaited of it; so the call may wait. A turn of
     /// which no look agrees with the field is looked at by the caller's thread, which calls the gate with the number of workers as its own.

@@ -63,7 +63,7 @@ impl Model for Job {
 impl Job {
     /// The job of the turns of the ids from `from` up to, and not including, `to`, each at its guess, with brains and a world that are
     /// shared. The brains and the world are the field's, `from` is at most `to`, `to` at most the number of ids, there are as many guesses as
-    /// turns, and each is below 2^63 - 1. It is refused for want of memory alone.
+    /// turns, and each is below 2^63 - 1. It is refused only when out of memory.
     pub fn of(
         alloc: Global,
         field: &Field<'_>,
