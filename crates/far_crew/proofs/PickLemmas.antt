@@ -6,6 +6,7 @@ use Rattle.std.proofs.lemmas.List.{get_or-set_other, get_or-set_same}
 use Rattle.std.proofs.lemmas.Option.{slice_get_past, slice_get_read, slice_get_within}
 use Rattle.list_lemmas.proofs.Entries.{slice_get-front, slice_get-last}
 use Rattle.cell_world.proofs.Patches.{some_one}
+use Rattle.round_book.specs.Book.{FieldValue, window_of}
 use Rattle.round_book.specs.Window.{Window, look_for}
 use Rattle.spec_record.specs.Look.{LookValue}
 use Rattle.far_crew.specs.declared.line.Line.{Line}
@@ -38,6 +39,11 @@ module _ (lines : List Line) (own : List LookValue) (window : Window) where
 -- the picks stay with one look more among the own ones
 pub ArePicked-grown : (lines : List Line) (own : List LookValue) (look : LookValue) (picks : List (Option Pick)) (window : Window) → ArePicked lines own picks window → ArePicked lines (own ++ look ∷ []) picks window
 ArePicked-grown lines own look picks window picked j pick is = look_named-grown lines own (look ∷ []) pick (look_for window (window.from + j)) (picked j pick is)
+
+-- the picks of a window's turns are those of the same turns under other names
+pub ArePicked-same : (lines : List Line) (own : List LookValue) (picks : List (Option Pick)) (field : FieldValue) (from to first last : ℕ) → first ≡ from → last ≡ to → ArePicked lines own picks (window_of field from to) → ArePicked lines own picks (window_of field first last)
+ArePicked-same lines own picks field from to first last begins ends picked =
+    subst (λ i. ArePicked lines own picks (window_of field i last)) (sym begins) (subst (λ i. ArePicked lines own picks (window_of field from i)) (sym ends) picked)
 
 -- a look of one's own is made and picked
 pub ArePicked-own : (lines : List Line) (own new : List LookValue) (look : LookValue) (picks : List (Option Pick)) (window : Window) (turn t at : ℕ) → turn < length picks → at ≡ length own → t ≡ window.from + turn → look ≡ look_for window t → new ≡ own ++ look ∷ [] →

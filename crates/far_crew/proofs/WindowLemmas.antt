@@ -7,6 +7,8 @@ use Rattle.round_book.specs.Book.{CanBegin, FieldValue, window_of}
 use Rattle.round_book.specs.Window.{guess_for, guesses_for, look_for}
 use Rattle.round_book.proofs.GuessLemmas.{guesses_for-at, guesses_for-length, guesses_for-small}
 use Rattle.spec_record.specs.Look.{LookValue, look_of}
+use Rattle.far_crew.specs.declared.guessing.GuessedTurns.{GuessedTurns}
+use Rattle.far_crew.specs.Inner.Turns.{AreTurnsOf, CanLookAt}
 
 -- the look at a turn's guess is the turn's
 pub look_for_is : (field : FieldValue) (from to t guess : ℕ) → guess ≡ guess_for (window_of field from to) t → look_of field.minds field.seed (world_of field.world) guess t ≡ look_for (window_of field from to) t
@@ -30,6 +32,15 @@ guesses_count field from to guesses is = ap length is ∙ guesses_for-length (wi
 -- at which a number can be drawn
 pub guesses_small : (field : FieldValue) (from to : ℕ) (guesses : List ℕ) → CanBegin field from to → guesses ≡ guesses_for (window_of field from to) → AllByRecursion (λ g. g + 1 < 2 ^ 63) guesses
 guesses_small field from to guesses begin is = subst (AllByRecursion (λ g. g + 1 < 2 ^ 63)) (sym is) (guesses_for-small (window_of field from to) begin.forwards begin.lasting)
+
+-- so its turns can be looked at
+pub can_look : (field : FieldValue) (turns : GuessedTurns) → AreTurnsOf field turns → CanLookAt field.world turns
+can_look field turns of = record {
+  forwards = of.begins.forwards;
+  ids = of.begins.ids;
+  count = guesses_count field turns.from turns.to turns.guesses.now of.guesses;
+  small = guesses_small field turns.from turns.to turns.guesses.now of.begins of.guesses;
+}
 
 -- which is the turn's
 pub guesses-at : (field : FieldValue) (from to t : ℕ) (guesses : List ℕ) → guesses ≡ guesses_for (window_of field from to) → from ≤ t → t < to → slice_index_or guesses (t - from) 0 ≡ guess_for (window_of field from to) t

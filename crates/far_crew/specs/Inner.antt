@@ -1,3 +1,5 @@
 -- Stepping stones between the definitions and the code: no public clause cites them.
 pub mod Cells
+pub mod Copies
 pub mod Picks
+pub mod Turns

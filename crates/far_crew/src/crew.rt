@@ -1,12 +1,13 @@
 // The crew of workers that stand by.
-ghost use Rattle.std.specs.Prelude.{◌≡◌, ◌-◌, IfOk, OnOk, OnErr};
+ghost use Rattle.std.specs.Prelude.{◌≡◌, IfOk, OnOk, OnErr};
 ghost use Rattle.round_book.specs.Book.{CanBegin, IsPlayed, window_of};
 ghost use Rattle.round_book.specs.Counts.{counts_of};
-ghost use Rattle.round_book.specs.Window.{guesses_for};
+ghost use Rattle.far_crew.specs.Inner.Turns.{AreTurnsOf};
 
+use crate::caller::Caller;
 use crate::dealing::prepare_all;
-use crate::guessing::guesses_in;
-use crate::kept::{brains_in, world_in};
+use crate::guessing::{GuessedTurns, guesses_in};
+use crate::kept::{Copies, brains_in, world_in};
 use crate::line::Line;
 use crate::own_brains::OwnBrains;
 use crate::picking::{Pick, choose, take_room};
@@ -25,8 +26,7 @@ use std::sync::{Arc, Wait};
 #[derive(Drop)]
 pub struct FarCrew<'c, R: Wait, G: Gate> {
     rt: &'c R,
-    gate: &'c G,
-    workers: u32,
+    caller: Caller<'c, G>,
     lines: Vec<Line>,
     base: Option<Arc<World>>,
     minds: Option<Arc<OwnBrains>>,
@@ -45,8 +45,10 @@ impl<'c, R: Wait, G: Gate> FarCrew<'c, R, G> {
     ) -> FarCrew<'c, R, G> {
         FarCrew {
             rt,
-            gate,
-            workers,
+            caller: Caller {
+                gate,
+                worker: workers,
+            },
             lines,
             base: None,
             minds: None,
@@ -58,7 +60,7 @@ impl<'c, R: Wait, G: Gate> FarCrew<'c, R, G> {
     /// Plays the turns of the ids from `from` up to, and not including, `to`. The field is whole, `from` is at most `to`, `to` at most the
     /// number of ids, and the place with the number of turns is below 2^63. The field is whole afterwards, its world and place are those to
     /// which the turns lead in order, and the answer counts the looks that were taken and the turns that were executed anew. It is refused
-    /// for want of memory alone; the field is as before then. All memory but that of the book is taken before the first job is sent.
+    /// only when out of memory; the field is as before then. All memory but that of the book is taken before the first job is sent.
     ///
     /// Each worker that has started and whose channels are open gets a job, and one answer is awaited of it; so the call may wait. A turn of
     /// which no look agrees with the field is looked at by the caller's thread, which calls the gate with the number of workers as its own.
@@ -75,20 +77,22 @@ impl<'c, R: Wait, G: Gate> FarCrew<'c, R, G> {
         ensures unchanged { OnErr result (field.new ≡ field.old) }
     {
         let guesses = guesses_in(alloc, field, from, to)?;
-        self.prepare(alloc, field, &guesses, from, to)?;
+        let turns = GuessedTurns {
+            from,
+            to,
+            guesses: &guesses,
+        };
+        self.prepare(alloc, field, &turns)?;
         take_room(&mut self.picks, &mut self.own, (to - from) as usize)?;
         ask_all(self.rt, &mut self.lines);
         take_in_all(self.rt, &mut self.lines);
         choose(
-            self.gate,
-            self.workers,
+            &self.caller,
             field,
             &self.lines,
-            &guesses,
+            &turns,
             &mut self.picks,
             &mut self.own,
-            from,
-            to,
         );
         let mut book = field.begin(alloc, from, to)?;
         settle(
@@ -97,8 +101,7 @@ impl<'c, R: Wait, G: Gate> FarCrew<'c, R, G> {
             &self.lines,
             &self.own,
             &self.picks,
-            from,
-            to,
+            &turns,
         );
         Ok(field.finish(book))
     }
@@ -108,26 +111,16 @@ impl<'c, R: Wait, G: Gate> FarCrew<'c, R, G> {
         &mut self,
         alloc: Global,
         field: &Field<'_>,
-        guesses: &[u64],
-        from: u32,
-        to: u32,
+        turns: &GuessedTurns<'_>,
     ) -> Result<(), OutOfMemory>
-        requires window { CanBegin field.now from to }
-        requires guesses { guesses.now ≡ guesses_for (window_of field.now from to) }
+        requires { AreTurnsOf field.now turns.now }
     {
         clear_all(&mut self.lines);
         let base = world_in(alloc, self.base.take(), field.world())?;
         let minds = brains_in(alloc, self.minds.take(), field.brains())?;
-        let prepared = prepare_all(
-            alloc,
-            &mut self.lines,
-            field,
-            &minds,
-            &base,
-            guesses,
-            from,
-            to,
-        );
+        let copies = Copies { minds, base };
+        let prepared = prepare_all(alloc, &mut self.lines, field, &copies, turns);
+        let Copies { minds, base } = copies;
         self.base = Some(base);
         self.minds = Some(minds);
         prepared

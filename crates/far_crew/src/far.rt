@@ -97,8 +97,8 @@ fn run_errand<R: Wait, G: Gate, E: Errand>(
     errand.run(&mut crew)
 }
 
-/// Runs an errand with a crew of 1 to 16 workers that stand by, and answers the errand that comes out. It is refused for want of memory
-/// alone; the answer has the errand as it was handed in then.
+/// Runs an errand with a crew of 1 to 16 workers that stand by, and answers the errand that comes out. It is refused only when out of
+/// memory; the answer has the errand as it was handed in then.
 ///
 /// The workers are started, each with two channels of its own; one whose start is refused is left out, and the committer looks at its turns.
 /// The errand runs on the caller's thread with a crew of them. When it is done the channels are closed, which ends the workers, and they are

@@ -1,12 +1,21 @@
 // The guesses of a window's turns.
-ghost use Rattle.std.specs.Prelude.{◌≡◌, ◌+◌, ◌-◌, ◌<◌, ◌≤◌, ◌^◌, IfOk};
+ghost use Rattle.std.specs.Prelude.{◌≡◌, ◌+◌, ◌<◌, ◌≤◌, ◌^◌, IfOk};
 ghost use Rattle.round_book.specs.Book.{CanBegin, window_of};
 ghost use Rattle.round_book.specs.Window.{guess_for, guesses_for};
+ghost use Rattle.far_crew.specs.Inner.Turns.{AreTurnsOf, window_on};
 
 use hex_geometry::OutOfMemory;
 use round_book::Field;
 use spec_record::guesses;
 use std::alloc::Global;
+
+// Turns, those of the ids from `from` up to, and not including, `to`, with the guess of each.
+#[derive(Clone, Copy)]
+pub struct GuessedTurns<'g> {
+    pub from: u32,
+    pub to: u32,
+    pub guesses: &'g [u64],
+}
 
 // The guess of each turn of a window.
 pub fn guesses_in(
@@ -30,13 +39,12 @@ pub fn guesses_in(
 
 // The guess of a turn.
 #[inline]
-pub fn guess_of(field: &Field<'_>, guesses: &[u64], from: u32, to: u32, id: u32) -> u64
-    requires guesses { guesses.now ≡ guesses_for (window_of field.now from to) }
-    requires first { from ≤ id }
-    requires last { id < to }
-    requires lasting { field.now.place + (to - from) < 2 ^ 63 }
-    ensures guess { result ≡ guess_for (window_of field.now from to) id }
+pub fn guess_of(field: &Field<'_>, turns: &GuessedTurns<'_>, id: u32) -> u64
+    requires turns { AreTurnsOf field.now turns.now }
+    requires first { turns.now.from ≤ id }
+    requires last { id < turns.now.to }
+    ensures guess { result ≡ guess_for (window_on field.now turns.now) id }
     ensures small { result + 1 < 2 ^ 63 }
 {
-    guesses[(id - from) as usize]
+    turns.guesses[(id - turns.from) as usize]
 }

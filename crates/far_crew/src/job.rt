@@ -6,9 +6,14 @@ ghost use Rattle.std.specs.List.{AllByRecursion};
 ghost use Rattle.ant_turn.specs.Minds.{Fits, minds_of};
 ghost use Rattle.cell_world.specs.Grid.{world_of};
 ghost use Rattle.spec_record.specs.Look.{look_of};
+ghost use Rattle.far_crew.specs.Inner.Copies.{AreCopiesOf};
+ghost use Rattle.far_crew.specs.Inner.Turns.{CanLookAt, job_on};
 ghost use Rattle.far_crew.specs.Jobs.{IsLookOf, looks_of};
 
+use crate::caller::Caller;
 use crate::found::Found;
+use crate::guessing::GuessedTurns;
+use crate::kept::Copies;
 use crate::own_brains::OwnBrains;
 use ant_base::Gate;
 use ant_random::Stream;
@@ -63,7 +68,7 @@ impl Model for Job {
 impl Job {
     /// The job of the turns of the ids from `from` up to, and not including, `to`, each at its guess, with brains and a world that are
     /// shared. The brains and the world are the field's, `from` is at most `to`, `to` at most the number of ids, there are as many guesses as
-    /// turns, and each is below 2^63 - 1. It is refused for want of memory alone.
+    /// turns, and each is below 2^63 - 1. It is refused only when out of memory.
     pub fn of(
         alloc: Global,
         field: &Field<'_>,
@@ -88,36 +93,25 @@ impl Job {
           guesses = guesses.now;
         }) }
     {
-        let room = Vec::new(alloc);
-        Job::in_room(alloc, field, minds, base, from, to, guesses, room)
+        let copies = Copies { minds, base };
+        let turns = GuessedTurns { from, to, guesses };
+        Job::in_room(alloc, field, copies, &turns, Vec::new(alloc))
     }
 
     // The same job in the room of older looks.
     pub(crate) fn in_room(
         alloc: Global,
         field: &Field<'_>,
-        minds: Arc<OwnBrains>,
-        base: Arc<World>,
-        from: u32,
-        to: u32,
-        guesses: &[u64],
+        copies: Copies,
+        turns: &GuessedTurns<'_>,
         mut room: Vec<Look>,
     ) -> Result<Job, OutOfMemory>
-        requires minds { arc_value minds ≡ field.now.minds }
-        requires base { arc_value base ≡ field.now.world }
-        requires forwards { from ≤ to }
-        requires ids { to ≤ field.now.world.ids }
-        requires count { length guesses.now ≡ to - from }
-        requires small { AllByRecursion (λ guess. guess + 1 < 2 ^ 63) guesses.now }
-        ensures { IfOk result (λ job. job ≡ record {
-          minds = field.now.minds;
-          seed = field.now.seed;
-          base = field.now.world;
-          from = from;
-          to = to;
-          guesses = guesses.now;
-        }) }
+        requires copies { AreCopiesOf field.now copies }
+        requires turns { CanLookAt field.now.world turns.now }
+        ensures { IfOk result (λ job. job ≡ job_on field.now.minds field.now.seed field.now.world turns.now) }
     {
+        let GuessedTurns { from, to, guesses } = *turns;
+        let Copies { minds, base } = copies;
         let _fit = field.world();
         let guesses = Vec::from_slice(alloc, guesses)?;
         reserve(&mut room, (to - from) as usize)?;
@@ -149,17 +143,13 @@ impl Job {
             guesses,
             mut room,
         } = self;
-        make_looks(
-            &base,
-            minds.lend(),
-            seed,
+        let turns = GuessedTurns {
             from,
             to,
-            &guesses,
-            &mut room,
-            gate,
-            worker,
-        );
+            guesses: &guesses,
+        };
+        let caller = Caller { gate, worker };
+        make_looks(&base, minds.lend(), seed, &turns, &mut room, &caller);
         room.truncate((to - from) as usize);
         Found::of(minds, seed, base, room)
     }
@@ -179,25 +169,20 @@ fn make_looks<G: Gate>(
     base: &World,
     brains: Brains<'_>,
     seed: u32,
-    from: u32,
-    to: u32,
-    guesses: &[u64],
+    turns: &GuessedTurns<'_>,
     looks: &mut Vec<Look>,
-    gate: &G,
-    worker: u32,
+    caller: &Caller<'_, G>,
 )
     requires fits { Fits (world_of base.now) (minds_of brains) }
-    requires forwards { from ≤ to }
-    requires ids { to ≤ base.now.ids }
-    requires count { length guesses.now ≡ to - from }
-    requires small { AllByRecursion (λ guess. guess + 1 < 2 ^ 63) guesses.now }
-    requires room { to - from ≤ vec_capacity looks.old }
-    ensures looks { take (to - from) looks.new.items ≡ looks_of (record { minds = minds_of brains.entry; seed = seed; base = base.now; from = from; to = to; guesses = guesses.now }) (to - from) }
-    ensures each { AllByRecursion (IsLookOf (minds_of brains.entry) seed base.now) (take (to - from) looks.new.items) }
+    requires turns { CanLookAt base.now turns.now }
+    requires room { turns.now.to - turns.now.from ≤ vec_capacity looks.old }
+    ensures looks { take (turns.now.to - turns.now.from) looks.new.items ≡ looks_of (job_on (minds_of brains.entry) seed base.now turns.now) (turns.now.to - turns.now.from) }
+    ensures each { AllByRecursion (IsLookOf (minds_of brains.entry) seed base.now) (take (turns.now.to - turns.now.from) looks.new.items) }
 {
+    let GuessedTurns { from, to, guesses } = *turns;
     let mut stream = Stream::from_seed(seed);
     for id in from..to {
-        gate.before_look(worker, id);
+        caller.before_look(id);
         let guess = guesses[(id - from) as usize];
         stream = stream_at(stream, guess);
         make_look(looks, (id - from) as usize, base, brains, &mut stream, id);

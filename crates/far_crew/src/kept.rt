@@ -11,6 +11,25 @@ use hex_geometry::OutOfMemory;
 use std::alloc::Global;
 use std::sync::Arc;
 
+// Copies of a field's brains and world, which are shared with the workers.
+#[derive(Drop)]
+pub struct Copies {
+    pub minds: Arc<OwnBrains>,
+    pub base: Arc<World>,
+}
+
+impl Copies {
+    // The same copies, shared once more.
+    pub fn share(&self) -> Result<Copies, OutOfMemory>
+        ensures minds { IfOk result (λ copies. arc_value copies.minds ≡ arc_value self.now.minds) }
+        ensures base { IfOk result (λ copies. arc_value copies.base ≡ arc_value self.now.base) }
+    {
+        let minds = self.minds.clone()?;
+        let base = self.base.clone()?;
+        Ok(Copies { minds, base })
+    }
+}
+
 // A shared copy of a world, in the memory of this one where it is of the world's size and nobody else has it.
 pub fn world_in(
     alloc: Global,

@@ -6,6 +6,7 @@
 #![tactic(auto)]
 
 mod agreeing;
+mod caller;
 mod crew;
 mod dealing;
 mod far;

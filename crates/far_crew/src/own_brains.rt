@@ -27,7 +27,7 @@ impl Model for OwnBrains {
 }
 
 impl OwnBrains {
-    /// Copies of lent brains, with their sheet. It is refused for want of memory alone.
+    /// Copies of lent brains, with their sheet. It is refused only when out of memory.
     pub fn of(alloc: Global, brains: Brains<'_>) -> Result<OwnBrains, OutOfMemory>
         ensures { IfOk result (λ own. own ≡ minds_of brains.entry) }
     {

@@ -2,14 +2,14 @@
 ghost use Rattle.std.specs.Prelude.{◌≡◌, ◌+◌, ◌-◌, ◌<◌, ◌≤◌, List, [], None, length, slice_get, OnOk};
 ghost use Rattle.std.specs.Option.{option_copied};
 ghost use Rattle.std.specs.Vec.{vec_capacity, vec_len};
-ghost use Rattle.round_book.specs.Book.{CanBegin, window_of};
-ghost use Rattle.round_book.specs.Window.{guesses_for};
 ghost use Rattle.far_crew.specs.Inner.Picks.{AreFilled, AreNone, ArePicked, look_named, looks_in};
+ghost use Rattle.far_crew.specs.Inner.Turns.{AreTurnsOf, window_on};
 ghost use Rattle.far_crew.specs.declared.line.Line.{Line as GivenLine};
 
 use crate::agreeing::is_look_for;
+use crate::caller::Caller;
 use crate::found::Found;
-use crate::guessing::guess_of;
+use crate::guessing::{GuessedTurns, guess_of};
 use crate::line::Line;
 use ant_base::Gate;
 use hex_geometry::OutOfMemory;
@@ -21,6 +21,13 @@ use spec_record::{Look, look};
 pub enum Pick {
     Theirs { line: usize, at: usize },
     Own { at: usize },
+}
+
+// An answer, with the number of its line.
+#[derive(Clone, Copy)]
+struct Answer<'a> {
+    line: usize,
+    found: &'a Found,
 }
 
 // Takes room for the picks of so many turns, none of which has one yet, and for looks at all of them.
@@ -52,50 +59,38 @@ fn blank(picks: &mut Vec<Option<Pick>>, turns: usize) -> Result<(), OutOfMemory>
 // Picks for each turn of a window the first look that agrees, and where there is none, one of the crew's own, which is made.
 #[tactic(auto, using(crate::proofs::PickLemmas::none_picked))]
 pub fn choose<G: Gate>(
-    gate: &G,
-    worker: u32,
+    caller: &Caller<'_, G>,
     field: &Field<'_>,
     lines: &[Line],
-    guesses: &[u64],
+    turns: &GuessedTurns<'_>,
     picks: &mut Vec<Option<Pick>>,
     own: &mut Vec<Look>,
-    from: u32,
-    to: u32,
 )
-    requires window { CanBegin field.now from to }
-    requires guesses { guesses.now ≡ guesses_for (window_of field.now from to) }
-    requires count { vec_len picks.old ≡ to - from }
+    requires turns { AreTurnsOf field.now turns.now }
+    requires count { vec_len picks.old ≡ turns.now.to - turns.now.from }
     requires none { AreNone picks.old.items }
     requires bare { own.old.items ≡ [] }
-    requires room { to - from ≤ vec_capacity own.old }
-    ensures count { vec_len picks.new ≡ to - from }
-    ensures picked { ArePicked lines.now own.new.items picks.new.items (window_of field.now from to) }
-    ensures filled { AreFilled picks.new.items (to - from) }
+    requires room { turns.now.to - turns.now.from ≤ vec_capacity own.old }
+    ensures count { vec_len picks.new ≡ turns.now.to - turns.now.from }
+    ensures picked { ArePicked lines.now own.new.items picks.new.items (window_on field.now turns.now) }
+    ensures filled { AreFilled picks.new.items (turns.now.to - turns.now.from) }
 {
-    sift(field, lines, guesses, picks, from, to);
-    fill(gate, worker, field, guesses, picks, own, from, to);
+    sift(field, lines, turns, picks);
+    fill(caller, field, turns, picks, own);
 }
 
 // Picks for each turn of a window the first look that agrees, in the order of the lines.
 #[tactic(auto, using(crate::proofs::PickLemmas::looks_in_some))]
-fn sift(
-    field: &Field<'_>,
-    lines: &[Line],
-    guesses: &[u64],
-    picks: &mut [Option<Pick>],
-    from: u32,
-    to: u32,
-)
-    requires window { CanBegin field.now from to }
-    requires guesses { guesses.now ≡ guesses_for (window_of field.now from to) }
-    requires count { length picks.old ≡ to - from }
-    requires picked { ArePicked lines.now [] picks.old (window_of field.now from to) }
-    ensures count { length picks.new ≡ to - from }
-    ensures picked { ArePicked lines.now [] picks.new (window_of field.now from to) }
+fn sift(field: &Field<'_>, lines: &[Line], turns: &GuessedTurns<'_>, picks: &mut [Option<Pick>])
+    requires turns { AreTurnsOf field.now turns.now }
+    requires count { length picks.old ≡ turns.now.to - turns.now.from }
+    requires picked { ArePicked lines.now [] picks.old (window_on field.now turns.now) }
+    ensures count { length picks.new ≡ turns.now.to - turns.now.from }
+    ensures picked { ArePicked lines.now [] picks.new (window_on field.now turns.now) }
 {
     for line in 0..lines.len() {
         if let Some(found) = &lines[line].found {
-            sift_answer(field, lines, line, found, guesses, picks, from, to);
+            sift_answer(field, lines, &Answer { line, found }, turns, picks);
         }
     }
 }
@@ -104,23 +99,19 @@ fn sift(
 fn sift_answer(
     field: &Field<'_>,
     lines: &[Line],
-    line: usize,
-    found: &Found,
-    guesses: &[u64],
+    answer: &Answer<'_>,
+    turns: &GuessedTurns<'_>,
     picks: &mut [Option<Pick>],
-    from: u32,
-    to: u32,
 )
-    requires window { CanBegin field.now from to }
-    requires found { looks_in lines.now line ≡ found.now.looks }
-    requires guesses { guesses.now ≡ guesses_for (window_of field.now from to) }
-    requires count { length picks.old ≡ to - from }
-    requires picked { ArePicked lines.now [] picks.old (window_of field.now from to) }
-    ensures count { length picks.new ≡ to - from }
-    ensures picked { ArePicked lines.now [] picks.new (window_of field.now from to) }
+    requires answer { looks_in lines.now answer.now.line ≡ answer.now.found.now.looks }
+    requires turns { AreTurnsOf field.now turns.now }
+    requires count { length picks.old ≡ turns.now.to - turns.now.from }
+    requires picked { ArePicked lines.now [] picks.old (window_on field.now turns.now) }
+    ensures count { length picks.new ≡ turns.now.to - turns.now.from }
+    ensures picked { ArePicked lines.now [] picks.new (window_on field.now turns.now) }
 {
-    for at in 0..found.len() {
-        sift_look(field, lines, line, found, at, guesses, picks, from, to);
+    for at in 0..answer.found.len() {
+        sift_look(field, lines, answer, at, turns, picks);
     }
 }
 
@@ -128,94 +119,83 @@ fn sift_answer(
 fn sift_look(
     field: &Field<'_>,
     lines: &[Line],
-    line: usize,
-    found: &Found,
+    answer: &Answer<'_>,
     at: usize,
-    guesses: &[u64],
+    turns: &GuessedTurns<'_>,
     picks: &mut [Option<Pick>],
-    from: u32,
-    to: u32,
 )
-    requires window { CanBegin field.now from to }
-    requires found { looks_in lines.now line ≡ found.now.looks }
-    requires at { at < length found.now.looks }
-    requires guesses { guesses.now ≡ guesses_for (window_of field.now from to) }
-    requires count { length picks.old ≡ to - from }
-    requires picked { ArePicked lines.now [] picks.old (window_of field.now from to) }
-    ensures count { length picks.new ≡ to - from }
-    ensures picked { ArePicked lines.now [] picks.new (window_of field.now from to) }
+    requires answer { looks_in lines.now answer.now.line ≡ answer.now.found.now.looks }
+    requires at { at < length answer.now.found.now.looks }
+    requires turns { AreTurnsOf field.now turns.now }
+    requires count { length picks.old ≡ turns.now.to - turns.now.from }
+    requires picked { ArePicked lines.now [] picks.old (window_on field.now turns.now) }
+    ensures count { length picks.new ≡ turns.now.to - turns.now.from }
+    ensures picked { ArePicked lines.now [] picks.new (window_on field.now turns.now) }
 {
+    let Answer { line, found } = *answer;
     let look = found.look(at);
     let id = look.turn();
-    if id < from || id >= to {
+    if id < turns.from || id >= turns.to {
         return;
     }
-    let turn = (id - from) as usize;
+    let turn = (id - turns.from) as usize;
     if picks[turn].is_some() {
         return;
     }
-    let guess = guess_of(field, guesses, from, to, id);
+    let guess = guess_of(field, turns, id);
     if is_look_for(field, found, look, guess, id) {
         picks[turn] = Some(Pick::Theirs { line, at });
     }
 }
 
-// Makes the look at each turn that has no pick, and picks it; the gate is called with this number before each.
+// Makes the look at each turn that has no pick, and picks it; the gate is called before each.
 fn fill<G: Gate>(
-    gate: &G,
-    worker: u32,
+    caller: &Caller<'_, G>,
     field: &Field<'_>,
-    guesses: &[u64],
+    turns: &GuessedTurns<'_>,
     picks: &mut [Option<Pick>],
     own: &mut Vec<Look>,
-    from: u32,
-    to: u32,
 )
-    requires window { CanBegin field.now from to }
-    requires guesses { guesses.now ≡ guesses_for (window_of field.now from to) }
-    requires count { length picks.old ≡ to - from }
+    requires turns { AreTurnsOf field.now turns.now }
+    requires count { length picks.old ≡ turns.now.to - turns.now.from }
     requires bare { own.old.items ≡ [] }
-    requires room { to - from ≤ vec_capacity own.old }
-    ensures picked { (lines : List GivenLine) → ArePicked lines [] picks.old (window_of field.now from to) → ArePicked lines own.new.items picks.new (window_of field.now from to) }
-    ensures filled { AreFilled picks.new (to - from) }
-    ensures count { length picks.new ≡ to - from }
+    requires room { turns.now.to - turns.now.from ≤ vec_capacity own.old }
+    ensures picked { (lines : List GivenLine) → ArePicked lines [] picks.old (window_on field.now turns.now) → ArePicked lines own.new.items picks.new (window_on field.now turns.now) }
+    ensures filled { AreFilled picks.new (turns.now.to - turns.now.from) }
+    ensures count { length picks.new ≡ turns.now.to - turns.now.from }
 {
-    for id in from..to {
-        fill_turn(gate, worker, field, guesses, picks, own, from, to, id);
+    for id in turns.from..turns.to {
+        fill_turn(caller, field, turns, picks, own, id);
     }
 }
 
 // Makes the look at a turn, if it has no pick, and picks it.
 fn fill_turn<G: Gate>(
-    gate: &G,
-    worker: u32,
+    caller: &Caller<'_, G>,
     field: &Field<'_>,
-    guesses: &[u64],
+    turns: &GuessedTurns<'_>,
     picks: &mut [Option<Pick>],
     own: &mut Vec<Look>,
-    from: u32,
-    to: u32,
     id: u32,
 )
-    requires window { CanBegin field.now from to }
-    requires guesses { guesses.now ≡ guesses_for (window_of field.now from to) }
-    requires first { from ≤ id }
-    requires last { id < to }
-    requires count { length picks.old ≡ to - from }
+    requires turns { AreTurnsOf field.now turns.now }
+    requires first { turns.now.from ≤ id }
+    requires last { id < turns.now.to }
+    requires count { length picks.old ≡ turns.now.to - turns.now.from }
     requires room { vec_len own.old < vec_capacity own.old }
-    requires filled { AreFilled picks.old (id - from) }
-    ensures picked { (lines : List GivenLine) → ArePicked lines own.old.items picks.old (window_of field.now from to) → ArePicked lines own.new.items picks.new (window_of field.now from to) }
-    ensures filled { AreFilled picks.new (id + 1 - from) }
-    ensures count { length picks.new ≡ to - from }
+    requires filled { AreFilled picks.old (id - turns.now.from) }
+    ensures picked { (lines : List GivenLine) → ArePicked lines own.old.items picks.old (window_on field.now turns.now) → ArePicked lines own.new.items picks.new (window_on field.now turns.now) }
+    ensures filled { AreFilled picks.new (id + 1 - turns.now.from) }
+    ensures count { length picks.new ≡ turns.now.to - turns.now.from }
     ensures len { vec_len own.new ≤ vec_len own.old + 1 }
     ensures capacity { vec_capacity own.new ≡ vec_capacity own.old }
 {
-    let turn = (id - from) as usize;
+    let turn = (id - turns.from) as usize;
     if picks[turn].is_some() {
         return;
     }
-    let guess = guess_of(field, guesses, from, to, id);
-    gate.before_look(worker, id);
+    let guess = guess_of(field, turns, id);
+    caller.before_look(id);
     let at = own.len();
     own.push_reserved(look(field.world(), field.brains(), field.seed(), guess, id));
     picks[turn] = Some(Pick::Own { at });

@@ -1,8 +1,10 @@
 // Settles the turns of a window by the looks that are picked.
-ghost use Rattle.std.specs.Prelude.{◌≡◌, ◌+◌, ◌-◌, ◌<◌, ◌≤◌, length};
+ghost use Rattle.std.specs.Prelude.{◌≡◌, ◌+◌, ◌-◌, ◌<◌, length};
 ghost use Rattle.round_book.specs.Book.{IsSameWindow, StandsOn, window_of};
 ghost use Rattle.far_crew.specs.Inner.Picks.{AreFilled, ArePicked};
+ghost use Rattle.far_crew.specs.Inner.Turns.{window_on};
 
+use crate::guessing::GuessedTurns;
 use crate::line::Line;
 use crate::picking::{Pick, look_named};
 use round_book::{Book, Field, advance};
@@ -15,48 +17,44 @@ pub fn settle(
     lines: &[Line],
     own: &[Look],
     picks: &[Option<Pick>],
-    from: u32,
-    to: u32,
+    turns: &GuessedTurns<'_>,
 )
     requires stands { StandsOn field.now book.old }
-    requires from { book.old.from ≡ from }
-    requires next { book.old.next ≡ from }
-    requires to { book.old.to ≡ to }
-    requires count { length picks.now ≡ to - from }
-    requires picked { ArePicked lines.now own.now picks.now (window_of field.now from to) }
-    requires filled { AreFilled picks.now (to - from) }
+    requires from { book.old.from ≡ turns.now.from }
+    requires next { book.old.next ≡ turns.now.from }
+    requires to { book.old.to ≡ turns.now.to }
+    requires count { length picks.now ≡ turns.now.to - turns.now.from }
+    requires picked { ArePicked lines.now own.now picks.now (window_on field.now turns.now) }
+    requires filled { AreFilled picks.now (turns.now.to - turns.now.from) }
     ensures stands { StandsOn field.now book.new }
-    ensures next { book.new.next ≡ to }
+    ensures next { book.new.next ≡ turns.now.to }
     ensures same { IsSameWindow book.old book.new }
 {
-    for id in from..to {
-        settle_next(book, field, lines, own, picks, from, id);
+    for id in turns.from..turns.to {
+        settle_next(book, field, lines, own, picks, (id - turns.from) as usize);
     }
 }
 
-// Settles the next turn.
+// Settles the next turn, which has this number in the window, from 0.
 fn settle_next(
     book: &mut Book,
     field: &Field<'_>,
     lines: &[Line],
     own: &[Look],
     picks: &[Option<Pick>],
-    from: u32,
-    id: u32,
+    turn: usize,
 )
     requires stands { StandsOn field.now book.old }
-    requires from { book.old.from ≡ from }
-    requires next { book.old.next ≡ id }
-    requires first { from ≤ id }
+    requires next { book.old.next ≡ book.old.from + turn }
     requires left { book.old.next < book.old.to }
-    requires count { length picks.now ≡ book.old.to - from }
-    requires picked { ArePicked lines.now own.now picks.now (window_of field.now from book.old.to) }
-    requires filled { AreFilled picks.now (book.old.to - from) }
+    requires count { length picks.now ≡ book.old.to - book.old.from }
+    requires picked { ArePicked lines.now own.now picks.now (window_of field.now book.old.from book.old.to) }
+    requires filled { AreFilled picks.now (book.old.to - book.old.from) }
     ensures stands { StandsOn field.now book.new }
-    ensures next { book.new.next ≡ id + 1 }
+    ensures next { book.new.next ≡ book.old.next + 1 }
     ensures same { IsSameWindow book.old book.new }
 {
-    let Some(pick) = picks[(id - from) as usize] else {
+    let Some(pick) = picks[turn] else {
         unreachable!()
     };
     let Some(look) = look_named(lines, own, pick) else {

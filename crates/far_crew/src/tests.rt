@@ -4,8 +4,9 @@ ghost use Rattle.std.specs.Prelude.{◌≡◌, ◌≤◌, true, IfOk, length};
 ghost use Rattle.ant_base.specs.Shelf.{longest};
 
 use crate::crew::FarCrew;
-use crate::dealing::job_between;
-use crate::guessing::guesses_in;
+use crate::dealing::{Piece, job_of};
+use crate::guessing::{GuessedTurns, guesses_in};
+use crate::kept::Copies;
 use crate::line::Line;
 use crate::{Errand, Found, Job, OwnBrains, agrees, with_far};
 use ant_base::{LONGEST, NoGate};
@@ -162,8 +163,14 @@ fn piece_of<R: Abort>(
     assert!(rt; first <= last && last <= guesses.len());
     let minds = Arc::new(alloc, OwnBrains::of(alloc, field.brains())?)?;
     let base = Arc::new(alloc, field.world().copy(alloc)?)?;
-    let room = Vec::new(alloc);
-    let job = job_between(alloc, field, minds, base, &guesses, 0, first, last, room)?;
+    let copies = Copies { minds, base };
+    let turns = GuessedTurns {
+        from: 0,
+        to: ids,
+        guesses: &guesses,
+    };
+    let piece = Piece { first, last };
+    let job = job_of(alloc, field, &copies, &turns, piece, Vec::new(alloc))?;
     Ok(job.work(&NoGate, 0))
 }
 

@@ -4,16 +4,16 @@ use Rattle.round_book.proofs.SoloLemmas.{guess_for-le}
 use Rattle.far_crew.proofs.WindowLemmas.{guesses-at, guesses_count}
 use Rattle.far_crew.proofs.guessing.guess_of.Goals as goal
 
-pub bounds-guesses-id : goal.bounds-guesses-id
-bounds-guesses-id c =
-    let long = guesses_count c.args.field.now c.args.from c.args.to c.args.guesses.now c.requires.guesses in
+pub bounds-turns-id : goal.bounds-turns-id
+bounds-turns-id c =
+    let long = guesses_count c.args.field.now c.args.turns.now.from c.args.turns.now.to c.args.turns.now.guesses.now c.requires.turns.guesses in
     let a = c.requires.first in let b = c.requires.last in omega arith
 
 pub returns-clause-guess : goal.returns-clause-guess
-returns-clause-guess c = guesses-at c.args.field.now c.args.from c.args.to c.args.id c.args.guesses.now c.requires.guesses c.requires.first c.requires.last
+returns-clause-guess c = guesses-at c.args.field.now c.args.turns.now.from c.args.turns.now.to c.args.id c.args.turns.now.guesses.now c.requires.turns.guesses c.requires.first c.requires.last
 
 pub returns-clause-small : goal.returns-clause-small
 returns-clause-small c =
-    let is = guesses-at c.args.field.now c.args.from c.args.to c.args.id c.args.guesses.now c.requires.guesses c.requires.first c.requires.last in
-    let few = guess_for-le (window_of c.args.field.now c.args.from c.args.to) c.args.id in
-    let a = c.requires.first in let b = c.requires.last in let lasting = c.requires.lasting in omega arith
+    let is = guesses-at c.args.field.now c.args.turns.now.from c.args.turns.now.to c.args.id c.args.turns.now.guesses.now c.requires.turns.guesses c.requires.first c.requires.last in
+    let few = guess_for-le (window_of c.args.field.now c.args.turns.now.from c.args.turns.now.to) c.args.id in
+    let a = c.requires.first in let b = c.requires.last in let lasting = c.requires.turns.begins.lasting in omega arith

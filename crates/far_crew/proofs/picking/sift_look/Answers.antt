@@ -9,10 +9,10 @@ use Rattle.far_crew.proofs.picking.sift_look.Goals as goal
 
 pub returns-then-is_look_for-clause-picked : goal.returns-then-is_look_for-clause-picked
 returns-then-is_look_for-clause-picked c =
-    let window = window_of c.args.field.now c.args.from c.args.to in
-    let count = c.requires.count in let below = c.if-id-from.false in let above = c.if-id-to.false in
-    let turn : c.turn-id.result ≡ c.args.from + (c.turn-id.result - c.args.from) = omega arith in
-    let look : c.look-look.result.now ≡ look_for window (c.args.from + (c.turn-id.result - c.args.from)) =
-    c.is_look_for.ensures c.if-is_look_for.true ∙ look_for_is c.args.field.now c.args.from c.args.to c.turn-id.result c.guess_of-guess.result c.guess_of-guess.ensures.guess ∙ ap (look_for window) turn in
-    ArePicked-set c.args.lines.now [] window c.args.picks.now (c.turn-id.result - c.args.from) (Theirs c.args.line c.args.at) (omega arith) c.requires.picked
-    (ap (λ (l : List LookValue). slice_get l c.args.at) c.requires.found ∙ c.look-look.ensures.item ∙ ap Some look)
+    let window = window_of c.args.field.now c.args.turns.now.from c.args.turns.now.to in
+    let count = c.requires.count in let below = c.if-id-turns.false in let above = c.if-id-turns-2.false in
+    let turn : c.turn-id.result ≡ c.args.turns.now.from + (c.turn-id.result - c.args.turns.now.from) = omega arith in
+    let look : c.look-look.result.now ≡ look_for window (c.args.turns.now.from + (c.turn-id.result - c.args.turns.now.from)) =
+    c.is_look_for.ensures c.if-is_look_for.true ∙ look_for_is c.args.field.now c.args.turns.now.from c.args.turns.now.to c.turn-id.result c.guess_of-guess.result c.guess_of-guess.ensures.guess ∙ ap (look_for window) turn in
+    ArePicked-set c.args.lines.now [] window c.args.picks.now (c.turn-id.result - c.args.turns.now.from) (Theirs c.args.answer.now.line c.args.at) (omega arith) c.requires.picked
+    (ap (λ (l : List LookValue). slice_get l c.args.at) c.requires.answer ∙ c.look-look.ensures.item ∙ ap Some look)
