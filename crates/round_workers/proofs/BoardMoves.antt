@@ -2,7 +2,7 @@
 use Rattle.std.proofs.Common.{◌≡◌, ◌≢◌, ℕ, ◌+◌, ◌-◌, ◌≤◌, List, [], ◌∷◌, refl, sym, ap, ◌∙◌, subst, arith, Option, Some, None}
 use Rattle.std.specs.Prelude.{IfNone, IfSome, OnSome}
 use Rattle.atomic_table.specs.declared.shared.Seat.{Seat as Hand}
-use Rattle.atomic_table.specs.Table.{Me, rest}
+use Rattle.atomic_table.specs.Table.{rest}
 use Rattle.round_workers.specs.declared.board.seat.Board.{Board}
 use Rattle.round_workers.specs.declared.board.view.BoardSlot.{BoardSlot}
 use Rattle.round_workers.specs.declared.board.view.BoardSlot.TheVariants.{Nothing}

@@ -3,6 +3,7 @@ use Rattle.std.proofs.Common.{◌≡◌, ◌≢◌, ℕ, zero, suc, ◌+◌, ◌
 use mathlib.Core.Option as maybe
 use native.Mathlib.Decide.{ℕ_discrete}
 use lib.ListN.{get_elem?}
+use Rattle.std.proofs.lemmas.List.{get_or-replicate, length-replicate}
 use Rattle.std.specs.Prelude.{slice_index, nat_eq}
 use Rattle.atomic_table.specs.Table.{Allows, Me, State, opening as opening_table, Splits, Joins, keeps, step, stepped}
 use Rattle.atomic_table.proofs.Lists.{set_again, set_else}
@@ -20,19 +21,10 @@ use Rattle.round_workers.specs.BoardTotals.{late_among, once_below, summed}
 use Rattle.round_workers.specs.BoardView.{first_seat, spent_seat, window_for}
 use Rattle.round_workers.specs.BoardPlays.{views_joined, made_one, newcomer, tells_each_once}
 use Rattle.round_workers.specs.BoardRule.{AreParts, HasHome, IsKept, IsSeated, has_opened, is_first, made_by, phase_opening, putting, taking, turns_of}
+use Rattle.round_workers.specs.Crews.{most_workers}
 use Rattle.round_workers.specs.Inner.BoardPlaces.{AreBare}
 use Rattle.round_workers.proofs.BoardTotalLemmas.{above-none, late-append, once-le, once-suc, same-one, times-append, total-alone, total-at, total-joined, total-set, total-snoc, total-two}
 use Rattle.round_workers.proofs.BoardKeeps.{book-by, book-seen, first-other, first-seat, look-by, only-none, seated, seats-set, seats-snoc}
-
--- lists of one thing
-all-zero : (m i : ℕ) → slice_index (replicate m 0) i ≡ 0
-all-zero zero i = refl
-all-zero (suc m) zero = refl
-all-zero (suc m) (suc i) = all-zero m i
-
-length-replicate : (m x : ℕ) → length (replicate m x) ≡ m
-length-replicate zero x = refl
-length-replicate (suc m) x = ap suc (length-replicate m x)
 
 homes-length : (slots : List BoardSlot) → length (map maybe.some slots) ≡ length slots
 homes-length [] = refl
@@ -84,9 +76,9 @@ starts key slots playable bare = let n : ℕ = turns_of key in record {
   homes = homes-length slots ∙ bare.long;
   seats = λ i v at. inr (subst (IsSeated key) (only i v at) (record { same = refl; own = (omega arith); makes = (λ ne. refl); late = (omega arith); drew = (λ x. omega arith); within = (λ x far. omega arith); opens = (omega arith) }));
   parts = first-parts key;
-  tickets = (let no_word = all-zero (n + 2) 0 in record { each = (λ x. let none_of : once_below x (slice_index (replicate (n + 2) 0) 0) ≡ 0 = above-none x (slice_index (replicate (n + 2) 0) 0) (omega arith) in omega arith); within = (omega arith) });
-  book = (let no_word = all-zero (n + 2) 1 in record { out = (omega arith); bit = (omega arith); once = (omega arith); unheld = (λ e. refl); unseen = (λ e. refl); bare = (λ e. home-of slots 0 (TheBook None) bare.book); stands = (λ e. absurd (omega arith)) });
-  looks = λ j inside. (let no_word = all-zero (n + 2) (j + 2) in let spare = bare.spares j inside in record { sum = (omega arith); once = (omega arith); back = (omega arith); bare = (λ e d. (spare.0, home-of slots (j + 1) (Spare spare.0) spare.1)); full = (λ e. absurd (omega arith)) });
+  tickets = (let no_word : slice_index (replicate (n + 2) 0) 0 ≡ 0 = get_or-replicate (n + 2) 0 0 0 (omega arith) in record { each = (λ x. let none_of : once_below x (slice_index (replicate (n + 2) 0) 0) ≡ 0 = above-none x (slice_index (replicate (n + 2) 0) 0) (omega arith) in omega arith); within = (omega arith) });
+  book = (let no_word : slice_index (replicate (n + 2) 0) 1 ≡ 0 = get_or-replicate (n + 2) 1 0 0 (omega arith) in record { out = (omega arith); bit = (omega arith); once = (omega arith); unheld = (λ e. refl); unseen = (λ e. refl); bare = (λ e. home-of slots 0 (TheBook None) bare.book); stands = (λ e. absurd (omega arith)) });
+  looks = λ j inside. (let no_word : slice_index (replicate (n + 2) 0) (j + 2) ≡ 0 = get_or-replicate (n + 2) (j + 2) 0 0 (omega arith) in let spare = bare.spares j inside in record { sum = (omega arith); once = (omega arith); back = (omega arith); bare = (λ e d. (spare.0, home-of slots (j + 1) (Spare spare.0) spare.1)); full = (λ e. absurd (omega arith)) });
 } where
   only : (i : ℕ) (v : View) → get_elem? (first_seat key ∷ []) i ≡ maybe.some v → first_seat key ≡ v
   only zero v at = maybe.some-injective (first_seat key) v at
@@ -101,7 +93,7 @@ made-all key s r id v at about zeroth = total-alone (λ u. u.made) s.views id v 
     (λ is. is.makes (λ zero_too. let two = total-two is_first s.views id j v w at there other in let one = r.parts.first in let a = first-seat key v about zeroth in let b = first-seat key w is.same zero_too in absurd (omega arith)))
     (r.seats j w there))
 
-module _ (key : Basis) (id : ℕ) (v : View) (about : v.about ≡ Some key) (zeroth : v.number ≡ 0) (few : v.made < 16) where
+module _ (key : Basis) (id : ℕ) (v : View) (about : v.about ≡ Some key) (zeroth : v.number ≡ 0) (few : v.made < most_workers) where
   pub splits : Splits (IsKept key) id v (made_one v) (newcomer v)
   splits s r at =
       let w : View = made_one v in let u : View = newcomer v in let n : ℕ = turns_of key in let one : List View = set s.views id w in let is = seated key v about (r.seats id v at) in

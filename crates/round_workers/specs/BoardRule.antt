@@ -19,6 +19,7 @@ use Rattle.round_workers.specs.declared.board.view.Phase.TheVariants.{Resting, O
 use Rattle.round_workers.specs.declared.board.view.View.{View}
 use Rattle.round_workers.specs.BoardTotals.{late_among, once_below, summed}
 use Rattle.round_workers.specs.BoardView.{spent_seat, window_for}
+use Rattle.round_workers.specs.Crews.{most_workers}
 
 -- how many turns a board's window has
 abbrev pub turns_of : Basis → ℕ
@@ -83,12 +84,12 @@ Sits key v = (v ≡ spent_seat) ⊎ IsSeated key v
 abbrev pub made_by : List View → ℕ
 made_by views = summed (λ v. v.made) views
 
--- the parts of all seats are the numbers from 0 to the count of seats that were made, each once; that count is at most 16; there is one first
--- seat
+-- the parts of all seats are the numbers from 0 to the count of seats that were made, each once; that count is at most that of a crew; there is one
+-- first seat
 pub record AreParts (views : List View) : Type 0 where
   pub each : (x : ℕ) → summed (λ v. times x v.parts) views ≡ once_below x (made_by views + 1)
   pub count : summed (λ v. length v.parts) views ≡ made_by views + 1
-  pub few : made_by views ≤ 16
+  pub few : made_by views ≤ most_workers
   pub first : summed is_first views ≡ 1
 
 -- the tickets of all seats are the numbers below the ticket word, each once; at most as many as are behind the window were drawn beyond it

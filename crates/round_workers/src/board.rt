@@ -10,6 +10,7 @@ ghost use Rattle.round_workers.specs.BoardPlays.{drew, views_joined, made_one, n
 ghost use Rattle.round_workers.specs.BoardRule.{turns_of};
 ghost use Rattle.round_workers.specs.BoardSeats.{IsSeatOf, basis_of, known};
 ghost use Rattle.round_workers.specs.BoardView.{first_seat, window_for};
+ghost use Rattle.round_workers.specs.Crews.{most_workers};
 
 mod book_calls;
 mod closing;
@@ -40,7 +41,7 @@ pub use worker::Worker;
 impl Board {
     /// A board for the window of the turns of the ids from `from` up to, and not including, `to`, of a field, and its first seat. The seat
     /// knows the window. No ticket is drawn, no look is put, and the book isn't there yet. The field is whole, `from` is at most `to`, `to`
-    /// at most the number of ids, and the place with the number of turns is below 2^63. It is refused for want of memory alone; it takes
+    /// at most the number of ids, and the place with the number of turns is below 2^63. It is refused only when out of memory; it takes
     /// the room of all looks, and of the list of those that are left in the end.
     pub fn new(
         alloc: Global,
@@ -101,7 +102,7 @@ impl Board {
     pub fn split(&self, seat: &mut Seat) -> Seat
         requires board { IsSeatOf self.now seat.old }
         requires first { (known seat.old).number ≡ 0 }
-        requires few { (known seat.old).made < 16 }
+        requires few { (known seat.old).made < most_workers }
         ensures board { IsSeatOf self.now seat.new }
         ensures made { known seat.new ≡ made_one (known seat.old) }
         ensures new_board { IsSeatOf self.now result }

@@ -4,6 +4,7 @@ ghost use Rattle.round_workers.specs.declared.piece.Piece.{Piece};
 ghost use Rattle.round_workers.specs.Inner.Pieces.{IsPieceDone, IsPieceReady};
 
 use crate::piece::Piece;
+use crate::team::Team;
 use ant_base::Gate;
 use round_book::Field;
 use std::thread;
@@ -11,22 +12,21 @@ use std::thread::Threads;
 
 // Makes the looks of each piece, each piece in a thread; a single piece in that of the caller.
 pub fn look_at_pieces<R: Threads + Sync, G: Gate>(
-    rt: &R,
-    gate: &G,
+    team: &Team<'_, R, G>,
     field: &Field<'_>,
     from: u32,
     pieces: &mut [Piece],
-    workers: usize,
 )
-    requires workers { 0 < workers }
+    requires workers { 0 < team.now.workers }
     requires ready { All (IsPieceReady field.now from) pieces.old }
     ensures done { (i : ℕ) (d : Piece) → i < length pieces.old → IsPieceDone field.now from (slice_index_or pieces.old i d) (slice_index_or pieces.new i d) }
     ensures len { length pieces.new ≡ length pieces.old }
 {
+    let gate = team.gate;
     thread::for_each_mut(
-        rt,
+        team.rt,
         pieces,
-        workers,
+        team.workers as usize,
         &|_: usize, piece: &mut Piece|
             requires { IsPieceReady field.now from piece.now }
             ensures { IsPieceDone field.entry.now from piece.entry.now piece.exit.now }

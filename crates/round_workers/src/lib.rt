@@ -18,6 +18,7 @@ mod piece;
 mod piece_crew;
 mod settling;
 mod share;
+mod team;
 
 pub use board::{Basis, Board, BoardCrew, BoardSlot, Closed, Phase, Room, Seat, Try, View, Worker};
 pub use hex_geometry::OutOfMemory;

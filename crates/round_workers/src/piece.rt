@@ -6,6 +6,7 @@ ghost use Rattle.cell_world.specs.Grid.{world_of};
 ghost use Rattle.round_book.specs.Book.{CanBegin, window_of};
 ghost use Rattle.round_book.specs.Window.{guess_for};
 ghost use Rattle.spec_record.specs.Look.{look_of};
+ghost use Rattle.round_workers.specs.Crews.{IsCrewSize};
 ghost use Rattle.round_workers.specs.Inner.Pieces.{AreLooked, HasPieceRoom, IsGuessed, IsPieceDone, IsPieceReady, all_have_room, shares_among};
 ghost use Rattle.round_workers.specs.Inner.Shares.{if_any, looks_for, shares};
 
@@ -48,7 +49,7 @@ impl Piece {
     }
 }
 
-// Makes the look at each turn of a share, in order, at the front of the list, which has room for them.
+// Makes the look at each turn of a share, in order, as a prefix of the list, which has room for them.
 fn make_looks<G: Gate>(looks: &mut Vec<Look>, share: Share, field: &Field<'_>, gate: &G, from: u32)
     requires begin { CanBegin field.now from share.to }
     requires first { from ≤ share.from }
@@ -92,7 +93,7 @@ pub fn deal(
     turns: Turns,
     workers: u32,
 ) -> Result<usize, OutOfMemory>
-    requires workers { (1 ≤ workers) × (workers ≤ 16) }
+    requires workers { IsCrewSize workers }
     requires window { CanBegin field.now turns.from turns.to }
     ensures shares { IfOk result (λ dealt. shares_among dealt pieces.new.items ≡ shares (window_of field.now turns.from turns.to) workers workers) }
     ensures rooms { IfOk result (λ dealt. all_have_room dealt pieces.new.items) }

@@ -2,11 +2,13 @@
 ghost use Rattle.std.specs.Prelude.{◌≡◌, ◌+◌, ◌-◌, ◌≤◌, ◌^◌, min, IfOk, OnOk, OnErr};
 ghost use Rattle.round_book.specs.Book.{CanBegin, IsPlayed, window_of};
 ghost use Rattle.round_book.specs.Counts.{counts_of};
+ghost use Rattle.round_workers.specs.Crews.{IsCrewSize, most_workers};
 
 use crate::fork::look_at_pieces;
 use crate::piece::{Piece, deal};
 use crate::settling::settle_pieces;
 use crate::share::Turns;
+use crate::team::Team;
 use ant_base::Gate;
 use hex_geometry::OutOfMemory;
 use round_book::{Counts, Field, play_window};
@@ -18,35 +20,30 @@ use std::thread::Threads;
 /// order on the caller's thread. It keeps the rooms of its looks from one window to the next.
 #[derive(Drop)]
 pub struct PieceCrew<'c, R: Threads + Sync, G: Gate> {
-    rt: &'c R,
-    gate: &'c G,
-    workers: u32,
+    team: Team<'c, R, G>,
     turns: u64,
     pieces: Option<Vec<Piece>>,
 }
 
 impl<'c, R: Threads + Sync, G: Gate> Model for PieceCrew<'c, R, G> {
-    ghost use Rattle.std.specs.Prelude.{◌≤◌};
-    ghost use Rattle.round_workers.specs.Crews.{CrewValue};
+    ghost use Rattle.round_workers.specs.Crews.{CrewValue, IsCrewSize};
 
     ghost Value = { CrewValue };
 
-    ghost view = { λ crew. record { workers = crew.workers; turns = crew.turns } };
+    ghost view = { λ crew. record { workers = crew.team.workers; turns = crew.turns } };
 
-    ghost invariant = { λ crew. (1 ≤ crew.workers) × (crew.workers ≤ 16) };
+    ghost invariant = { λ crew. IsCrewSize crew.team.workers };
 }
 
 impl<'c, R: Threads + Sync, G: Gate> PieceCrew<'c, R, G> {
     /// A crew of 1 to 16 workers, which has played no turn yet. Each worker, from 0, calls the gate before each look that it makes. It
     /// takes no memory.
     pub fn new(rt: &'c R, workers: u32, gate: &'c G) -> PieceCrew<'c, R, G>
-        requires workers { (1 ≤ workers) × (workers ≤ 16) }
+        requires workers { (1 ≤ workers) × (workers ≤ most_workers) }
         ensures { result ≡ record { workers = workers; turns = 0 } }
     {
         PieceCrew {
-            rt,
-            gate,
-            workers,
+            team: Team { rt, gate, workers },
             turns: 0,
             pieces: None,
         }
@@ -63,7 +60,7 @@ impl<'c, R: Threads + Sync, G: Gate> PieceCrew<'c, R, G> {
     /// Plays the turns of the ids from `from` up to, and not including, `to`. The field is whole, `from` is at most `to`,
     /// `to` at most the number of ids, and the place with the number of turns is below 2^63. The field is whole afterwards, its world and
     /// place are those to which the turns lead in order, and the answer counts the looks that were taken and the turns that were executed
-    /// anew. It is refused for want of memory alone; the field and the count of turns are as before then.
+    /// anew. It is refused only when out of memory; the field and the count of turns are as before then.
     ///
     /// Of n turns worker k of W makes the looks of those from `from` + k * n / W up to, and not including, `from` + (k + 1) * n / W, and
     /// calls the gate with its number and the id before each. A worker that has no turn starts no thread. All looks are made before the
@@ -83,15 +80,7 @@ impl<'c, R: Threads + Sync, G: Gate> PieceCrew<'c, R, G> {
         ensures as_before { OnErr result (self.new ≡ self.old) }
     {
         let mut pieces = self.pieces.take().unwrap_or_else(|| Vec::new(alloc));
-        let played = play(
-            self.rt,
-            self.gate,
-            alloc,
-            &mut pieces,
-            self.workers,
-            field,
-            Turns { from, to },
-        );
+        let played = play(&self.team, alloc, &mut pieces, field, Turns { from, to });
         self.pieces = Some(pieces);
         let counts = played?;
         self.turns = self.turns.saturating_add(u64::from(to - from));
@@ -99,29 +88,27 @@ impl<'c, R: Threads + Sync, G: Gate> PieceCrew<'c, R, G> {
     }
 }
 
-// Plays a window by so many workers, in these pieces and such as are wanted besides.
+// Plays a window by the workers of a team, in these pieces and such as are wanted besides.
 fn play<R: Threads + Sync, G: Gate>(
-    rt: &R,
-    gate: &G,
+    team: &Team<'_, R, G>,
     alloc: Global,
     pieces: &mut Vec<Piece>,
-    workers: u32,
     field: &mut Field<'_>,
     turns: Turns,
 ) -> Result<Counts, OutOfMemory>
-    requires workers { (1 ≤ workers) × (workers ≤ 16) }
+    requires workers { IsCrewSize team.now.workers }
     requires window { CanBegin field.old turns.from turns.to }
     ensures played { OnOk result (IsPlayed field.old turns.from turns.to field.new) }
     ensures counts { IfOk result (λ counts. counts ≡ counts_of (window_of field.old turns.from turns.to)) }
     ensures unchanged { OnErr result (field.new ≡ field.old) }
 {
     let Turns { from, to } = turns;
-    if workers.min(to - from) <= 1 {
-        return play_window(gate, alloc, field, from, to);
+    if team.workers.min(to - from) <= 1 {
+        return play_window(team.gate, alloc, field, from, to);
     }
-    let dealt = deal(pieces, alloc, field, turns, workers)?;
+    let dealt = deal(pieces, alloc, field, turns, team.workers)?;
     let pieces = &mut pieces[..dealt];
-    look_at_pieces(rt, gate, field, from, pieces, workers as usize);
+    look_at_pieces(team, field, from, pieces);
     let mut book = field.begin(alloc, from, to)?;
     settle_pieces(&mut book, field, pieces);
     Ok(field.finish(book))

@@ -1,5 +1,6 @@
 // Which turns of a window each worker looks at.
 ghost use Rattle.std.specs.Prelude.{◌≡◌, ◌+◌, ◌*◌, ◌-◌, ◌/◌, ◌<◌, ◌≤◌, ◌^◌};
+ghost use Rattle.round_workers.specs.Crews.{most_workers};
 ghost use Rattle.round_workers.specs.Inner.Shares.{share_of};
 
 use work_share::border;
@@ -22,7 +23,7 @@ pub struct Share {
 
 // The share of this worker in the turns of a window, where this is the guess of its first turn.
 pub fn share_of(workers: u32, turns: Turns, worker: u32, guess: u64) -> Share
-    requires workers { workers ≤ 16 }
+    requires workers { workers ≤ most_workers }
     requires worker { worker < workers }
     requires forwards { turns.from ≤ turns.to }
     ensures { result ≡ share_of workers turns.from (turns.to - turns.from) worker guess }

@@ -18,6 +18,7 @@ use Rattle.round_workers.specs.BoardSeats.{IsSeatOf, basis_of, known, board_wind
 use Rattle.round_workers.specs.BoardTotals.{once_below}
 use Rattle.round_workers.specs.BoardView.{first_seat}
 use Rattle.round_workers.specs.BoardWorker.{turns_in}
+use Rattle.round_workers.specs.Crews.{most_workers}
 
 -- a worker is ready to work on a board: its seat is one of the board, and has seen the book opened; it drew no ticket behind the window; and
 -- its list has room for all turns
@@ -60,10 +61,10 @@ pub record IsLaid (for_window : Window) (laid : Laid) : Type 0 where
 pub record IsCrewStocked (for_window : Window) (stock : CrewStock) : Type 0 where
   pub guesses : stock.guesses.items ≡ guesses_for for_window
   pub lists : All (IsRoom (turns_in for_window)) stock.lists.items
-  pub few : vec_len stock.lists ≤ 16
+  pub few : vec_len stock.lists ≤ most_workers
   pub bare : stock.workers.items ≡ []
   pub wide : vec_len stock.lists ≤ vec_capacity stock.workers
-  pub idle : vec_len stock.idle + 16 ≤ vec_capacity stock.idle
+  pub idle : vec_len stock.idle + most_workers ≤ vec_capacity stock.idle
   pub rooms : vec_len stock.board.rooms + turns_in for_window ≤ vec_capacity stock.board.rooms
 
 -- a book stands on a field, for these turns

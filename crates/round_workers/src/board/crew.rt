@@ -10,6 +10,7 @@ ghost use Rattle.round_workers.specs.Inner.BoardCrew.{AreLooks, HasWorked, IsBoo
 ghost use Rattle.round_workers.specs.BoardPlays.{newcomer};
 ghost use Rattle.round_workers.specs.BoardSeats.{IsSeatOf, known, board_window};
 ghost use Rattle.round_workers.specs.BoardWorker.{turns_in};
+ghost use Rattle.round_workers.specs.Crews.{IsCrewSize, most_workers};
 
 use crate::board::closing::Ended;
 use crate::board::looking::look_at;
@@ -20,6 +21,7 @@ use crate::board::view::BoardSlot;
 use crate::board::worker::Worker;
 use crate::guessing::list_guesses;
 use crate::share::Turns;
+use crate::team::Team;
 use ant_base::Gate;
 use hex_geometry::OutOfMemory;
 use round_book::{Book, Counts, Field, advance, play_window};
@@ -35,35 +37,30 @@ const MOST_WORKERS: usize = 16;
 /// them.
 #[derive(Drop)]
 pub struct BoardCrew<'c, R: Threads + Sync, G: Gate> {
-    rt: &'c R,
-    gate: &'c G,
-    workers: u32,
+    team: Team<'c, R, G>,
     turns: u64,
     stock: Option<CrewStock>,
 }
 
 impl<'c, R: Threads + Sync, G: Gate> Model for BoardCrew<'c, R, G> {
-    ghost use Rattle.std.specs.Prelude.{◌≤◌};
-    ghost use Rattle.round_workers.specs.Crews.{CrewValue};
+    ghost use Rattle.round_workers.specs.Crews.{CrewValue, IsCrewSize};
 
     ghost Value = { CrewValue };
 
-    ghost view = { λ crew. record { workers = crew.workers; turns = crew.turns } };
+    ghost view = { λ crew. record { workers = crew.team.workers; turns = crew.turns } };
 
-    ghost invariant = { λ crew. (1 ≤ crew.workers) × (crew.workers ≤ 16) };
+    ghost invariant = { λ crew. IsCrewSize crew.team.workers };
 }
 
 impl<'c, R: Threads + Sync, G: Gate> BoardCrew<'c, R, G> {
     /// A crew of 1 to 16 workers, which has played no turn yet. Each worker, from 0, calls the gate before each look that it makes. It
     /// takes no memory.
     pub fn new(rt: &'c R, workers: u32, gate: &'c G) -> BoardCrew<'c, R, G>
-        requires workers { (1 ≤ workers) × (workers ≤ 16) }
+        requires workers { (1 ≤ workers) × (workers ≤ most_workers) }
         ensures { result ≡ record { workers = workers; turns = 0 } }
     {
         BoardCrew {
-            rt,
-            gate,
-            workers,
+            team: Team { rt, gate, workers },
             turns: 0,
             stock: None,
         }
@@ -80,7 +77,7 @@ impl<'c, R: Threads + Sync, G: Gate> BoardCrew<'c, R, G> {
     /// Plays the turns of the ids from `from` up to, and not including, `to`. The field is whole, `from` is at most `to`,
     /// `to` at most the number of ids, and the place with the number of turns is below 2^63. The field is whole afterwards, its world and
     /// place are those to which the turns lead in order, and the answer counts the looks that were taken and the turns that were executed
-    /// anew. It is refused for want of memory alone, before the field is lent; the field and the count of turns are as before then.
+    /// anew. It is refused only when out of memory, before the field is lent; the field and the count of turns are as before then.
     ///
     /// As many workers work as the lesser of the crew's and the turns. Whichever draws a turn calls the gate with its number and the id,
     /// makes the look, puts it on the board and tries once for the book; with the book it settles the next turns for as long as their looks
@@ -99,15 +96,8 @@ impl<'c, R: Threads + Sync, G: Gate> BoardCrew<'c, R, G> {
         ensures unchanged { OnErr result (field.new ≡ field.old) }
         ensures as_before { OnErr result (self.new ≡ self.old) }
     {
-        let counts = play(
-            self.rt,
-            self.gate,
-            alloc,
-            &mut self.stock,
-            self.workers,
-            field,
-            Turns { from, to },
-        )?;
+        let turns = Turns { from, to };
+        let counts = play(&self.team, alloc, &mut self.stock, field, turns)?;
         self.turns = self.turns.saturating_add(u64::from(to - from));
         Ok(counts)
     }
@@ -138,52 +128,48 @@ impl CrewStock {
     }
 }
 
-// Plays a window by so many workers, or by one alone where no second worker would have a turn: then there is nobody to pass a book to.
+// Plays a window by the workers of a team, or by one alone where no second worker would have a turn: then there is nobody to pass a book to.
 fn play<R: Threads + Sync, G: Gate>(
-    rt: &R,
-    gate: &G,
+    team: &Team<'_, R, G>,
     alloc: Global,
     stock: &mut Option<CrewStock>,
-    workers: u32,
     field: &mut Field<'_>,
     turns: Turns,
 ) -> Result<Counts, OutOfMemory>
-    requires workers { (1 ≤ workers) × (workers ≤ 16) }
+    requires workers { IsCrewSize team.now.workers }
     requires window { books.CanBegin field.old turns.from turns.to }
     ensures played { OnOk result (books.IsPlayed field.old turns.from turns.to field.new) }
     ensures counts { IfOk result (λ counts. counts ≡ counts_of (books.window_of field.old turns.from turns.to)) }
     ensures unchanged { OnErr result (field.new ≡ field.old) }
 {
     // A window of one worker is not to pay for a stock that it doesn't use.
-    if workers.min(turns.to - turns.from) <= 1 {
-        return play_window(gate, alloc, field, turns.from, turns.to);
+    if team.workers.min(turns.to - turns.from) <= 1 {
+        return play_window(team.gate, alloc, field, turns.from, turns.to);
     }
     let mut kept = stock.take().unwrap_or_else(|| CrewStock::new(alloc));
-    let played = play_on_board(rt, gate, alloc, &mut kept, workers, field, turns);
+    let played = play_on_board(team, alloc, &mut kept, field, turns);
     *stock = Some(kept);
     played
 }
 
 // Plays a window on a board of its own.
 fn play_on_board<R: Threads + Sync, G: Gate>(
-    rt: &R,
-    gate: &G,
+    team: &Team<'_, R, G>,
     alloc: Global,
     stock: &mut CrewStock,
-    workers: u32,
     field: &mut Field<'_>,
     turns: Turns,
 ) -> Result<Counts, OutOfMemory>
-    requires workers { (1 ≤ workers) × (workers ≤ 16) }
+    requires workers { IsCrewSize team.now.workers }
     requires window { books.CanBegin field.old turns.from turns.to }
     ensures played { OnOk result (books.IsPlayed field.old turns.from turns.to field.new) }
     ensures counts { IfOk result (λ counts. counts ≡ counts_of (books.window_of field.old turns.from turns.to)) }
     ensures unchanged { OnErr result (field.new ≡ field.old) }
 {
-    let hired = workers.min(turns.to - turns.from) as usize;
+    let hired = team.workers.min(turns.to - turns.from) as usize;
     let laid = lay(alloc, stock, field, hired, turns)?;
     let book = field.begin(alloc, turns.from, turns.to)?;
-    let book = settle(rt, gate, workers as usize, stock, laid, book, field, turns);
+    let book = settle(team, stock, laid, book, field, turns);
     Ok(field.finish(book))
 }
 
@@ -204,7 +190,7 @@ fn lay(
     turns: Turns,
 ) -> Result<Laid, OutOfMemory>
     requires window { books.CanBegin field.now turns.from turns.to }
-    requires few { hired ≤ 16 }
+    requires few { hired ≤ most_workers }
     ensures laid { IfOk result (IsLaid (books.window_of field.now turns.from turns.to)) }
     ensures stocked { OnOk result (IsCrewStocked (books.window_of field.now turns.from turns.to) stock.new) }
 {
@@ -226,7 +212,7 @@ fn lay_lists(
 ) -> Result<(), OutOfMemory>
     ensures lists { OnOk result (All (IsRoom turns) lists.new.items) }
     ensures count { OnOk result (vec_len lists.new ≡ count) }
-    ensures room { OnOk result (vec_len idle.new + 16 ≤ vec_capacity idle.new) }
+    ensures room { OnOk result (vec_len idle.new + most_workers ≤ vec_capacity idle.new) }
 {
     idle.reserve(MOST_WORKERS)?;
     lists.clear();
@@ -262,16 +248,14 @@ fn lay_workers(workers: &mut Vec<Worker>, count: usize) -> Result<(), OutOfMemor
 
 // Settles a window by workers over a board, and what they leave on this thread.
 fn settle<R: Threads + Sync, G: Gate>(
-    rt: &R,
-    gate: &G,
-    threads: usize,
+    team: &Team<'_, R, G>,
     stock: &mut CrewStock,
     laid: Laid,
     book: Book,
     field: &Field<'_>,
     turns: Turns,
 ) -> Book
-    requires threads { 0 < threads }
+    requires workers { 0 < team.now.workers }
     requires stocked { IsCrewStocked (books.window_of field.now turns.from turns.to) stock.old }
     requires laid { IsLaid (books.window_of field.now turns.from turns.to) laid }
     requires book { IsBookOf field.now turns book }
@@ -282,15 +266,7 @@ fn settle<R: Threads + Sync, G: Gate>(
     let Laid { board, mut first } = laid;
     board.open_book(&mut first, book);
     hire(&board, &mut first, &mut stock.workers, &mut stock.lists);
-    work_all(
-        rt,
-        gate,
-        threads,
-        &board,
-        field,
-        &stock.guesses,
-        &mut stock.workers,
-    );
+    work_all(team, &board, field, &stock.guesses, &mut stock.workers);
     gather(&board, &mut first, &mut stock.workers, &mut stock.idle);
     let ended = board.take_apart(first);
     settle_left(ended, &mut stock.board, field, &stock.guesses, turns)
@@ -301,12 +277,12 @@ fn hire(board: &Board, first: &mut Seat, workers: &mut Vec<Worker>, lists: &mut 
     requires manned { IsManned board.now first.old workers.old.items }
     requires hired { All (IsHired board.now) workers.old.items }
     requires lists { All (IsRoom (turns_in (board_window board.now))) lists.old.items }
-    requires few { (known first.old).made + vec_len lists.old ≤ 16 }
+    requires few { (known first.old).made + vec_len lists.old ≤ most_workers }
     requires counted { vec_len workers.old ≤ (known first.old).made }
     requires wide { vec_len workers.old + vec_len lists.old ≤ vec_capacity workers.old }
     ensures manned { IsManned board.now first.new workers.new.items }
     ensures hired { All (IsHired board.now) workers.new.items }
-    ensures few { vec_len workers.new ≤ 16 }
+    ensures few { vec_len workers.new ≤ most_workers }
 {
     while let Some(made) = lists.pop() {
         let seat = board.split(first);
@@ -331,25 +307,24 @@ fn worker(number: u32, seat: Seat, made: Vec<u32>) -> Worker
 
 // Each worker works, in a thread of its own.
 fn work_all<R: Threads + Sync, G: Gate>(
-    rt: &R,
-    gate: &G,
-    threads: usize,
+    team: &Team<'_, R, G>,
     board: &Board,
     field: &Field<'_>,
     guesses: &[u64],
     workers: &mut [Worker],
 )
-    requires threads { 0 < threads }
+    requires workers { 0 < team.now.workers }
     requires hired { All (IsHired board.now) workers.old }
     requires field { IsLentFor field.now (board_window board.now) }
     requires guesses { guesses.now ≡ guesses_for (board_window board.now) }
     ensures worked { (i : ℕ) (d : Worker) → i < length workers.old → HasWorked board.now (slice_index_or workers.old i d) (slice_index_or workers.new i d) }
     ensures len { length workers.new ≡ length workers.old }
 {
+    let gate = team.gate;
     thread::for_each_mut(
-        rt,
+        team.rt,
         workers,
-        threads,
+        team.workers as usize,
         &|_: usize, worker: &mut Worker|
             requires hired { IsHired board.now worker.now }
             requires field { IsLentFor field.now (board_window board.now) }

@@ -50,55 +50,64 @@ impl Worker {
     {
         let number = self.number;
         let mut stream = Stream::from_seed(field.seed());
-        while serve(
-            number,
+        'stream: while serve(
+            &Task {
+                board,
+                field,
+                guesses,
+                gate,
+                number,
+            },
             &mut self.seat,
             &mut self.made,
             &mut stream,
-            board,
-            field,
-            guesses,
-            gate,
         ) {}
     }
+}
+
+// What a worker works with: the board, the field and its guesses, and the gate, which it calls with its number.
+#[derive_where(Clone, Copy)]
+struct Task<'t, 'b, G: Gate> {
+    board: &'t Board,
+    field: &'t Field<'b>,
+    guesses: &'t [u64],
+    gate: &'t G,
+    number: u32,
 }
 
 // Draws a ticket and, where it is a turn's, makes the look, puts it and tries for the book. Whether it was a turn's.
 #[inline]
 fn serve<G: Gate>(
-    number: u32,
+    task: &Task<'_, '_, G>,
     seat: &mut Seat,
     made: &mut Vec<u32>,
     stream: &mut Stream,
-    board: &Board,
-    field: &Field<'_>,
-    guesses: &[u64],
-    gate: &G,
 ) -> bool
-    requires board { IsSeatOf board.now seat.old }
+    requires board { IsSeatOf task.now.board.now seat.old }
     requires worker { IsWorker (known seat.old) made.old.items }
     requires opened { (known seat.old).opened ≡ true }
-    requires early { AllByRecursion (λ k. k < turns_in (board_window board.now)) (known seat.old).drawn }
-    requires seed { stream.old.seed ≡ (board_window board.now).seed }
-    requires field { IsLentFor field.now (board_window board.now) }
-    requires guesses { guesses.now ≡ guesses_for (board_window board.now) }
-    requires room { turns_in (board_window board.now) ≤ vec_capacity made.old }
-    ensures board { IsSeatOf board.now seat.new }
+    requires early { AllByRecursion (λ k. k < turns_in (board_window task.now.board.now)) (known seat.old).drawn }
+    requires seed { stream.old.seed ≡ (board_window task.now.board.now).seed }
+    requires field { IsLentFor task.now.field.now (board_window task.now.board.now) }
+    requires guesses { task.now.guesses.now ≡ guesses_for (board_window task.now.board.now) }
+    requires room { turns_in (board_window task.now.board.now) ≤ vec_capacity made.old }
+    ensures board { IsSeatOf task.now.board.now seat.new }
     ensures worker { IsWorker (known seat.new) made.new.items }
-    ensures served { HasServed (turns_in (board_window board.now)) (known seat.old) (known seat.new) result }
+    ensures served { HasServed (turns_in (board_window task.now.board.now)) (known seat.old) (known seat.new) result }
     ensures seed { stream.new.seed ≡ stream.old.seed }
     ensures room { vec_capacity made.new ≡ vec_capacity made.old }
 {
+    let board = task.board;
     let ticket = board.draw(seat);
     if ticket >= board.turns() {
         return false;
     }
     let turn = board.turn_of(ticket);
-    gate.before_look(number, turn);
-    reach(stream, guesses[ticket as usize]);
-    board.look_and_put(seat, field, stream, ticket);
+    task.gate.before_look(task.number, turn);
+    reach(stream, task.guesses[ticket as usize]);
+    board.look_and_put(seat, task.field, stream, ticket);
     made.push_reserved(turn);
-    board.settle_with_book(seat, field);
+    board.settle_with_book(seat, task.field);
     true
 }
 

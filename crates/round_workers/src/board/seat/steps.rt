@@ -20,6 +20,7 @@ ghost use Rattle.round_workers.specs.BoardRule.{turns_of};
 ghost use Rattle.round_workers.specs.BoardSeats.{IsHandOf, IsSeatOf, basis_of, board_window, known, left_look};
 ghost use Rattle.round_workers.specs.BoardTotals.{once_below};
 ghost use Rattle.round_workers.specs.BoardView.{IsAtRest, first_seat, window_for};
+ghost use Rattle.round_workers.specs.Crews.{most_workers};
 
 use crate::board::closing::{Ended, take_slot};
 use crate::board::law::{
@@ -158,7 +159,7 @@ impl Board {
     pub(crate) fn split_step(&self, hand: &mut Hand) -> Hand
         requires hand { IsHandOf self.now hand.old }
         requires first { hand.old.me.0.number ≡ 0 }
-        requires few { hand.old.me.0.made < 16 }
+        requires few { hand.old.me.0.made < most_workers }
         ensures table { hand.new.table_id ≡ hand.old.table_id }
         ensures made { hand.new.me ≡ (made_one hand.old.me.0, hand.old.me.1) }
         ensures new_table { result.table_id ≡ hand.old.table_id }

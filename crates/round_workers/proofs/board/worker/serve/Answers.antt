@@ -12,31 +12,31 @@ use Rattle.round_workers.proofs.board.worker.serve.Goals as goal
 
 pub returns-then-ticket-turns-clause-worker : goal.returns-then-ticket-turns-clause-worker
 returns-then-ticket-turns-clause-worker g c =
-    let key = basis_of c.args.board.now in let v = known c.args.seat.now in let t : ℕ = c.draw-ticket.result in
+    let key = basis_of c.args.task.now.board.now in let v = known c.args.seat.now in let t : ℕ = c.draw-ticket.result in
     let n = ap (λ z. turns_in (window_about z)) (sym c.requires.board.knows) in
     late-is v _ _ t _ n c.requires.worker c.draw-ticket.ensures.drew c.draw-ticket.ensures.greater (let l = c.if-ticket-turns.true in let b = c.turns.ensures in omega arith)
 
 pub returns-then-ticket-turns-clause-served : goal.returns-then-ticket-turns-clause-served
 returns-then-ticket-turns-clause-served g c =
-    let key = basis_of c.args.board.now in let v = known c.args.seat.now in let t : ℕ = c.draw-ticket.result in
+    let key = basis_of c.args.task.now.board.now in let v = known c.args.seat.now in let t : ℕ = c.draw-ticket.result in
     let n = ap (λ z. turns_in (window_about z)) (sym c.requires.board.knows) in
     late-served v _ _ t _ n c.requires.worker c.draw-ticket.ensures.drew c.draw-ticket.ensures.greater (let l = c.if-ticket-turns.true in let b = c.turns.ensures in omega arith)
 
 pub push_reserved-requires : goal.push_reserved-requires
 push_reserved-requires g c =
-    let key = basis_of c.args.board.now in let v = known c.args.seat.now in let t : ℕ = c.draw-ticket.result in
+    let key = basis_of c.args.task.now.board.now in let v = known c.args.seat.now in let t : ℕ = c.draw-ticket.result in
     let n = ap (λ z. turns_in (window_about z)) (sym c.requires.board.knows) in
     let few = made-few v _ c.requires.worker t c.draw-ticket.ensures.greater in let l = c.if-ticket-turns.false in let b = c.turns.ensures in let room = c.requires.room in omega arith
 
-pub bounds-guesses-ticket : goal.bounds-guesses-ticket
-bounds-guesses-ticket g c =
-    let long : length c.args.guesses.now ≡ turns_in (board_window c.args.board.now) = ap length c.requires.guesses ∙ guesses_for-length (board_window c.args.board.now) in
+pub bounds-task-ticket : goal.bounds-task-ticket
+bounds-task-ticket g c =
+    let long : length c.args.task.now.guesses.now ≡ turns_in (board_window c.args.task.now.board.now) = ap length c.requires.guesses ∙ guesses_for-length (board_window c.args.task.now.board.now) in
     let l = c.if-ticket-turns.false in let b = c.turns.ensures in omega arith
 
 pub reach-requires : goal.reach-requires
 reach-requires g c =
-    let board = c.args.board.now in let w = board_window board in let t : ℕ = c.draw-ticket.result in let inside : t < turns_in w = (let l = c.if-ticket-turns.false in let b = c.turns.ensures in omega arith) in
-    let is : slice_index_or c.args.guesses.now t 0 ≡ guess_for w (w.from + t) = ap (λ (l : List ℕ). slice_index_or l t 0) c.requires.guesses ∙ guesses_for-at w t 0 inside in
+    let board = c.args.task.now.board.now in let w = board_window board in let t : ℕ = c.draw-ticket.result in let inside : t < turns_in w = (let l = c.if-ticket-turns.false in let b = c.turns.ensures in omega arith) in
+    let is : slice_index_or c.args.task.now.guesses.now t 0 ≡ guess_for w (w.from + t) = ap (λ (l : List ℕ). slice_index_or l t 0) c.requires.guesses ∙ guesses_for-at w t 0 inside in
     let few = guess_for-le w (w.from + t) in let lasting = board.lasting in let a = board.first in let b = board.last in omega arith
 
 pub look_and_put-requires-clause-ticket : goal.look_and_put-requires-clause-ticket
@@ -55,12 +55,12 @@ look_and_put-requires-clause-seed g c = c.reach.ensures.seed ∙ c.requires.seed
 
 pub look_and_put-requires-clause-guess : goal.look_and_put-requires-clause-guess
 look_and_put-requires-clause-guess g c =
-    let w = board_window c.args.board.now in let t : ℕ = c.draw-ticket.result in let inside : t < turns_in w = (let l = c.if-ticket-turns.false in let b = c.turns.ensures in omega arith) in
+    let w = board_window c.args.task.now.board.now in let t : ℕ = c.draw-ticket.result in let inside : t < turns_in w = (let l = c.if-ticket-turns.false in let b = c.turns.ensures in omega arith) in
     c.reach.ensures.place ∙ (ap (λ (l : List ℕ). slice_index_or l t 0) c.requires.guesses ∙ guesses_for-at w t 0 inside)
 
 pub returns-clause-worker : goal.returns-clause-worker
 returns-clause-worker g c =
-    let key = basis_of c.args.board.now in let v = known c.args.seat.now in let t : ℕ = c.draw-ticket.result in
+    let key = basis_of c.args.task.now.board.now in let v = known c.args.seat.now in let t : ℕ = c.draw-ticket.result in
     let n = ap (λ z. turns_in (window_about z)) (sym c.requires.board.knows) in
     let inside : t < key.to - key.from = (let l = c.if-ticket-turns.false in let b = c.turns.ensures in omega arith) in
     more-is v _ _ _ _ t _ n c.requires.worker c.draw-ticket.ensures.drew c.draw-ticket.ensures.greater inside c.look_and_put.ensures.put c.settle_with_book.ensures.same c.settle_with_book.ensures.tried
@@ -68,7 +68,7 @@ returns-clause-worker g c =
 
 pub returns-clause-served : goal.returns-clause-served
 returns-clause-served g c =
-    let key = basis_of c.args.board.now in let v = known c.args.seat.now in let t : ℕ = c.draw-ticket.result in
+    let key = basis_of c.args.task.now.board.now in let v = known c.args.seat.now in let t : ℕ = c.draw-ticket.result in
     let n = ap (λ z. turns_in (window_about z)) (sym c.requires.board.knows) in
     let inside : t < key.to - key.from = (let l = c.if-ticket-turns.false in let b = c.turns.ensures in omega arith) in
     more-served v _ _ _ _ t _ n c.requires.worker c.draw-ticket.ensures.drew c.draw-ticket.ensures.greater inside c.look_and_put.ensures.put c.settle_with_book.ensures.same c.settle_with_book.ensures.tried

@@ -5,8 +5,8 @@ use Rattle.round_workers.specs.BoardSeats.{IsSeatOf, known, board_window}
 use Rattle.round_workers.specs.BoardWorker.{turns_in}
 use Rattle.round_workers.proofs.board.worker.Worker.work.Given as goal
 
-abbrev pub invariant-loop-stream : goal.invariant-loop-stream
-invariant-loop-stream g l = record {
+abbrev pub invariant-stream : goal.invariant-stream
+invariant-stream g l = record {
   seat : IsSeatOf l.board l.self.seat;
   number : l.self.number ≡ l.fn.self.number;
   seat_number : (known l.self.seat).number ≡ (known l.fn.self.seat).number;
@@ -17,5 +17,5 @@ invariant-loop-stream g l = record {
   tries : (known l.fn.self.seat).tries + length (known l.self.seat).put ≤ (known l.self.seat).tries + length (known l.fn.self.seat).put;
 }
 
-abbrev pub decreases-loop-stream : goal.decreases-loop-stream
-decreases-loop-stream g l = turns_in (board_window l.board) + 1 - length (known l.self.seat).drawn
+abbrev pub decreases-stream : goal.decreases-stream
+decreases-stream g l = turns_in (board_window l.board) + 1 - length (known l.self.seat).drawn

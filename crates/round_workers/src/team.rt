@@ -1,0 +1,11 @@
+// Who plays the windows of a crew.
+use ant_base::Gate;
+use std::thread::Threads;
+
+// The workers of a crew: the runtime of their threads, the gate that they call before each look, and how many there are.
+#[derive_where(Clone, Copy)]
+pub struct Team<'c, R: Threads + Sync, G: Gate> {
+    pub rt: &'c R,
+    pub gate: &'c G,
+    pub workers: u32,
+}
