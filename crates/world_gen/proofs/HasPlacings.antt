@@ -22,7 +22,7 @@ use Rattle.world_gen.proofs.Balls.{ball_has}
 use Rattle.world_gen.proofs.Lines.{HasRound, lines_each, lines_every}
 use Rattle.world_gen.proofs.Steps.{point_one, round_touching, touching_round}
 use Rattle.world_gen.specs.Elements.{IsCell, IsInBlob, point_after}
-use Rattle.world_gen.specs.Fitting.{IsFreeSpot, IsOffRim, IsTouching}
+use Rattle.world_gen.specs.FreeSpots.{IsFreeSpot, IsOffRim, IsTouching}
 use Rattle.world_gen.specs.Inner.Open.{ListsCells, lines_from}
 use Rattle.world_gen.specs.Inner.Sets.{IsRound}
 use Rattle.world_gen.specs.Placing.{IsBarred, IsChosenSpot, IsFound, draws_of, spot_at, try_of}

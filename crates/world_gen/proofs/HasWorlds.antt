@@ -29,12 +29,12 @@ use Rattle.world_gen.proofs.Stamps.{round_all, round_first, round_more, stamped_
 use Rattle.world_gen.proofs.Steps.{fits_open, open_fits, point_one}
 use Rattle.world_gen.specs.Elements.{count_of, element_of}
 use Rattle.world_gen.specs.Existence.{HasOutcome}
-use Rattle.world_gen.specs.Fitting.{IsFreeSpot}
+use Rattle.world_gen.specs.FreeSpots.{IsFreeSpot}
 use Rattle.world_gen.specs.Inner.Answers.{IsElementPut, IsGeneratedGrid}
 use Rattle.world_gen.specs.Inner.Open.{AllOpen, ListsCells, lines_from}
 use Rattle.world_gen.specs.Inner.Sets.{IsRoundBelow, SetsWhere}
 use Rattle.world_gen.specs.Inner.Drafts.{IsBegun, IsStamped, bare_blocked, bare_kinds}
-use Rattle.world_gen.specs.Painting.{IsGenerated, IsShape, hill_kind, paint_of}
+use Rattle.world_gen.specs.Generated.{IsGenerated, IsShape, hill_kind, paint_of}
 use Rattle.world_gen.specs.Placing.{Goes, HasNoRoom, after_begun, figure_begun}
 use Rattle.world_gen.specs.declared.shape.Shape.{Shape}
 use Rattle.world_gen.specs.declared.spot.Figure.{Figure}
