@@ -10,7 +10,7 @@ pub enum Source<'t> {
     Named(&'t [u8]),
 }
 
-/// What is wrong with the first position at fault of a line, or want of memory.
+/// What is wrong with the first position at fault of a line, or out of memory.
 #[derive(Clone, Copy)]
 pub enum SpellingFault {
     BadByte,

@@ -12,7 +12,7 @@ use Rattle.command_words.specs.Command.{PlainCommand}
 use Rattle.command_words.specs.Command.PlainCommand.{GenCommand}
 use Rattle.command_words.specs.declared.command.GenShape.{GenShape}
 use Rattle.world_gen.specs.declared.shape.Shape.{Shape}
-use Rattle.world_gen.specs.Painting.{IsGenerated}
+use Rattle.world_gen.specs.Generated.{IsGenerated}
 use Rattle.world_gen.specs.Placing.{HasNoRoom}
 use Rattle.world_read.specs.Canonical.{canonical_text}
 use Rattle.world_read.specs.Opened.{IsOpeningWorld, kinds_of}

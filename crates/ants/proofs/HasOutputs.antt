@@ -14,7 +14,7 @@ use Rattle.command_words.specs.declared.command.GenShape.{GenShape}
 use Rattle.tournament.proofs.Sorting.{has_standing}
 use Rattle.tournament.specs.Text.{standing_text}
 use Rattle.world_gen.proofs.HasWorlds.{has_outcome}
-use Rattle.world_gen.specs.Painting.{IsGenerated, IsShape}
+use Rattle.world_gen.specs.Generated.{IsGenerated, IsShape}
 use Rattle.world_gen.specs.Placing.{HasNoRoom}
 use Rattle.world_gen.specs.declared.shape.Shape.{Shape}
 use Rattle.world_read.specs.Canonical.{canonical_text}

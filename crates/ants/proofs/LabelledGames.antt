@@ -5,7 +5,7 @@ use Rattle.ant_asm.proofs.LabelTurns.{mind_of-side}
 use Rattle.ant_asm.proofs.Scores.{scores-labelled}
 use Rattle.ant_turn.specs.Minds.{Minds, mind_of}
 use Rattle.ant_turn.specs.Renumber.{renumbered_moment, with_mind}
-use Rattle.brain_minimise.proofs.Playing.{game-minimised, score-minimised}
+use Rattle.brain_minimise.proofs.MinimisedGames.{game-minimised, score-minimised}
 use Rattle.brain_minimise.specs.Match.{game}
 use Rattle.brain_minimise.specs.Minimised.{IsMinimised, new_number}
 use Rattle.brain_read.specs.declared.instr.Instr.{Instr}

@@ -30,7 +30,7 @@ use Rattle.command_words.specs.Command.PlainCommand.{ShowCommand, BrainCommand, 
 use Rattle.tournament.specs.Text.{IsCupText}
 use Rattle.world_gen.specs.declared.shape.Shape.{Shape}
 use Rattle.world_gen.specs.Food.{food_on}
-use Rattle.world_gen.specs.Painting.{IsGenerated}
+use Rattle.world_gen.specs.Generated.{IsGenerated}
 use Rattle.world_gen.specs.Placing.{HasNoRoom}
 use Rattle.world_read.specs.Canonical.{canonical_text}
 use Rattle.world_read.specs.Opened.{kinds_of}

@@ -10,7 +10,7 @@ use Rattle.ant_turn.specs.Renumber.{redirected}
 use Rattle.ant_turn.specs.Turn.{instruction_at}
 use Rattle.brain_minimise.specs.Equivalence.{Relation, AreRelated, AreEquivalent, IsBisimulation}
 use Rattle.brain_minimise.specs.Inner.Classes.{AreClasses, AreStable, DoAlike}
-use Rattle.brain_minimise.proofs.Redirecting.{redirected-same, shape-from, states-from, successors-below}
+use Rattle.brain_minimise.proofs.RedirectedLemmas.{redirected-same, shape-from, states-from, successors-below}
 
 -- a test that is kept under a map keeps related lists
 pub map-related : (related : Relation) (f : ℕ → ℕ) → ((a b : ℕ) → related a b ≡ true → f a ≡ f b) → (states others : List ℕ) → AreRelated related states others → map f states ≡ map f others

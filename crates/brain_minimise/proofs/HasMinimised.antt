@@ -12,18 +12,18 @@ use Rattle.brain_read.specs.Soundness.{IsBrain}
 use Rattle.brain_read.specs.declared.instr.Instr.{Instr}
 use Rattle.brain_minimise.specs.Existence.{HasMinimised}
 use Rattle.brain_minimise.specs.Inner.Classes.{AreClasses, AreStable, slack}
-use Rattle.brain_minimise.specs.Inner.Exploring.{AreSeen, is_seen, with_waiting}
+use Rattle.brain_minimise.specs.Inner.Seen.{AreSeen, is_seen, with_waiting}
 use Rattle.brain_minimise.specs.Inner.Kept.{AreKept}
 use Rattle.brain_minimise.specs.Inner.Numbering.{AreNumbers, IsRising, IsTable}
 use Rattle.brain_minimise.specs.Inner.Successors.{first_next, last_next}
 use Rattle.brain_minimise.specs.Minimised.{new_number}
 use Rattle.brain_minimise.proofs.CasesInstruction.{cases_instruction}
-use Rattle.brain_minimise.proofs.Exploring.{Explores, Explores-all, Explores-below, Explores-more, Explores-start, first-below, last-below, step-work, unseen}
-use Rattle.brain_minimise.proofs.Merging.{IsMinimised-from}
+use Rattle.brain_minimise.proofs.Search.{Explores, Explores-all, Explores-below, Explores-more, Explores-start, first-below, last-below, step-work, unseen}
+use Rattle.brain_minimise.proofs.MinimisedLemmas.{IsMinimised-from}
 use Rattle.brain_minimise.proofs.Numbers.{IsKeeping, IsKeeping-all, IsKeeping-more, IsKeeping-none, IsKeeping-skip, IsNumbering, IsNumbering-all, IsNumbering-more, IsNumbering-none, IsNumbering-skip, IsTabling, IsTabling-all, IsTabling-more, IsTabling-none}
 use Rattle.brain_minimise.proofs.Ranks.{is_number}
-use Rattle.brain_minimise.proofs.Redirecting.{instruction-sound}
-use Rattle.brain_minimise.proofs.Refining.{AreClasses-one, IsRefining, IsRefining-classes, IsRefining-finer, IsRefining-parts, IsRefining-stays}
+use Rattle.brain_minimise.proofs.RedirectedLemmas.{instruction-sound}
+use Rattle.brain_minimise.proofs.Refinement.{AreClasses-one, IsRefining, IsRefining-classes, IsRefining-finer, IsRefining-parts, IsRefining-stays}
 
 -- a list is empty, or has a last element
 last_cases : (xs : List ℕ) → (xs ≡ []) ⊎ ((rest : List ℕ) × (x : ℕ) × (xs ≡ rest ++ x ∷ []))

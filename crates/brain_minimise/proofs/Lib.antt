@@ -1,16 +1,16 @@
 -- States under other numbers, and what is equivalent.
 pub mod CasesInstruction
-pub mod Redirecting
+pub mod RedirectedLemmas
 pub mod Equivalences
 -- The classes: refined, merged, numbered from the first on.
-pub mod Refining
-pub mod Exploring
+pub mod Refinement
+pub mod Search
 pub mod Numbers
-pub mod Merging
+pub mod MinimisedLemmas
 pub mod Ranks
 -- There is one minimised brain, it is one, and it plays the same game.
 pub mod Uniqueness
-pub mod Playing
+pub mod MinimisedGames
 pub mod HasMinimised
 -- Texts and worked values.
 pub mod Texts

@@ -13,11 +13,11 @@ use Rattle.brain_read.specs.Grammar.{states_of}
 use Rattle.brain_read.specs.Soundness.{IsBrain}
 use Rattle.ant_turn.specs.Renumber.{state_number, redirected}
 use Rattle.ant_turn.specs.Turn.{instruction_at}
-use Rattle.brain_minimise.specs.Inner.Exploring.{is_seen}
+use Rattle.brain_minimise.specs.Inner.Seen.{is_seen}
 use Rattle.brain_minimise.specs.Inner.Numbering.{AreNumbers, IsRising, IsTable}
 use Rattle.brain_minimise.specs.Inner.Kept.{AreKept}
 use Rattle.brain_minimise.specs.Minimised.{new_number}
-use Rattle.brain_minimise.proofs.Redirecting.{redirected-agree, successors-below}
+use Rattle.brain_minimise.proofs.RedirectedLemmas.{redirected-agree, successors-below}
 
 -- what stays in the numbering, before the state i: the keys are the classes by number
 pub record IsNumbering (classes : List ℕ) (seen : List Bool) (keys : List ℕ) (numbers : List (Option ℕ)) (i : ℕ) : Type 0 where

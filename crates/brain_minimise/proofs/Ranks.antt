@@ -18,9 +18,9 @@ use Rattle.brain_minimise.specs.Laws.{AreDifferent, KeepsText, Merges, kept_befo
 use Rattle.brain_minimise.specs.Minimised.{IsLeast, IsMinimised, new_number}
 use Rattle.brain_minimise.specs.Reach.{IsReachable}
 use Rattle.brain_minimise.specs.Reach.IsReachable.{Start}
-use Rattle.brain_minimise.proofs.Merging.{successors-reached}
+use Rattle.brain_minimise.proofs.MinimisedLemmas.{successors-reached}
 use Rattle.brain_minimise.proofs.Numbers.{number-inside, the_number}
-use Rattle.brain_minimise.proofs.Redirecting.{redirected-agree, redirected-self}
+use Rattle.brain_minimise.proofs.RedirectedLemmas.{redirected-agree, redirected-self}
 
 -- an entry is this number or not
 pub is_number : (o : Option ℕ) (number : ℕ) → (o ≡ Some number) ⊎ (o ≡ Some number → ⊥)

@@ -1,5 +1,5 @@
 pub mod Classes
 pub mod Kept
 pub mod Numbering
+pub mod Seen
 pub mod Successors
-pub mod Exploring

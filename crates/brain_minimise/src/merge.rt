@@ -24,7 +24,7 @@ pub struct Minimised {
 /// Two states are equivalent by the greatest relation in which related states have equal kinds and parameters and related successors. The
 /// kept states are numbered from 0 in rising order of their least reachable member; each has its members' instruction with the
 /// successors renumbered; no two of them are equivalent. The map is `None` exactly at the states that state 0 doesn't lead to. It is
-/// refused for want of memory alone.
+/// refused only when out of memory.
 ///
 /// Each round parts every class into the states that do as its least member and the others, in one pass; there are at most as many
 /// rounds as classes come out. So the worst case is quadratic: 10,000 states in a chain, or of 10,000 kinds, take 10,000 rounds of

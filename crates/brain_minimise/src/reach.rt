@@ -1,7 +1,7 @@
 // The states that can be reached.
 ghost use Rattle.std.specs.Prelude.{◌≡◌, ◌<◌, true, false, length, slice_set, IfOk, OnOk};
 ghost use Rattle.brain_read.specs.Soundness.{IsBrain};
-ghost use Rattle.brain_minimise.specs.Inner.Exploring.{AreSeen, is_seen, with_waiting};
+ghost use Rattle.brain_minimise.specs.Inner.Seen.{AreSeen, is_seen, with_waiting};
 
 use crate::redirect::successors;
 use brain_read::Brain;

@@ -7,7 +7,7 @@ use ant_base::{Failed, Layout, Sink, layout};
 use brain_read::{Brain, write_brain};
 
 /// Pushes how many states there were and how many were kept, in a line of comment, and then the canonical text of the minimised brain. At
-/// `Failed` a front of it was appended, and the sink's count of faults rose. It takes no memory.
+/// `Failed` a prefix of it was appended, and the sink's count of faults rose. It takes no memory.
 pub fn push_minimised<K: Sink>(
     brain: &Brain,
     minimised: &Minimised,

@@ -1,4 +1,4 @@
--- That want of memory is no text's fault.
+-- That out of memory is no text's fault.
 use Rattle.std.proofs.Common.{◌≡◌, ℕ, Bool, true, false, if◌then◌else◌, List, [], ◌∷◌, ◌++◌, Option, Some, None, subst}
 use Rattle.std.specs.Option.{option_or}
 use Rattle.std.specs.Prelude.{⊤, length, nat_le}
@@ -14,7 +14,7 @@ use Rattle.brain_read.specs.Judging.Position.{FormToken, SightToken, SideToken, 
 use Rattle.brain_read.specs.Soundness.{most_states}
 use Rattle.line_tokens.specs.Tokens.{has_bad_byte}
 
--- where there is a fault, it isn't want of memory
+-- where there is a fault, it isn't out of memory
 abbrev OfText : Option BrainFault → Type 0
 OfText None = ⊤
 OfText (Some OutOfMemory) = ⊥
@@ -66,7 +66,7 @@ line_fault-of_text before line =
     (either_later (nat_le most_states before) (TooMany line.number) None tt tt)
     (first_fault-of_text line.number line.tokens (FormToken ∷ []))
 
--- want of memory is no text's fault
+-- out of memory is no text's fault
 pub no_want : (text : List ℕ) → IsBrainFault text OutOfMemory → ⊥
 no_want text (OfLine at) = subst OfText at.wrong (line_fault-of_text (length at.before) at.line)
 no_want text (OfNothing none is) = (let never : OutOfMemory ≡ Empty = is in cc)

@@ -39,7 +39,7 @@ impl Brain {
         Brain { list }
     }
 
-    /// An equal brain of its own. It is refused for want of memory alone.
+    /// An equal brain of its own. It is refused only when out of memory.
     pub fn copy(&self, alloc: Global) -> Result<Brain, OutOfMemory>
         ensures { IfOk result (λ brain. brain ≡ self.now) }
     {

@@ -18,7 +18,7 @@ pub fn texts_make_brains()
     ensures { TextsMakeBrains }
 {}
 
-/// A law: want of memory is no text's fault.
+/// A law: out of memory is no text's fault.
 pub fn no_text_wants_memory()
     ensures { NoTextWantsMemory }
 {}

@@ -20,7 +20,7 @@ use ant_base::{Failed, Layout, Sink, layout};
 use hex_geometry::{Side, Sight};
 
 /// Pushes the canonical text of a brain: one line for each instruction, its words as the tables spell them and its numbers without leading
-/// zeros, one space between tokens, LF at the end. At `Failed` a front of it was appended, and the sink's count of faults rose. It takes no
+/// zeros, one space between tokens, LF at the end. At `Failed` a prefix of it was appended, and the sink's count of faults rose. It takes no
 /// memory.
 pub fn write_brain<K: Sink>(brain: &Brain, sink: &mut K) -> Result<(), Failed>
     ensures pushed { Pushed (K.state sink.old) (K.state sink.new) (brain_text brain.now) result }

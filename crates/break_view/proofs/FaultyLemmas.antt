@@ -7,13 +7,13 @@ use Rattle.line_tokens.proofs.LineLemmas.{fault_of_judged, judged_err, kept, lin
 use Rattle.break_view.specs.declared.breaks.Break.{Break}
 use Rattle.break_view.specs.declared.fault.BreakFault.{BreakFault}
 use Rattle.break_view.specs.Forms.{BreakLine}
-use Rattle.break_view.specs.Judging.{first_fault}
-use Rattle.break_view.specs.Judging.Position.{BreakToken}
+use Rattle.break_view.specs.Positions.{first_fault}
+use Rattle.break_view.specs.Positions.Position.{BreakToken}
 use Rattle.break_view.specs.Grammar.{most_breaks, AreBreaks, IsBreakText}
 use Rattle.break_view.specs.Faulty.{line_fault, IsBreakFault}
 use Rattle.break_view.specs.Inner.Verdict.{Judgement, break_reader, read_text}
 use Rattle.break_view.proofs.FormsLemmas.{line_spelled, line_again}
-use Rattle.break_view.proofs.JudgingLemmas.{line_faulted}
+use Rattle.break_view.proofs.PositionsLemmas.{line_faulted}
 
 -- the fault of a line's first position at fault
 abbrev pub first_of_line : ℕ → List (List ℕ) → Option BreakFault

@@ -29,7 +29,7 @@ use Rattle.ant_turn.specs.Turn.{acts, ant_becomes, arrived, checked, execute, in
 use Rattle.ant_turn.proofs.Checks.{check_at-cases}
 use Rattle.ant_turn.proofs.KeptByTurns.{free_apart, free_clear}
 use Rattle.spec_record.proofs.Stepping.{stepped-from}
-use Rattle.break_view.specs.Inner.Counting.{cell_at, score_in_any, IsCounted, CanCount}
+use Rattle.break_view.specs.Inner.CellScores.{cell_at, score_in_any, IsCounted, CanCount}
 
 -- the food that the cell at a position gives, where there is a position
 abbrev pub score_at : World → Option Pos → Score

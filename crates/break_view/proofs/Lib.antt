@@ -1,17 +1,17 @@
 -- Breaks as a text.
 pub mod FormsLemmas
-pub mod JudgingLemmas
+pub mod PositionsLemmas
 pub mod FaultyLemmas
 pub mod VerdictLemmas
 -- When a break is met, and what can meet it.
-pub mod Meeting
+pub mod MetLemmas
 pub mod HillFood
 pub mod QuietTurns
 -- The first stop, and that there is one.
 pub mod ViewLaws
 pub mod FirstStops
-pub mod Stopping
-pub mod Viewing
+pub mod WatchedRounds
+pub mod ViewText
 -- Worked values.
 pub mod WorkedTexts
 pub mod WorkedBreaks

@@ -27,9 +27,9 @@ use Rattle.spec_record.proofs.Stepping.{stepped-from}
 use Rattle.round_book.proofs.CountLemmas.{same_colour-true}
 use Rattle.break_view.specs.declared.breaks.Break.{Break}
 use Rattle.break_view.specs.declared.breaks.Break.TheVariants.{Round, State, Stand, Food, Killed, Score}
-use Rattle.break_view.specs.Inner.Counting.{cell_at}
+use Rattle.break_view.specs.Inner.CellScores.{cell_at}
 use Rattle.break_view.specs.Met.{ant_at, clear_cell, first_met, has_ant_of, if_clear, is_fed, is_in_state, is_met}
-use Rattle.break_view.specs.Inner.Watching.{IsNamed, IsQuietButStates, LooksSame, food_in, is_left, names, names_ant}
+use Rattle.break_view.specs.Inner.Changes.{IsNamed, IsQuietButStates, LooksSame, food_in, is_left, names, names_ant}
 use Rattle.break_view.proofs.HillFood.{put-keeps, spared}
 
 -- a test of a clear cell gives the same after a change of the cell that it doesn't tell

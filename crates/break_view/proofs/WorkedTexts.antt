@@ -81,7 +81,7 @@ no_such_colour : IsBreakFault (codes "; note\nState Green 1") (UnknownWord 2)
 unfolding decimal_value
 no_such_colour = first_line_fault-first (codes "; note\nState Green 1") (UnknownWord 2) refl
 
--- a front of a word is no word, and a word alone lacks its number
+-- a prefix of a word is no word, and a word alone lacks its number
 killed_cut :
     (IsBreakFault (codes "K") (UnknownWord 1)) × (IsBreakFault (codes "Ki") (UnknownWord 1)) × (IsBreakFault (codes "Kil") (UnknownWord 1))
     × (IsBreakFault (codes "Kill") (UnknownWord 1)) × (IsBreakFault (codes "Kille") (UnknownWord 1)) × (IsBreakFault (codes "Killed") (MissingToken 1))

@@ -6,8 +6,8 @@ use Rattle.line_tokens.specs.Faulty.{too_many, HasLineFault}
 use Rattle.break_view.specs.declared.fault.BreakFault.{BreakFault}
 use Rattle.break_view.specs.declared.fault.BreakFault.TheVariants.{TooMany}
 use Rattle.break_view.specs.Forms.{BreakLine}
-use Rattle.break_view.specs.Judging.{first_fault}
-use Rattle.break_view.specs.Judging.Position.{BreakToken}
+use Rattle.break_view.specs.Positions.{first_fault}
+use Rattle.break_view.specs.Positions.Position.{BreakToken}
 use Rattle.break_view.specs.Grammar.{most_breaks}
 
 -- the fault of a line before which so many breaks stand

@@ -1,8 +1,8 @@
 pub mod Answered
-pub mod Counting
+pub mod CellScores
+pub mod Changes
 pub mod Places
 pub mod Reading
 pub mod Rounds
 pub mod Steps
 pub mod Verdict
-pub mod Watching

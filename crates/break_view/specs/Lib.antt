@@ -3,9 +3,9 @@ pub mod Faulty
 pub mod Forms
 pub mod Grammar
 pub mod Inner
-pub mod Judging
 pub mod Laws
 pub mod Met
+pub mod Positions
 pub mod Stops
 pub mod Texts
 pub use Rattle.ant_base.specs.Layout

@@ -9,7 +9,7 @@
 #![tactic(auto)]
 
 mod breaks;
-mod counting;
+mod cell_scores;
 mod fault;
 mod laws;
 mod line;
@@ -18,7 +18,7 @@ mod read;
 mod states;
 mod stop;
 mod view;
-mod watching;
+mod watched_turn;
 mod words;
 
 pub use breaks::{Break, Breaks};

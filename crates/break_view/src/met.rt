@@ -7,7 +7,7 @@ ghost use Rattle.cell_world.specs.Score.{hill_food_of, score_of};
 ghost use Rattle.cell_world.specs.World.{place_in};
 ghost use Rattle.cell_world.specs.World as worlds;
 ghost use Rattle.break_view.specs.Grammar.{most_breaks};
-ghost use Rattle.break_view.specs.Inner.Watching.{IsNamed, IsQuietButStates};
+ghost use Rattle.break_view.specs.Inner.Changes.{IsNamed, IsQuietButStates};
 ghost use Rattle.break_view.specs.Met as met;
 
 use crate::breaks::Break;

@@ -3,7 +3,7 @@ ghost use Rattle.std.specs.Prelude.{◌≡◌, ℕ, true, length, slice_index_or
 ghost use Rattle.std.specs.List.{All};
 ghost use Rattle.cell_world.specs.declared.ant.Colour.TheVariants.{Red, Black};
 ghost use Rattle.break_view.specs.declared.breaks.Break as breaks;
-ghost use Rattle.break_view.specs.Inner.Watching as watching;
+ghost use Rattle.break_view.specs.Inner.Changes as changes;
 
 use crate::breaks::Break;
 use cell_world::{Ant, Colour};
@@ -18,7 +18,7 @@ pub(crate) struct Watch<'a> {
 
 // Names the states for which these breaks ask, in the table of each colour. A table names every state beyond its length.
 pub(crate) fn name_states(items: &[Break], red: &mut [bool], black: &mut [bool])
-    ensures { All (watching.IsNamed red.new black.new) items.now }
+    ensures { All (changes.IsNamed red.new black.new) items.now }
 {
     for item in items {
         name_state(*item, red, black);
@@ -26,8 +26,8 @@ pub(crate) fn name_states(items: &[Break], red: &mut [bool], black: &mut [bool])
 }
 
 fn name_state(item: Break, red: &mut [bool], black: &mut [bool])
-    ensures named { watching.IsNamed red.new black.new item }
-    ensures kept { (other : breaks.Break) → watching.IsNamed red.old black.old other → watching.IsNamed red.new black.new other }
+    ensures named { changes.IsNamed red.new black.new item }
+    ensures kept { (other : breaks.Break) → changes.IsNamed red.old black.old other → changes.IsNamed red.new black.new other }
 {
     if let Break::State { colour, state } = item {
         match colour {
@@ -51,7 +51,7 @@ fn name(table: &mut [bool], state: u32)
 // Whether the tables name the state of an ant.
 #[inline]
 pub(crate) fn names_ant(red: &[bool], black: &[bool], ant: Option<Ant>) -> bool
-    ensures { result ≡ watching.names_ant red.now black.now ant }
+    ensures { result ≡ changes.names_ant red.now black.now ant }
 {
     match ant {
         Some(ant) => match ant.colour {

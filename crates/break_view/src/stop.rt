@@ -10,12 +10,12 @@ ghost use Rattle.match_run.specs.Run.{most_rounds};
 ghost use Rattle.break_view.specs.Grammar.{most_breaks};
 ghost use Rattle.break_view.specs.Stops.{EndsAt};
 ghost use Rattle.break_view.specs.Inner.Rounds.{RoundEnds};
-ghost use Rattle.break_view.specs.Inner.Watching.{IsNamed};
+ghost use Rattle.break_view.specs.Inner.Changes.{IsNamed};
 
 use crate::breaks::Breaks;
 use crate::met::met_now;
 use crate::states::{Watch, name_states};
-use crate::watching::take_watched;
+use crate::watched_turn::take_watched;
 use ant_random::Stream;
 use ant_turn::Brains;
 use brain_read::MOST_STATES;

@@ -18,7 +18,7 @@ pub dumps_text-more : (minds : Minds) (seed : ℕ) (chosen : ℕ → Bool) (w : 
 unfolding dumps_text
 dumps_text-more minds seed chosen w n = numbered-more (λ round. chosen_dump chosen (world_after minds seed w round) round) n
 
--- the dumps of the first rounds are a front of all
+-- the dumps of the first rounds are a prefix of all
 pub dumps_text-front : (minds : Minds) (seed : ℕ) (chosen : ℕ → Bool) (w : World) (i n : ℕ) → i ≤ n → (rest : List ℕ) × (dumps_text minds seed chosen w n ≡ dumps_text minds seed chosen w i ++ rest)
 unfolding dumps_text
 dumps_text-front minds seed chosen w i n le = numbered-front (λ round. chosen_dump chosen (world_after minds seed w round) round) i n le

@@ -93,7 +93,7 @@ impl<'b> Game<'b> {
     /// Plays the round that isn't done to its end, window by window (the task's kinetics): the turns from the next one to that of the last
     /// id, in order. Fewer than 1,000,000 rounds are done. At Ok one more round is done, and the next turn is that of id 0.
     ///
-    /// It is refused for want of memory alone, where the crew refuses a window. The turns before that window are played then, and counted;
+    /// It is refused only when out of memory, where the crew refuses a window. The turns before that window are played then, and counted;
     /// no further round is done; the window's first turn is the next one, with which the next call goes on. In both cases the crew's count
     /// of turns has risen as much as that of the totals, or stands at its last value.
     pub fn round<C: Crew>(&mut self, alloc: Global, crew: &mut C) -> Result<(), OutOfMemory>

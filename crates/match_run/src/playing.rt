@@ -35,7 +35,7 @@ use std::alloc::Global;
 /// place 0 on. Gives the score after the last round: the food on each colour's hill; the crew's count of turns has risen by that of the ids
 /// times the rounds then, or stands at its last value.
 ///
-/// It is refused where the sink failed, whose count of faults rose then: a prefix of the text was pushed. Or for want of memory: a proper
+/// It is refused where the sink failed, whose count of faults rose then: a prefix of the text was pushed. Or it is out of memory: a proper
 /// prefix of it was.
 pub fn play<C: Crew, K: Sink>(
     alloc: Global,
@@ -97,9 +97,9 @@ fn game_of<'b>(
 /// The rounds are at most 1,000,000, and at least those that are done. Gives the score at the end. The game stands there then, and the crew's
 /// count of turns has risen by that of the ids times the later rounds, or stands at its last value.
 ///
-/// It is refused where the sink failed, whose count of faults rose then, and a prefix of the text was pushed; or for want of memory, and a
-/// proper prefix was. The game stands at the end of a round, or, where memory was wanting, at the window that was refused, and it can be gone
-/// on with.
+/// It is refused where the sink failed, whose count of faults rose then, and a prefix of the text was pushed; or it is out of memory,
+/// and a proper prefix was. The game stands at the end of a round, or, where it is out of memory, at the window that was refused, and it can
+/// be gone on with.
 pub fn play_rest<C: Crew, K: Sink>(
     alloc: Global,
     crew: &mut C,

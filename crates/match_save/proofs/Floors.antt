@@ -1,7 +1,7 @@
 -- The world of a save before any ant stands in it.
 use Rattle.std.proofs.Common.{◌≡◌, ℕ, zero, suc, ◌+◌, ◌*◌, ◌<◌, ◌≤◌, Bool, true, false, not, ◌&&◌, cond, eqb, ltb, List, [], ◌∷◌, length, map, get_or, sum, sum_by, Option, Some, None, refl, sym, ◌∙◌, ap, subst, inl, inr, arith}
 use Rattle.std.specs.List.{AllByRecursion}
-use Rattle.std.proofs.lemmas.Bool.{and_from, and_parts, cases_lt, eqb-true}
+use Rattle.std.proofs.lemmas.Bool.{and_from, and_parts, cases_lt, eqb-true, not-true}
 use Rattle.std.proofs.lemmas.List.Sums.{sum_by-cons}
 use Rattle.std.proofs.lemmas.Nat.{mul-le}
 use Rattle.hex_geometry.specs.declared.position.Pos.{Pos}
@@ -231,11 +231,7 @@ module _ (d : Draft) (ok : IsInForm d) where
         let told : not (is_on_rim d.head.width d.head.height (pos_at d.head.width (index_of d.head.width p))) ≡ true =
         ap (λ b. cond b (is_empty_cell (cell_in (floor_of d) p)) (not (is_on_rim d.head.width d.head.height (pos_at d.head.width (index_of d.head.width p))))) (sym clear) ∙ sound-cell p inside in
         off_rim-inner d.head.width d.head.height p inside
-        (ap (is_on_rim d.head.width d.head.height) (sym (pos_at-index_of d.head.width p inside.column)) ∙ false_of (is_on_rim d.head.width d.head.height (pos_at d.head.width (index_of d.head.width p))) told)
-      where
-        false_of : (b : Bool) → not b ≡ true → b ≡ false
-        false_of true e = sym e
-        false_of false e = refl
+        (ap (is_on_rim d.head.width d.head.height) (sym (pos_at-index_of d.head.width p inside.column)) ∙ not-true (is_on_rim d.head.width d.head.height (pos_at d.head.width (index_of d.head.width p))) told)
 
     bare : (p : Pos) → (cell_in (floor_of d) p).rocky ≡ true → cell_in (floor_of d) p ≡ rock
     bare p rocky = elim (cases_lt p.x d.head.width) [

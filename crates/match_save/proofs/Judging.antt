@@ -1,7 +1,9 @@
 -- Whether the lines of a save describe a state of a game.
-use Rattle.std.proofs.Common.{◌≡◌, ◌⊎◌, ℕ, suc, ◌+◌, ◌*◌, ◌<◌, ◌≤◌, Bool, true, false, List, [], ◌∷◌, length, get_or, Option, Some, None, refl, sym, ◌∙◌, ap, subst, inl, inr, arith, sum}
+use native.Mathlib.Decide.{dec_le, dec_lt, map_dec, ℕ_discrete}
+use mathlib.Core.Bool.{Bool-discrete}
+use mathlib.Core.Logic.Dec
+use Rattle.std.proofs.Common.{◌≡◌, ℕ, suc, ◌+◌, ◌*◌, ◌<◌, ◌≤◌, Bool, true, false, List, [], ◌∷◌, length, get_or, Option, Some, None, refl, sym, ◌∙◌, ap, subst, arith, sum}
 use Rattle.std.specs.List.{AllByRecursion}
-use Rattle.std.proofs.lemmas.Bool.{cases_eq, cases_lt}
 use Rattle.std.proofs.lemmas.Nat.{mul-le}
 use Rattle.cell_world.proofs.GridSums.{one_if-le_one}
 use Rattle.cell_world.specs.declared.ant.Ant.{Ant}
@@ -77,64 +79,46 @@ module _ (d : Draft) (ok : IsInForm d) where
   pub state-rest : IsState d → HasRest d
   state-rest state = record { red = state.red; black = state.black; fits = state.fits; place = state.place; turns = state.turns }
 
--- something holds, or doesn't
-abbrev Decided : Type 0 → Type 0
-Decided P = P ⊎ (P → ⊥)
+-- it can be told whether a fact holds of each element of a list, and whether ants can stand
+dec_all : {A : Type 0} (P : A → Type 0) → ((a : A) → Dec (P a)) → (list : List A) → Dec (AllByRecursion P list)
+dec_all P one [] = yes tt
+dec_all P one (x ∷ list) = Dec.and (one x) (dec_all P one list)
 
-decide-le : (m n : ℕ) → Decided (m ≤ n)
-decide-le m n = elim (cases_lt n m) [ inl more ↦ inr (λ le. omega (arith, more, le)) | inr le ↦ inl le ]
+dec_stand : (ants : List PlacedAnt) (g : Grid) → Dec (CanAllStand g ants)
+dec_stand [] g = yes tt
+dec_stand (it ∷ ants) g = Dec.and (one (cell_in g it.place).rocky refl (cell_in g it.place).ant refl) (dec_stand ants (standing g it)) where
+  one : (b : Bool) → (cell_in g it.place).rocky ≡ b → (o : Option Ant) → (cell_in g it.place).ant ≡ o → Dec (CanStand g it)
+  one true rocky o free = no (λ can. (let wrong : true ≡ false = sym rocky ∙ can.clear in absurd (cc)))
+  one false clear (Some ant) there = no (λ can. (let wrong : Some ant ≡ None = sym there ∙ can.free in absurd (cc)))
+  one false clear None free = map_dec (λ made. record { clear = clear; free = free; made = made }) (λ can. can.made) (dec_lt it.ant.id g.ids)
 
-decide-true : (b : Bool) → Decided (b ≡ true)
-decide-true true = inl refl
-decide-true false = inr (λ e. absurd (cc))
-
-decide-same : (m n : ℕ) → Decided (m ≡ n)
-decide-same m n = elim (cases_eq m n) [ inl same ↦ inl same | inr other ↦ inr other ]
-
-both : {P Q : Type 0} → Decided P → Decided Q → Decided (P × Q)
-both (inr wrong) q = inr (λ holds. wrong holds.0)
-both (inl p) (inr wrong) = inr (λ holds. wrong holds.1)
-both (inl p) (inl q) = inl (p, q)
-
-decide-all : {A : Type 0} (P : A → Type 0) → ((a : A) → Decided (P a)) → (list : List A) → Decided (AllByRecursion P list)
-decide-all P one [] = inl tt
-decide-all P one (x ∷ list) = both (one x) (decide-all P one list)
-
-decide-stand : (ants : List PlacedAnt) (g : Grid) → Decided (CanAllStand g ants)
-decide-stand [] g = inl tt
-decide-stand (it ∷ ants) g = both (one (cell_in g it.place).rocky refl (cell_in g it.place).ant refl) (decide-stand ants (standing g it)) where
-  one : (b : Bool) → (cell_in g it.place).rocky ≡ b → (o : Option Ant) → (cell_in g it.place).ant ≡ o → Decided (CanStand g it)
-  one true rocky o free = inr (λ can. (let wrong : true ≡ false = sym rocky ∙ can.clear in absurd (cc)))
-  one false clear (Some ant) there = inr (λ can. (let wrong : Some ant ≡ None = sym there ∙ can.free in absurd (cc)))
-  one false clear None free = elim (cases_lt it.ant.id g.ids) [ inl made ↦ inl (record { clear = clear; free = free; made = made }) | inr late ↦ inr (λ can. (let m = can.made in omega (arith, late, m))) ]
-
-decide-states : (n : ℕ) (list : List Instr) → Decided (StatesBelow n list)
-decide-states n list = decide-all (λ i. AllByRecursion (λ state. state < n) (states_of i)) (λ i. decide-all (λ state. state < n) (λ state. decide-le (suc state) n) (states_of i)) list
+dec_states : (n : ℕ) (list : List Instr) → Dec (StatesBelow n list)
+dec_states n list = dec_all (λ i. AllByRecursion (λ state. state < n) (states_of i)) (λ i. dec_all (λ state. state < n) (λ state. dec_lt state n) (states_of i)) list
 
 -- lines in form describe a state of a game, or none
-pub decide-state : (d : Draft) → IsInForm d → IsState d ⊎ (IsState d → ⊥)
-decide-state d ok = go
-    (decide-le (hill_count d.soils) most_ants)
-    (decide-true (are_sound_cells d.head.width d.head.height 0 (floor_of d).cells))
-    (decide-le (sum d.foods + weight_of_ants d.ants) most_weight)
-    (decide-stand d.ants (floor_of d))
-    (both (decide-states (length d.red) d.red) (decide-states (length d.black) d.black))
-    (decide-all (λ (it : PlacedAnt). it.ant.state < length (program_of d it.ant.colour)) (λ it. decide-le (suc it.ant.state) (length (program_of d it.ant.colour))) d.ants)
-    (both (decide-le d.head.place (turns_of d)) (decide-same (d.head.taken + d.head.redone) (turns_of d)))
+pub dec_state : (d : Draft) → IsInForm d → Dec (IsState d)
+dec_state d ok = go
+    (dec_le (hill_count d.soils) most_ants)
+    (Bool-discrete (are_sound_cells d.head.width d.head.height 0 (floor_of d).cells) true)
+    (dec_le (sum d.foods + weight_of_ants d.ants) most_weight)
+    (dec_stand d.ants (floor_of d))
+    (Dec.and (dec_states (length d.red) d.red) (dec_states (length d.black) d.black))
+    (dec_all (λ (it : PlacedAnt). it.ant.state < length (program_of d it.ant.colour)) (λ it. dec_lt it.ant.state (length (program_of d it.ant.colour))) d.ants)
+    (Dec.and (dec_le d.head.place (turns_of d)) (ℕ_discrete (d.head.taken + d.head.redone) (turns_of d)))
   where
-    go : Decided (hill_count d.soils ≤ most_ants) → Decided (are_sound_cells d.head.width d.head.height 0 (floor_of d).cells ≡ true) → Decided (sum d.foods + weight_of_ants d.ants ≤ most_weight)
-        → Decided (CanAllStand (floor_of d) d.ants) → Decided (StatesBelow (length d.red) d.red × StatesBelow (length d.black) d.black)
-        → Decided (AllByRecursion (λ (it : PlacedAnt). it.ant.state < length (program_of d it.ant.colour)) d.ants)
-        → Decided ((d.head.place ≤ turns_of d) × (d.head.taken + d.head.redone ≡ turns_of d)) → IsState d ⊎ (IsState d → ⊥)
-    go (inr wrong) b c e f g h = inr (λ state. wrong (state-world d ok state).few)
-    go (inl few) (inr wrong) c e f g h = inr (λ state. wrong (state-world d ok state).sound)
-    go (inl few) (inl sound) (inr wrong) e f g h = inr (λ state. wrong (state-world d ok state).light)
-    go (inl few) (inl sound) (inl light) (inr wrong) f g h = inr (λ state. wrong (state-world d ok state).stand)
-    go (inl few) (inl sound) (inl light) (inl stand) (inr wrong) g h = inr (λ state. wrong (state.red, state.black))
-    go (inl few) (inl sound) (inl light) (inl stand) (inl below) (inr wrong) h = inr (λ state. wrong state.fits)
-    go (inl few) (inl sound) (inl light) (inl stand) (inl below) (inl fits) (inr wrong) = inr (λ state. wrong (state.place, state.turns))
-    go (inl few) (inl sound) (inl light) (inl stand) (inl below) (inl fits) (inl counts) =
-        inl (has-state d ok (record { few = few; sound = sound; light = light; stand = stand }) (record { red = below.0; black = below.1; fits = fits; place = counts.0; turns = counts.1 }))
+    go : Dec (hill_count d.soils ≤ most_ants) → Dec (are_sound_cells d.head.width d.head.height 0 (floor_of d).cells ≡ true) → Dec (sum d.foods + weight_of_ants d.ants ≤ most_weight)
+        → Dec (CanAllStand (floor_of d) d.ants) → Dec (StatesBelow (length d.red) d.red × StatesBelow (length d.black) d.black)
+        → Dec (AllByRecursion (λ (it : PlacedAnt). it.ant.state < length (program_of d it.ant.colour)) d.ants)
+        → Dec ((d.head.place ≤ turns_of d) × (d.head.taken + d.head.redone ≡ turns_of d)) → Dec (IsState d)
+    go (no wrong) b c e f g h = no (λ state. wrong (state-world d ok state).few)
+    go (yes few) (no wrong) c e f g h = no (λ state. wrong (state-world d ok state).sound)
+    go (yes few) (yes sound) (no wrong) e f g h = no (λ state. wrong (state-world d ok state).light)
+    go (yes few) (yes sound) (yes light) (no wrong) f g h = no (λ state. wrong (state-world d ok state).stand)
+    go (yes few) (yes sound) (yes light) (yes stand) (no wrong) g h = no (λ state. wrong (state.red, state.black))
+    go (yes few) (yes sound) (yes light) (yes stand) (yes below) (no wrong) h = no (λ state. wrong state.fits)
+    go (yes few) (yes sound) (yes light) (yes stand) (yes below) (yes fits) (no wrong) = no (λ state. wrong (state.place, state.turns))
+    go (yes few) (yes sound) (yes light) (yes stand) (yes below) (yes fits) (yes counts) =
+        yes (has-state d ok (record { few = few; sound = sound; light = light; stand = stand }) (record { red = below.0; black = below.1; fits = fits; place = counts.0; turns = counts.1 }))
 
 -- a world has few cells
 pub few-cells : (d : Draft) → IsInForm d → length d.foods ≤ 262144

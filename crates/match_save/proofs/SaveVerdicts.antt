@@ -12,7 +12,7 @@ use Rattle.match_save.specs.Verdict.{IsDraftText}
 use Rattle.match_save.specs.Inner.Answered.{FaultTold}
 use Rattle.match_save.specs.Inner.Judged.{Judges, ReadsSave}
 use Rattle.match_save.specs.Inner.Reading.{draft_of_text}
-use Rattle.match_save.proofs.Judging.{decide-state}
+use Rattle.match_save.proofs.Judging.{dec_state}
 use Rattle.match_save.proofs.PlainLines.{save-lines, save-text}
 use Rattle.match_save.proofs.SavedLaws.{one_save, some_save}
 use Rattle.match_save.proofs.Verdicts.{never_both, one_draft, one_line, read-known, refused-known}
@@ -46,12 +46,12 @@ same_fault text OutOfMemory other is bad = absurd is
 
 some_verdict : (text : List ℕ) → ((s : SavedValue) × IsSaveText text s) ⊎ ((fault : SaveFault) × IsSaveFault text fault)
 some_verdict text = go (draft_of_text text) refl where
-  state : (d : Draft) → IsDraftText text d → IsState d ⊎ (IsState d → ⊥) → ((s : SavedValue) × IsSaveText text s) ⊎ ((fault : SaveFault) × IsSaveFault text fault)
-  state d is (inl holds) = inl (saved_of d, save-of-draft text d is holds)
-  state d is (inr wrong) = inr (BadState, record { draft = d; is = is; wrong = wrong })
+  state : (d : Draft) → IsDraftText text d → Dec (IsState d) → ((s : SavedValue) × IsSaveText text s) ⊎ ((fault : SaveFault) × IsSaveFault text fault)
+  state d is (yes holds) = inl (saved_of d, save-of-draft text d is holds)
+  state d is (no wrong) = inr (BadState, record { draft = d; is = is; wrong = wrong })
 
   go : (told : Result Draft ℕ) → draft_of_text text ≡ told → ((s : SavedValue) × IsSaveText text s) ⊎ ((fault : SaveFault) × IsSaveFault text fault)
-  go (Ok d) is = (let known = read-known text d is in state d known (decide-state d known.in_form))
+  go (Ok d) is = (let known = read-known text d is in state d known (dec_state d known.in_form))
   go (Err k) is = inr (BadLine k, refused-known text k is)
 
 pub every_verdict : EveryTextHasOneVerdict

@@ -1,7 +1,7 @@
 -- Worlds into which ants are put one after another.
-use Rattle.std.proofs.Common.{◌≡◌, ◌≢◌, ℕ, suc, ◌+◌, ◌*◌, ◌<◌, ◌≤◌, Bool, true, false, not, ◌&&◌, List, [], ◌∷◌, length, set, Option, Some, None, refl, sym, ◌∙◌, ap, subst, inl, inr, arith}
+use Rattle.std.proofs.Common.{◌≡◌, ◌≢◌, ℕ, suc, ◌+◌, ◌*◌, ◌<◌, ◌≤◌, true, false, not, ◌&&◌, List, [], ◌∷◌, length, set, Option, Some, None, refl, sym, ◌∙◌, ap, subst, inl, inr, arith}
 use Rattle.std.specs.List.{AllByRecursion}
-use Rattle.std.proofs.lemmas.Bool.{and_parts, ne_eqb}
+use Rattle.std.proofs.lemmas.Bool.{and_parts, ne_eqb, not-true}
 use Rattle.std.proofs.lemmas.List.{length-set}
 use Rattle.hex_geometry.specs.declared.position.Pos.{Pos}
 use Rattle.hex_geometry.specs.Position.{IsInside}
@@ -176,12 +176,8 @@ pub record IsFree (cell : Cell) : Type 0 where
 pub free-cell : (cell : Cell) → true ≡ is_free cell → IsFree cell
 free-cell cell e =
     let parts = and_parts (not cell.rocky) (is_nobody cell.ant) (sym e) in
-    record { clear = clear cell.rocky parts.0; free = nobody cell.ant parts.1 }
+    record { clear = not-true cell.rocky parts.0; free = nobody cell.ant parts.1 }
   where
-    clear : (b : Bool) → not b ≡ true → b ≡ false
-    clear true is = sym is
-    clear false is = refl
-
     nobody : (o : Option Ant) → is_nobody o ≡ true → o ≡ None
     nobody None is = refl
     nobody (Some ant) is = absurd (cc)

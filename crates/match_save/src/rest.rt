@@ -21,7 +21,7 @@ use std::alloc::Global;
 ///
 /// The rounds are at most 1,000,000, and at least those that are done. Gives the score at the end; the crew's count of turns has risen by that of
 /// the ids times the later rounds then, or stands at its last value. It is refused where the sink failed, whose count of faults rose then, and a
-/// prefix of the text was pushed; or for want of memory, and a proper prefix was. The save stays as it is.
+/// prefix of the text was pushed; or it is out of memory, and a proper prefix was. The save stays as it is.
 pub fn resume<C: Crew, K: Sink>(
     alloc: Global,
     crew: &mut C,

@@ -19,7 +19,7 @@ use std::alloc::Global;
 
 /// The save of a game, which goes on where the game stands (this project's own). The game stands at the end of a round, it began at place 0, its
 /// window has at most 16,384 turns, and its world has as many ids as hill cells, as every world has with which a game begins. The game stays as it
-/// is. It is refused for want of memory alone.
+/// is. It is refused only when out of memory.
 pub fn save_of(alloc: Global, game: &Game<'_>) -> Result<Saved, OutOfMemory>
     requires { CanBeSaved game.now }
     ensures { IfOk result (λ saved. saved ≡ save_of game.now) }

@@ -43,8 +43,8 @@ impl Names {
         }
     }
 
-    /// Adds a name last, unless it is there: `Known` comes exactly where it is, and changes nothing. It is refused for want of memory
-    /// alone, and then changes nothing.
+    /// Adds a name last, unless it is there: `Known` comes exactly where it is, and changes nothing. It is refused only when out
+    /// of memory, and then changes nothing.
     pub fn add(&mut self, name: &str) -> Result<Added, OutOfMemory>
         ensures answer { IfOk result (λ added. added ≡ (if has_name self.old name.now then Known else New)) }
         ensures names { OnOk result (self.new ≡ with_name self.old name.now) }

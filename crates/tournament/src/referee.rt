@@ -15,7 +15,7 @@ pub trait Referee: Sync {
     ghost knows: { Self → ℕ → ℕ → ℕ → Type 0 } = { λ _ _ _ _. ⊤ };
 
     /// Plays the game on the world of this number with these players as red and as black, all counted from 0, and gives its score. It is
-    /// refused for want of memory alone.
+    /// refused only when out of memory.
     fn game(&self, alloc: Global, world: u32, red: u32, black: u32) -> Result<Score, OutOfMemory>
         requires { knows self.now world red black }
         ensures { IfOk result (λ made. made ≡ score self.now world red black) };

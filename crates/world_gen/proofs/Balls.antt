@@ -10,7 +10,7 @@ use Rattle.std.proofs.lemmas.Bool.{cases_Bool, false≢true}
 use Rattle.std.proofs.lemmas.Int.{ints}
 use Rattle.std.specs.Prelude.{Bool, ℤ, pos, negsuc, ◌+ℤ◌, ◌-ℤ◌}
 use Rattle.world_gen.proofs.Steps.{point_one}
-use Rattle.world_gen.specs.Fitting.{IsOffRim}
+use Rattle.world_gen.specs.FreeSpots.{IsOffRim}
 use Rattle.world_gen.specs.Inner.Open.{BallIsOpen, IsFenced, IsOpen, IsShut, IsBallWithin, RowIsOpen, in_row, is_unblocked}
 
 -- what is at a distance in a ball is within its radius

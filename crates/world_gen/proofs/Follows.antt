@@ -8,8 +8,8 @@ use Rattle.std.proofs.lemmas.Bool.{cond_both}
 use Rattle.std.proofs.lemmas.List.{append-nil}
 use Rattle.std.specs.Prelude.{nat_lt}
 use Rattle.world_gen.specs.Elements.{element_of}
-use Rattle.world_gen.specs.Fitting.{IsFreeSpot}
-use Rattle.world_gen.specs.Painting.{paint_of}
+use Rattle.world_gen.specs.FreeSpots.{IsFreeSpot}
+use Rattle.world_gen.specs.Generated.{paint_of}
 use Rattle.world_gen.specs.Placing.{Follow, Goes, HasNone, IsFound, IsChosenSpot, after_begun, figure_begun, tried_figure}
 use Rattle.world_gen.specs.declared.element.Element.{Element}
 use Rattle.world_gen.specs.declared.element.Element.TheVariants as element

@@ -22,19 +22,19 @@ use Rattle.std.specs.Prelude.{All, Contains}
 use Rattle.world_gen.proofs.Balls.{ball_has}
 use Rattle.world_gen.proofs.Bares.{bare_blocked_length}
 use Rattle.world_gen.proofs.Follows.{goes_as, goes_fits}
-use Rattle.world_gen.proofs.HasPlacings.{AllPlaced, IsListed, goes_or_barred, inner_placed, listed_by, told_ball, told_fits, told_inner}
+use Rattle.world_gen.proofs.HasPlacings.{AllPlaced, IsListed, goes_or_barred, inner_placed, listed_by, dec_ball, dec_fits, dec_inner}
 use Rattle.world_gen.proofs.Lines.{lines_each, lines_every}
 use Rattle.world_gen.proofs.Makings.{begun_more, begun_none, begun_whole}
 use Rattle.world_gen.proofs.Stamps.{round_all, round_first, round_more, stamped_more, stamped_none}
 use Rattle.world_gen.proofs.Steps.{fits_open, open_fits, point_one}
 use Rattle.world_gen.specs.Elements.{count_of, element_of}
 use Rattle.world_gen.specs.Existence.{HasOutcome}
-use Rattle.world_gen.specs.Fitting.{IsFreeSpot}
+use Rattle.world_gen.specs.FreeSpots.{IsFreeSpot}
 use Rattle.world_gen.specs.Inner.Answers.{IsElementPut, IsGeneratedGrid}
 use Rattle.world_gen.specs.Inner.Open.{AllOpen, ListsCells, lines_from}
 use Rattle.world_gen.specs.Inner.Sets.{IsRoundBelow, SetsWhere}
 use Rattle.world_gen.specs.Inner.Drafts.{IsBegun, IsStamped, bare_blocked, bare_kinds}
-use Rattle.world_gen.specs.Painting.{IsGenerated, IsShape, hill_kind, paint_of}
+use Rattle.world_gen.specs.Generated.{IsGenerated, IsShape, hill_kind, paint_of}
 use Rattle.world_gen.specs.Placing.{Goes, HasNoRoom, after_begun, figure_begun}
 use Rattle.world_gen.specs.declared.shape.Shape.{Shape}
 use Rattle.world_gen.specs.declared.spot.Figure.{Figure}
@@ -92,17 +92,17 @@ hill_few Black count le = omega arith
 
 few_at : (figure : Figure) (place : Pos) → AllPlaced (record { figure = figure; place = place }) → FewCells (record { figure = figure; place = place })
 few_at (Hill colour) place all =
-    elim (told_ball place 6) [
-      | inl has ↦
+    elim (dec_ball place 6) [
+      | yes has ↦
           let list = rows_list place 6 has in
           let size = rows_size place 6 has.from_top in
           record { cells = rows place 6 (2 * 6 + 1); lists = record { each = list.within; every = list.every }; few = hill_few colour (length (rows place 6 (2 * 6 + 1))) (omega (arith, size)) }
-      | inr never ↦ absurd (never (ball_has place 6 all))
+      | no never ↦ absurd (never (ball_has place 6 all))
     ]
 few_at (Rock radius) place all =
-    elim (told_ball place radius) [
-      | inl has ↦ (let list = rows_list place radius has in record { cells = rows place radius (2 * radius + 1); lists = record { each = list.within; every = list.every }; few = omega arith })
-      | inr never ↦ absurd (never (ball_has place radius all))
+    elim (dec_ball place radius) [
+      | yes has ↦ (let list = rows_list place radius has in record { cells = rows place radius (2 * radius + 1); lists = record { each = list.within; every = list.every }; few = omega arith })
+      | no never ↦ absurd (never (ball_has place radius all))
     ]
 few_at (Blob first) place all = record { cells = lines_from 5 first place; lists = record { each = lines_each place first all; every = lines_every place first all }; few = omega arith }
 
@@ -142,7 +142,7 @@ module _ (seed : ℕ) (shape : Shape) (narrow : shape.width ≤ 512) (low : shap
       let placed = it.begun.placed in
       let listed : All (IsListed shape.width shape.height) placed =
       All-weaker (Contains placed) (IsListed shape.width shape.height) (λ other among. listed_by shape.width shape.height narrow low other (λ q cell. it.begun.draft.off_rim other q among cell)) placed (All-contains_itself placed) in
-      elim (goes_or_barred (IsFreeSpot shape.width shape.height placed) (told_fits shape.width shape.height narrow low placed listed) seed shape.width shape.height (figure_begun seed it.g (element_of shape n)) (after_begun it.g (element_of shape n))) [
+      elim (goes_or_barred (IsFreeSpot shape.width shape.height placed) (dec_fits shape.width shape.height narrow low placed listed) seed shape.width shape.height (figure_begun seed it.g (element_of shape n)) (after_begun it.g (element_of shape n))) [
         | inl goes ↦ inl (made_more n it goes.spot goes.after goes.goes)
         | inr none ↦ inr (record { placed = placed; after = it.g; follow = it.begun.follow; before = it.begun.count; low = below; none = none })
       ]
@@ -182,9 +182,9 @@ generated seed shape kinds is made =
           tall = is.tall;
           low = is.low;
           full = made.painted.full;
-          rim = λ p inside clear. elim (told_inner shape.width shape.height p) [
-            | inl inner ↦ inner
-            | inr never ↦ absurd (false≢true (sym clear ∙ ap is_rock (made.painted.rim p inside never)))
+          rim = λ p inside clear. elim (dec_inner shape.width shape.height p) [
+            | yes inner ↦ inner
+            | no never ↦ absurd (false≢true (sym clear ∙ ap is_rock (made.painted.rim p inside never)))
           ];
           fed = made.fed;
           few = omega arith;

@@ -9,13 +9,13 @@ use Rattle.world_gen.proofs.Bares.{bare_hills, bare_draft}
 use Rattle.world_gen.proofs.Follows.{follow_more, goes_as, goes_fits, hills_step, none_as, paint_fed}
 use Rattle.world_gen.proofs.Steps.{fits_open, open_fits, draft_more}
 use Rattle.world_gen.specs.Elements.{count_of, element_of}
-use Rattle.world_gen.specs.Fitting.{IsFreeSpot}
+use Rattle.world_gen.specs.FreeSpots.{IsFreeSpot}
 use Rattle.world_gen.specs.Inner.Answers.{IsGeneratedGrid, IsElementPut, IsStep}
 use Rattle.world_gen.specs.Inner.Open.{AllOpen}
 use Rattle.world_gen.specs.Inner.Drafts.{IsBegun, bare_blocked, bare_kinds}
 use Rattle.world_gen.specs.Placing.{Goes, HasNone, HasNoRoom}
 use Rattle.world_gen.specs.declared.element.Element.{Element}
-use Rattle.world_gen.specs.Painting.{IsRefusal}
+use Rattle.world_gen.specs.Generated.{IsRefusal}
 use Rattle.world_gen.specs.declared.generator.GenFault.{GenFault}
 use Rattle.world_gen.specs.declared.generator.GenFault.TheVariants.{NoRoom, OutOfMemory}
 use Rattle.world_gen.specs.declared.shape.Shape.{Shape}

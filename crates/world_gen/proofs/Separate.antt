@@ -6,7 +6,7 @@ use Rattle.std.proofs.lemmas.List.Elements.{Contains-get_or, Contains-push_cases
 use Rattle.std.proofs.lemmas.List.Quantifiers.{all_pairs_push}
 use Rattle.world_gen.proofs.Follows.{goes_fits}
 use Rattle.world_gen.specs.Elements.{IsCell, element_of}
-use Rattle.world_gen.specs.Fitting.{IsFreeSpot}
+use Rattle.world_gen.specs.FreeSpots.{IsFreeSpot}
 use Rattle.world_gen.specs.Placing.{Follow}
 use Rattle.world_gen.specs.PlacingLaws.{AreApart, ElementsLieApart, IsSeparated}
 use Rattle.world_gen.specs.declared.shape.Shape.{Shape}

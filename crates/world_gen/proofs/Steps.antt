@@ -14,11 +14,11 @@ use Rattle.std.proofs.lemmas.List.Elements.{Contains-append_left, Contains-push,
 use Rattle.std.specs.Prelude.{Bool, Contains, pos, ◌⊎◌}
 use Rattle.world_gen.proofs.Bares.{open_free, open_from, open_inside}
 use Rattle.world_gen.specs.Elements.{IsCell}
-use Rattle.world_gen.specs.Fitting.{IsFreeSpot, IsOffRim, IsTouching}
+use Rattle.world_gen.specs.FreeSpots.{IsFreeSpot, IsOffRim, IsTouching}
 use Rattle.world_gen.specs.Inner.Open.{AllOpen, ListsCells, is_unblocked}
 use Rattle.world_gen.specs.Inner.Sets.{IsRound, IsRoundAny}
 use Rattle.world_gen.specs.Inner.Drafts.{IsStamped, IsTouched, IsDraft}
-use Rattle.world_gen.specs.Painting.{IsPainted, paint_of}
+use Rattle.world_gen.specs.Generated.{IsPainted, paint_of}
 use Rattle.world_gen.specs.declared.spot.Spot.{Spot}
 
 -- positions with one place are one

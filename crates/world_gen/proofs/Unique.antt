@@ -14,8 +14,8 @@ use Rattle.std.proofs.lemmas.Bool.{cases_Bool, cases_lt, eqb-false, eqb-true, fa
 use Rattle.std.proofs.lemmas.List.{append-nil, get_or_default, same_lists}
 use Rattle.std.specs.Prelude.{Contains, ◌⊎◌, ◌==◌}
 use Rattle.world_gen.specs.Elements.{IsCell, element_of}
-use Rattle.world_gen.specs.Painting.{IsGenerated, IsPainted}
-use Rattle.world_gen.specs.Fitting.{IsFreeSpot}
+use Rattle.world_gen.specs.Generated.{IsGenerated, IsPainted}
+use Rattle.world_gen.specs.FreeSpots.{IsFreeSpot}
 use Rattle.world_gen.specs.Placing.{Follow, Goes, HasNone, HasNoRoom, IsBarred, IsFound, IsPlacing, IsChosenSpot, after_begun, figure_begun, draws_of, spot_at, try_of}
 use Rattle.world_gen.specs.PlacingLaws.{PlacingIsOne}
 use Rattle.world_gen.specs.declared.element.Element.{Element}

@@ -18,7 +18,7 @@ use Rattle.world_gen.proofs.Balls.{off_rim_within}
 use Rattle.list_lemmas.proofs.Elements.{Contains-none}
 use Rattle.world_gen.proofs.Worked.{black_hill, blob, place, red_hill}
 use Rattle.world_gen.specs.Elements.{IsCell, point_after}
-use Rattle.world_gen.specs.Fitting.{IsFreeSpot, IsOffRim, IsTouching}
+use Rattle.world_gen.specs.FreeSpots.{IsFreeSpot, IsOffRim, IsTouching}
 use Rattle.world_gen.specs.Food.{food_on}
 use Rattle.world_gen.specs.Placing.{HasNoRoom, IsPlacing, try_of}
 use Rattle.world_gen.specs.PlacingLaws.{AreApart}

@@ -1,7 +1,7 @@
 -- A law beside the one that a seed and a shape have at most one outcome: they have one.
 use Rattle.std.specs.Prelude.{ℕ, ◌⊎◌}
 use Rattle.cell_world.specs.Grid.{Grid}
-use Rattle.world_gen.specs.Painting.{IsGenerated, IsShape}
+use Rattle.world_gen.specs.Generated.{IsGenerated, IsShape}
 use Rattle.world_gen.specs.Placing.{HasNoRoom}
 use Rattle.world_gen.specs.declared.shape.Shape.{Shape}
 

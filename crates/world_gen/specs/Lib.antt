@@ -1,9 +1,9 @@
 pub mod Elements
 pub mod Existence
-pub mod Fitting
 pub mod Food
+pub mod FreeSpots
+pub mod Generated
 pub mod Inner
-pub mod Painting
 pub mod Placing
 pub mod PlacingLaws
 pub use Rattle.cell_world.specs.Cell

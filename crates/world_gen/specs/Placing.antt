@@ -7,7 +7,7 @@ use Rattle.hex_geometry.specs.Position.{IsInside}
 use Rattle.hex_geometry.specs.declared.direction.Dir.TheVariants.{East}
 use Rattle.hex_geometry.specs.declared.position.Pos.{Pos}
 use Rattle.world_gen.specs.Elements.{count_of, element_of}
-use Rattle.world_gen.specs.Fitting.{IsFreeSpot}
+use Rattle.world_gen.specs.FreeSpots.{IsFreeSpot}
 use Rattle.world_gen.specs.declared.element.Element.{Element}
 use Rattle.world_gen.specs.declared.element.Element.TheVariants as element
 use Rattle.world_gen.specs.declared.shape.Shape.{Shape}

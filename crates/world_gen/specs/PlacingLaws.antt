@@ -3,8 +3,8 @@ use Rattle.std.specs.Prelude.{◌≡◌, ℕ, List, Contains, AllPairs}
 use Rattle.cell_world.specs.Grid.{Grid}
 use Rattle.hex_geometry.specs.Position.{Point}
 use Rattle.world_gen.specs.Elements.{IsCell}
-use Rattle.world_gen.specs.Fitting.{IsOffRim, IsTouching}
-use Rattle.world_gen.specs.Painting.{IsGenerated}
+use Rattle.world_gen.specs.FreeSpots.{IsOffRim, IsTouching}
+use Rattle.world_gen.specs.Generated.{IsGenerated}
 use Rattle.world_gen.specs.Placing.{HasNoRoom, IsPlacing}
 use Rattle.world_gen.specs.declared.shape.Shape.{Shape}
 use Rattle.world_gen.specs.declared.spot.Spot.{Spot}

@@ -3,7 +3,7 @@ ghost use Rattle.std.specs.Prelude.{◌≡◌, ◌+◌, ◌*◌, ◌++◌, ◌�
 ghost use Rattle.cell_world.specs.Cell.{one_if};
 ghost use Rattle.cell_world.specs.Opening.{is_hill};
 ghost use Rattle.world_gen.specs.Inner.Open.{AllHaveNeighbours, BlobHasNeighbours, LineHasNeighbours, ListsCells, line_from, lines_from};
-ghost use Rattle.world_gen.specs.Painting.{paint_of};
+ghost use Rattle.world_gen.specs.Generated.{paint_of};
 
 use crate::spot::{Figure, HILL_RADIUS, Spot};
 use hex_geometry::{Dir, OutOfMemory, Pos, Side, adjacent, ball, turned};

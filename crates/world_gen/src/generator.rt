@@ -2,7 +2,7 @@
 ghost use Rattle.std.specs.Prelude.{◌≡◌, ◌+◌, ◌*◌, ◌<◌, ◌≤◌, IfErr, IfOk, length};
 ghost use Rattle.world_gen.specs.Inner.Answers.{IsGeneratedGrid, IsStep};
 ghost use Rattle.world_gen.specs.Inner.Open.{IsFenced};
-ghost use Rattle.world_gen.specs.Painting.{IsAnswer, IsRefusal, IsShape};
+ghost use Rattle.world_gen.specs.Generated.{IsAnswer, IsRefusal, IsShape};
 
 use crate::cells::cells_of;
 use crate::draft::Draft;
@@ -38,7 +38,7 @@ impl From<OutOfMemory> for GenFault {
 /// The world of a seed, from 0 to 4,294,967,295, and a shape, whose width and height are from 3 to 512. The rim and the rocks are rocky,
 /// each cell of a blob has 5 food particles, all else but the hills is clear, and an ant begins on each hill cell. An element goes to
 /// the first of its 50 tries that fits, else to the first place that fits in row order; `NoRoom` comes exactly where there is none for an
-/// element, the first such. Apart from that it is refused for want of memory alone.
+/// element, the first such. Apart from that it is refused only when out of memory.
 pub fn generate(alloc: Global, seed: u32, shape: Shape) -> Result<World, GenFault>
     requires { IsShape shape }
     ensures { IsAnswer seed shape result }

@@ -1,6 +1,6 @@
 // Elements at their places.
 ghost use Rattle.std.specs.Prelude.{◌≡◌};
-ghost use Rattle.world_gen.specs.Painting.{paint_of};
+ghost use Rattle.world_gen.specs.Generated.{paint_of};
 
 use cell_world::{Colour, Kind};
 use hex_geometry::{Dir, Pos};

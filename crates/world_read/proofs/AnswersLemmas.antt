@@ -49,7 +49,7 @@ pub world_of_text-wrong : (text : List ℕ) (fault : WorldFault) → IsWorldFaul
 unfolding world_of_text
 world_of_text-wrong text fault wrong = ap opened (plan_of-wrong text fault wrong)
 
--- a fault that is answered is want of memory, or it was told
+-- a fault that is answered is out of memory, or it was told
 pub ReadsAs-fault : {A : Type 0} (told : Result A WorldFault) (fault : WorldFault) → ReadsAs told (Err fault) → (fault ≡ OutOfMemory) ⊎ (told ≡ Err fault)
 ReadsAs-fault told BadWidth is = inr is
 ReadsAs-fault told BadHeight is = inr is

@@ -114,7 +114,7 @@ row_from-kinds width y kinds wide fed =
     ∙ ap (onto_row kinds) (cond-false (ltb (0 + length kinds) width) (Err (ShortRow y)) (Ok []) (le-ltb (0 + length kinds) width (omega arith)))
     ∙ ap Ok (append-nil kinds)
 
--- lines that were read as rows: they are a front of the lines, and spell the kinds row by row
+-- lines that were read as rows: they are a prefix of the lines, and spell the kinds row by row
 pub record AreRead (width count : ℕ) (lines : List (List ℕ)) (rows : Rows) : Type 0 where
   pub front : List (List ℕ)
   pub split : lines ≡ front ++ rows.rest

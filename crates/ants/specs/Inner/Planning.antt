@@ -13,7 +13,7 @@ use Rattle.match_run.specs.Dumps.{chooses}
 use Rattle.match_run.specs.Run.{most_rounds}
 use Rattle.match_save.specs.Saved.{SavedValue}
 use Rattle.world_gen.specs.declared.shape.Shape.{Shape}
-use Rattle.world_gen.specs.Painting.{IsGenerated}
+use Rattle.world_gen.specs.Generated.{IsGenerated}
 use Rattle.world_gen.specs.Placing.{HasNoRoom}
 use Rattle.ants.specs.declared.run.PlannedGame.{PlannedGame}
 use Rattle.ants.specs.declared.run.Setting.{Setting}

@@ -1,7 +1,7 @@
 -- Numbers of the classes of the seen states, in the order in which the states show them.
 use Rattle.std.specs.Prelude.{◌≡◌, ℕ, ◌<◌, Bool, true, List, length, slice_index, Option, Some, IsSome}
 use Rattle.ant_turn.specs.Renumber.{state_number}
-use Rattle.brain_minimise.specs.Inner.Exploring.{is_seen}
+use Rattle.brain_minimise.specs.Inner.Seen.{is_seen}
 use Rattle.brain_minimise.specs.Minimised.{new_number}
 
 -- before a state of some number there is one of each lower number

@@ -2,7 +2,7 @@
 use Rattle.std.proofs.Common.{◌≡◌, ℕ, ◌+◌, List, [], ◌∷◌, ◌++◌, length, Result, Ok, Err, refl, sym, ◌∙◌, ap, subst, append_assoc, length-append, arith, inl, inr, ◌⊎◌}
 use Rattle.match_save.specs.Inner.Readers.{Left, Reader, paired, go_on, followed, made, mapped, Begins, Took, StopsAt, Reads, Refuses}
 
--- of two fronts of one list, one is a front of the other
+-- of two prefixes of one list, one is a prefix of the other
 pub fronts : {E : Type 0} → (p q x y : List E) → p ++ x ≡ q ++ y
     → ((z : List E) × (p ≡ q ++ z)) ⊎ ((z : List E) × (q ≡ p ++ z))
 fronts [] q x y e = inr (q, refl)

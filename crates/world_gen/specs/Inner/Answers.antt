@@ -9,7 +9,7 @@ use Rattle.cell_world.specs.declared.kind.Kind.{Kind}
 use Rattle.std.specs.List.{All}
 use Rattle.world_gen.specs.Inner.Open.{AllOpen, ListsCells}
 use Rattle.world_gen.specs.Inner.Drafts.{IsStamped}
-use Rattle.world_gen.specs.Painting.{IsPainted, paint_of}
+use Rattle.world_gen.specs.Generated.{IsPainted, paint_of}
 use Rattle.world_gen.specs.declared.generator.GenFault.{GenFault}
 use Rattle.world_gen.specs.declared.generator.GenFault.TheVariants.{NoRoom, OutOfMemory}
 use Rattle.world_gen.specs.declared.element.Element.{Element}

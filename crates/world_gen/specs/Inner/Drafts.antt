@@ -9,10 +9,10 @@ use Rattle.cell_world.specs.declared.kind.Kind.TheVariants as kind
 use Rattle.hex_geometry.specs.Position.{IsInner, IsInside, Point, is_on_rim, point_of}
 use Rattle.hex_geometry.specs.declared.position.Pos.{Pos}
 use Rattle.world_gen.specs.Elements.{IsCell}
-use Rattle.world_gen.specs.Fitting.{IsOffRim, IsTouching}
+use Rattle.world_gen.specs.FreeSpots.{IsOffRim, IsTouching}
 use Rattle.world_gen.specs.Inner.Open.{IsFenced, is_unblocked}
 use Rattle.world_gen.specs.Inner.Sets.{IsRoundAny, SetsWhere}
-use Rattle.world_gen.specs.Painting.{IsPainted}
+use Rattle.world_gen.specs.Generated.{IsPainted}
 use Rattle.world_gen.specs.Placing.{Follow}
 use Rattle.world_gen.specs.declared.shape.Shape.{Shape}
 use Rattle.world_gen.specs.declared.spot.Spot.{Spot}

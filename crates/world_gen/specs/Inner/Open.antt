@@ -10,7 +10,7 @@ use Rattle.hex_geometry.specs.declared.direction.Side.TheVariants.{Right}
 use Rattle.hex_geometry.specs.Position.{HasNeighbours, IsInner, Point, point_of}
 use Rattle.hex_geometry.specs.declared.position.Pos.{Pos}
 use Rattle.world_gen.specs.Elements.{IsCell, IsInBlob, point_after}
-use Rattle.world_gen.specs.Fitting.{IsOffRim}
+use Rattle.world_gen.specs.FreeSpots.{IsOffRim}
 use Rattle.world_gen.specs.declared.spot.Spot.{Spot}
 
 -- whether the cell at p is inside and not blocked

@@ -1,6 +1,6 @@
 use Rattle.std.proofs.Common.{◌≡◌, ◌<◌, length, refl, subst, arith}
 use Rattle.std.proofs.lemmas.Bool.{both_ways}
-use Rattle.brain_minimise.proofs.Refining.{IsRefining, IsRefining-classes, IsRefining-finer, IsRefining-parts, IsRefining-stays}
+use Rattle.brain_minimise.proofs.Refinement.{IsRefining, IsRefining-classes, IsRefining-finer, IsRefining-parts, IsRefining-stays}
 use Rattle.brain_minimise.proofs.classes.refine.Goals.{then-do_alike, else-do_alike}
 use Rattle.brain_minimise.proofs.classes.refine.Goals as goal
 

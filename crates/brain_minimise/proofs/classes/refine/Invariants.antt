@@ -1,4 +1,4 @@
-use Rattle.brain_minimise.proofs.Refining.{IsRefining}
+use Rattle.brain_minimise.proofs.Refinement.{IsRefining}
 use Rattle.brain_minimise.proofs.classes.refine.Given as goal
 
 abbrev pub invariant-loop-state : goal.invariant-loop-state

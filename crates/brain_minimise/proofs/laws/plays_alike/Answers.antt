@@ -1,4 +1,4 @@
-use Rattle.brain_minimise.proofs.Playing.{game-minimised}
+use Rattle.brain_minimise.proofs.MinimisedGames.{game-minimised}
 use Rattle.brain_minimise.proofs.laws.plays_alike.Goals as goal
 
 pub returns : goal.returns

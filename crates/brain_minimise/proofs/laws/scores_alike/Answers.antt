@@ -1,4 +1,4 @@
-use Rattle.brain_minimise.proofs.Playing.{score-minimised}
+use Rattle.brain_minimise.proofs.MinimisedGames.{score-minimised}
 use Rattle.brain_minimise.proofs.laws.scores_alike.Goals as goal
 
 pub returns : goal.returns

@@ -1,5 +1,5 @@
 use Rattle.std.proofs.Common.{arith}
-use Rattle.brain_minimise.proofs.Merging.{IsBrain-kept, IsMinimised-from}
+use Rattle.brain_minimise.proofs.MinimisedLemmas.{IsBrain-kept, IsMinimised-from}
 use Rattle.brain_minimise.proofs.merge.minimise.Goals as goal
 
 pub number_states-requires-clause-few : goal.number_states-requires-clause-few

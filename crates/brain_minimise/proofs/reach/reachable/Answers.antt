@@ -1,9 +1,9 @@
 use Rattle.std.proofs.Common.{rules, ◌<◌, true, [], length, slice_set, sym, ap, ◌∙◌, subst, arith}
 use Rattle.std.proofs.lemmas.Option.{get_or_from_slice_get}
 use Rattle.brain_read.specs.declared.instr.Instr.TheVariants.{Drop}
-use Rattle.brain_minimise.specs.Inner.Exploring.{is_seen, with_waiting}
+use Rattle.brain_minimise.specs.Inner.Seen.{is_seen, with_waiting}
 use Rattle.brain_minimise.specs.Inner.Successors.{first_next, last_next}
-use Rattle.brain_minimise.proofs.Exploring.{Explores, Explores-all, Explores-below, Explores-more, Explores-start, first-below, last-below, step-work}
+use Rattle.brain_minimise.proofs.Search.{Explores, Explores-all, Explores-below, Explores-more, Explores-start, first-below, last-below, step-work}
 use Rattle.brain_minimise.proofs.reach.reachable.Goals as goal
 
 pub loop-state-init : goal.loop-state-init

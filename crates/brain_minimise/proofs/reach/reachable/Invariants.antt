@@ -1,5 +1,5 @@
 use Rattle.std.proofs.Common.{◌+◌, ◌*◌, length}
-use Rattle.brain_minimise.proofs.Exploring.{Explores, unseen}
+use Rattle.brain_minimise.proofs.Search.{Explores, unseen}
 use Rattle.brain_minimise.proofs.reach.reachable.Given as goal
 
 abbrev pub invariant-loop-state : goal.invariant-loop-state

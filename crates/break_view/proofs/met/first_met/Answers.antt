@@ -1,6 +1,6 @@
 use Rattle.std.proofs.Common.{◌≤◌, length, refl, sym, ◌∙◌, arith}
 use Rattle.cell_world.specs.Grid.{world_of}
-use Rattle.break_view.proofs.Meeting.{met-here, met-later, met-end}
+use Rattle.break_view.proofs.MetLemmas.{met-here, met-later, met-end}
 use Rattle.break_view.proofs.met.first_met.Goals as goal
 
 pub loop-item-init : goal.loop-item-init

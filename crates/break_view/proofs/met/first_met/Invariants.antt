@@ -1,5 +1,5 @@
 use Rattle.cell_world.specs.Grid.{world_of}
-use Rattle.break_view.proofs.Meeting.{IsSeen}
+use Rattle.break_view.proofs.MetLemmas.{IsSeen}
 use Rattle.break_view.proofs.met.first_met.Given as goal
 
 -- none of the breaks so far holds

@@ -1,6 +1,6 @@
 use Rattle.std.proofs.Common.{ℕ, ◌<◌, get_or}
 use Rattle.break_view.specs.declared.breaks.Break.{Break}
-use Rattle.break_view.specs.Inner.Watching.{IsNamed}
+use Rattle.break_view.specs.Inner.Changes.{IsNamed}
 use Rattle.break_view.proofs.states.name_states.Given as goal
 
 -- the tables name the states of the breaks so far

@@ -3,7 +3,7 @@ use Rattle.ant_turn.specs.Minds.{minds_of}
 use Rattle.match_run.specs.Inner.Sequential.{moment_from}
 use Rattle.break_view.specs.declared.breaks.Break.{Break}
 use Rattle.break_view.specs.Inner.Rounds.{RoundEnds}
-use Rattle.break_view.proofs.Stopping.{watched-none, watched-more, ends_stopped, ends_passed, ends_without}
+use Rattle.break_view.proofs.WatchedRounds.{watched-none, watched-more, ends_stopped, ends_passed, ends_without}
 use Rattle.break_view.proofs.stop.find_stop.Goals as goal
 use Rattle.break_view.proofs.stop.find_stop.Goals.{After-is_some}
 

@@ -1,6 +1,6 @@
 use Rattle.ant_turn.specs.Minds.{minds_of}
 use Rattle.cell_world.specs.Grid.{world_of}
-use Rattle.break_view.proofs.Stopping.{IsWatched}
+use Rattle.break_view.proofs.WatchedRounds.{IsWatched}
 use Rattle.break_view.proofs.stop.find_stop.Given as goal
 
 -- so many rounds were played, and no break held after any of their turns

@@ -4,7 +4,7 @@ use Rattle.match_run.specs.Inner.Sequential.{moment_from}
 use Rattle.match_run.proofs.SequentialLemmas.{IsTaken, IsTaken-none, IsTaken-place, IsTaken-ids, IsTaken-more, IsTaken-all}
 use Rattle.cell_world.specs.Grid.{world_of}
 use Rattle.break_view.specs.Inner.Rounds.{IsQuiet}
-use Rattle.break_view.proofs.Stopping.{quiet-none, quiet-more, met-taken}
+use Rattle.break_view.proofs.WatchedRounds.{quiet-none, quiet-more, met-taken}
 use Rattle.break_view.proofs.QuietTurns.{still_quiet}
 use Rattle.break_view.proofs.stop.stop_in_round.Goals as goal
 use Rattle.break_view.proofs.stop.stop_in_round.Goals.{After-met_now}

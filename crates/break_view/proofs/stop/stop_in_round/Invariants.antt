@@ -1,5 +1,5 @@
 use Rattle.ant_turn.specs.Minds.{minds_of}
-use Rattle.break_view.proofs.Stopping.{IsWatching}
+use Rattle.break_view.proofs.WatchedRounds.{IsWatching}
 use Rattle.break_view.proofs.stop.stop_in_round.Given as goal
 
 -- so many turns were taken, and no break held after any of them

@@ -8,10 +8,10 @@ ghost use Rattle.cell_world.specs.Score.{score_of};
 ghost use Rattle.cell_world.specs.World.{with_cells};
 ghost use Rattle.hex_geometry.specs.Position.{IsInside};
 ghost use Rattle.hex_geometry.specs.declared.position.Pos.{Pos};
-ghost use Rattle.break_view.specs.Inner.Counting as counting;
-ghost use Rattle.break_view.specs.Inner.Watching as watching;
+ghost use Rattle.break_view.specs.Inner.CellScores as cell_scores;
+ghost use Rattle.break_view.specs.Inner.Changes as changes;
 
-use crate::counting::{count_again, score_in_any};
+use crate::cell_scores::{count_again, score_in_any};
 use ant_random::Stream;
 use ant_turn::{Brains, take_turn};
 use cell_world::{Cell, Score, World};
@@ -37,7 +37,7 @@ pub(crate) fn take_watched(
     } }
     ensures fit { Fits (world_of world.new) (minds_of brains.entry) }
     ensures score { score.new ≡ score_of (world_of world.new) }
-    ensures same { IsTrue result → watching.LooksSame (world_of world.old) (world_of world.new) }
+    ensures same { IsTrue result → changes.LooksSame (world_of world.old) (world_of world.new) }
 {
     let place = world.ant_place(id);
     let before = cell_at(world, place);
@@ -56,7 +56,7 @@ pub(crate) fn take_watched(
 #[inline]
 fn cell_at(world: &World, place: Option<Pos>) -> Option<Cell>
     requires { (p : Pos) → place ≡ Some p → IsInside world.now.width world.now.height p }
-    ensures { result ≡ counting.cell_at (world_of world.now) place }
+    ensures { result ≡ cell_scores.cell_at (world_of world.now) place }
 {
     match place {
         Some(place) => Some(world.cell(place)),
@@ -67,7 +67,7 @@ fn cell_at(world: &World, place: Option<Pos>) -> Option<Cell>
 // The food on a cell: none where there is no cell.
 #[inline]
 fn food_in(cell: Option<Cell>) -> u32
-    ensures { result ≡ watching.food_in cell }
+    ensures { result ≡ changes.food_in cell }
 {
     match cell {
         Some(cell) => cell.food,
@@ -78,7 +78,7 @@ fn food_in(cell: Option<Cell>) -> u32
 // Whether an ant stands on a cell with so much food, or there is no cell.
 #[inline]
 fn is_left(cell: Option<Cell>, food: u32) -> bool
-    ensures { result ≡ watching.is_left cell food }
+    ensures { result ≡ changes.is_left cell food }
 {
     match cell {
         Some(cell) => has_ant_on(cell, food),

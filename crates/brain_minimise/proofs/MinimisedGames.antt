@@ -27,7 +27,7 @@ use Rattle.ant_turn.proofs.RenumberedTurns.{after_rounds-renumbered}
 use Rattle.brain_minimise.specs.Match.{DiffersInStates, IsMatchingAnt, game}
 use Rattle.brain_minimise.specs.Minimised.{IsMinimised, new_number}
 use Rattle.brain_minimise.specs.Reach.IsReachable.{Start}
-use Rattle.brain_minimise.proofs.Merging.{successors-reached}
+use Rattle.brain_minimise.proofs.MinimisedLemmas.{successors-reached}
 use Rattle.brain_minimise.proofs.Numbers.{number-inside}
 use Rattle.brain_minimise.proofs.Ranks.{zero-number}
 

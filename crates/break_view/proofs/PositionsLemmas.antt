@@ -15,8 +15,8 @@ use Rattle.break_view.specs.declared.fault.BreakFault.{BreakFault}
 use Rattle.break_view.specs.declared.words.BreakWord.{BreakWord}
 use Rattle.break_view.specs.Forms.{word_of_break, word_of_colour, break_kinds, colours, most_number}
 use Rattle.break_view.specs.Inner.Places.{break_words, colour_words, break_at, colour_at}
-use Rattle.break_view.specs.Judging.{Position, positions_of, accepted, fault_of, first_fault}
-use Rattle.break_view.specs.Judging.Position.{BreakToken, ColourToken, NumberToken}
+use Rattle.break_view.specs.Positions.{Position, positions_of, accepted, fault_of, first_fault}
+use Rattle.break_view.specs.Positions.Position.{BreakToken, ColourToken, NumberToken}
 use Rattle.break_view.specs.Inner.Steps.{take_colour, take_any}
 use Rattle.break_view.specs.Inner.Reading.{read_number, read_coloured, read_stand, read_food, read_form, read_line}
 use Rattle.break_view.specs.Inner.Verdict.{fault_at, refusal_at}

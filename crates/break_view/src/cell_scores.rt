@@ -1,13 +1,13 @@
 // The score of a world, counted on from turn to turn.
 ghost use Rattle.std.specs.Prelude.{◌≡◌, ◌+◌, ◌-◌};
-ghost use Rattle.break_view.specs.Inner.Counting as counting;
+ghost use Rattle.break_view.specs.Inner.CellScores as cell_scores;
 
 use cell_world::{Cell, Colour, Score};
 
 // The food that a cell gives to the hills: none where there is no cell.
 #[inline]
 pub(crate) fn score_in_any(cell: Option<Cell>) -> Score
-    ensures { result ≡ counting.score_in_any cell }
+    ensures { result ≡ cell_scores.score_in_any cell }
 {
     match cell {
         Some(cell) => score_in(cell),
@@ -18,7 +18,7 @@ pub(crate) fn score_in_any(cell: Option<Cell>) -> Score
 // The food that a cell gives to the hills: all that lies on it, to the hill to which it belongs.
 #[inline]
 fn score_in(cell: Cell) -> Score
-    ensures { result ≡ counting.score_in cell }
+    ensures { result ≡ cell_scores.score_in cell }
 {
     match cell.hill {
         Some(Colour::Red) => Score {
@@ -36,7 +36,7 @@ fn score_in(cell: Cell) -> Score
 // The score where a cell gives this now, in place of what it gave before.
 #[inline]
 pub(crate) fn count_again(score: Score, before: Score, now: Score) -> Score
-    requires { counting.CanCount score before now }
+    requires { cell_scores.CanCount score before now }
     ensures red { result.red ≡ score.red + now.red - before.red }
     ensures black { result.black ≡ score.black + now.black - before.black }
 {

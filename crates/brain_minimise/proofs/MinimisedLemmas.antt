@@ -11,7 +11,7 @@ use Rattle.ant_turn.specs.Renumber.{state_number, redirected}
 use Rattle.ant_turn.specs.Turn.{instruction_at}
 use Rattle.brain_minimise.specs.Equivalence.{Relation, AreRelated, AreEquivalent, IsBisimulation, shape_of}
 use Rattle.brain_minimise.specs.Inner.Classes.{AreClasses, AreStable}
-use Rattle.brain_minimise.specs.Inner.Exploring.{AreSeen}
+use Rattle.brain_minimise.specs.Inner.Seen.{AreSeen}
 use Rattle.brain_minimise.specs.Inner.Kept.{AreKept}
 use Rattle.brain_minimise.specs.Inner.Numbering.{AreNumbers}
 use Rattle.brain_minimise.specs.Minimised.{IsMinimised, new_number}
@@ -19,7 +19,7 @@ use Rattle.brain_minimise.specs.Reach.{IsReachable}
 use Rattle.brain_minimise.specs.Reach.IsReachable.{Start, Next}
 use Rattle.brain_minimise.proofs.Equivalences.{class-equivalent, equivalent-class, stable_alike}
 use Rattle.brain_minimise.proofs.Numbers.{seen-inside, the_number}
-use Rattle.brain_minimise.proofs.Redirecting.{Contains-map, IsSound-redirected, instruction-sound, redirected-same, shape-from, shape_of-redirected, states-from, states_of-redirected}
+use Rattle.brain_minimise.proofs.RedirectedLemmas.{Contains-map, IsSound-redirected, instruction-sound, redirected-same, shape-from, shape_of-redirected, states-from, states_of-redirected}
 
 -- the successors of a state that can be reached can be reached
 pub successors-reached : (brain : List Instr) (state : ℕ) → IsReachable brain state → AllByRecursion (IsReachable brain) (states_of (instruction_at brain state))

@@ -13,7 +13,7 @@ use Rattle.brain_read.proofs.SoundnessLemmas.{states_of-below}
 use Rattle.ant_turn.specs.Turn.{instruction_at}
 use Rattle.brain_minimise.specs.Reach.{IsReachable}
 use Rattle.brain_minimise.specs.Reach.IsReachable.{Start, Next}
-use Rattle.brain_minimise.specs.Inner.Exploring.{AreSeen, is_seen, with_waiting}
+use Rattle.brain_minimise.specs.Inner.Seen.{AreSeen, is_seen, with_waiting}
 use Rattle.brain_minimise.specs.Inner.Successors.{first_next, last_next}
 
 -- how many states weren't seen

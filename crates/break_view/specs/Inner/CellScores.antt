@@ -11,6 +11,7 @@ use Rattle.cell_world.specs.World.{World}
 abbrev pub score_in : Cell → Score
 score_in cell = record { red = hill_food_in Red cell; black = hill_food_in Black cell }
 
+-- and nothing where there is no cell
 abbrev pub score_in_any : Option Cell → Score
 score_in_any None = record { red = 0; black = 0 }
 score_in_any (Some cell) = score_in cell

@@ -7,12 +7,12 @@ use Rattle.cell_world.specs.World.{World}
 use Rattle.cell_world.proofs.Places.{place_in-inside}
 use Rattle.ant_turn.specs.Minds.{minds_of}
 use Rattle.ant_turn.specs.Turn.{turn}
-use Rattle.break_view.specs.Inner.Counting.{IsCounted, score_in_any}
-use Rattle.break_view.specs.Inner.Watching.{is_left}
+use Rattle.break_view.specs.Inner.CellScores.{IsCounted, score_in_any}
+use Rattle.break_view.specs.Inner.Changes.{is_left}
 use Rattle.break_view.proofs.HillFood.{IsLight, counted-can, counted-is, score_at-light, score_of-light, turn-recounted}
 use Rattle.break_view.proofs.QuietTurns.{looks_same}
-use Rattle.break_view.proofs.watching.take_watched.Goals as goal
-use Rattle.break_view.proofs.watching.take_watched.Goals.{After-is_empty, After-score_in_any-then-is_empty}
+use Rattle.break_view.proofs.watched_turn.take_watched.Goals as goal
+use Rattle.break_view.proofs.watched_turn.take_watched.Goals.{After-is_empty, After-score_in_any-then-is_empty}
 
 -- nobody was killed
 none : (c : After-is_empty) → c.is_empty.result ≡ true → (turn (minds_of c.args.brains) c.args.stream.now.seed (world_of c.args.world.now) c.args.stream.now.place c.args.id).killed ≡ []
