@@ -7,10 +7,13 @@
 //!
 //! The conditions of all calls are proved from what the calls tell of the two seats, and so is what `close_first` and `close_second` say of
 //! the looks and the tickets that are left. The other answers are tested, by what is printed. It is this project's own.
+//!
+//! A function that may leave early holds as little as it can that has to be dropped: it borrows the book, and hands a board or a field on. Each
+//! way out past such a value is a chain of drops of its own, which costs a check more than all steps of a board.
 #![tactic(auto)]
 
 ghost use Rattle.std.specs.Prelude.{◌≡◌, ◌≢◌, ℕ, ◌+◌, ◌<◌, ◌≤◌, ◌^◌, true, slice_index_or, IfSome, OnSome};
-ghost use Rattle.round_book.specs.Book.{CanBegin, StandsFor, StandsOn, window_of};
+ghost use Rattle.round_book.specs.Book.{CanBegin, IsSameWindow, StandsFor, StandsOn, window_of};
 ghost use Rattle.round_book.specs.Machine.{times};
 ghost use Rattle.round_book.specs.Window.{guesses_for, look_for};
 ghost use Rattle.round_workers.specs.BoardPlays.{drew, has_put, has_taken, views_joined};
@@ -126,6 +129,16 @@ fn fate(cause: &Option<Cause>) -> &'static str {
     }
 }
 
+// Prints a line.
+fn say<R: Print>(rt: &R, line: &str) -> Option<()> {
+    println!(rt; "{line}").ok()
+}
+
+// Prints a step and the number that it answered.
+fn say_number<R: Print>(rt: &R, step: &str, answer: u32) -> Option<()> {
+    println!(rt; "{step} {answer}").ok()
+}
+
 // Each seat draws a ticket, and b puts the look of its turn.
 fn draw_and_put<R: Print>(
     rt: &R,
@@ -141,9 +154,9 @@ fn draw_and_put<R: Print>(
     ensures b { OnSome result (Shows board.now (has_put (drew (second_at (basis_of board.now)) 1) 1) b.new) }
 {
     let first = board.draw(a);
-    println!(rt; "a draws: {first}").ok()?;
+    say_number(rt, "a draws:", first)?;
     let second = board.draw(b);
-    println!(rt; "b draws: {second}").ok()?;
+    say_number(rt, "b draws:", second)?;
     if first != 0 {
         return None;
     }
@@ -151,7 +164,7 @@ fn draw_and_put<R: Print>(
         return None;
     }
     put(board, field, b, 1);
-    println!(rt; "b puts the look of turn 1: done").ok()
+    say(rt, "b puts the look of turn 1: done")
 }
 
 // With the book, a finds that the look of turn 0 isn't there; meanwhile b gets no book.
@@ -166,17 +179,33 @@ fn find_no_look<R: Print>(rt: &R, board: &Board, a: &mut Seat, b: &mut Seat) -> 
     let Some(book) = board.take_book(a) else {
         return None;
     };
-    println!(rt; "a takes the book: next {}", book.next()).ok()?;
+    let found = find_none(rt, board, a, b, book.next());
+    board.give_book(a, book);
+    found?;
+    say(rt, "a gives the book: done")
+}
+
+// While a holds the book, whose next turn is given, b gets no book, and a finds no look of turn 0.
+fn find_none<R: Print>(rt: &R, board: &Board, a: &mut Seat, b: &mut Seat, next: u32) -> Option<()>
+    requires a { IsSeatOf board.now a.old }
+    requires holds { (known a.old).holds ≡ true }
+    requires b { Shows board.now (has_put (drew (second_at (basis_of board.now)) 1) 1) b.old }
+    requires from { (basis_of board.now).from ≡ 0 }
+    requires to { (basis_of board.now).to ≡ 7 }
+    ensures a { IsSeatOf board.now a.new }
+    ensures holds { (known a.new).holds ≡ true }
+    ensures same { OnSome result (calm (known a.new) ≡ calm (known a.old)) }
+    ensures b { OnSome result (Shows board.now (has_put (drew (second_at (basis_of board.now)) 1) 1) b.new) }
+{
+    say_number(rt, "a takes the book: next", next)?;
     let None = board.take_book(b) else {
         return None;
     };
-    println!(rt; "b takes the book: none").ok()?;
+    say(rt, "b takes the book: none")?;
     let None = board.take_look(a, 0) else {
         return None;
     };
-    println!(rt; "a takes the look of turn 0: none").ok()?;
-    board.give_book(a, book);
-    println!(rt; "a gives the book: done").ok()
+    say(rt, "a takes the look of turn 0: none")
 }
 
 // Takes the look of the next turn, and settles it.
@@ -192,18 +221,24 @@ fn settle_look<R: Print>(
     requires field { IsFor field.now board.now }
     requires stands { StandsFor (seats.board_window board.now) book.old }
     requires left { book.old.next < 7 }
-    ensures board { OnSome result (IsSeatOf board.now seat.new) }
+    ensures board { IsSeatOf board.now seat.new }
+    ensures holds { (known seat.new).holds ≡ true }
     ensures took { OnSome result (calm (known seat.new) ≡ has_taken (calm (known seat.old)) book.old.next) }
-    ensures stands { OnSome result (StandsFor (seats.board_window board.now) book.new) }
+    ensures stands { StandsFor (seats.board_window board.now) book.new }
     ensures next { OnSome result (book.new.next ≡ book.old.next + 1) }
 {
     let turn = book.next();
     let Some(look) = board.take_look(seat, turn) else {
         return None;
     };
-    println!(rt; "b takes the look of turn {turn}: there").ok()?;
     let cause = advance(book, field, &look);
-    println!(rt; "b settles turn {turn}: {}", fate(&cause)).ok()
+    say_settled(rt, turn, &cause)
+}
+
+// Says that the look of a turn was there, and what became of it.
+fn say_settled<R: Print>(rt: &R, turn: u32, cause: &Option<Cause>) -> Option<()> {
+    println!(rt; "b takes the look of turn {turn}: there").ok()?;
+    println!(rt; "b settles turn {turn}: {}", fate(cause)).ok()
 }
 
 // a puts the look of turn 0, and b settles both turns whose looks are there.
@@ -221,22 +256,44 @@ fn settle_both<R: Print>(
     ensures b { OnSome result (Shows board.now (has_taken (has_taken (has_put (drew (second_at (basis_of board.now)) 1) 1) 0) 1) b.new) }
 {
     put(board, field, a, 0);
-    println!(rt; "a puts the look of turn 0: done").ok()?;
+    say(rt, "a puts the look of turn 0: done")?;
     let Some(mut book) = board.take_book(b) else {
         return None;
     };
-    println!(rt; "b takes the book: next {}", book.next()).ok()?;
-    if book.next() != 0 {
+    let settled = settle_two(rt, board, field, b, &mut book);
+    board.give_book(b, book);
+    settled?;
+    say(rt, "b gives the book: done")
+}
+
+// With the book, b settles the turns 0 and 1, and finds no look of turn 2.
+fn settle_two<R: Print>(
+    rt: &R,
+    board: &Board,
+    field: &Field<'_>,
+    b: &mut Seat,
+    book: &mut Book,
+) -> Option<()>
+    requires board { IsSeatOf board.now b.old }
+    requires holds { (known b.old).holds ≡ true }
+    requires field { IsFor field.now board.now }
+    requires stands { StandsFor (seats.board_window board.now) book.old }
+    ensures board { IsSeatOf board.now b.new }
+    ensures holds { (known b.new).holds ≡ true }
+    ensures took { OnSome result (calm (known b.new) ≡ has_taken (has_taken (calm (known b.old)) 0) 1) }
+    ensures stands { StandsFor (seats.board_window board.now) book.new }
+{
+    let next = book.next();
+    say_number(rt, "b takes the book: next", next)?;
+    if next != 0 {
         return None;
     }
-    settle_look(rt, board, field, b, &mut book)?;
-    settle_look(rt, board, field, b, &mut book)?;
+    settle_look(rt, board, field, b, book)?;
+    settle_look(rt, board, field, b, book)?;
     let None = board.take_look(b, 2) else {
         return None;
     };
-    println!(rt; "b takes the look of turn 2: none").ok()?;
-    board.give_book(b, book);
-    println!(rt; "b gives the book: done").ok()
+    say(rt, "b takes the look of turn 2: none")
 }
 
 // What is left at a turn.
@@ -256,18 +313,29 @@ fn close<R: Print>(rt: &R, board: Board, mut a: Seat, b: Seat) -> Option<Closed>
     ensures { IfSome result (AreLeft board (views_joined (calm (known a)) (calm (known b)))) }
 {
     board.join(&mut a, b);
-    println!(rt; "b is joined into a: done").ok()?;
     let closed = board.close(a);
+    say_closed(rt, &closed)?;
+    Some(closed)
+}
+
+// Says that a board was closed, and what it left.
+fn say_closed<R: Print>(rt: &R, closed: &Closed) -> Option<()> {
+    say(rt, "b is joined into a: done")?;
     println!(rt;
         "a closes: next {}, drawn {}",
         closed.book.next(),
         closed.drawn
     )
     .ok()?;
-    for (turn, look) in closed.looks.iter().enumerate() {
+    say_looks(rt, &closed.looks)
+}
+
+// Says which looks are left.
+fn say_looks<R: Print>(rt: &R, looks: &[Option<Look>]) -> Option<()> {
+    for (turn, look) in looks.iter().enumerate() {
         println!(rt; "the look of turn {turn}: {}", what_is_left(look)).ok()?;
     }
-    Some(closed)
+    Some(())
 }
 
 // Closes the board of the first table: two tickets were drawn, and no look is left.
@@ -305,16 +373,37 @@ fn settle_left<R: Print>(rt: &R, field: &Field<'_>, book: &mut Book) -> Option<(
     ensures done { OnSome result (book.new.next ≡ book.new.to) }
 {
     while book.next() < TURNS {
-        let turn = book.next();
-        let look = look_at(field, turn);
-        let cause = advance(book, field, &look);
-        println!(rt; "turn {turn} is settled: {}", fate(&cause)).ok()?;
+        settle_next(rt, field, book)?;
     }
     Some(())
 }
 
-// Plays the first table.
-fn play_first<R: Print>(rt: &R, alloc: Global, field: &mut Field<'_>) -> Option<()>
+// Settles the next turn by a look that is made here.
+fn settle_next<R: Print>(rt: &R, field: &Field<'_>, book: &mut Book) -> Option<()>
+    requires stands { StandsOn field.now book.old }
+    requires from { book.old.from ≡ 0 }
+    requires to { book.old.to ≡ 7 }
+    requires left { book.old.next < 7 }
+    ensures stands { StandsOn field.now book.new }
+    ensures same { IsSameWindow book.old book.new }
+    ensures next { book.new.next ≡ book.old.next + 1 }
+{
+    let turn = book.next();
+    let look = look_at(field, turn);
+    let cause = advance(book, field, &look);
+    println!(rt; "turn {turn} is settled: {}", fate(&cause)).ok()
+}
+
+// Plays the first table, after the guess of each turn.
+fn play_first<R: Print>(rt: &R, alloc: Global, brains: Brains<'_>) -> Option<()> {
+    let mut field = field_of(alloc, brains)?;
+    tell_guesses(rt, alloc, &field)?;
+    say(rt, "first table")?;
+    play_window(rt, alloc, &mut field)
+}
+
+// Plays the window of the first table to its end.
+fn play_window<R: Print>(rt: &R, alloc: Global, field: &mut Field<'_>) -> Option<()>
     requires { CanBegin field.old 0 7 }
 {
     let Laid {
@@ -322,9 +411,7 @@ fn play_first<R: Print>(rt: &R, alloc: Global, field: &mut Field<'_>) -> Option<
         mut a,
         mut b,
     } = lay(alloc, field)?;
-    draw_and_put(rt, &board, field, &mut a, &mut b)?;
-    find_no_look(rt, &board, &mut a, &mut b)?;
-    settle_both(rt, &board, field, &mut a, &mut b)?;
+    step_first(rt, &board, field, &mut a, &mut b)?;
     let Closed {
         mut book,
         looks: _,
@@ -340,8 +427,34 @@ fn play_first<R: Print>(rt: &R, alloc: Global, field: &mut Field<'_>) -> Option<
     .ok()
 }
 
+// The steps of the first table.
+fn step_first<R: Print>(
+    rt: &R,
+    board: &Board,
+    field: &Field<'_>,
+    a: &mut Seat,
+    b: &mut Seat,
+) -> Option<()>
+    requires field { IsFor field.now board.now }
+    requires a { Shows board.now (first_at (basis_of board.now)) a.old }
+    requires b { Shows board.now (second_at (basis_of board.now)) b.old }
+    ensures a { OnSome result (Shows board.now (has_put (drew (first_at (basis_of board.now)) 0) 0) a.new) }
+    ensures b { OnSome result (Shows board.now (has_taken (has_taken (has_put (drew (second_at (basis_of board.now)) 1) 1) 0) 1) b.new) }
+{
+    draw_and_put(rt, board, field, a, b)?;
+    find_no_look(rt, board, a, b)?;
+    settle_both(rt, board, field, a, b)
+}
+
 // Plays the second table.
-fn play_second<R: Print>(rt: &R, alloc: Global, field: &mut Field<'_>) -> Option<()>
+fn play_second<R: Print>(rt: &R, alloc: Global, brains: Brains<'_>) -> Option<()> {
+    say(rt, "second table")?;
+    let mut field = field_of(alloc, brains)?;
+    leave_one(rt, alloc, &mut field)
+}
+
+// Leaves the look of turn 1 on a board, and closes it.
+fn leave_one<R: Print>(rt: &R, alloc: Global, field: &mut Field<'_>) -> Option<()>
     requires { CanBegin field.old 0 7 }
 {
     let Laid {
@@ -395,7 +508,14 @@ fn work_alone<R: Print>(
 }
 
 // Plays the third table.
-fn play_third<R: Print>(rt: &R, alloc: Global, field: &mut Field<'_>) -> Option<()>
+fn play_third<R: Print>(rt: &R, alloc: Global, brains: Brains<'_>) -> Option<()> {
+    say(rt, "third table")?;
+    let mut field = field_of(alloc, brains)?;
+    play_alone(rt, alloc, &mut field)
+}
+
+// Plays a window by one worker alone.
+fn play_alone<R: Print>(rt: &R, alloc: Global, field: &mut Field<'_>) -> Option<()>
     requires { CanBegin field.old 0 7 }
 {
     let Laid { board, a, b } = lay(alloc, field)?;
@@ -441,16 +561,14 @@ fn play<R: Print>(rt: &R, alloc: Global) -> Option<()> {
         black: &black,
         sheet: Sheet::contest(),
     };
-    let mut field = field_of(alloc, brains)?;
-    tell_guesses(rt, alloc, &field)?;
-    println!(rt; "first table").ok()?;
-    play_first(rt, alloc, &mut field)?;
-    println!(rt; "second table").ok()?;
-    let mut field = field_of(alloc, brains)?;
-    play_second(rt, alloc, &mut field)?;
-    println!(rt; "third table").ok()?;
-    let mut field = field_of(alloc, brains)?;
-    play_third(rt, alloc, &mut field)
+    play_tables(rt, alloc, brains)
+}
+
+// Plays the tables with these brains.
+fn play_tables<R: Print>(rt: &R, alloc: Global, brains: Brains<'_>) -> Option<()> {
+    play_first(rt, alloc, brains)?;
+    play_second(rt, alloc, brains)?;
+    play_third(rt, alloc, brains)
 }
 
 fn main(rt: HostRuntime) -> ExitCode {
