@@ -2,7 +2,7 @@
 use Rattle.std.proofs.Common.{◌≡◌, ◌≢◌, ◌⊎◌, inl, inr, ⊎_elim, ℕ, ◌+◌, ◌<◌, ◌≤◌, Bool, true, false, not, cond, nat_lt, List, [], ◌∷◌, length, drop, slice_index_or, refl, sym, ◌∙◌, ap, subst}
 use Rattle.std.specs.List.{AllByRecursion}
 use Rattle.std.proofs.Math.Path.{fun_ext}
-use Rattle.std.proofs.lemmas.Bool.{cond-false, cond-true, cond_both}
+use Rattle.std.proofs.lemmas.Bool.{cond-false, cond-true, cond_both, not-true}
 use Rattle.std.proofs.lemmas.List.{at_drop_all, drop_more}
 use Rattle.hex_geometry.specs.declared.position.Pos.{Pos}
 use Rattle.hex_geometry.specs.Position.{IsInside}
@@ -112,12 +112,9 @@ after-lighter (write ∷ writes) w = after-lighter writes (with_pass false w wri
 pub CanSetPass-lighter : (writes : List Sighting) (w : World) → CanSetLighter w 9 writes → CanSetPass false w writes
 CanSetPass-lighter [] w can = tt
 CanSetPass-lighter (write ∷ writes) w can = (
-  λ light. (can.0 (not_true (raises w.cells write) light)).can_set,
+  λ light. (can.0 (not-true (raises w.cells write) light)).can_set,
   CanSetPass-lighter writes (with_pass false w write) (subst (λ v. CanSetLighter v 9 writes) (sym (lighter-same w write)) can.1),
-) where
-  not_true : (b : Bool) → not b ≡ true → b ≡ false
-  not_true true is = sym is
-  not_true false is = refl
+)
 
 CanSetPass-heavier : (writes : List Sighting) (w : World) → CanSetHeavier w 9 writes → CanSetPass true w writes
 CanSetPass-heavier [] w can = tt
