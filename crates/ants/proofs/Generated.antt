@@ -65,7 +65,7 @@ pub carries_generated : (seed : ℕ) (shape : GenShape) (shelf : ShelfState) (ou
 carries_generated seed shape shelf out new_out world generated pushed =
     carries_done (GenCommand seed shape) shelf shelf out new_out [] (reads_none shelf) (canonical_text world.width world.height (kinds_of world)) (record { world = world; generated = generated; told = refl }) pushed
 
--- a front of it was written
+-- a prefix of it was written
 pub carries_generated_front : {U : Type 0} (seed : ℕ) (shape : GenShape) (shelf : ShelfState) (out new_out : SinkState) (world : Grid) (result : Result U CommandStop) → IsErrAnd result (λ other. other ≡ stop.Write) → IsGenerated seed (shape_named shape) world
     → PushedFront out new_out (canonical_text world.width world.height (kinds_of world)) → CarriesOut (GenCommand seed shape) shelf shelf out new_out (ending_of result)
 carries_generated_front seed shape shelf out new_out world result same generated pushed =

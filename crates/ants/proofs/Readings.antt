@@ -210,7 +210,7 @@ pub carries_done : (command : PlainCommand) (shelf new_shelf : ShelfState) (out 
 carries_done command shelf new_shelf out new_out contents reads text is pushed =
     record { fetches = reads.fetches; fetched = reads.fetched; ends = λ err new_err. record { contents = contents; accepted = reads.comes; text = text; is_text = is; written = pushed } }
 
--- a command's files were read, and a front of its text was written
+-- a command's files were read, and a prefix of its text was written
 pub carries_cut : (command : PlainCommand) (shelf new_shelf : ShelfState) (out new_out : SinkState) (contents : List FileContent) → ReadsFiles shelf new_shelf (files_of command) (Contents contents)
     → (text : List ℕ) → IsJobText command contents text → PushedFront out new_out text → CarriesOut command shelf new_shelf out new_out (Some AtOutput)
 carries_cut command shelf new_shelf out new_out contents reads text is pushed =
@@ -293,11 +293,11 @@ carries_fault command shelf new_shelf out new_out contents result play.WriteFaul
 carries_fault command shelf new_shelf out new_out contents result play.OutOfMemory same reads text is pushed in_play =
     subst (CarriesOut command shelf new_shelf out new_out) (ending_stopped result stop.Memory same) (carries_broken command shelf new_shelf out new_out contents reads text is pushed in_play)
 
--- a command that answers with want of memory before a file was fetched
+-- a command that answers out of memory before a file was fetched
 pub carries_wanting : {U : Type 0} (command : PlainCommand) (shelf : ShelfState) (out : SinkState) (result : Result U CommandStop) → IsErrAnd result (λ other. other ≡ stop.Memory) → CarriesOut command shelf shelf out out (ending_of result)
 carries_wanting command shelf out result same = subst (CarriesOut command shelf shelf out out) (ending_stopped result stop.Memory same) (carries_nothing command shelf out)
 
--- a command that answers with want of memory after its files were read
+-- a command that answers out of memory after its files were read
 pub carries_wanting_later : {U : Type 0} (command : PlainCommand) (shelf new_shelf : ShelfState) (out : SinkState) (contents : List FileContent) (result : Result U CommandStop) → IsErrAnd result (λ other. other ≡ stop.Memory)
     → ReadsFiles shelf new_shelf (files_of command) (Contents contents) → CarriesOut command shelf new_shelf out out (ending_of result)
 carries_wanting_later command shelf new_shelf out contents result same reads =

@@ -353,7 +353,7 @@ pub save_up_to : (name bytes : List ℕ) (rounds : ℕ) (saved : SavedValue) (re
 save_up_to name bytes rounds saved (Ok value) is up = (subst (IsSaveText bytes) (sym up.0) is, subst (λ (s : SavedValue). s.round ≤ rounds) (sym up.0) up.1)
 save_up_to name bytes rounds saved (Err stop) is up = subst (TextStops (SaveFile rounds) bytes name) (sym up.0) (refl, record { saved = saved; is = is; at = refl; past = up.1 })
 
--- a fault of a world's text that isn't want of memory names its file
+-- a fault of a world's text that isn't out of memory names its file
 pub world_reason_other : (name : List ℕ) (fault : WorldFault) → fault ≢ world.OutOfMemory → AtInput name (World fault) ≡ world_reason name fault
 world_reason_other name world.BadWidth other = refl
 world_reason_other name world.BadHeight other = refl

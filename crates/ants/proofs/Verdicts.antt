@@ -196,7 +196,7 @@ in_order_by command before after fetches (Some (AtRoom element)) ends = in_order
 in_order_by command before after fetches (Some AtMemory) ends =
     elim ends [ inl unbegun ↦ in_order_begun (files_of command) fetches unbegun.begun | inr broken ↦ in_order_accepted (files_of command) fetches broken.contents broken.accepted ]
 
--- lists with the same front are the same in their rests
+-- lists with the same prefix are the same in their rests
 same_rest : {X : Type 0} (front a b : List X) → front ++ a ≡ front ++ b → a ≡ b
 same_rest [] a b same = same
 same_rest (x ∷ front) a b same = same_rest front a b (cc)

@@ -24,7 +24,7 @@ pub refused_line : word_line 3 ≡ codes "ants: word 3 refused\n"
 unfolding digits word_line
 refused_line = refl
 
--- want of memory
+-- out of memory
 pub memory_line : fault_line AtMemory ≡ codes "ants: out of memory\n"
 unfolding fault_line
 memory_line = refl

@@ -6,10 +6,9 @@ ghost use Rattle.command_words.specs.Words.{plain_setup};
 ghost use Rattle.ants.specs.Inner.Planning.{CanPlay};
 ghost use Rattle.ants.specs.Inner.Reading.{CarriesOut, ending_of};
 
-use crate::run::{FileNames, PlannedGame, planned_game, run_by};
+use crate::run::{AskedGame, FileNames, PlannedGame, planned_game, run_by};
 use crate::stop::CommandStop;
 use ant_base::{Gate, Shelf, Sink};
-use command_words::RunOptions;
 use far_crew::{Errand, with_far};
 use round_book::Crew;
 use std::alloc::Global;
@@ -71,16 +70,16 @@ fn take_back<T>(x: &mut T)
 pub fn run_far<'w, R: Threads + Wait + Sync, S: Shelf, K: Sink, G: Gate>(
     rt: &R,
     alloc: Global,
-    names: FileNames<'w>,
-    options: RunOptions<'w>,
+    asked: AskedGame<'w>,
     shelf: &mut S,
     out: &mut K,
     gate: &G,
 ) -> Result<(), CommandStop<'w>>
-    requires within { SetupWithin (plain_setup options) }
-    ensures { CarriesOut (RunCommand names.entry.world.now names.entry.red.now names.entry.black.now (plain_setup options.entry))
+    requires within { SetupWithin (plain_setup asked.options) }
+    ensures { CarriesOut (RunCommand asked.entry.names.world.now asked.entry.names.red.now asked.entry.names.black.now (plain_setup asked.entry.options))
         (S.state shelf.old) (S.state shelf.new) (K.state out.old) (K.state out.new) (ending_of result) }
 {
+    let AskedGame { names, options } = asked;
     let workers = options.workers;
     let game = planned_game(alloc, options)?;
     let errand = RunErrand {

@@ -23,12 +23,12 @@ use crate::generating::gen_world;
 use crate::help::{help, version};
 use crate::minimise::minimise;
 use crate::resume::resume;
-use crate::run::{FileNames, run};
+use crate::run::{AskedGame, FileNames, run};
 use crate::save::save;
 use crate::show::show;
 use crate::status::Status;
 use crate::stop::{CommandStop, Ended};
-use crate::view::view;
+use crate::view::{ViewedGame, view};
 use crate::workload::workload;
 use ant_base::{Gate, Layout, Shelf, Sink, layout};
 use command_words::{Command, is_far_run, read_words, read_words_without_far};
@@ -65,7 +65,7 @@ fn carry_out_by<'w, R: Threads + Sync, C: Crew, S: Shelf, K: Sink>(
             options,
         } => {
             let names = FileNames { world, red, black };
-            run(alloc, crew, names, options, shelf, out)
+            run(alloc, crew, AskedGame { names, options }, shelf, out)
         }
         Command::Cup {
             worlds,
@@ -92,7 +92,13 @@ fn carry_out_by<'w, R: Threads + Sync, C: Crew, S: Shelf, K: Sink>(
             rounds,
         } => {
             let names = FileNames { world, red, black };
-            view(alloc, names, breaks, seed, rounds, shelf, out)
+            let game = ViewedGame {
+                names,
+                breaks,
+                seed,
+                rounds,
+            };
+            view(alloc, game, shelf, out)
         }
         Command::Workload {
             seed,
@@ -109,7 +115,7 @@ fn carry_out_by<'w, R: Threads + Sync, C: Crew, S: Shelf, K: Sink>(
             options,
         } => {
             let names = FileNames { world, red, black };
-            save(alloc, crew, names, options, shelf, out)
+            save(alloc, crew, AskedGame { names, options }, shelf, out)
         }
         Command::Resume {
             save: name,
@@ -193,7 +199,7 @@ fn carry_out_far_command<'w, R: Threads + Wait + Sync, S: Shelf, K: Sink, G: Gat
             options,
         } => {
             let names = FileNames { world, red, black };
-            run_far(rt, alloc, names, options, shelf, out, gate)
+            run_far(rt, alloc, AskedGame { names, options }, shelf, out, gate)
         }
         other => carry_out_command(rt, alloc, other, shelf, out, gate),
     }
@@ -225,13 +231,13 @@ fn carry_out_far<'w, R: Threads + Wait + Sync, S: Shelf, K: Sink, G: Gate>(
 ///   the errors got nothing.
 /// - `Words`: exactly where the words are no command; nothing was fetched, and the output got nothing.
 /// - `Read`: the last fetch failed, of a file of which the shelf wasn't sure, and each file before it was accepted; the output got nothing.
-/// - `Write`: all files were fetched and accepted, the output failed, and got a front of the text.
-/// - `Input`: the last file that was fetched is too long or not in its grammar, and each before it was accepted; or an element of the world
-///   to be generated has no room; the output got nothing.
+/// - `Write`: all files were fetched and accepted, the output failed, and got a prefix of the text.
+/// - `Input`: the last file that was fetched is too long, not in its grammar or a save beyond the rounds, and each before it was accepted; or
+///   an element of the world to be generated has no room; the output got nothing.
 /// - `Memory`: memory could not be had; no fetch failed or was too long. Either each file but perhaps the last was accepted, and the output
 ///   got nothing; or all files of a `run` or a `resume`, which write while they play, were accepted, and the output got a proper prefix of the text.
 ///
-/// At each but `Done` the errors got one line, which names the word (from 1) or the file and the place in it; or a front of that line,
+/// At each but `Done` the errors got one line, which names the word (from 1) or the file and the place in it; or a prefix of that line,
 /// where they failed. The shelf keeps its contents and all of which it is sure, its log grows by the fetches, and its count of faults rises
 /// only where it isn't sure of each name that was fetched. The runtime serves the workers of a game and of a cup; a game's workers call the
 /// gate before each look.

@@ -31,6 +31,13 @@ pub struct FileNames<'w> {
     pub black: &'w str,
 }
 
+// The game that the words ask for: its files, and what they say of it.
+#[derive(Drop)]
+pub struct AskedGame<'w> {
+    pub names: FileNames<'w>,
+    pub options: RunOptions<'w>,
+}
+
 // What the files of a game were read as.
 #[derive(Drop)]
 pub struct Setting {
@@ -44,6 +51,8 @@ pub struct Setting {
 pub struct PlannedGame {
     pub sheet: Sheet,
     pub plan: Plan,
+    // whether one worker is to play, who doesn't stand by
+    pub lone: bool,
 }
 
 // The rounds of a list.
@@ -82,6 +91,7 @@ pub fn planned_game<'w>(
     ensures { IsPlanned (plain_setup options.entry) result }
 {
     let sheet = Sheet::new(options.surround, options.corpse, options.rest);
+    let lone = options.workers == 1 && !options.far;
     let dumps = dumps_of(alloc, options.dumps)?;
     let plan = Plan {
         seed: options.seed,
@@ -90,7 +100,7 @@ pub fn planned_game<'w>(
         window: options.window,
         stats: options.stats,
     };
-    Ok(PlannedGame { sheet, plan })
+    Ok(PlannedGame { sheet, plan, lone })
 }
 
 // The files of a game, in the order in which its words name them: each is read before the next one is fetched, and both brains are fetched
@@ -111,7 +121,7 @@ pub fn setting_of<'w, S: Shelf>(
     Ok(Setting { world, red, black })
 }
 
-// Plays a game by a crew, and pushes its text.
+// Plays a game, and pushes its text: turn by turn where one worker is to play and no counts are asked for, else by a crew.
 fn play_setting<C: Crew, K: Sink>(
     alloc: Global,
     crew: &mut C,
@@ -124,6 +134,9 @@ fn play_setting<C: Crew, K: Sink>(
     requires planned { CanPlay game.now.plan }
     ensures { PushedBy (K.state out.old) (K.state out.new) (text_in setting game.now) result }
 {
+    if game.lone && !game.plan.stats {
+        return play_setting_alone(setting, game, out);
+    }
     let Setting { world, red, black } = setting;
     let brains = Brains {
         red: &red,
@@ -136,7 +149,8 @@ fn play_setting<C: Crew, K: Sink>(
     }
 }
 
-// Plays a game that asks for no counts turn by turn, and pushes its text.
+// Plays a game that asks for no counts turn by turn, and pushes its text. It makes no looks, since nobody asked for their counts, and takes
+// no memory for a second world.
 fn play_setting_alone<K: Sink>(
     setting: Setting,
     game: &PlannedGame,
@@ -157,27 +171,7 @@ fn play_setting_alone<K: Sink>(
     Ok(())
 }
 
-/// Plays a game that asks for no counts turn by turn, and writes its text. It makes no looks, since nobody asked for their counts, and takes
-/// no memory for a second world.
-pub fn run_alone<'w, S: Shelf, K: Sink>(
-    alloc: Global,
-    names: FileNames<'w>,
-    game: &PlannedGame,
-    shelf: &mut S,
-    out: &mut K,
-) -> Result<(), CommandStop<'w>>
-    requires planned { CanPlay game.now.plan }
-    requires uncounted { game.now.plan.stats ≡ false }
-    ensures { (setup : RunSetup) → Plans setup game.now
-        → CarriesOut (RunCommand names.entry.world.now names.entry.red.now names.entry.black.now setup) (S.state shelf.old) (S.state shelf.new)
-        (K.state out.old) (K.state out.new) (ending_of result) }
-{
-    let setting = setting_of(alloc, names, shelf)?;
-    play_setting_alone(setting, game, out)?;
-    Ok(())
-}
-
-/// Plays a game by a crew, and writes its text.
+/// Plays a game, and writes its text.
 pub fn run_by<'w, C: Crew, S: Shelf, K: Sink>(
     alloc: Global,
     crew: &mut C,
@@ -197,25 +191,20 @@ pub fn run_by<'w, C: Crew, S: Shelf, K: Sink>(
     Ok(())
 }
 
-/// Plays the game that the words ask for, and writes its text: turn by turn where one worker is to play and no counts are asked for, else by
-/// the crew.
+/// Plays the game that the words ask for, and writes its text.
 pub fn run<'w, C: Crew, S: Shelf, K: Sink>(
     alloc: Global,
     crew: &mut C,
-    names: FileNames<'w>,
-    options: RunOptions<'w>,
+    asked: AskedGame<'w>,
     shelf: &mut S,
     out: &mut K,
 ) -> Result<(), CommandStop<'w>>
     requires ready { C.ready crew.old }
-    requires within { SetupWithin (plain_setup options) }
-    ensures { CarriesOut (RunCommand names.entry.world.now names.entry.red.now names.entry.black.now (plain_setup options.entry))
+    requires within { SetupWithin (plain_setup asked.options) }
+    ensures { CarriesOut (RunCommand asked.entry.names.world.now asked.entry.names.red.now asked.entry.names.black.now (plain_setup asked.entry.options))
         (S.state shelf.old) (S.state shelf.new) (K.state out.old) (K.state out.new) (ending_of result) }
 {
-    let alone = options.workers == 1;
+    let AskedGame { names, options } = asked;
     let game = planned_game(alloc, options)?;
-    if alone && !game.plan.stats {
-        return run_alone(alloc, names, &game, shelf, out);
-    }
     run_by(alloc, crew, names, &game, shelf, out)
 }

@@ -11,12 +11,11 @@ ghost use Rattle.ants.specs.Inner.Planning.{CanPlay, minds_in};
 ghost use Rattle.ants.specs.Inner.Reading.{CarriesOut, ending_of};
 
 use crate::played::play_game;
-use crate::run::{FileNames, PlannedGame, Setting, planned_game, setting_of};
+use crate::run::{AskedGame, PlannedGame, Setting, planned_game, setting_of};
 use crate::stop::CommandStop;
 use ant_base::{Shelf, Sink};
 use ant_turn::Brains;
 use cell_world::World;
-use command_words::RunOptions;
 use match_run::{OutOfMemory, Plan};
 use match_save::{Saved, save_of, write_saved};
 use round_book::{Crew, Field};
@@ -75,16 +74,16 @@ fn saved_setting<C: Crew>(
 pub fn save<'w, C: Crew, S: Shelf, K: Sink>(
     alloc: Global,
     crew: &mut C,
-    names: FileNames<'w>,
-    options: RunOptions<'w>,
+    asked: AskedGame<'w>,
     shelf: &mut S,
     out: &mut K,
 ) -> Result<(), CommandStop<'w>>
     requires ready { C.ready crew.old }
-    requires within { SetupWithin (plain_setup options) }
-    ensures { CarriesOut (SaveCommand names.entry.world.now names.entry.red.now names.entry.black.now (plain_setup options.entry))
+    requires within { SetupWithin (plain_setup asked.options) }
+    ensures { CarriesOut (SaveCommand asked.entry.names.world.now asked.entry.names.red.now asked.entry.names.black.now (plain_setup asked.entry.options))
         (S.state shelf.old) (S.state shelf.new) (K.state out.old) (K.state out.new) (ending_of result) }
 {
+    let AskedGame { names, options } = asked;
     let game = planned_game(alloc, options)?;
     let setting = setting_of(alloc, names, shelf)?;
     let saved = saved_setting(alloc, crew, setting, &game)?;

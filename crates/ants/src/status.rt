@@ -13,7 +13,7 @@ pub enum Status {
     Read,
     /// The output failed.
     Write,
-    /// A file is too long, or not in its grammar.
+    /// A file is too long, not in its grammar or a save beyond the rounds; or an element of a world to be generated has no room.
     Input,
     /// Memory could not be had.
     Memory,

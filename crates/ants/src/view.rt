@@ -16,6 +16,19 @@ use ant_turn::{Brains, Sheet};
 use break_view::{Breaks, find_stop, push_view};
 use std::alloc::Global;
 
+/// The game whose view the words ask for.
+#[derive(Clone, Copy)]
+pub struct ViewedGame<'w> {
+    /// The names of the game's files.
+    pub names: FileNames<'w>,
+    /// The name of the breaks' file.
+    pub breaks: &'w str,
+    /// The seed.
+    pub seed: u32,
+    /// The rounds, at most 1,000,000.
+    pub rounds: u32,
+}
+
 // Plays a game to its first stop, and pushes its view.
 fn push_stop<K: Sink>(
     setting: Setting,
@@ -42,22 +55,19 @@ fn push_stop<K: Sink>(
     push_view(&world, seed, rounds, stop, out)
 }
 
-/// Plays a game of at most 1,000,000 rounds, by the contest's rules, up to its first stop, and writes its view.
+/// Plays a game, by the contest's rules, up to its first stop, and writes its view.
 pub fn view<'w, S: Shelf, K: Sink>(
     alloc: Global,
-    names: FileNames<'w>,
-    breaks: &'w str,
-    seed: u32,
-    rounds: u32,
+    game: ViewedGame<'w>,
     shelf: &mut S,
     out: &mut K,
 ) -> Result<(), CommandStop<'w>>
-    requires { rounds ≤ most_rounds }
-    ensures { CarriesOut (ViewCommand names.entry.world.now names.entry.red.now names.entry.black.now breaks.now seed rounds)
+    requires { game.rounds ≤ most_rounds }
+    ensures { CarriesOut (ViewCommand game.entry.names.world.now game.entry.names.red.now game.entry.names.black.now game.entry.breaks.now game.entry.seed game.entry.rounds)
         (S.state shelf.old) (S.state shelf.new) (K.state out.old) (K.state out.new) (ending_of result) }
 {
-    let setting = setting_of(alloc, names, shelf)?;
-    let breaks: Breaks = read_file(alloc, shelf, breaks)?;
-    push_stop(setting, &breaks, seed, rounds, out)?;
+    let setting = setting_of(alloc, game.names, shelf)?;
+    let breaks: Breaks = read_file(alloc, shelf, game.breaks)?;
+    push_stop(setting, &breaks, game.seed, game.rounds, out)?;
     Ok(())
 }

@@ -1,4 +1,4 @@
--- nothing was fetched, and the text was written, or a front of it
+-- nothing was fetched, and the text was written, or a prefix of it
 use Rattle.std.proofs.Common.{[], refl}
 use Rattle.command_words.specs.Command.PlainCommand.{HelpCommand}
 use Rattle.ants.specs.Help.{help_text}

@@ -1,4 +1,4 @@
--- nothing was fetched, and the text was written, or a front of it
+-- nothing was fetched, and the text was written, or a prefix of it
 use Rattle.std.proofs.Common.{[], refl}
 use Rattle.command_words.specs.Command.PlainCommand.{VersionCommand}
 use Rattle.ants.specs.Help.{version_text}
