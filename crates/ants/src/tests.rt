@@ -155,7 +155,15 @@ fn stopped(status: Status, line: &str) -> Ending<'_> {
     }
 }
 
-// A command whose output failed after a front of the text.
+// A command that is done and wrote this text, or stopped with it as its line.
+fn ending_with(status: Status, text: &str) -> Ending<'_> {
+    match status {
+        Status::Done => done(text),
+        _ => stopped(status, text),
+    }
+}
+
+// A command whose output failed after a prefix of the text.
 fn cut<'t>(front: &'t str, line: &'t str) -> Ending<'t> {
     Ending {
         status: Status::Write,
@@ -283,11 +291,53 @@ fn check_rows<R: Threads + Wait + Sync + Abort>(
     rows: &[(&str, &str)],
 ) -> Result<(), Fail> {
     for (text, wanted) in rows {
-        let ending = match status {
-            Status::Done => done(wanted),
-            _ => stopped(status, wanted),
-        };
-        check(rt, alloc, &job.with(given, text), ending)?;
+        check(
+            rt,
+            alloc,
+            &job.with(given, text),
+            ending_with(status, wanted),
+        )?;
+    }
+    Ok(())
+}
+
+// A table of rows: what `check_rows` asserts of them.
+#[derive(Clone, Copy)]
+struct Table<'t> {
+    job: Job<'t>,
+    given: Given,
+    status: Status,
+    rows: &'t [(&'t str, &'t str)],
+}
+
+// Asserts of each row of each table what comes of its command.
+fn check_tables<R: Threads + Wait + Sync + Abort>(
+    rt: &R,
+    alloc: Global,
+    tables: &[Table<'_>],
+) -> Result<(), Fail> {
+    for table in tables {
+        check_rows(rt, alloc, table.job, table.given, table.status, table.rows)?;
+    }
+    Ok(())
+}
+
+// A command whose output fails: what the output holds then, and the line that the errors got.
+#[derive(Clone, Copy)]
+struct CutRun<'t> {
+    job: Job<'t>,
+    held: &'t str,
+    line: &'t str,
+}
+
+// Asserts of each command that its output fails so.
+fn check_cuts<R: Threads + Wait + Sync + Abort>(
+    rt: &R,
+    alloc: Global,
+    cuts: &[CutRun<'_>],
+) -> Result<(), Fail> {
+    for it in cuts {
+        check(rt, alloc, &it.job, cut(it.held, it.line))?;
     }
     Ok(())
 }

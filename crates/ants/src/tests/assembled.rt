@@ -1,6 +1,6 @@
 // The command `asm`.
 use crate::status::Status;
-use crate::tests::{Given, Job, NO_JOB, check, check_rows, cut};
+use crate::tests::{CutRun, Given, Job, NO_JOB, Table, check_cuts, check_tables};
 use std::test::Fail;
 
 // A block that turns back, put in place where an ant is stuck.
@@ -73,41 +73,39 @@ const ASSEMBLE: Job<'static> = Job {
     ..NO_JOB
 };
 
-#[test]
-fn a_labelled_program_becomes_a_brain(rt: HostRuntime) -> Result<(), Fail> {
-    check_rows(
-        &rt,
-        rt.alloc(),
-        ASSEMBLE,
-        Given::Red,
-        Status::Done,
-        &ASSEMBLED,
-    )
-}
+// Labelled programs that are assembled, and such as are refused.
+const PROGRAMS: [Table<'static>; 2] = [
+    Table {
+        job: ASSEMBLE,
+        given: Given::Red,
+        status: Status::Done,
+        rows: &ASSEMBLED,
+    },
+    Table {
+        job: ASSEMBLE,
+        given: Given::Red,
+        status: Status::Input,
+        rows: &REFUSED,
+    },
+];
 
 #[test]
-fn a_fault_of_a_labelled_program_is_told_with_its_line(rt: HostRuntime) -> Result<(), Fail> {
-    check_rows(
-        &rt,
-        rt.alloc(),
-        ASSEMBLE,
-        Given::Red,
-        Status::Input,
-        &REFUSED,
-    )
+fn a_labelled_program_becomes_a_brain_or_its_fault_is_told(rt: HostRuntime) -> Result<(), Fail> {
+    check_tables(&rt, rt.alloc(), &PROGRAMS)
 }
 
-#[test]
-fn an_assembled_brain_that_is_cut_is_a_failed_output(rt: HostRuntime) -> Result<(), Fail> {
-    let job = Job {
+// An assembled brain for whose second line the output has no room.
+const NO_ROOM: [CutRun<'static>; 1] = [CutRun {
+    job: Job {
         red: BACK,
         room: 9,
         ..ASSEMBLE
-    };
-    check(
-        &rt,
-        rt.alloc(),
-        &job,
-        cut("Move 0 1\n", "ants: output failed\n"),
-    )
+    },
+    held: "Move 0 1\n",
+    line: "ants: output failed\n",
+}];
+
+#[test]
+fn an_assembled_brain_that_is_cut_is_a_failed_output(rt: HostRuntime) -> Result<(), Fail> {
+    check_cuts(&rt, rt.alloc(), &NO_ROOM)
 }

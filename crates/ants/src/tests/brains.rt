@@ -1,6 +1,8 @@
 // The command `brain`.
 use crate::status::Status;
-use crate::tests::{Ending, Given, Job, NO_JOB, check, check_over, check_rows, done, stopped};
+use crate::tests::{
+    Ending, Given, Job, NO_JOB, Table, check, check_over, check_tables, done, ending_with, stopped,
+};
 use ant_base::{Files, NoGate};
 use std::alloc::Global;
 use std::process::Abort;
@@ -117,35 +119,25 @@ const PRINT: Job<'static> = Job {
     ..NO_JOB
 };
 
-#[test]
-fn a_brain_is_printed_in_one_spelling(rt: HostRuntime) -> Result<(), Fail> {
-    check_rows(&rt, rt.alloc(), PRINT, Given::Black, Status::Done, &PRINTED)
-}
+// How many instructions a brain has, and the line with which it is refused; none where it is printed as it is.
+const LENGTHS: [(usize, &str); 2] = [
+    (10000, ""),
+    (10001, "ants: b: line 10001: too many instructions\n"),
+];
 
-#[test]
-fn a_brain_at_fault_is_named_with_its_first_fault(rt: HostRuntime) -> Result<(), Fail> {
-    check_rows(
-        &rt,
-        rt.alloc(),
-        PRINT,
-        Given::Black,
-        Status::Input,
-        &REFUSED,
-    )
-}
-
-// Asserts that a brain of so many instructions is printed as it is.
-fn check_many<R: Threads + Wait + Sync + Abort>(
+// Asserts of each row what comes of a brain of so many instructions.
+fn check_lengths<R: Threads + Wait + Sync + Abort>(
     rt: &R,
     alloc: Global,
-    count: usize,
+    rows: &[(usize, &str)],
 ) -> Result<(), Fail> {
-    let brain = "Drop 9999\n".repeat(alloc, count)?;
-    check(rt, alloc, &PRINT.with(Given::Black, &brain), done(&brain))
+    for (count, line) in rows {
+        check_length(rt, alloc, *count, line)?;
+    }
+    Ok(())
 }
 
-// Asserts with which line a brain of so many instructions is refused.
-fn check_too_many<R: Threads + Wait + Sync + Abort>(
+fn check_length<R: Threads + Wait + Sync + Abort>(
     rt: &R,
     alloc: Global,
     count: usize,
@@ -153,6 +145,9 @@ fn check_too_many<R: Threads + Wait + Sync + Abort>(
 ) -> Result<(), Fail> {
     let brain = "Drop 9999\n".repeat(alloc, count)?;
     let job = PRINT.with(Given::Black, &brain);
+    if line.is_empty() {
+        return check(rt, alloc, &job, done(&brain));
+    }
     check(rt, alloc, &job, stopped(Status::Input, line))
 }
 
@@ -170,16 +165,30 @@ fn check_blank<R: Threads + Wait + Sync + Abort>(
 
 #[test]
 fn a_brain_has_up_to_10000_instructions(rt: HostRuntime) -> Result<(), Fail> {
-    check_many(&rt, rt.alloc(), 10000)?;
-    let line = "ants: b: line 10001: too many instructions\n";
-    check_too_many(&rt, rt.alloc(), 10001, line)
+    check_lengths(&rt, rt.alloc(), &LENGTHS)
+}
+
+// How many spaces follow a brain of one instruction, and what comes of it.
+const BLANKS: [(usize, Status, &str); 2] = [
+    (4194298, Status::Done, "Drop 0\n"),
+    (4194299, Status::Input, "ants: b: too long\n"),
+];
+
+// Asserts of each row what comes of its brain.
+fn check_blanks<R: Threads + Wait + Sync + Abort>(
+    rt: &R,
+    alloc: Global,
+    rows: &[(usize, Status, &str)],
+) -> Result<(), Fail> {
+    for (spaces, status, text) in rows {
+        check_blank(rt, alloc, *spaces, ending_with(*status, text))?;
+    }
+    Ok(())
 }
 
 #[test]
 fn a_brain_has_up_to_4194304_bytes(rt: HostRuntime) -> Result<(), Fail> {
-    check_blank(&rt, rt.alloc(), 4194298, done("Drop 0\n"))?;
-    let longer = stopped(Status::Input, "ants: b: too long\n");
-    check_blank(&rt, rt.alloc(), 4194299, longer)
+    check_blanks(&rt, rt.alloc(), &BLANKS)
 }
 
 // Brains with a byte that is no character, and the line that names the first fault of each.
@@ -239,22 +248,37 @@ const MINIMISE: Job<'static> = Job {
     ..NO_JOB
 };
 
+// Brains that are printed or minimised, and such as are refused.
+const TOLD: [Table<'static>; 4] = [
+    Table {
+        job: PRINT,
+        given: Given::Black,
+        status: Status::Done,
+        rows: &PRINTED,
+    },
+    Table {
+        job: PRINT,
+        given: Given::Black,
+        status: Status::Input,
+        rows: &REFUSED,
+    },
+    Table {
+        job: MINIMISE,
+        given: Given::Black,
+        status: Status::Done,
+        rows: &MINIMISED,
+    },
+    Table {
+        job: MINIMISE,
+        given: Given::Black,
+        status: Status::Input,
+        rows: &UNMINIMISED,
+    },
+];
+
 #[test]
-fn a_brain_is_told_minimised(rt: HostRuntime) -> Result<(), Fail> {
-    check_rows(
-        &rt,
-        rt.alloc(),
-        MINIMISE,
-        Given::Black,
-        Status::Done,
-        &MINIMISED,
-    )?;
-    check_rows(
-        &rt,
-        rt.alloc(),
-        MINIMISE,
-        Given::Black,
-        Status::Input,
-        &UNMINIMISED,
-    )
+fn a_brain_is_told_in_one_spelling_or_named_with_its_first_fault(
+    rt: HostRuntime,
+) -> Result<(), Fail> {
+    check_tables(&rt, rt.alloc(), &TOLD)
 }

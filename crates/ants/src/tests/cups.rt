@@ -1,6 +1,6 @@
 // The command `cup`.
 use crate::status::Status;
-use crate::tests::{CLOSED, CLOSING, Given, Job, NO_JOB, check, check_rows, done};
+use crate::tests::{CLOSED, CLOSING, Given, Job, NO_JOB, Table, check_tables};
 use std::test::Fail;
 
 // A world on which the player that draws numbers wins as red and draws as black against one that steps ahead: the worlds w and -. On the
@@ -108,7 +108,6 @@ const REFUSED: [(&str, &str); 10] = [
 
 // A cup of which a player is the file -.
 const DASH: Job<'static> = Job {
-    line: "cup --worlds f --brains b - --seed 12345 --rounds 1",
     world: "Flip 2 0 0",
     red: "Flip 2 0 0",
     black: "Move 0 0",
@@ -116,12 +115,10 @@ const DASH: Job<'static> = Job {
     ..NO_JOB
 };
 
-#[test]
-fn a_cup_prints_its_standing_with_any_number_of_workers(rt: HostRuntime) -> Result<(), Fail> {
-    check_rows(&rt, rt.alloc(), CUP, Given::Line, Status::Done, &PLAYED)?;
-    let text = "3 points: - (1 won, 1 drawn, 0 lost)\n1 points: b (0 won, 1 drawn, 1 lost)\n";
-    check(&rt, rt.alloc(), &DASH, done(text))
-}
+const DASHED: [(&str, &str); 1] = [(
+    "cup --worlds f --brains b - --seed 12345 --rounds 1",
+    "3 points: - (1 won, 1 drawn, 0 lost)\n1 points: b (0 won, 1 drawn, 1 lost)\n",
+)];
 
 // Words that name a file that isn't there before one that is at fault.
 const UNREAD: [(&str, &str); 1] = [(
@@ -129,8 +126,35 @@ const UNREAD: [(&str, &str); 1] = [(
     "ants: y: not read\n",
 )];
 
+// Cups that are played, and such as are refused.
+const CUPS: [Table<'static>; 4] = [
+    Table {
+        job: CUP,
+        given: Given::Line,
+        status: Status::Done,
+        rows: &PLAYED,
+    },
+    Table {
+        job: DASH,
+        given: Given::Line,
+        status: Status::Done,
+        rows: &DASHED,
+    },
+    Table {
+        job: CUP,
+        given: Given::Line,
+        status: Status::Input,
+        rows: &REFUSED,
+    },
+    Table {
+        job: CUP,
+        given: Given::Line,
+        status: Status::Read,
+        rows: &UNREAD,
+    },
+];
+
 #[test]
-fn the_first_file_of_a_cup_that_is_at_fault_is_named(rt: HostRuntime) -> Result<(), Fail> {
-    check_rows(&rt, rt.alloc(), CUP, Given::Line, Status::Input, &REFUSED)?;
-    check_rows(&rt, rt.alloc(), CUP, Given::Line, Status::Read, &UNREAD)
+fn a_cup_prints_its_standing_or_names_its_first_file_at_fault(rt: HostRuntime) -> Result<(), Fail> {
+    check_tables(&rt, rt.alloc(), &CUPS)
 }

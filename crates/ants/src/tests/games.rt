@@ -187,16 +187,6 @@ const BROKEN_OFF: Stage = Stage {
     played: 3,
 };
 
-#[test]
-fn a_game_is_played_by_any_crew(rt: HostRuntime) -> Result<(), Fail> {
-    let players = killing_players(&rt, rt.alloc())?;
-    let mut game = Game::begin(killing_field(&rt, rt.alloc(), &players)?, 3);
-    let mut crew = SoloCrew::new();
-    check_round(&rt, rt.alloc(), &mut game, &mut crew, Ok(()), FIRST);
-    check_round(&rt, rt.alloc(), &mut game, &mut crew, Ok(()), SECOND);
-    Ok(())
-}
-
 // Asserts that the red ant of id 2 is dead.
 fn check_dead<R: Abort>(rt: &R, game: &Game<'_>) {
     assert_eq!(rt; game.world().ant_place(2), None);
@@ -212,18 +202,87 @@ fn check_killed<R: Abort>(rt: &R, alloc: Global, game: &Game<'_>) -> Result<(), 
     Ok(())
 }
 
-#[test]
-fn a_round_that_was_refused_goes_on(rt: HostRuntime) -> Result<(), Fail> {
-    let players = killing_players(&rt, rt.alloc())?;
-    let mut game = Game::begin(killing_field(&rt, rt.alloc(), &players)?, 3);
+// A round, what comes of it, and how the game stands then.
+#[derive(Clone, Copy)]
+struct Round {
+    answer: Result<(), OutOfMemory>,
+    stage: Stage,
+}
+
+// Two rounds of that game, and the call for a window that its crew refuses; none where it is 0.
+#[derive(Clone, Copy)]
+struct Played {
+    refused: u64,
+    first: Round,
+    second: Round,
+}
+
+const GAMES: [Played; 2] = [
+    Played {
+        refused: 0,
+        first: Round {
+            answer: Ok(()),
+            stage: FIRST,
+        },
+        second: Round {
+            answer: Ok(()),
+            stage: SECOND,
+        },
+    },
+    Played {
+        refused: 2,
+        first: Round {
+            answer: Err(OutOfMemory),
+            stage: BROKEN_OFF,
+        },
+        second: Round {
+            answer: Ok(()),
+            stage: FIRST,
+        },
+    },
+];
+
+// Plays a round, and asserts what comes of it: the red ant of id 2 dies in the first one.
+fn check_step<R: Abort, C: Crew>(
+    rt: &R,
+    alloc: Global,
+    game: &mut Game<'_>,
+    crew: &mut C,
+    round: Round,
+) -> Result<(), Fail>
+    requires { C.ready crew.old }
+    ensures { C.ready crew.new }
+{
+    check_round(rt, alloc, game, crew, round.answer, round.stage);
+    check_dead(rt, game);
+    if round.stage.done == 1 {
+        check_killed(rt, alloc, game)?;
+    }
+    Ok(())
+}
+
+// Asserts what comes of two rounds of that game.
+fn check_game<R: Abort>(rt: &R, alloc: Global, played: &Played) -> Result<(), Fail> {
+    let players = killing_players(rt, alloc)?;
+    let mut game = Game::begin(killing_field(rt, alloc, &players)?, 3);
     let mut crew = Refusing {
         crew: SoloCrew::new(),
         calls: 0,
-        refused: 2,
+        refused: played.refused,
     };
-    let refused = Err(OutOfMemory);
-    check_round(&rt, rt.alloc(), &mut game, &mut crew, refused, BROKEN_OFF);
-    check_dead(&rt, &game);
-    check_round(&rt, rt.alloc(), &mut game, &mut crew, Ok(()), FIRST);
-    check_killed(&rt, rt.alloc(), &game)
+    check_step(rt, alloc, &mut game, &mut crew, played.first)?;
+    check_step(rt, alloc, &mut game, &mut crew, played.second)
+}
+
+// Asserts what comes of each of these games.
+fn check_games<R: Abort>(rt: &R, alloc: Global, games: &[Played]) -> Result<(), Fail> {
+    for played in games {
+        check_game(rt, alloc, played)?;
+    }
+    Ok(())
+}
+
+#[test]
+fn a_game_is_played_by_any_crew_and_goes_on_after_a_refusal(rt: HostRuntime) -> Result<(), Fail> {
+    check_games(&rt, rt.alloc(), &GAMES)
 }

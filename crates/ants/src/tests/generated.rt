@@ -1,11 +1,7 @@
 // The command `gen`.
 use crate::status::Status;
-use crate::tests::{Given, Job, NO_JOB, Told, check, check_rows, check_text, cut};
-use std::alloc::Global;
-use std::process::Abort;
-use std::sync::Wait;
+use crate::tests::{CutRun, Given, Job, NO_JOB, Told, check_cuts, check_rows, check_text};
 use std::test::Fail;
-use std::thread::Threads;
 
 // Words of `gen`.
 const GEN: &str = "gen 12345 --width 64 --height 64 --rocks 0 --blobs 1";
@@ -32,28 +28,45 @@ fn a_world_is_generated_from_its_seed(rt: HostRuntime) -> Result<(), Fail> {
     check_text(&rt, rt.alloc(), &GENERATE, told)
 }
 
-// The room of an output, in bytes, and what it holds of the world when it is full.
-const FRONTS: [(u64, &str); 4] = [(0, ""), (1, "6"), (6, "64\n64\n"), (9, "64\n64\n# #")];
-
-// Asserts of each row what output with this room holds.
-fn check_fronts<R: Threads + Wait + Sync + Abort>(
-    rt: &R,
-    alloc: Global,
-    rows: &[(u64, &str)],
-) -> Result<(), Fail> {
-    for (room, front) in rows {
-        let job = Job {
-            room: *room,
+// Outputs with room for some bytes, and what each holds of the world when it is full.
+const CUTS: [CutRun<'static>; 4] = [
+    CutRun {
+        job: Job {
+            room: 0,
             ..GENERATE
-        };
-        check(rt, alloc, &job, cut(front, "ants: output failed\n"))?;
-    }
-    Ok(())
-}
+        },
+        held: "",
+        line: "ants: output failed\n",
+    },
+    CutRun {
+        job: Job {
+            room: 1,
+            ..GENERATE
+        },
+        held: "6",
+        line: "ants: output failed\n",
+    },
+    CutRun {
+        job: Job {
+            room: 6,
+            ..GENERATE
+        },
+        held: "64\n64\n",
+        line: "ants: output failed\n",
+    },
+    CutRun {
+        job: Job {
+            room: 9,
+            ..GENERATE
+        },
+        held: "64\n64\n# #",
+        line: "ants: output failed\n",
+    },
+];
 
 #[test]
-fn output_that_is_full_holds_the_front_of_a_world(rt: HostRuntime) -> Result<(), Fail> {
-    check_fronts(&rt, rt.alloc(), &FRONTS)
+fn output_that_is_full_holds_a_prefix_of_a_world(rt: HostRuntime) -> Result<(), Fail> {
+    check_cuts(&rt, rt.alloc(), &CUTS)
 }
 
 // Words that ask for elements without room, and the line that names the first of them.

@@ -1,6 +1,6 @@
 // What the program tells of itself.
 use crate::status::Status;
-use crate::tests::{Given, Job, NO_JOB, Told, check, check_rows, check_text, cut};
+use crate::tests::{CutRun, Given, Job, NO_JOB, Told, check_cuts, check_rows, check_text};
 use std::test::Fail;
 
 // The line of the version.
@@ -25,12 +25,17 @@ fn the_page_and_the_version_are_printed(rt: HostRuntime) -> Result<(), Fail> {
     check_rows(&rt, rt.alloc(), NO_JOB, Given::Line, Status::Done, &VERSION)
 }
 
-#[test]
-fn a_page_that_is_cut_is_a_failed_output(rt: HostRuntime) -> Result<(), Fail> {
-    let job = Job {
+// The page, whose second push fails.
+const CUTS: [CutRun<'static>; 1] = [CutRun {
+    job: Job {
         failing_push: 2,
         ..HELP
-    };
-    let front = "ants 1.0.0 plays the ant world of the ICFP Programming Contest 2004.\n";
-    check(&rt, rt.alloc(), &job, cut(front, "ants: output failed\n"))
+    },
+    held: "ants 1.0.0 plays the ant world of the ICFP Programming Contest 2004.\n",
+    line: "ants: output failed\n",
+}];
+
+#[test]
+fn a_page_that_is_cut_is_a_failed_output(rt: HostRuntime) -> Result<(), Fail> {
+    check_cuts(&rt, rt.alloc(), &CUTS)
 }

@@ -4,7 +4,8 @@ use crate::tests::runs::{KILLED, KILLING, UNPLAYED};
 use crate::tests::shown::SHOWN;
 use crate::tests::workloads::UNTOUCHED;
 use crate::tests::{
-    CLOSED, Ending, Given, Job, NO_JOB, answer, check, check_rows, cut, done, ending_of, stopped,
+    CLOSED, CutRun, Ending, Given, Job, NO_JOB, Table, answer, check, check_cuts, check_tables,
+    cut, done, ending_of, stopped,
 };
 use std::alloc::Global;
 use std::process::Abort;
@@ -45,18 +46,25 @@ const NOT_ACCEPTED: [(&str, &str); 4] = [
     ("show b 1", "ants: b: bad width\n"),
 ];
 
+// Both.
+const AT_FAULT: [Table<'static>; 2] = [
+    Table {
+        job: UNPLAYED_GAME,
+        given: Given::Line,
+        status: Status::Read,
+        rows: &NOT_THERE,
+    },
+    Table {
+        job: UNPLAYED_GAME,
+        given: Given::Line,
+        status: Status::Input,
+        rows: &NOT_ACCEPTED,
+    },
+];
+
 #[test]
 fn the_first_file_that_is_not_read_or_at_fault_is_named(rt: HostRuntime) -> Result<(), Fail> {
-    let job = UNPLAYED_GAME;
-    check_rows(&rt, rt.alloc(), job, Given::Line, Status::Read, &NOT_THERE)?;
-    check_rows(
-        &rt,
-        rt.alloc(),
-        job,
-        Given::Line,
-        Status::Input,
-        &NOT_ACCEPTED,
-    )
+    check_tables(&rt, rt.alloc(), &AT_FAULT)
 }
 
 // Words, the line where the fetch of each file fails, in the order in which the files are fetched, and the text where none does.
@@ -185,33 +193,39 @@ fn check_rooms<R: Threads + Wait + Sync + Abort>(
     check(rt, alloc, &whole, done(text))
 }
 
-// The room of the errors, in bytes, and what they hold of the line of an output that failed.
-const TOLD: [(u64, &str); 2] = [(0, ""), (8, "ants: ou")];
-
-// Asserts of each row what errors with this room hold, where the output has room for five bytes.
-fn check_err_rooms<R: Threads + Wait + Sync + Abort>(
-    rt: &R,
-    alloc: Global,
-    rows: &[(u64, &str)],
-) -> Result<(), Fail> {
-    for (err_room, line) in rows {
-        let job = Job {
-            room: 5,
-            err_room: *err_room,
-            ..UNPLAYED_GAME
-        };
-        check(rt, alloc, &job, cut("rando", line))?;
-    }
-    Ok(())
+#[test]
+fn output_that_is_full_holds_a_prefix_of_the_text(rt: HostRuntime) -> Result<(), Fail> {
+    check_rooms(&rt, rt.alloc(), UNPLAYED_GAME, UNPLAYED)
 }
+
+// Output with room for five bytes, and errors with room for none or for eight.
+const FULL: [CutRun<'static>; 2] = [
+    CutRun {
+        job: Job {
+            room: 5,
+            err_room: 0,
+            ..UNPLAYED_GAME
+        },
+        held: "rando",
+        line: "",
+    },
+    CutRun {
+        job: Job {
+            room: 5,
+            err_room: 8,
+            ..UNPLAYED_GAME
+        },
+        held: "rando",
+        line: "ants: ou",
+    },
+];
 
 #[test]
-fn output_that_is_full_holds_the_front_of_the_text(rt: HostRuntime) -> Result<(), Fail> {
-    check_rooms(&rt, rt.alloc(), UNPLAYED_GAME, UNPLAYED)?;
-    check_err_rooms(&rt, rt.alloc(), &TOLD)
+fn errors_that_are_full_hold_a_prefix_of_their_line(rt: HostRuntime) -> Result<(), Fail> {
+    check_cuts(&rt, rt.alloc(), &FULL)
 }
 
-// Asserts that the text of a command whose output failed is a front of it.
+// Asserts that the text of a command whose output failed is a prefix of it.
 fn check_front<R: Abort>(rt: &R, ending: Ending<'_>, text: &str, failing_push: u64) {
     assert_eq!(rt; ending.status, Status::Write);
     assert!(rt;
@@ -220,7 +234,7 @@ fn check_front<R: Abort>(rt: &R, ending: Ending<'_>, text: &str, failing_push: u
     );
 }
 
-// Asserts that each push that fails ends the text of a command, which has fewer than 10,000 pushes: the output gets a front of it.
+// Asserts that each push that fails ends the text of a command, which has fewer than 10,000 pushes: the output gets a prefix of it.
 fn check_pushes<R: Threads + Wait + Sync + Abort>(
     rt: &R,
     alloc: Global,
@@ -275,6 +289,11 @@ fn check_written<R: Threads + Wait + Sync + Abort>(
     Ok(())
 }
 
+#[test]
+fn a_push_that_fails_ends_the_text(rt: HostRuntime) -> Result<(), Fail> {
+    check_written(&rt, rt.alloc(), &WRITTEN)
+}
+
 // Asserts the same of the pushes of the game in which an ant dies, with its counts.
 fn check_killing_pushes<R: Threads + Wait + Sync + Abort>(
     rt: &R,
@@ -286,7 +305,6 @@ fn check_killing_pushes<R: Threads + Wait + Sync + Abort>(
 }
 
 #[test]
-fn a_push_that_fails_ends_the_text(rt: HostRuntime) -> Result<(), Fail> {
-    check_killing_pushes(&rt, rt.alloc())?;
-    check_written(&rt, rt.alloc(), &WRITTEN)
+fn a_push_that_fails_ends_the_text_of_a_game(rt: HostRuntime) -> Result<(), Fail> {
+    check_killing_pushes(&rt, rt.alloc())
 }

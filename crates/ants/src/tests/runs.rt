@@ -1,7 +1,8 @@
 // The command `run`.
 use crate::status::Status;
 use crate::tests::{
-    CLOSED, CLOSING, Ending, Given, Job, NO_JOB, Told, check, check_rows, check_text, done, stopped,
+    CLOSED, CLOSING, Ending, Given, Job, NO_JOB, Table, Told, check, check_tables, check_text,
+    done, ending_with,
 };
 use std::alloc::Global;
 use std::process::Abort;
@@ -138,21 +139,55 @@ pub const KILLING: Job<'static> = Job {
     ..NO_JOB
 };
 
+// Its words.
+const KILLS: [(&str, &str); 1] = [("run w r b --seed 12345 --rounds 1 --dump 1", KILLED)];
+
+// Games that are printed.
+const PRINTED: [Table<'static>; 4] = [
+    Table {
+        job: TURNING,
+        given: Given::Line,
+        status: Status::Done,
+        rows: &DUMPED,
+    },
+    Table {
+        job: TURNING,
+        given: Given::Line,
+        status: Status::Done,
+        rows: &BARE,
+    },
+    Table {
+        job: Job {
+            world: EMPTY,
+            ..TURNING
+        },
+        given: Given::Line,
+        status: Status::Done,
+        rows: &BARE,
+    },
+    Table {
+        job: KILLING,
+        given: Given::Line,
+        status: Status::Done,
+        rows: &KILLS,
+    },
+];
+
 #[test]
 fn a_run_prints_its_seed_its_dumps_and_its_score(rt: HostRuntime) -> Result<(), Fail> {
-    check_rows(&rt, rt.alloc(), TURNING, Given::Line, Status::Done, &DUMPED)?;
-    check_rows(&rt, rt.alloc(), TURNING, Given::Line, Status::Done, &BARE)?;
-    let empty = TURNING.with(Given::World, EMPTY);
-    check_rows(&rt, rt.alloc(), empty, Given::Line, Status::Done, &BARE)?;
-    check(&rt, rt.alloc(), &KILLING, done(KILLED))
+    check_tables(&rt, rt.alloc(), &PRINTED)
+}
+
+// Asserts that a thousand rounds to be dumped are read as a list.
+fn check_listed<R: Threads + Wait + Sync + Abort>(rt: &R, alloc: Global) -> Result<(), Fail> {
+    let later = ",1000000".repeat(alloc, 997)?;
+    let line = format!(in alloc; "run w r b --seed 12345 --rounds 1 --dump 9,1{later},0")?;
+    check(rt, alloc, &TURNING.with(Given::Line, &line), done(TURNED))
 }
 
 #[test]
 fn a_thousand_rounds_are_listed(rt: HostRuntime) -> Result<(), Fail> {
-    let later = ",1000000".repeat(rt.alloc(), 997)?;
-    let line = format!(in rt.alloc(); "run w r b --seed 12345 --rounds 1 --dump 9,1{later},0")?;
-    let job = TURNING.with(Given::Line, &line);
-    check(&rt, rt.alloc(), &job, done(TURNED))
+    check_listed(&rt, rt.alloc())
 }
 
 // The text of a world without a hill, as wide as high, whose cells are clear but for the rim, and so many in each row.
@@ -177,11 +212,27 @@ fn check_clear<R: Threads + Wait + Sync + Abort>(
     check(rt, alloc, &job.with(Given::World, &world), wanted)
 }
 
+// How many clear cells a row has, and what comes of it.
+const SIZES: [(u16, Status, &str); 2] = [
+    (510, Status::Done, UNPLAYED),
+    (511, Status::Input, "ants: w: bad width\n"),
+];
+
+// Asserts of each row what comes of its world.
+fn check_sizes<R: Threads + Wait + Sync + Abort>(
+    rt: &R,
+    alloc: Global,
+    rows: &[(u16, Status, &str)],
+) -> Result<(), Fail> {
+    for (cells, status, text) in rows {
+        check_clear(rt, alloc, *cells, ending_with(*status, text))?;
+    }
+    Ok(())
+}
+
 #[test]
 fn a_world_has_up_to_512_by_512_cells(rt: HostRuntime) -> Result<(), Fail> {
-    check_clear(&rt, rt.alloc(), 510, done(UNPLAYED))?;
-    let more = stopped(Status::Input, "ants: w: bad width\n");
-    check_clear(&rt, rt.alloc(), 511, more)
+    check_sizes(&rt, rt.alloc(), &SIZES)
 }
 
 // A game, lines of its text in their order, others between them, and the end of its text.

@@ -1,6 +1,6 @@
 // The commands `save` and `resume`.
 use crate::status::Status;
-use crate::tests::{CLOSED, Given, Job, NO_JOB, check, check_rows, stopped};
+use crate::tests::{CLOSED, Given, Job, NO_JOB, Table, check, check_tables, stopped};
 use std::alloc::Global;
 use std::process::Abort;
 use std::sync::Wait;
@@ -83,55 +83,77 @@ const REFUSED: [(&str, &str); 3] = [
     (TWO_TURNS, "ants: k: no valid state\n"),
 ];
 
-// Asserts that a file of so many spaces is too long.
-fn check_long<R: Threads + Wait + Sync + Abort>(
-    rt: &R,
-    alloc: Global,
-    job: &Job<'_>,
-) -> Result<(), Fail> {
+// The game, with its save to go on with.
+const GOING_ON: Job<'static> = Job {
+    breaks: SAVED,
+    ..TURNING
+};
+
+// The words that go on with a save of the game.
+const RESUMED: Job<'static> = Job {
+    line: "resume k --rounds 2",
+    ..TURNING
+};
+
+// Games that are saved or gone on with, and saves that are refused.
+const TABLES: [Table<'static>; 6] = [
+    Table {
+        job: TURNING,
+        given: Given::Line,
+        status: Status::Done,
+        rows: &SAVES,
+    },
+    Table {
+        job: GOING_ON,
+        given: Given::Line,
+        status: Status::Done,
+        rows: &RESUMES,
+    },
+    Table {
+        job: Job {
+            line: "save w r b --seed 12345 --rounds 1",
+            ..TURNING
+        },
+        given: Given::Red,
+        status: Status::Done,
+        rows: &FIRST_ROUNDS,
+    },
+    Table {
+        job: Job {
+            breaks: STANDING,
+            ..TURNING
+        },
+        given: Given::Line,
+        status: Status::Done,
+        rows: &STOOD,
+    },
+    Table {
+        job: GOING_ON,
+        given: Given::Line,
+        status: Status::Input,
+        rows: &TOO_FEW,
+    },
+    Table {
+        job: RESUMED,
+        given: Given::Breaks,
+        status: Status::Input,
+        rows: &REFUSED,
+    },
+];
+
+#[test]
+fn a_game_is_saved_and_gone_on_with_or_its_save_refused(rt: HostRuntime) -> Result<(), Fail> {
+    check_tables(&rt, rt.alloc(), &TABLES)
+}
+
+// Asserts that a file of one byte more than the longest is too long.
+fn check_long<R: Threads + Wait + Sync + Abort>(rt: &R, alloc: Global) -> Result<(), Fail> {
     let long = " ".repeat(alloc, 4194305)?;
     let wanted = stopped(Status::Input, "ants: k: too long\n");
-    check(rt, alloc, &job.with(Given::Breaks, &long), wanted)
+    check(rt, alloc, &RESUMED.with(Given::Breaks, &long), wanted)
 }
 
 #[test]
-fn a_game_is_saved_and_gone_on_with(rt: HostRuntime) -> Result<(), Fail> {
-    check_rows(&rt, rt.alloc(), TURNING, Given::Line, Status::Done, &SAVES)?;
-    let saved = TURNING.with(Given::Breaks, SAVED);
-    check_rows(&rt, rt.alloc(), saved, Given::Line, Status::Done, &RESUMES)
-}
-
-#[test]
-fn each_part_of_a_game_is_saved_and_gone_on_with(rt: HostRuntime) -> Result<(), Fail> {
-    let saving = TURNING.with(Given::Line, "save w r b --seed 12345 --rounds 1");
-    check_rows(
-        &rt,
-        rt.alloc(),
-        saving,
-        Given::Red,
-        Status::Done,
-        &FIRST_ROUNDS,
-    )?;
-    let standing = TURNING.with(Given::Breaks, STANDING);
-    check_rows(&rt, rt.alloc(), standing, Given::Line, Status::Done, &STOOD)
-}
-
-#[test]
-fn a_save_above_the_rounds_is_refused(rt: HostRuntime) -> Result<(), Fail> {
-    let saved = TURNING.with(Given::Breaks, SAVED);
-    check_rows(&rt, rt.alloc(), saved, Given::Line, Status::Input, &TOO_FEW)
-}
-
-#[test]
-fn a_text_that_is_no_save_is_refused(rt: HostRuntime) -> Result<(), Fail> {
-    let resumed = TURNING.with(Given::Line, "resume k --rounds 2");
-    check_rows(
-        &rt,
-        rt.alloc(),
-        resumed,
-        Given::Breaks,
-        Status::Input,
-        &REFUSED,
-    )?;
-    check_long(&rt, rt.alloc(), &resumed)
+fn a_save_has_up_to_4194304_bytes(rt: HostRuntime) -> Result<(), Fail> {
+    check_long(&rt, rt.alloc())
 }

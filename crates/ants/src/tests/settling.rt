@@ -118,14 +118,19 @@ fn check_beginning<R: Abort>(rt: &R, field: &Field<'_>)
     assert!(rt; field.place() == 0);
 }
 
+// Settles the round in which the red ant dies, and asserts its counts and what became of each look.
+fn check_settling<R: Abort>(rt: &R, alloc: Global, wanted: &[Fate]) -> Result<(), Fail> {
+    let players = killing_players(rt, alloc)?;
+    let mut field = killing_field(rt, alloc, &players)?;
+    check_beginning(rt, &field);
+    let mut causes = Vec::new(alloc);
+    let counts = play_by_looks(alloc, &mut field, 0, 7, &mut causes)?;
+    assert_eq!(rt; (counts.taken(), counts.redone()), (5, 2));
+    check_fates(rt, &causes, wanted);
+    Ok(())
+}
+
 #[test]
 fn the_looks_of_a_killed_ant_and_of_the_next_flip_do_not_hold(rt: HostRuntime) -> Result<(), Fail> {
-    let players = killing_players(&rt, rt.alloc())?;
-    let mut field = killing_field(&rt, rt.alloc(), &players)?;
-    check_beginning(&rt, &field);
-    let mut causes = Vec::new(rt.alloc());
-    let counts = play_by_looks(rt.alloc(), &mut field, 0, 7, &mut causes)?;
-    assert_eq!(rt; (counts.taken(), counts.redone()), (5, 2));
-    check_fates(&rt, &causes, &FATES);
-    Ok(())
+    check_settling(&rt, rt.alloc(), &FATES)
 }

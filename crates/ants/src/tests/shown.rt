@@ -1,6 +1,8 @@
 // The command `show`.
 use crate::status::Status;
-use crate::tests::{CLOSED, Given, Job, NO_JOB, Told, check, check_rows, check_text, stopped};
+use crate::tests::{
+    CLOSED, Given, Job, NO_JOB, Table, Told, check, check_tables, check_text, stopped,
+};
 use std::alloc::Global;
 use std::process::Abort;
 use std::sync::Wait;
@@ -66,15 +68,33 @@ const SHOW: Job<'static> = Job {
     ..NO_JOB
 };
 
-#[test]
-fn show_prints_the_seed_and_the_world_at_the_start(rt: HostRuntime) -> Result<(), Fail> {
-    check_rows(&rt, rt.alloc(), SHOW, Given::Line, Status::Done, &CALLED)?;
-    check_rows(&rt, rt.alloc(), SHOW, Given::World, Status::Done, &SPELLED)
-}
+// Worlds that are shown, and such as are refused.
+const WORLDS: [Table<'static>; 3] = [
+    Table {
+        job: SHOW,
+        given: Given::Line,
+        status: Status::Done,
+        rows: &CALLED,
+    },
+    Table {
+        job: SHOW,
+        given: Given::World,
+        status: Status::Done,
+        rows: &SPELLED,
+    },
+    Table {
+        job: SHOW,
+        given: Given::World,
+        status: Status::Input,
+        rows: &REFUSED,
+    },
+];
 
 #[test]
-fn a_world_at_fault_is_named_with_its_first_fault(rt: HostRuntime) -> Result<(), Fail> {
-    check_rows(&rt, rt.alloc(), SHOW, Given::World, Status::Input, &REFUSED)
+fn show_prints_the_seed_and_the_world_or_names_its_first_fault(
+    rt: HostRuntime,
+) -> Result<(), Fail> {
+    check_tables(&rt, rt.alloc(), &WORLDS)
 }
 
 // The text of a world of 130 rows, whose cells are red hill but for the rim, and so many in each row.

@@ -2,7 +2,8 @@
 use crate::status::Status;
 use crate::tests::runs::KILLED;
 use crate::tests::{
-    CLOSING, Ending, Given, Job, NO_JOB, Told, check, check_rows, check_text, done, stopped,
+    CLOSING, Ending, Given, Job, NO_JOB, Table, Told, check, check_tables, check_text, done,
+    ending_with,
 };
 use std::alloc::Global;
 use std::process::Abort;
@@ -90,41 +91,59 @@ const REFUSED: [(&str, &str); 14] = [
     ("Round \u{7f}", "ants: k: line 1: bad number\n"),
 ];
 
-// Texts in place of a file, each before the file of breaks, which is at fault as well; and the line that names the first of both.
-const EARLIER: [(Given, &str, &str); 6] = [
-    (
-        Given::World,
-        "7\n6\n# # # # # # #\n # . .",
-        "ants: w: row 1: short\n",
-    ),
-    (Given::World, "7\n", "ants: w: bad height\n"),
-    (Given::Red, "Flip 2 0", "ants: r: line 1: missing token\n"),
-    (Given::Red, "", "ants: r: no instruction\n"),
-    (Given::Black, "Mov", "ants: b: line 1: unknown word\n"),
-    (
-        Given::Black,
-        "Move 0 1",
-        "ants: b: line 1: no such state 1\n",
-    ),
+// Worlds and brains before a file of breaks that is at fault as well, and the line that names the first of both.
+const WORLDS: [(&str, &str); 2] = [
+    ("7\n6\n# # # # # # #\n # . .", "ants: w: row 1: short\n"),
+    ("7\n", "ants: w: bad height\n"),
 ];
 
-// Asserts of each row the line with which the view stops.
-fn check_earlier<R: Threads + Wait + Sync + Abort>(
-    rt: &R,
-    alloc: Global,
-    rows: &[(Given, &str, &str)],
-) -> Result<(), Fail> {
-    let job = VIEW.with(Given::Breaks, "Killed");
-    for (given, text, line) in rows {
-        let wanted = stopped(Status::Input, line);
-        check(rt, alloc, &job.with(*given, text), wanted)?;
-    }
-    Ok(())
-}
+const REDS: [(&str, &str); 2] = [
+    ("Flip 2 0", "ants: r: line 1: missing token\n"),
+    ("", "ants: r: no instruction\n"),
+];
+
+const BLACKS: [(&str, &str); 2] = [
+    ("Mov", "ants: b: line 1: unknown word\n"),
+    ("Move 0 1", "ants: b: line 1: no such state 1\n"),
+];
+
+// The view, whose breaks are at fault.
+const NO_BREAKS: Job<'static> = Job {
+    breaks: "Killed",
+    ..VIEW
+};
+
+// Files of a view that are at fault.
+const FAULTS: [Table<'static>; 4] = [
+    Table {
+        job: NO_BREAKS,
+        given: Given::World,
+        status: Status::Input,
+        rows: &WORLDS,
+    },
+    Table {
+        job: NO_BREAKS,
+        given: Given::Red,
+        status: Status::Input,
+        rows: &REDS,
+    },
+    Table {
+        job: NO_BREAKS,
+        given: Given::Black,
+        status: Status::Input,
+        rows: &BLACKS,
+    },
+    Table {
+        job: VIEW,
+        given: Given::Breaks,
+        status: Status::Input,
+        rows: &REFUSED,
+    },
+];
 
 #[test]
 fn a_file_of_a_view_at_fault_is_named_before_its_breaks(rt: HostRuntime) -> Result<(), Fail> {
-    check_earlier(&rt, rt.alloc(), &EARLIER)
+    check_tables(&rt, rt.alloc(), &FAULTS)
 }
 
 // The text of the view that stops at the death of the red ant: its cells are those of the dump after the same round.
@@ -137,11 +156,48 @@ fn killed_view(alloc: Global) -> Result<String, Fail> {
 // The text of the view that doesn't stop.
 const NO_STOP: &str = "random seed: 12345\nno stop in 5 rounds\n";
 
+// Views that don't stop, of the game and of a world without ants, where no break holds.
+const NO_STOPS: [(&str, &str); 1] = [("Round 9", NO_STOP)];
+
+const NO_ANTS: [(&str, &str); 1] = [("Round 1\nFood 1 1 0\n", NO_STOP)];
+
+const UNSTOPPED: [Table<'static>; 2] = [
+    Table {
+        job: VIEW,
+        given: Given::Breaks,
+        status: Status::Done,
+        rows: &NO_STOPS,
+    },
+    Table {
+        job: Job {
+            world: "4\n4\n# # # #\n # . . #\n# . . #\n # # # #\n",
+            ..VIEW
+        },
+        given: Given::Breaks,
+        status: Status::Done,
+        rows: &NO_ANTS,
+    },
+];
+
+#[test]
+fn a_view_without_a_turn_at_which_a_break_holds_says_so(rt: HostRuntime) -> Result<(), Fail> {
+    check_tables(&rt, rt.alloc(), &UNSTOPPED)
+}
+
+// Asserts the whole text of the view that stops at the death of the red ant.
+fn check_killed<R: Threads + Wait + Sync + Abort>(rt: &R, alloc: Global) -> Result<(), Fail> {
+    let text = killed_view(alloc)?;
+    check(
+        rt,
+        alloc,
+        &VIEW.with(Given::Breaks, "Killed 2"),
+        done(&text),
+    )
+}
+
 #[test]
 fn a_view_stops_after_the_first_turn_at_which_a_break_holds(rt: HostRuntime) -> Result<(), Fail> {
-    let text = killed_view(rt.alloc())?;
-    let rows = [("Killed 2", text.as_str()), ("Round 9", NO_STOP)];
-    check_rows(&rt, rt.alloc(), VIEW, Given::Breaks, Status::Done, &rows)
+    check_killed(&rt, rt.alloc())
 }
 
 // Asserts of each text of breaks the second line of its view.
@@ -168,32 +224,11 @@ fn each_kind_of_break_holds_when_it_says(rt: HostRuntime) -> Result<(), Fail> {
     check_stops(&rt, rt.alloc(), &TOGETHER)
 }
 
-// The view of a world without ants.
-const NO_ANTS: Job<'static> = Job {
-    line: "view w r b k --seed 12345 --rounds 5",
-    world: "4\n4\n# # # #\n # . . #\n# . . #\n # # # #\n",
-    red: "Flip 2 0 0",
-    black: "Move 0 0",
-    breaks: "Round 1\nFood 1 1 0\n",
-    ..NO_JOB
-};
-
-#[test]
-fn a_world_without_ants_has_no_turn_to_stop_after(rt: HostRuntime) -> Result<(), Fail> {
-    check(&rt, rt.alloc(), &NO_ANTS, done(NO_STOP))
-}
-
-#[test]
-fn breaks_at_fault_are_named_with_their_first_fault(rt: HostRuntime) -> Result<(), Fail> {
-    check_rows(
-        &rt,
-        rt.alloc(),
-        VIEW,
-        Given::Breaks,
-        Status::Input,
-        &REFUSED,
-    )
-}
+// How many breaks there are, and what comes of them.
+const MANY: [(usize, Status, &str); 2] = [
+    (256, Status::Done, NO_STOP),
+    (257, Status::Input, "ants: k: line 257: too many breaks\n"),
+];
 
 // Asserts what comes of so many breaks.
 fn check_many<R: Threads + Wait + Sync + Abort>(
@@ -206,9 +241,19 @@ fn check_many<R: Threads + Wait + Sync + Abort>(
     check(rt, alloc, &VIEW.with(Given::Breaks, &breaks), wanted)
 }
 
+// Asserts of each row what comes of its breaks.
+fn check_numbers<R: Threads + Wait + Sync + Abort>(
+    rt: &R,
+    alloc: Global,
+    rows: &[(usize, Status, &str)],
+) -> Result<(), Fail> {
+    for (count, status, text) in rows {
+        check_many(rt, alloc, *count, ending_with(*status, text))?;
+    }
+    Ok(())
+}
+
 #[test]
 fn a_view_has_up_to_256_breaks(rt: HostRuntime) -> Result<(), Fail> {
-    check_many(&rt, rt.alloc(), 256, done(NO_STOP))?;
-    let line = "ants: k: line 257: too many breaks\n";
-    check_many(&rt, rt.alloc(), 257, stopped(Status::Input, line))
+    check_numbers(&rt, rt.alloc(), &MANY)
 }

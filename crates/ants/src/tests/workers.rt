@@ -1,11 +1,13 @@
 // Runs by any number of workers; and looks that workers make at the same time, each of them once.
+ghost use Rattle.std.specs.Prelude.{◌≡◌, true};
+
 use crate::status::Status;
 use crate::tests::games::{killing_field, killing_players};
 use crate::tests::runs::{KILLED, KILLING};
 use crate::tests::saves::STANDING;
 use crate::tests::{Given, Job, NO_JOB, answer_over, check_over, done, files_of};
 use ant_base::{Gate, NoGate};
-use round_book::Counts;
+use round_book::Field;
 use round_workers::{BoardCrew, PieceCrew};
 use std::alloc::Global;
 use std::hint::spin_loop;
@@ -179,141 +181,247 @@ fn any_number_of_workers_writes_the_same_bytes(rt: HostRuntime) -> Result<(), Fa
 // How many turns that round has.
 const TURNS: usize = 7;
 
-// Asserts what came of that round: its counts, the turns that a crew says it played and the place to which it came; and that its workers
-// met.
-fn check_round<R: Abort>(rt: &R, counts: Counts, turns: u64, place: u64, meeting: &Meeting) {
-    let told = (counts.taken(), counts.redone(), turns, place);
-    assert_eq!(rt; told, (5, 2, 7, 1));
-    meeting.check(rt, 0);
+// A window of that round by a crew: from which turn on, and what came of it: its counts, the turns that the crew says it played, and the
+// place to which it came.
+#[derive(Clone, Copy, Debug, PartialEq, Eq)]
+struct Window {
+    from: u32,
+    taken: u32,
+    redone: u32,
+    turns: u64,
+    place: u64,
 }
 
-#[test]
-fn a_crew_of_three_looks_at_the_same_time(rt: HostRuntime) -> Result<(), Fail> {
-    let players = killing_players(&rt, rt.alloc())?;
-    let mut field = killing_field(&rt, rt.alloc(), &players)?;
-    let meeting = Meeting::of(rt.alloc(), 3, TURNS)?;
-    let mut crew = PieceCrew::new(&rt, 3, &meeting);
+// The whole round, and its turns from 3 on.
+const WINDOWS: [Window; 2] = [
+    Window {
+        from: 0,
+        taken: 5,
+        redone: 2,
+        turns: 7,
+        place: 1,
+    },
+    Window {
+        from: 3,
+        taken: 4,
+        redone: 0,
+        turns: 4,
+        place: 1,
+    },
+];
+
+// Plays the turns of a field from one on, by a crew of three whose looks are made in pieces.
+fn window_in_pieces<R: Threads + Sync, G: Gate>(
+    rt: &R,
+    alloc: Global,
+    field: &mut Field<'_>,
+    from: u32,
+    gate: &G,
+) -> Result<Window, Fail>
+    requires whole { field.old.whole ≡ true }
+    requires first { field.old.place ≡ 0 }
+{
     let ids = field.world().ant_count();
-    let counts = crew.window(rt.alloc(), &mut field, 0, ids)?;
-    check_round(&rt, counts, crew.turns(), field.place(), &meeting);
+    let from = ids.min(from);
+    let mut crew = PieceCrew::new(rt, 3, gate);
+    let counts = crew.window(alloc, field, from, ids)?;
+    Ok(Window {
+        from,
+        taken: counts.taken(),
+        redone: counts.redone(),
+        turns: crew.turns(),
+        place: field.place(),
+    })
+}
+
+// The same by a crew of three with a board.
+fn window_on_board<R: Threads + Sync, G: Gate>(
+    rt: &R,
+    alloc: Global,
+    field: &mut Field<'_>,
+    from: u32,
+    gate: &G,
+) -> Result<Window, Fail>
+    requires whole { field.old.whole ≡ true }
+    requires first { field.old.place ≡ 0 }
+{
+    let ids = field.world().ant_count();
+    let from = ids.min(from);
+    let mut crew = BoardCrew::new(rt, 3, gate);
+    let counts = crew.window(alloc, field, from, ids)?;
+    Ok(Window {
+        from,
+        taken: counts.taken(),
+        redone: counts.redone(),
+        turns: crew.turns(),
+        place: field.place(),
+    })
+}
+
+// Asserts what comes of a window by a crew of pieces, whose workers meet and announce each of its turns once.
+fn check_pieces<R: Threads + Sync + Abort>(
+    rt: &R,
+    alloc: Global,
+    wanted: &Window,
+) -> Result<(), Fail> {
+    let players = killing_players(rt, alloc)?;
+    let mut field = killing_field(rt, alloc, &players)?;
+    let meeting = Meeting::of(alloc, 3, TURNS)?;
+    let window = window_in_pieces(rt, alloc, &mut field, wanted.from, &meeting)?;
+    assert_eq!(rt; window, *wanted);
+    meeting.check(rt, wanted.from as usize);
+    Ok(())
+}
+
+// The same of a crew with a board.
+fn check_board<R: Threads + Sync + Abort>(
+    rt: &R,
+    alloc: Global,
+    wanted: &Window,
+) -> Result<(), Fail> {
+    let players = killing_players(rt, alloc)?;
+    let mut field = killing_field(rt, alloc, &players)?;
+    let meeting = Meeting::of(alloc, 3, TURNS)?;
+    let window = window_on_board(rt, alloc, &mut field, wanted.from, &meeting)?;
+    assert_eq!(rt; window, *wanted);
+    meeting.check(rt, wanted.from as usize);
+    Ok(())
+}
+
+// Asserts of each window what comes of it by both crews.
+fn check_windows<R: Threads + Sync + Abort>(
+    rt: &R,
+    alloc: Global,
+    windows: &[Window],
+) -> Result<(), Fail> {
+    for window in windows {
+        check_pieces(rt, alloc, window)?;
+        check_board(rt, alloc, window)?;
+    }
     Ok(())
 }
 
 #[test]
-fn a_crew_of_three_with_a_board_looks_at_the_same_time(rt: HostRuntime) -> Result<(), Fail> {
-    let players = killing_players(&rt, rt.alloc())?;
-    let mut field = killing_field(&rt, rt.alloc(), &players)?;
-    let meeting = Meeting::of(rt.alloc(), 3, TURNS)?;
-    let mut crew = BoardCrew::new(&rt, 3, &meeting);
-    let ids = field.world().ant_count();
-    let counts = crew.window(rt.alloc(), &mut field, 0, ids)?;
-    check_round(&rt, counts, crew.turns(), field.place(), &meeting);
-    Ok(())
+fn crews_of_three_look_at_the_same_time(rt: HostRuntime) -> Result<(), Fail> {
+    check_windows(&rt, rt.alloc(), &WINDOWS)
 }
 
-// Asserts of a window of the turns from 3 on that each of them was played, and announced once.
-fn check_rest<R: Abort>(rt: &R, counts: Counts, turns: u64, meeting: &Meeting) {
-    let played = u64::from(counts.taken()) + u64::from(counts.redone());
-    assert_eq!(rt; (played, turns), (4, 4));
-    meeting.check(rt, 3);
-}
+// Words of the same round, how many workers meet in it, and its counts.
+const MET: [(&str, usize, &str); 3] = [
+    (
+        "run w r b --seed 12345 --rounds 1 --dump 1 --stats --window 3 --workers 2",
+        2,
+        "turns 7 taken 6 redone 1\n",
+    ),
+    (
+        "run w r b --seed 12345 --rounds 1 --dump 1 --stats --workers 1",
+        1,
+        "turns 7 taken 5 redone 2\n",
+    ),
+    (
+        "run w r b --seed 12345 --rounds 1 --dump 1 --stats --workers 2 --far",
+        2,
+        "turns 7 taken 5 redone 2\n",
+    ),
+];
 
-#[test]
-fn a_crew_of_pieces_announces_the_turns_of_its_window(rt: HostRuntime) -> Result<(), Fail> {
-    let players = killing_players(&rt, rt.alloc())?;
-    let mut field = killing_field(&rt, rt.alloc(), &players)?;
-    let meeting = Meeting::of(rt.alloc(), 2, TURNS)?;
-    let mut crew = PieceCrew::new(&rt, 2, &meeting);
-    let ids = field.world().ant_count();
-    let counts = crew.window(rt.alloc(), &mut field, ids.min(3), ids)?;
-    check_rest(&rt, counts, crew.turns(), &meeting);
-    Ok(())
-}
-
-// Asserts what is written of the same round by `run` with these words, of how many turns it took the looks, and that its workers met.
+// Asserts what is written of that round by so many workers, who meet and announce each of its turns once.
 fn check_run<R: Threads + Wait + Sync + Abort>(
     rt: &R,
     alloc: Global,
     line: &str,
+    workers: usize,
     counts: &str,
-    meeting: &Meeting,
 ) -> Result<(), Fail> {
-    check_killing(rt, alloc, line, meeting, counts)?;
+    let meeting = Meeting::of(alloc, workers, TURNS)?;
+    check_killing(rt, alloc, line, &meeting, counts)?;
     meeting.check(rt, 0);
     Ok(())
 }
 
-#[test]
-fn a_run_announces_the_turns_of_each_window(rt: HostRuntime) -> Result<(), Fail> {
-    let line = "run w r b --seed 12345 --rounds 1 --dump 1 --stats --window 3 --workers 2";
-    let meeting = Meeting::of(rt.alloc(), 2, TURNS)?;
-    check_run(
-        &rt,
-        rt.alloc(),
-        line,
-        "turns 7 taken 6 redone 1\n",
-        &meeting,
-    )
+// Asserts the same of the words of each row.
+fn check_runs<R: Threads + Wait + Sync + Abort>(
+    rt: &R,
+    alloc: Global,
+    rows: &[(&str, usize, &str)],
+) -> Result<(), Fail> {
+    for (line, workers, counts) in rows {
+        check_run(rt, alloc, line, *workers, counts)?;
+    }
+    Ok(())
 }
 
 #[test]
-fn a_run_by_one_worker_announces_each_turn_once(rt: HostRuntime) -> Result<(), Fail> {
-    let line = "run w r b --seed 12345 --rounds 1 --dump 1 --stats --workers 1";
-    let meeting = Meeting::of(rt.alloc(), 1, TURNS)?;
-    check_run(
-        &rt,
-        rt.alloc(),
-        line,
-        "turns 7 taken 5 redone 2\n",
-        &meeting,
-    )
+fn workers_of_a_run_look_at_the_same_time(rt: HostRuntime) -> Result<(), Fail> {
+    check_runs(&rt, rt.alloc(), &MET)
 }
 
-// Asserts that a command is done by workers who met, and who announced each turn of its one round once.
+// A command that plays one round, by how many workers, and how many turns it has.
+#[derive(Clone, Copy)]
+struct Round<'t> {
+    job: Job<'t>,
+    workers: usize,
+    turns: usize,
+}
+
+// A workload; and a game that is saved, and one that goes on.
+const ROUNDS: [Round<'static>; 3] = [
+    Round {
+        job: Job {
+            line: "workload 12345 1 16",
+            ..NO_JOB
+        },
+        workers: 16,
+        turns: 254,
+    },
+    Round {
+        job: Job {
+            line: "save w r b --seed 12345 --rounds 1 --workers 3",
+            ..KILLING
+        },
+        workers: 3,
+        turns: TURNS,
+    },
+    Round {
+        job: Job {
+            line: "resume k --rounds 3 --workers 2",
+            breaks: STANDING,
+            ..KILLING
+        },
+        workers: 2,
+        turns: 2,
+    },
+];
+
+// Asserts that a command is done by workers who meet, and who announce each turn of its one round once.
 fn check_meeting<R: Threads + Wait + Sync + Abort>(
     rt: &R,
     alloc: Global,
-    job: &Job<'_>,
-    meeting: &Meeting,
+    round: &Round<'_>,
 ) -> Result<(), Fail> {
-    let outcome = answer_over(rt, alloc, job, files_of(alloc, job)?, meeting)?;
+    let meeting = Meeting::of(alloc, round.workers, round.turns)?;
+    let files = files_of(alloc, &round.job)?;
+    let outcome = answer_over(rt, alloc, &round.job, files, &meeting)?;
     assert_eq!(rt; outcome.status, Status::Done);
     meeting.check(rt, 0);
     Ok(())
 }
 
-#[test]
-fn sixteen_workers_of_a_workload_look_at_the_same_time(rt: HostRuntime) -> Result<(), Fail> {
-    let meeting = Meeting::of(rt.alloc(), 16, 254)?;
-    let workload = NO_JOB.with(Given::Line, "workload 12345 1 16");
-    check_meeting(&rt, rt.alloc(), &workload, &meeting)
+// Asserts the same of each command.
+fn check_meetings<R: Threads + Wait + Sync + Abort>(
+    rt: &R,
+    alloc: Global,
+    rounds: &[Round<'_>],
+) -> Result<(), Fail> {
+    for round in rounds {
+        check_meeting(rt, alloc, round)?;
+    }
+    Ok(())
 }
 
 #[test]
-fn workers_of_a_game_that_is_saved_and_goes_on_look_at_the_same_time(
+fn workers_of_a_workload_and_of_a_saved_game_look_at_the_same_time(
     rt: HostRuntime,
 ) -> Result<(), Fail> {
-    let meeting = Meeting::of(rt.alloc(), 3, TURNS)?;
-    let saving = KILLING.with(
-        Given::Line,
-        "save w r b --seed 12345 --rounds 1 --workers 3",
-    );
-    check_meeting(&rt, rt.alloc(), &saving, &meeting)?;
-    let meeting = Meeting::of(rt.alloc(), 2, 2)?;
-    let standing = KILLING.with(Given::Breaks, STANDING);
-    let going_on = standing.with(Given::Line, "resume k --rounds 3 --workers 2");
-    check_meeting(&rt, rt.alloc(), &going_on, &meeting)
-}
-
-#[test]
-fn a_far_run_by_two_workers_looks_at_the_same_time(rt: HostRuntime) -> Result<(), Fail> {
-    let line = "run w r b --seed 12345 --rounds 1 --dump 1 --stats --workers 2 --far";
-    let meeting = Meeting::of(rt.alloc(), 2, TURNS)?;
-    check_run(
-        &rt,
-        rt.alloc(),
-        line,
-        "turns 7 taken 5 redone 2\n",
-        &meeting,
-    )
+    check_meetings(&rt, rt.alloc(), &ROUNDS)
 }
