@@ -24,7 +24,7 @@ pub record IsDone (command : PlainCommand) (before after : Outside) (fetches : L
   pub is_text : IsJobText command contents text
   pub written : PushedAll before.out after.out text
 
--- all files were accepted, and a front of the text was written before the output failed
+-- all files were accepted, and a prefix of the text was written before the output failed
 pub record IsCut (command : PlainCommand) (before after : Outside) (fetches : List Fetched) : Type 0 where
   pub contents : List FileContent
   pub accepted : AreAccepted (files_of command) fetches contents
