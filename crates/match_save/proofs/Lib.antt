@@ -40,3 +40,4 @@ pub mod AfterRounds
 pub mod GameSaves
 -- Worked values.
 pub mod SaveWorked
+pub mod LinesWorked

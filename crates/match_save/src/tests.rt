@@ -153,7 +153,7 @@ const ZEROS: [(usize, usize, Option<SaveFault>); 69] = [
 ];
 
 // Texts, and what they are read as.
-const TEXTS: [(&str, Option<SaveFault>); 59] = [
+const TEXTS: [(&str, Option<SaveFault>); 60] = [
     (
         "ants save 1\nseed 12345\nsheet 5 3 14\nwindow 16384\nround 1\nplace 0\ntaken 1 redone 0\nsize 3 3\nred 1\nTurn Left 0\nblack 1\nTurn Left 0\n###\n#+#\n###\n000\n000\n000\n000\n000\n000\n000\n0n0\n000\nant 0 red 1 1 5 0 0 0\nend\n",
         None,
@@ -224,6 +224,10 @@ const TEXTS: [(&str, Option<SaveFault>); 59] = [
     ),
     (
         "ants save 1\nseed 12345\nsheet 5 3 14\nwindow 16384\nround 1\nplace 0\ntaken 1 redone 0\nsize 3 3\nred 1\nTurn Left 0\nblack 1\nTurn Left 0\n###\n#+#\n###\n100\n000\n000\n000\n000\n000\n000\n000\n000\nant 0 red 1 1 5 0 0 0\nend\n",
+        Some(SaveFault::BadState),
+    ),
+    (
+        "ants save 1\nseed 12345\nsheet 5 3 14\nwindow 16384\nround 1\nplace 0\ntaken 1 redone 0\nsize 3 3\nred 1\nTurn Left 0\nblack 1\nTurn Left 0\n###\n#+#\n###\n000\n000\n000\n100\n000\n000\n000\n000\n000\nant 0 red 1 1 5 0 0 0\nend\n",
         Some(SaveFault::BadState),
     ),
     (

@@ -63,6 +63,20 @@ const STOOD: [(&str, &str); 1] = [(
     "\nAfter round 3...\ncell (0, 0): rock\ncell (1, 0): rock\ncell (2, 0): rock\ncell (3, 0): rock\ncell (0, 1): rock\ncell (1, 1): 62 food; red hill; red marks: 3; red ant of id 0, dir 5, food 0, state 0, resting 0\ncell (2, 1): 63 food; black hill; black marks: 05; black ant of id 1, dir 3, food 1, state 1, resting 1\ncell (3, 1): rock\ncell (0, 2): rock\ncell (1, 2): rock\ncell (2, 2): rock\ncell (3, 2): rock\n\nscore: red 62 black 63\nturns 6 taken 5 redone 1\n",
 )];
 
+// Saves, and the rest of each up to round 3. In the first an ant flips by the second number of its stream, 2932, and then moves, to rest for 9
+// turns; it would do neither by the first number, 7193. In the second two ants sense the marker that the first ant sets in round 2: in windows
+// of two turns one of their looks is made before it, in windows of one turn none, in longer ones both.
+const LATER: [(&str, &str); 2] = [
+    (
+        "ants save 1\nseed 12345\nsheet 4 2 9\nwindow 50\nround 1\nplace 1\ntaken 2 redone 0\nsize 4 3\nred 3\nFlip 2 1 2\nMove 0 0\nDrop 2\nblack 1\nTurn Left 0\n####\n#++#\n####\n0000\n0000\n0000\n0000\n0000\n0000\n0000\n0000\n0000\nant 0 red 1 1 0 0 0 0\nend\n",
+        "\nAfter round 3...\ncell (0, 0): rock\ncell (1, 0): rock\ncell (2, 0): rock\ncell (3, 0): rock\ncell (0, 1): rock\ncell (1, 1): red hill; \ncell (2, 1): red hill; red ant of id 0, dir 0, food 0, state 0, resting 9\ncell (3, 1): rock\ncell (0, 2): rock\ncell (1, 2): rock\ncell (2, 2): rock\ncell (3, 2): rock\n\nscore: red 0 black 0\nturns 6 taken 6 redone 0\n",
+    ),
+    (
+        "ants save 1\nseed 7\nsheet 5 3 14\nwindow 2\nround 1\nplace 0\ntaken 3 redone 0\nsize 5 3\nred 2\nMark 0 0\nSense Ahead 1 1 Marker 0\nblack 1\nTurn Left 0\n#####\n#+++#\n#####\n00000\n00000\n00000\n00000\n00000\n00000\n00000\n00000\n00000\nant 0 red 2 1 0 0 0 0\nant 1 red 1 1 0 0 1 0\nant 2 red 3 1 3 0 1 0\nend\n",
+        "\nAfter round 3...\ncell (0, 0): rock\ncell (1, 0): rock\ncell (2, 0): rock\ncell (3, 0): rock\ncell (4, 0): rock\ncell (0, 1): rock\ncell (1, 1): red hill; red ant of id 1, dir 0, food 0, state 1, resting 0\ncell (2, 1): red hill; red marks: 0; red ant of id 0, dir 0, food 0, state 0, resting 0\ncell (3, 1): red hill; red ant of id 2, dir 3, food 0, state 1, resting 0\ncell (4, 1): rock\ncell (0, 2): rock\ncell (1, 2): rock\ncell (2, 2): rock\ncell (3, 2): rock\ncell (4, 2): rock\n\nscore: red 0 black 0\nturns 9 taken 8 redone 1\n",
+    ),
+];
+
 // Words that go on with it.
 const RESUMES: [(&str, &str); 3] = [
     ("resume k --rounds 2 --dump 1,2 --stats", REST),
@@ -96,7 +110,7 @@ const RESUMED: Job<'static> = Job {
 };
 
 // Games that are saved or gone on with, and saves that are refused.
-const TABLES: [Table<'static>; 6] = [
+const TABLES: [Table<'static>; 7] = [
     Table {
         job: TURNING,
         given: Given::Line,
@@ -126,6 +140,15 @@ const TABLES: [Table<'static>; 6] = [
         given: Given::Line,
         status: Status::Done,
         rows: &STOOD,
+    },
+    Table {
+        job: Job {
+            line: "resume k --rounds 3 --dump 3 --stats",
+            ..TURNING
+        },
+        given: Given::Breaks,
+        status: Status::Done,
+        rows: &LATER,
     },
     Table {
         job: GOING_ON,
