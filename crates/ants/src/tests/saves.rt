@@ -87,14 +87,18 @@ const RESUMES: [(&str, &str); 3] = [
 // Words that don't.
 const TOO_FEW: [(&str, &str); 1] = [("resume k --rounds 0", "ants: k: already at round 1\n")];
 
-// Texts that are no save to go on with.
-const REFUSED: [(&str, &str); 3] = [
+// Texts that are no save to go on with. The last has the longest line of a brain that is in form.
+const REFUSED: [(&str, &str); 4] = [
     ("", "ants: k: line 1: not a save\n"),
     (
         "ants save 1\nseed 1\nsheet 5 3",
         "ants: k: line 3: not a save\n",
     ),
     (TWO_TURNS, "ants: k: no valid state\n"),
+    (
+        "ants save 1\nseed 12345\nsheet 5 3 14\nwindow 16384\nround 1\nplace 0\ntaken 1 redone 0\nsize 3 3\nred 1\nTurn Left 0\nblack 1\nSense RightAhead 9999999999 9999999999 FriendWithFood\n###\n#+#\n###\n000\n000\n000\n000\n000\n000\n000\n000\n000\nant 0 red 1 1 5 0 0 0\nend\n",
+        "ants: k: no valid state\n",
+    ),
 ];
 
 // The game, with its save to go on with.
