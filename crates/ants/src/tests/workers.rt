@@ -306,8 +306,18 @@ fn crews_of_three_look_at_the_same_time(rt: HostRuntime) -> Result<(), Fail> {
     check_windows(&rt, rt.alloc(), &WINDOWS)
 }
 
-// Words of the same round, how many workers meet in it, and its counts.
-const MET: [(&str, usize, &str); 3] = [
+// Words of the same round, how many workers meet in it, and its counts where they are asked for.
+const MET: [(&str, usize, &str); 5] = [
+    (
+        "run w r b --seed 12345 --rounds 1 --dump 1 --workers 2",
+        2,
+        "",
+    ),
+    (
+        "run w r b --seed 12345 --rounds 1 --dump 1 --workers 2 --far",
+        2,
+        "",
+    ),
     (
         "run w r b --seed 12345 --rounds 1 --dump 1 --stats --window 3 --workers 2",
         2,
