@@ -11,7 +11,7 @@ use Rattle.ant_asm.specs.Program.Items.{End, Do, Use}
 use Rattle.ant_asm.specs.Places.{Address, Frame, Placed, beginning, first_at, inner, main_frame, placed, placed_at, placed_from, placed_or_first, places, places_of, target}
 use Rattle.ant_asm.specs.LabelGame.{instruction_by}
 use Rattle.ant_asm.specs.Assembled.{IsAssembled, number_in}
-use Rattle.ant_asm.specs.Inner.Emitting.{Numbers, emitted, inner_numbers, main_numbers, number_first, number_of, number_target, number_walk, offset}
+use Rattle.ant_asm.specs.Inner.Emission.{Numbers, emitted, inner_numbers, main_numbers, number_first, number_of, number_target, number_walk, offset}
 use Rattle.ant_asm.proofs.Addresses.{HoldsIn, HoldsIn-all, HoldsIn-body, HoldsIn-each, IsAmong, beginning-number, first_of-places, first_or, number_in-found}
 
 -- addresses in a list have the numbers from n on, by the way that leads to them

@@ -17,7 +17,7 @@ use Rattle.ant_asm.specs.declared.action.Action.{Action}
 use Rattle.ant_asm.specs.declared.action.Label.{Label}
 use Rattle.ant_asm.specs.Places.{places_of}
 use Rattle.ant_asm.specs.LabelGame.{instruction_by}
-use Rattle.ant_asm.specs.Inner.Emitting.{Numbers, emitted, inner_numbers, number_first, number_target, offset}
+use Rattle.ant_asm.specs.Inner.Emission.{Numbers, emitted, inner_numbers, number_first, number_target, offset}
 use Rattle.ant_asm.specs.Inner.Flat.{AreGood, HasGiven, IsGood, IsGoodItem, IsLabelOf, IsPlace, most, tree_at, tree_of, trees_from, trees_of}
 
 -- what stands before a place, and what stands from it on, is all

@@ -1,6 +1,6 @@
 -- Every labelled program is assembled, to one brain with one list of places.
-use Rattle.std.proofs.Common.{◌≡◌, ◌⊎◌, inl, inr, ℕ, suc, ◌<◌, ◌≤◌, List, [], ◌∷◌, ◌++◌, length, Option, Some, None, refl, sym, ◌∙◌, subst, arith}
-use Rattle.std.specs.Prelude.{slice_get, bytes_eq, ◌==◌, option_map}
+use Rattle.std.proofs.Common.{◌≡◌, ◌⊎◌, inl, inr, ℕ, ◌≤◌, List, [], ◌∷◌, ◌++◌, length, Option, Some, None, refl, sym, ◌∙◌, subst, arith}
+use Rattle.std.specs.Prelude.{bytes_eq, ◌==◌, option_map}
 use Rattle.std.proofs.lemmas.Bool.{cases_Bool, cond-true, cond-false, eq-eqb}
 use Rattle.std.proofs.lemmas.Option.{same_Some}
 use Rattle.list_lemmas.proofs.Entries.{same_entries}
@@ -19,7 +19,7 @@ use Rattle.ant_asm.specs.Standing.Item.{Instruction, Call}
 use Rattle.ant_asm.specs.Assembled.{IsAssembled}
 use Rattle.ant_asm.specs.Answers.{IsAssembledText, OneBrain}
 use Rattle.ant_asm.specs.Text.{IsAsmFault, IsAsmText, Leads, last_fault}
-use Rattle.ant_asm.specs.Inner.Emitting.{emitted, main_numbers}
+use Rattle.ant_asm.specs.Inner.Emission.{emitted, main_numbers}
 use Rattle.ant_asm.proofs.Brains.{element}
 use Rattle.ant_asm.proofs.Emission.{emitted-assembled, places_of-size}
 use Rattle.ant_asm.proofs.LineLemmas.{lines_decide}

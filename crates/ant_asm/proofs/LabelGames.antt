@@ -26,7 +26,7 @@ use Rattle.ant_turn.specs.Renumber.{redirected, renumbered_ant, renumbered_cell,
 use Rattle.ant_turn.specs.Rounds.{Moment, after_round, after_rounds, after_turn, after_turns, start_of}
 use Rattle.ant_turn.specs.Turn.{Outcome, acts, instruction_at, turn, turn_at, turn_from, with_ant}
 use Rattle.ant_turn.proofs.KeptByTurns.{Keeps-turn}
-use Rattle.ant_turn.proofs.Fitting.{Fits-opening}
+use Rattle.ant_turn.proofs.FitLemmas.{Fits-opening}
 use Rattle.ant_turn.proofs.RenumberLemmas.{after, place_in-renumbered}
 use Rattle.ant_asm.specs.declared.action.Label.{Label}
 use Rattle.ant_asm.specs.Program.{Items}
@@ -35,7 +35,7 @@ use Rattle.ant_asm.specs.LabelGame.{LabelMoment, address_acted, address_at, addr
 use Rattle.ant_asm.specs.Assembled.{IsAssembled, number_in}
 use Rattle.ant_asm.specs.Match.{label_game, numbered_ant, numbered_cell, numbered_moment}
 use Rattle.ant_asm.proofs.Addresses.{HasPlace, beginning-number, beginning-place, target-place}
-use Rattle.ant_asm.proofs.Leaving.{OfAll, OfOthers, execute-of, leaves, state_taken}
+use Rattle.ant_asm.proofs.NextStates.{OfAll, OfOthers, execute-of, leaves, state_taken}
 use Rattle.ant_asm.proofs.LabelTurns.{address_from-has, address_from-states, agrees_side, cond-one, mind_of-side, redirected-bare, same_colour-side, state_taken-by, turn-side, wiped, with_address-has, with_address-other, with_address-own, with_address-same}
 
 module _ (main : Items) (brain : List Instr) (list : List Address) (assembled : IsAssembled main brain list) (side : Colour) (minds : Minds) (seed : ℕ) where

@@ -24,7 +24,7 @@ use Rattle.ant_asm.specs.declared.action.Label.{Label}
 use Rattle.ant_asm.specs.declared.action.Action.TheVariants.{Sense, Mark, Unmark, PickUp, Drop, Turn, Move, Flip}
 use Rattle.ant_asm.specs.Places.{Address, Placed}
 use Rattle.ant_asm.specs.LabelGame.{address_acted, address_at, address_from, bare_instruction, instruction_by, label_taken, with_address}
-use Rattle.ant_asm.proofs.Leaving.{state_taken}
+use Rattle.ant_asm.proofs.NextStates.{state_taken}
 
 -- the states of a side's ants are wiped out, and the other side's stay
 abbrev pub wiped : Colour → Colour → ℕ → ℕ

@@ -3,7 +3,7 @@ pub mod Addresses
 pub mod Firsts
 pub mod Brains
 -- A turn that names states by addresses is the turn that names them by numbers.
-pub mod Leaving
+pub mod NextStates
 pub mod LabelTurns
 pub mod LabelGames
 pub mod Scores
@@ -22,7 +22,7 @@ pub mod OpenLemmas
 pub mod ReadingLemmas
 pub mod BlockLemmas
 pub mod ProgramLemmas
-pub mod Assembling
+pub mod Expansion
 pub mod HasAssembled
 pub mod OnAnswers
 -- Worked values.

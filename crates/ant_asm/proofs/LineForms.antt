@@ -10,8 +10,8 @@ use Rattle.brain_read.specs.declared.form.Form.{Form}
 use Rattle.brain_read.specs.declared.form.ConditionWord.{ConditionWord}
 use Rattle.brain_read.specs.Places.{sight_at, side_at, condition_word_at}
 use Rattle.brain_read.specs.Forms.{most_bound, sights, sides, conditions, sight_words, side_words, condition_words, word_of_sight, word_of_side, word_of_condition}
-use Rattle.brain_read.specs.Judging.{positions_of, positions_of_condition}
-use Rattle.brain_read.specs.Judging.Position.{SightToken, SideToken, ConditionToken, MarkerToken, BoundToken}
+use Rattle.brain_read.specs.Judgement.{positions_of, positions_of_condition}
+use Rattle.brain_read.specs.Judgement.Position.{SightToken, SideToken, ConditionToken, MarkerToken, BoundToken}
 use Rattle.line_tokens.specs.Steps as brain
 use Rattle.brain_read.specs.Steps.{condition_from, take_bound, take_condition, take_marker, take_side, take_sight}
 use Rattle.line_tokens.specs.Steps.{take_end, take_word}
@@ -24,7 +24,7 @@ use Rattle.ant_asm.specs.Names.{Named, label_of, name_of}
 use Rattle.ant_asm.specs.Lines.{Keyword, Line, most_parameters}
 use Rattle.ant_asm.specs.Lines.Keyword.{BlockWord, EndWord, UseWord}
 use Rattle.ant_asm.specs.Lines.Line.{Begins, Ends, Uses, Instructs}
-use Rattle.line_tokens.specs.Judging.{nothing_more}
+use Rattle.line_tokens.specs.Judgement.{nothing_more}
 use Rattle.ant_asm.specs.LineFaults.{Position, labelled_position, positions_of_keyword}
 use Rattle.ant_asm.specs.LineFaults.Position.{LabelToken, MayLabel, MayName, NameToken, Of}
 use Rattle.ant_asm.specs.Inner.Reading.{Read, Step, ◌>>=◌, all_read, ending, lifted, read_branches, read_drop, read_flip, read_form, read_keyword, read_label, read_marked, read_name, read_named, read_sense, read_turn, take_all, take_token}

@@ -18,7 +18,7 @@ use Rattle.brain_read.specs.Places.{form_at}
 use Rattle.brain_read.specs.Forms.{most_bound, form_words, forms, sight_words, side_words, condition_words, fields_of_condition, word_of_form, word_of_sight, word_of_side, word_of_condition}
 use Rattle.line_tokens.specs.Fields.{named}
 use Rattle.line_tokens.specs.Fields.LineField.{Word, Number}
-use Rattle.brain_read.specs.Judging.{positions_of}
+use Rattle.brain_read.specs.Judgement.{positions_of}
 use Rattle.line_tokens.proofs.PlacesLemmas.{Names, named-place, word-again, word-found, word-good}
 use Rattle.line_tokens.proofs.StepsLemmas.{IsWithin, within-again, within-some}
 use Rattle.brain_read.proofs.FormsLemmas.{condition_names, form_names, side_names, sight_names}
@@ -32,7 +32,7 @@ use Rattle.ant_asm.specs.Lines.{Field, IsName, Keyword, Line, Says, Spells, Spel
 use Rattle.ant_asm.specs.Lines.Keyword.{BlockWord, EndWord, UseWord}
 use Rattle.ant_asm.specs.Lines.Field.{Plain, NameField, ColonField, LabelField}
 use Rattle.ant_asm.specs.Lines.Line.{Marks, Begins, Ends, Uses, Instructs}
-use Rattle.line_tokens.specs.Judging.{judged}
+use Rattle.line_tokens.specs.Judgement.{judged}
 use Rattle.ant_asm.specs.LineFaults.{Position, first_fault, labelled_position, or_else, positions_after, positions_of_keyword, positions_of_mark, spelling_fault}
 use Rattle.ant_asm.specs.Inner.Reading.{Read, ◌>>=◌, fault_at, keyword_at, keyword_words, or_fault, read_by, read_keyword, read_line, read_mark}
 use Rattle.ant_asm.proofs.LineSteps.{AreTokensOf, SpelledAllBy, SpelledBy, SpelledEnd, fault_of_read, ok_same}

@@ -6,7 +6,7 @@ use Rattle.ant_asm.specs.declared.fault.AsmFault.TheVariants as asm_fault
 use Rattle.ant_asm.specs.declared.spelling.SpellingFault.{SpellingFault}
 use Rattle.ant_asm.specs.declared.spelling.SpellingFault.TheVariants.{BadByte, ExtraToken, MissingToken}
 use Rattle.ant_asm.specs.Lines.{Line}
-use Rattle.line_tokens.specs.Judging.{judged, nothing_more}
+use Rattle.line_tokens.specs.Judgement.{judged, nothing_more}
 use Rattle.ant_asm.specs.LineFaults.{Position, accepted, fault_of, first_fault, missing_at}
 use Rattle.ant_asm.specs.Inner.Reading.{Read, Step, ◌>>=◌, ending, fault_at, good_token, or_fault, put_before, take_all, take_token, with_rest}
 

@@ -12,7 +12,7 @@ use Rattle.line_tokens.specs.declared.refusal.LineFault.{LineFault}
 use Rattle.line_tokens.specs.Tokens.{has_bad_byte, is_bad_byte}
 use Rattle.line_tokens.specs.Steps as brain
 use Rattle.line_tokens.specs.Steps.{◌>>=◌, or_refused, refused, take_number, take_word}
-use Rattle.brain_read.specs.Judging as judging
+use Rattle.brain_read.specs.Judgement as judging
 use Rattle.line_tokens.proofs.PlacesLemmas.{Names, decimal_value-good, good_byte, has_bad_byte-same, word-good}
 use Rattle.line_tokens.proofs.StepsLemmas.{within-some}
 use Rattle.ant_asm.specs.declared.spelling.SpellingFault.TheVariants.{BadByte, BadName, BadNumber, UnknownWord}
@@ -20,7 +20,7 @@ use Rattle.ant_asm.specs.Names.{Named, are_name_bytes, before_colon, begins_with
 use Rattle.ant_asm.specs.Names.Named.{NextWord, Name}
 use Rattle.ant_asm.specs.Lines.{IsName, Spells}
 use Rattle.ant_asm.specs.Lines.Field.{LabelField, NameField}
-use Rattle.line_tokens.specs.Judging.{nothing_more}
+use Rattle.line_tokens.specs.Judgement.{nothing_more}
 use Rattle.ant_asm.specs.LineFaults.{fault_of}
 use Rattle.ant_asm.specs.LineFaults.Position.{LabelToken, MayLabel, MayName, NameToken, Of}
 use Rattle.ant_asm.specs.Inner.Reading.{Step, fault_at, fault_spelled, good_token, lifted, or_fault, take_token, with_rest}

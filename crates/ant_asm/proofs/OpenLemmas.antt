@@ -21,7 +21,7 @@ use Rattle.ant_asm.specs.LabelGame.{instruction_by}
 use Rattle.ant_asm.specs.Names.{Named}
 use Rattle.ant_asm.specs.Names.Named.{NextWord, Name}
 use Rattle.ant_asm.specs.Standing.{Item, ItemLine, items_by, items_of, mapped, parameter_names, way_or_next, with_item, with_name}
-use Rattle.ant_asm.specs.Inner.Emitting.{offset}
+use Rattle.ant_asm.specs.Inner.Emission.{offset}
 use Rattle.ant_asm.specs.Inner.Flat.{AreGood, IsGood, IsGoodAction, IsGoodItem, IsGoodLabel, most, tree_at, tree_of, trees_from, trees_of}
 use Rattle.ant_asm.specs.Inner.Ranged.{AreRanged}
 use Rattle.ant_asm.specs.Inner.Reading.{seen}

@@ -1,4 +1,4 @@
-pub mod Emitting
+pub mod Emission
 pub mod Flat
 pub mod Scopes
 pub mod Reading

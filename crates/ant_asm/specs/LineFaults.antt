@@ -1,12 +1,12 @@
 -- Which position of a line is at fault (this project's own: the rule of faults).
 use Rattle.std.specs.Prelude.{ℕ, List, [], ◌∷◌, ◌++◌, map, Option, Some, None, option_map, replicate, if◌then◌else◌}
-use Rattle.line_tokens.specs.Judging.{judged, nothing_more}
+use Rattle.line_tokens.specs.Judgement.{judged, nothing_more}
 use Rattle.line_tokens.specs.Tokens.{has_bad_byte}
 use Rattle.brain_read.specs.Forms.{forms, word_of_form}
 use Rattle.line_tokens.specs.Fields.{named}
-use Rattle.brain_read.specs.Judging as brain
-use Rattle.brain_read.specs.Judging.{positions_of}
-use Rattle.brain_read.specs.Judging.Position.{FormToken, SightToken, SideToken, ConditionToken, MarkerToken, StateToken, BoundToken}
+use Rattle.brain_read.specs.Judgement as brain
+use Rattle.brain_read.specs.Judgement.{positions_of}
+use Rattle.brain_read.specs.Judgement.Position.{FormToken, SightToken, SideToken, ConditionToken, MarkerToken, StateToken, BoundToken}
 use Rattle.ant_asm.specs.declared.fault.AsmFault.{AsmFault}
 use Rattle.ant_asm.specs.declared.fault.AsmFault.TheVariants.{BadByte, UnknownWord, MissingToken, BadNumber, ExtraToken, BadName}
 use Rattle.ant_asm.specs.Lines.{Keyword, keywords, most_parameters, word_of_keyword}

@@ -8,7 +8,7 @@ ghost use Rattle.ant_asm.specs.Program.{Items};
 ghost use Rattle.ant_asm.specs.Text.{IsAsmFault, IsAsmText};
 ghost use Rattle.ant_asm.specs.Answers.{AnswersFault, AnswersProgram, IsAssembledText, IsFaultOf, PlaysText};
 ghost use Rattle.ant_asm.specs.Places.{places};
-ghost use Rattle.ant_asm.specs.Inner.Emitting.{emitted, main_numbers};
+ghost use Rattle.ant_asm.specs.Inner.Emission.{emitted, main_numbers};
 ghost use Rattle.ant_asm.specs.Inner.Flat.{tree_at};
 ghost use Rattle.ant_asm.specs.Inner.ProgramView.{AreBodiesOf, last_of};
 

@@ -3,7 +3,7 @@ ghost use Rattle.std.specs.Prelude.{◌≡◌, ℕ, List, ◌+◌, ◌<◌, ◌�
 ghost use Rattle.ant_asm.specs.Program.{size_of};
 ghost use Rattle.ant_asm.specs.Places.{places_of};
 ghost use Rattle.ant_asm.specs.LabelGame.{instruction_by};
-ghost use Rattle.ant_asm.specs.Inner.Emitting.{emitted, number_first};
+ghost use Rattle.ant_asm.specs.Inner.Emission.{emitted, number_first};
 ghost use Rattle.ant_asm.specs.Inner.Flat.{AreGood, AreLabelsOf, HasGiven, IsActionOf, IsLabelOf, IsPlace, IsSpot, number_led, numbers_of, tree_at, most};
 
 use crate::action::{Action, Label};

@@ -3,10 +3,10 @@ pub mod Digits
 pub mod Numbered
 pub mod Linewise
 -- What is pushed, and what a stream was given.
-pub mod Pushing
-pub mod Streaming
+pub mod Pushes
+pub mod Streams
 -- What is fetched.
-pub mod Fetching
+pub mod Fetches
 -- Worked values.
 pub mod Worked
 pub mod SystemWorked

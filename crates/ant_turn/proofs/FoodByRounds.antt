@@ -8,7 +8,7 @@ use Rattle.ant_turn.specs.FoodLaws.{killed_in, living_of, world_after_turn}
 use Rattle.ant_turn.specs.Keeps.{Keeps}
 use Rattle.ant_turn.specs.Minds.{Minds, Fits, AreSound}
 use Rattle.ant_turn.specs.Rounds.{Moment, after_turn, after_turns, after_round, after_rounds}
-use Rattle.ant_turn.proofs.Counting.{turn-food, turn-living}
+use Rattle.ant_turn.proofs.Sums.{turn-food, turn-living}
 use Rattle.ant_turn.proofs.KeptByRounds.{Keeps-after_turns, Keeps-after_rounds}
 
 -- the food of a world, and a corpse for each ant that is alive

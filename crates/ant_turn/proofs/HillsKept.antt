@@ -19,7 +19,7 @@ use Rattle.ant_turn.specs.HillLaws.{GamesKeepHills, HasHillsOf, RoundsKeepHills,
 use Rattle.ant_turn.specs.Keeps.{Keeps}
 use Rattle.ant_turn.specs.Minds.{Minds, AreSound}
 use Rattle.ant_turn.specs.Rounds.{start_of}
-use Rattle.ant_turn.proofs.Fitting.{Fits-opening}
+use Rattle.ant_turn.proofs.FitLemmas.{Fits-opening}
 use Rattle.ant_turn.proofs.KeptByRounds.{Keeps-after_rounds, Keeps-after_turns, after_rounds-ids}
 
 -- worlds of one size whose cells are of the same hills have as many hill cells

@@ -7,19 +7,20 @@ pub mod Deaths
 pub mod OwnCells
 pub mod TurnParts
 pub mod Turns
+pub mod FoundAnts
 -- What checks, turns and rounds keep.
 pub mod KeepsLemmas
 pub mod KeptByChecks
 pub mod KeptByTurns
 pub mod KeptByRounds
-pub mod Fitting
+pub mod FitLemmas
 pub mod HillsKept
 pub mod MarksKept
 pub mod StandsLemmas
 -- Food and kills, counted.
-pub mod Counting
+pub mod Sums
 pub mod FoodByRounds
-pub mod Killing
+pub mod KillLemmas
 -- Turns that change nothing, and turns where ants have other states and rest for longer or shorter.
 pub mod QuietLemmas
 pub mod OtherAnts

@@ -2,7 +2,7 @@
 use Rattle.std.proofs.Common.{List, [], ◌∷◌, ℕ, sym, subst}
 use Rattle.ant_base.specs.Fetched.{Fetched}
 use Rattle.ant_turn.specs.Minds.{Fits}
-use Rattle.ant_turn.proofs.Fitting.{Fits-opening}
+use Rattle.ant_turn.proofs.FitLemmas.{Fits-opening}
 use Rattle.brain_read.specs.declared.instr.Instr.{Instr}
 use Rattle.brain_read.proofs.SoundnessLemmas.{brain_of}
 use Rattle.ant_turn.specs.Sheet.{Sheet}

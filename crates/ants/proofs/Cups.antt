@@ -10,7 +10,7 @@ use Rattle.std.specs.declared.alloc.Global.{Global}
 use Rattle.ant_base.specs.Fetched.{Fetched}
 use Rattle.ant_turn.specs.Minds.{Fits, contest_minds}
 use Rattle.ant_turn.specs.Sheet.{Sheet, contest}
-use Rattle.ant_turn.proofs.Fitting.{Fits-opening}
+use Rattle.ant_turn.proofs.FitLemmas.{Fits-opening}
 use Rattle.brain_read.specs.declared.instr.Instr.{Instr}
 use Rattle.brain_read.proofs.SoundnessLemmas.{brain_of}
 use Rattle.cell_world.specs.Grid.{Grid, world_of}

@@ -1,11 +1,11 @@
 -- The endings of a command that generates a world and reads no file.
 use Rattle.std.proofs.Common.{◌≡◌, ◌∙◌, ℕ, List, [], ap₂, refl, sym, subst, Result, Ok, Err}
 use Rattle.std.specs.Prelude.{IsErrAnd}
-use Rattle.ant_base.proofs.Fetching.{fetches_none}
+use Rattle.ant_base.proofs.Fetches.{fetches_none}
 use Rattle.ant_base.specs.Shelf.{ShelfState}
 use Rattle.ant_base.specs.Sink.{SinkState, PushedAll, PushedFront}
 use Rattle.ant_turn.specs.Minds.{Fits}
-use Rattle.ant_turn.proofs.Fitting.{Fits-opening}
+use Rattle.ant_turn.proofs.FitLemmas.{Fits-opening}
 use Rattle.cell_world.specs.Grid.{Grid, world_of}
 use Rattle.cell_world.specs.Opening.{opening}
 use Rattle.command_words.specs.Command.{PlainCommand}
@@ -19,7 +19,7 @@ use Rattle.world_read.specs.Opened.{IsOpeningWorld, kinds_of}
 use Rattle.ants.specs.declared.stop.CommandStop.{CommandStop}
 use Rattle.ants.specs.declared.stop.CommandStop.TheVariants as stop
 use Rattle.ants.specs.Files.{AreAccepted, File}
-use Rattle.ants.specs.Inner.Planning.{IsGenerating}
+use Rattle.ants.specs.Inner.Plans.{IsGenerating}
 use Rattle.ants.specs.Inner.Reading.{CarriesOut, ending_of}
 use Rattle.ants.specs.Outputs.{LacksRoom, contest_shape, files_of, sample_minds, shape_named}
 use Rattle.ants.proofs.Readings.{carries_done, carries_failure, carries_wanting, ending_stopped, reads_none}

@@ -11,7 +11,7 @@ use Rattle.cell_world.specs.Grid.{Grid, world_of}
 use Rattle.command_words.specs.Command.PlainCommand.{ShowCommand, BrainCommand, MinimiseCommand, RunCommand, GenCommand, CupCommand, ViewCommand, WorkloadCommand, HelpCommand, VersionCommand, AsmCommand, SaveCommand, ResumeCommand}
 use Rattle.command_words.specs.Laws.{ShapeWithin}
 use Rattle.command_words.specs.declared.command.GenShape.{GenShape}
-use Rattle.tournament.proofs.Sorting.{has_standing}
+use Rattle.tournament.proofs.SortedLines.{has_standing}
 use Rattle.tournament.specs.Text.{standing_text}
 use Rattle.world_gen.proofs.HasWorlds.{has_outcome}
 use Rattle.world_gen.specs.Generated.{IsGenerated, IsShape}

@@ -13,12 +13,12 @@ use Rattle.match_run.specs.Counts.{whole_text}
 use Rattle.match_run.specs.Dumps.{chooses}
 use Rattle.match_run.specs.Play.{StoppedBy}
 use Rattle.match_save.specs.Saved.{save_text}
-use Rattle.match_save.specs.Saving.{saved_after}
+use Rattle.match_save.specs.Saves.{saved_after}
 use Rattle.ants.specs.declared.run.PlannedGame.{PlannedGame}
 use Rattle.ants.specs.declared.run.Setting.{Setting}
 use Rattle.ants.specs.declared.stop.CommandStop.{CommandStop}
 use Rattle.ants.specs.Files.FileContent.{BrainContent, WorldContent}
-use Rattle.ants.specs.Inner.Planning.{Plans, minds_in, setting_contents, stop_of, text_in}
+use Rattle.ants.specs.Inner.Plans.{Plans, minds_in, setting_contents, stop_of, text_in}
 use Rattle.ants.specs.Inner.Reading.{CarriesOut, ReadsFiles, ending_of}
 use Rattle.ants.specs.Inner.Reading.ReadOutcome.{Contents}
 use Rattle.ants.specs.Outputs.{chosen_rounds, game_files, match_output, minds_named, save_output}

@@ -1,9 +1,8 @@
 -- Files read one after another: what the reading of some and then of others comes to.
-use Rattle.std.proofs.Common.{◌≡◌, ℕ, ◌≤◌, Bool, true, false, List, [], ◌∷◌, ◌++◌, refl, sym, ap, subst, arith, inl, inr, Result, Ok, Err, Option, None, Some}
+use Rattle.std.proofs.Common.{◌≡◌, ℕ, Bool, true, false, List, [], ◌∷◌, ◌++◌, refl, sym, ap, subst, inl, inr, Result, Ok, Err, Option, None, Some}
 use Rattle.std.specs.Prelude.{IsErrAnd, Vec}
-use Rattle.ant_base.proofs.Fetching.{fetches_none, fetches_one, fetches_then}
-use Rattle.ant_base.proofs.Pushing.{rose_later}
-use Rattle.ant_base.specs.Faults.{Rose}
+use Rattle.ant_base.proofs.Fetches.{fetches_none, fetches_one, fetches_then}
+use Rattle.ant_base.proofs.Pushes.{rose_later}
 use Rattle.ant_base.specs.Fetched.{Fetched}
 use Rattle.ant_base.specs.Shelf.{Fetches, FetchesEach, ShelfState}
 use Rattle.ant_base.specs.Sink.{SinkState, PushedAll, PushedFront}
@@ -19,7 +18,7 @@ use Rattle.ants.specs.declared.stop.FileFault.TheVariants.{TooLong, World, Brain
 use Rattle.ants.specs.declared.stop.CommandStop.{CommandStop}
 use Rattle.ants.specs.declared.stop.CommandStop.TheVariants as stop
 use Rattle.ants.specs.Files.{File, FileContent, AreAccepted, AreBegun, IsRefused, Refuses, StopsAt}
-use Rattle.ants.specs.Inner.Planning.{stop_of}
+use Rattle.ants.specs.Inner.Plans.{stop_of}
 use Rattle.ants.specs.Inner.Reading.{CarriesOut, CarriesOutWords, ComesTo, EndsBy, ReadOutcome, ReadingStops, ReadsFiles, ReadsText, TextStops, ending_of, fetch_reason, outcome_of}
 use Rattle.ants.specs.Inner.Reading.ReadOutcome.{Contents, Stopped}
 use Rattle.ants.specs.Outputs.{files_of, IsJobText}

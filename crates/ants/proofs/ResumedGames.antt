@@ -16,11 +16,11 @@ use Rattle.line_tokens.specs.TokenLines.{TokenLine, lines_with_tokens}
 use Rattle.match_run.specs.Counts.{whole_text}
 use Rattle.match_run.specs.Run.{dumps_text}
 use Rattle.match_save.proofs.AfterRounds.{games_are_saved}
-use Rattle.match_save.proofs.Resuming.{saves_go_on}
+use Rattle.match_save.proofs.ResumedGames.{saves_go_on}
 use Rattle.match_save.proofs.SaveVerdicts.{every_verdict}
 use Rattle.match_save.specs.Resumed.{IsOfGame, rest_of}
 use Rattle.match_save.specs.Saved.{IsSaveText, IsSaved, SavedValue}
-use Rattle.match_save.specs.Saving.{Starts, saved_after}
+use Rattle.match_save.specs.Saves.{Starts, saved_after}
 use Rattle.world_read.specs.Opened.{OpensAs}
 use Rattle.ants.specs.Files.{AreAccepted, FileContent, IsAccepted, Reads}
 use Rattle.ants.specs.Files.FileContent.{WorldContent, BrainContent, BreakContent, LabelledContent, SaveContent}

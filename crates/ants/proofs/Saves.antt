@@ -11,7 +11,7 @@ use Rattle.match_run.specs.Game.{GameValue}
 use Rattle.match_run.specs.GameLaws.{IsAtRound}
 use Rattle.match_run.specs.Run.{world_after}
 use Rattle.match_save.specs.Saved.{SavedValue}
-use Rattle.match_save.specs.Saving.{CanBeSaved, grid_at, save_of, saved_after}
+use Rattle.match_save.specs.Saves.{CanBeSaved, grid_at, save_of, saved_after}
 use Rattle.match_save.proofs.AfterRounds.{grid_at-world}
 use Rattle.round_book.specs.Book.{FieldValue}
 use Rattle.world_read.specs.Opened.{IsOpeningWorld}

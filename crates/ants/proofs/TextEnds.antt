@@ -7,7 +7,7 @@ use Rattle.std.specs.List.{flat_map}
 use Rattle.std.specs.Prelude.{◌-◌, ◌*◌, ◌%◌, ◌==◌, codes, decimal, slice_index_or}
 use Rattle.ant_asm.proofs.HasAssembled.{assembled-some}
 use Rattle.ant_base.proofs.Numbered.{numbered-list}
-use Rattle.ant_base.proofs.Pushing.{ends_in_lf-append}
+use Rattle.ant_base.proofs.Pushes.{ends_in_lf-append}
 use Rattle.ant_base.specs.Fetched.{Fetched}
 use Rattle.ant_base.specs.Layout.{numbered, ◌+++◌}
 use Rattle.ant_base.specs.Lines.{ends_in_lf}
@@ -39,7 +39,7 @@ use Rattle.match_run.specs.Counts.{both}
 use Rattle.match_run.specs.Rest.{later_dumps, rest_text}
 use Rattle.match_save.specs.Resumed.{moment_of, rest_of}
 use Rattle.match_save.specs.Saved.{SavedValue, draft_of, save_text}
-use Rattle.match_save.specs.Saving.{saved_after}
+use Rattle.match_save.specs.Saves.{saved_after}
 use Rattle.match_save.specs.Text.{draft_lines, draft_text}
 use Rattle.tournament.proofs.GamesLemmas.{length-below}
 use Rattle.tournament.specs.Games.{all_played, below}

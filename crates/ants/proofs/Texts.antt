@@ -2,7 +2,7 @@
 use Rattle.std.proofs.Common.{◌≡◌, ◌≢◌, ◌⊎◌, inl, inr, ℕ, ◌≤◌, List, Result, Ok, Err, refl, sym, ◌∙◌, ap, subst, arith}
 use Rattle.std.proofs.lemmas.Bool.{cases_lt}
 use Rattle.ant_asm.proofs.HasAssembled.{one-reading, some-reading}
-use Rattle.ant_asm.proofs.Assembling.{no-fault}
+use Rattle.ant_asm.proofs.Expansion.{no-fault}
 use Rattle.ant_asm.proofs.LineLemmas.{lines_decide}
 use Rattle.ant_asm.proofs.TextLemmas as program_text
 use Rattle.ant_asm.specs.Answers as labelled_answers
@@ -35,7 +35,7 @@ use Rattle.ants.specs.declared.stop.CommandStop.{CommandStop}
 use Rattle.ants.specs.declared.stop.FileFault.{FileFault}
 use Rattle.ants.specs.declared.stop.FileFault.TheVariants.{TooLong, World, Brain, Breaks, Labelled, Save, AlreadyAt}
 use Rattle.ants.specs.Files.{FileContent, FileKind, IsPast, Reads, Refuses}
-use Rattle.ants.specs.Inner.Planning.{IsUpTo}
+use Rattle.ants.specs.Inner.Plans.{IsUpTo}
 use Rattle.ants.specs.Files.FileContent.{WorldContent, BrainContent, BreakContent, LabelledContent, SaveContent}
 use Rattle.ants.specs.Files.FileKind.{WorldFile, BrainFile, BreakFile, LabelledFile, SaveFile}
 use Rattle.ants.specs.Inner.Reading.{TextStops, ReadsText, save_reason, brain_reason, break_reason, labelled_reason, world_reason}

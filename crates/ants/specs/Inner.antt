@@ -1,3 +1,3 @@
 pub mod Cups
-pub mod Planning
+pub mod Plans
 pub mod Reading

@@ -23,7 +23,7 @@ use Rattle.match_run.specs.Dumps.{has_round}
 use Rattle.match_run.specs.Run.{world_after}
 use Rattle.match_save.specs.Resumed.{rest_of}
 use Rattle.match_save.specs.Saved.{save_text}
-use Rattle.match_save.specs.Saving.{saved_after}
+use Rattle.match_save.specs.Saves.{saved_after}
 use Rattle.dump_print.specs.Texts.{seed_text, dump_text, score_text, stats_text}
 use Rattle.command_words.specs.Command.{PlainCommand, ResumeSetup, RunSetup}
 use Rattle.command_words.specs.Command.PlainCommand.{ShowCommand, BrainCommand, MinimiseCommand, RunCommand, GenCommand, CupCommand, ViewCommand, WorkloadCommand, HelpCommand, VersionCommand, AsmCommand, SaveCommand, ResumeCommand}

@@ -2,7 +2,7 @@
 ghost use Rattle.command_words.specs.Command.PlainCommand.{BrainCommand};
 ghost use Rattle.ants.specs.Inner.Reading.{CarriesOut, ending_of};
 
-use crate::fetching::read_file;
+use crate::files::read_file;
 use crate::stop::CommandStop;
 use ant_base::{Shelf, Sink};
 use brain_read::{Brain, write_brain};

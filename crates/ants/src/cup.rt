@@ -11,7 +11,7 @@ ghost use Rattle.ants.specs.Inner.Cups.{AreReady, CanBePlayed};
 ghost use Rattle.ants.specs.Inner.Reading.{CarriesOut, ReadsFiles, ending_of, outcome_of};
 ghost use Rattle.ants.specs.Outputs.{cup_contents, cup_files, score_between};
 
-use crate::fetching::read_files;
+use crate::files::read_files;
 use crate::stop::CommandStop;
 use ant_base::{Shelf, Sink};
 use ant_turn::{Brains, Sheet};

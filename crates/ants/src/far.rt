@@ -3,7 +3,7 @@ ghost use Rattle.std.specs.Prelude.{◌≡◌};
 ghost use Rattle.command_words.specs.Command.PlainCommand.{RunCommand};
 ghost use Rattle.command_words.specs.Laws.{SetupWithin};
 ghost use Rattle.command_words.specs.Words.{plain_setup};
-ghost use Rattle.ants.specs.Inner.Planning.{CanPlay};
+ghost use Rattle.ants.specs.Inner.Plans.{CanPlay};
 ghost use Rattle.ants.specs.Inner.Reading.{CarriesOut, ending_of};
 
 use crate::run::{AskedGame, FileNames, PlannedGame, planned_game, run_by};
@@ -29,7 +29,7 @@ struct RunErrand<'s, 'o, 'w, S: Shelf, K: Sink> {
 
 impl<'s, 'o, 'w, S: Shelf, K: Sink> Errand for RunErrand<'s, 'o, 'w, S, K> {
     ghost use Rattle.std.specs.Prelude.{◌≡◌};
-    ghost use Rattle.ants.specs.Inner.Planning.{Plans};
+    ghost use Rattle.ants.specs.Inner.Plans.{Plans};
     ghost use Rattle.ants.specs.Inner.Reading.{CarriesOut, ending_of};
     ghost use Rattle.command_words.specs.Command.{RunSetup};
     ghost use Rattle.command_words.specs.Command.PlainCommand.{RunCommand};

@@ -6,7 +6,7 @@ ghost use Rattle.command_words.specs.declared.limits.NumberKind.TheVariants.{Wor
 ghost use Rattle.command_words.specs.Words.{plain, texts};
 ghost use Rattle.round_book.specs.Book.{CanBegin};
 ghost use Rattle.round_book.specs.Led.{IsWindow};
-ghost use Rattle.ants.specs.Inner.Planning.{workers_named};
+ghost use Rattle.ants.specs.Inner.Plans.{workers_named};
 ghost use Rattle.ants.specs.Inner.Reading.{CarriesOut, CarriesOutWords, ending_of};
 ghost use Rattle.ants.specs.Outside.{outside_of};
 ghost use Rattle.ants.specs.Run.{GotLine, IsComplete, IsCrowding, IsNoCommand, IsOrderly, NeverUnread, IsRefusing, IsRun, IsRunTo, Reports};
@@ -19,7 +19,7 @@ use crate::asm::asm;
 use crate::brain::brain;
 use crate::cup::{Entry, cup};
 use crate::far::run_far;
-use crate::generating::gen_world;
+use crate::generate::gen_world;
 use crate::help::{help, version};
 use crate::minimise::minimise;
 use crate::resume::resume;

@@ -7,11 +7,11 @@ ghost use Rattle.command_words.specs.Words.{plain_resume};
 ghost use Rattle.ants.specs.Files.FileContent.{SaveContent};
 ghost use Rattle.ants.specs.Files.FileKind.{SaveFile};
 ghost use Rattle.ants.specs.Inner.Reading.{CarriesOut, ReadsFiles, ReadsText, ending_of, outcome_of, save_reason};
-ghost use Rattle.ants.specs.Inner.Planning.{IsUpTo};
+ghost use Rattle.ants.specs.Inner.Plans.{IsUpTo};
 ghost use Rattle.ants.specs.Outputs.{save_file};
 ghost use Rattle.ants.specs.FaultLines.{reason_of};
 
-use crate::fetching::fetch_file;
+use crate::files::fetch_file;
 use crate::run::dumps_of;
 use crate::stop::{CommandStop, FileFault};
 use ant_base::{Shelf, Sink};

@@ -8,11 +8,11 @@ ghost use Rattle.command_words.specs.Laws.{SetupWithin};
 ghost use Rattle.command_words.specs.Words.{plain_dumps, plain_setup};
 ghost use Rattle.match_run.specs.Dumps.{chooses};
 ghost use Rattle.match_run.specs.Play.{PushedBy};
-ghost use Rattle.ants.specs.Inner.Planning.{CanPlay, IsPlanned, Plans, minds_in, setting_contents, text_in};
+ghost use Rattle.ants.specs.Inner.Plans.{CanPlay, IsPlanned, Plans, minds_in, setting_contents, text_in};
 ghost use Rattle.ants.specs.Inner.Reading.{CarriesOut, ReadsFiles, ending_of, outcome_of};
 ghost use Rattle.ants.specs.Outputs.{chosen_rounds, game_files};
 
-use crate::fetching::{FileText, fetch_file, read_file};
+use crate::files::{FileText, fetch_file, read_file};
 use crate::stop::CommandStop;
 use ant_base::{Shelf, Sink};
 use ant_turn::{Brains, Sheet};

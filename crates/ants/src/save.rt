@@ -5,9 +5,9 @@ ghost use Rattle.cell_world.specs.Grid.{world_of};
 ghost use Rattle.command_words.specs.Command.PlainCommand.{SaveCommand};
 ghost use Rattle.command_words.specs.Laws.{SetupWithin};
 ghost use Rattle.command_words.specs.Words.{plain_setup};
-ghost use Rattle.match_save.specs.Saving.{saved_after};
+ghost use Rattle.match_save.specs.Saves.{saved_after};
 ghost use Rattle.world_read.specs.Opened.{IsOpeningWorld};
-ghost use Rattle.ants.specs.Inner.Planning.{CanPlay, minds_in};
+ghost use Rattle.ants.specs.Inner.Plans.{CanPlay, minds_in};
 ghost use Rattle.ants.specs.Inner.Reading.{CarriesOut, ending_of};
 
 use crate::played::play_game;

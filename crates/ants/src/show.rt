@@ -5,7 +5,7 @@ ghost use Rattle.ants.specs.Files.FileContent.{WorldContent};
 ghost use Rattle.ants.specs.Inner.Reading.{CarriesOut, ending_of};
 ghost use Rattle.ants.specs.Outputs.{show_output};
 
-use crate::fetching::read_file;
+use crate::files::read_file;
 use crate::stop::CommandStop;
 use ant_base::{Failed, Shelf, Sink};
 use cell_world::World;

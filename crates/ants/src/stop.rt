@@ -101,7 +101,7 @@ impl<T: Drop> From<AllocFailed<T>> for CommandStop<'_> {
 }
 
 impl From<PlayFault> for CommandStop<'_> {
-    ghost use Rattle.ants.specs.Inner.Planning.{stop_of};
+    ghost use Rattle.ants.specs.Inner.Plans.{stop_of};
 
     ghost from_gives = { λ fault stop. stop ≡ stop_of fault };
 

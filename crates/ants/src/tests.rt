@@ -9,7 +9,7 @@ mod helped;
 mod outside;
 mod runs;
 mod saves;
-mod settling;
+mod settle;
 mod shown;
 mod viewed;
 mod words;

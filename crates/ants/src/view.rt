@@ -8,7 +8,7 @@ ghost use Rattle.command_words.specs.Command.PlainCommand.{ViewCommand};
 ghost use Rattle.match_run.specs.Run.{most_rounds};
 ghost use Rattle.ants.specs.Inner.Reading.{CarriesOut, ending_of};
 
-use crate::fetching::read_file;
+use crate::files::read_file;
 use crate::run::{FileNames, Setting, setting_of};
 use crate::stop::CommandStop;
 use ant_base::{Failed, Shelf, Sink};

@@ -8,11 +8,11 @@ ghost use Rattle.command_words.specs.Command.PlainCommand.{WorkloadCommand};
 ghost use Rattle.dump_print.specs.Texts.{score_text, stats_text};
 ghost use Rattle.match_run.specs.Run.{most_rounds};
 ghost use Rattle.ants.specs.Inner.Reading.{CarriesOut, ending_of};
-ghost use Rattle.ants.specs.Inner.Planning.{IsGenerating};
+ghost use Rattle.ants.specs.Inner.Plans.{IsGenerating};
 ghost use Rattle.ants.specs.Outputs.{contest_shape, sample_minds, summary_lines, summary_of, workload_text};
 ghost use Rattle.ants.specs.Sample.{sample_brain};
 
-use crate::generating::generated;
+use crate::generate::generated;
 use crate::played::play_game;
 use crate::sample::sample_brain;
 use crate::stop::CommandStop;

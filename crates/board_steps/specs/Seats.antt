@@ -1,14 +1,13 @@
 -- What the two seats of a table know, from step to step (this project's own).
-use Rattle.std.specs.Prelude.{◌≡◌, ℕ, ◌+◌, ◌-◌, ◌≤◌, ◌<◌, ◌^◌, true, false, [], ◌∷◌, ◌++◌, slice_index_or, None}
+use Rattle.std.specs.Prelude.{◌≡◌, ℕ, ◌+◌, ◌-◌, ◌≤◌, ◌<◌, ◌^◌, true, false, [], ◌∷◌, slice_index_or, None}
 use Rattle.std.specs.Vec.{vec_capacity}
 use Rattle.board_steps.specs.declared.Laid.{Laid}
 use Rattle.round_book.specs.Book.{FieldValue, IsLentFor, StandsFor}
 use Rattle.round_book.specs.Machine.{times}
-use Rattle.round_workers.specs.declared.board.closing.Closed.{Closed}
+use Rattle.round_workers.specs.declared.board.end.Closed.{Closed}
 use Rattle.round_workers.specs.declared.board.seat.Board.{Board}
 use Rattle.round_workers.specs.declared.board.seat.Seat.{Seat}
 use Rattle.round_workers.specs.declared.board.view.Basis.{Basis}
-use Rattle.round_workers.specs.declared.board.view.Phase.TheVariants.{Resting}
 use Rattle.round_workers.specs.declared.board.view.Try.TheVariants.{Never}
 use Rattle.round_workers.specs.declared.board.view.View.{View}
 use Rattle.round_workers.specs.declared.board.worker.Worker.{Worker}

@@ -6,8 +6,8 @@ use Rattle.brain_read.specs.declared.fault.BrainFault.{BrainFault}
 use Rattle.brain_read.specs.declared.fault.BrainFault.TheVariants.{NoSuchState}
 use Rattle.brain_read.specs.declared.instr.Instr.{Instr}
 use Rattle.brain_read.specs.Soundness.{most_states}
-use Rattle.brain_read.specs.Judging.{first_fault}
-use Rattle.brain_read.specs.Judging.Position.{FormToken}
+use Rattle.brain_read.specs.Judgement.{first_fault}
+use Rattle.brain_read.specs.Judgement.Position.{FormToken}
 use Rattle.brain_read.specs.Forms.{InstrLine}
 use Rattle.line_tokens.specs.TokenLines.{TokenLine, lines_with_tokens}
 use Rattle.brain_read.specs.Grammar.{AreLines, states_of, StatesBelow}
@@ -16,7 +16,7 @@ use Rattle.line_tokens.specs.Inner.LineByLine.{first_line_fault}
 use Rattle.brain_read.specs.Inner.FirstFault.{first_state_fault}
 use Rattle.brain_read.specs.Inner.Verdict.{brain_reader}
 use Rattle.brain_read.proofs.FormsLemmas.{line_spelled, line_again}
-use Rattle.brain_read.proofs.JudgingLemmas.{line_faulted}
+use Rattle.brain_read.proofs.JudgementLemmas.{line_faulted}
 use Rattle.line_tokens.proofs.LineFaults.{IsFaithful, first_line_fault-none}
 
 -- the fault of a line's first position at fault

@@ -6,12 +6,12 @@ use Rattle.brain_read.specs.declared.draft.Draft.{Draft}
 use Rattle.brain_read.specs.declared.instr.Instr.{Instr}
 use Rattle.brain_read.specs.Drafts.{drafted, as_read}
 use Rattle.brain_read.specs.Forms.{InstrLine}
-use Rattle.brain_read.specs.Judging.{first_fault}
-use Rattle.brain_read.specs.Judging.Position.{FormToken}
+use Rattle.brain_read.specs.Judgement.{first_fault}
+use Rattle.brain_read.specs.Judgement.Position.{FormToken}
 use Rattle.brain_read.specs.Reading.{read_line}
 use Rattle.brain_read.specs.Refusals.{refusal_at}
 use Rattle.brain_read.proofs.FormsLemmas.{line_spelled, line_again}
-use Rattle.brain_read.proofs.JudgingLemmas.{fault_in, line_faulted}
+use Rattle.brain_read.proofs.JudgementLemmas.{fault_in, line_faulted}
 
 module _ (tokens : List (List ℕ)) where
   -- what is answered is spelled so

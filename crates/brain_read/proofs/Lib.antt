@@ -1,13 +1,13 @@
 -- Forms of lines: spelled, read, judged.
 pub mod FormsLemmas
-pub mod JudgingLemmas
+pub mod JudgementLemmas
 pub mod CanonicalLemmas
 pub mod InstructionLemmas
 pub mod SoundnessLemmas
 -- The fault of a text, and that it has one verdict.
 pub mod FirstFaults
 pub mod FaultyLemmas
-pub mod Unwanting
+pub mod MemoryFaults
 pub mod VerdictLemmas
 -- Worked values.
 pub mod Worked

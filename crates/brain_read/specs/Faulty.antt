@@ -6,8 +6,8 @@ use Rattle.brain_read.specs.declared.fault.BrainFault.{BrainFault}
 use Rattle.brain_read.specs.declared.fault.BrainFault.TheVariants.{TooMany, Empty, NoSuchState}
 use Rattle.brain_read.specs.declared.instr.Instr.{Instr}
 use Rattle.brain_read.specs.Soundness.{most_states}
-use Rattle.brain_read.specs.Judging.{first_fault}
-use Rattle.brain_read.specs.Judging.Position.{FormToken}
+use Rattle.brain_read.specs.Judgement.{first_fault}
+use Rattle.brain_read.specs.Judgement.Position.{FormToken}
 use Rattle.brain_read.specs.Forms.{InstrLine}
 use Rattle.line_tokens.specs.TokenLines.{TokenLine, lines_with_tokens}
 use Rattle.brain_read.specs.Grammar.{AreLines, states_of, StatesBelow}

@@ -5,7 +5,7 @@ pub mod Faulty
 pub mod Forms
 pub mod Grammar
 pub mod Inner
-pub mod Judging
+pub mod Judgement
 pub mod Laws
 pub mod Places
 pub mod Reading

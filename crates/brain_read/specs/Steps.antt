@@ -7,7 +7,7 @@ use Rattle.line_tokens.specs.Steps.{Step, ◌>>=◌, take_word, take_number}
 use Rattle.brain_read.specs.declared.form.ConditionWord.{ConditionWord}
 use Rattle.brain_read.specs.declared.instr.Cond.{Cond}
 use Rattle.brain_read.specs.declared.instr.Cond.TheVariants.{Friend, Foe, FriendWithFood, FoeWithFood, Food, Rock, Marker, FoeMarker, Home, FoeHome}
-use Rattle.brain_read.specs.Judging.{positions_of_condition}
+use Rattle.brain_read.specs.Judgement.{positions_of_condition}
 use Rattle.brain_read.specs.Forms.{sight_words, side_words, condition_words, most_bound}
 use Rattle.brain_read.specs.Places.{sight_at, side_at, condition_word_at}
 

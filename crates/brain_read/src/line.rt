@@ -2,8 +2,8 @@
 ghost use Rattle.std.specs.Prelude.{◌≡◌, ℕ, [], ◌∷◌, Some, Ok, OnOk, IfOk, IfErr};
 ghost use Rattle.brain_read.specs.declared.instr.Instr.{Instr};
 ghost use Rattle.brain_read.specs.Forms.{InstrLine};
-ghost use Rattle.brain_read.specs.Judging.{first_fault};
-ghost use Rattle.brain_read.specs.Judging.Position.{FormToken};
+ghost use Rattle.brain_read.specs.Judgement.{first_fault};
+ghost use Rattle.brain_read.specs.Judgement.Position.{FormToken};
 ghost use Rattle.brain_read.specs.Refusals.{refusal_at};
 ghost use Rattle.brain_read.specs.Reading as reading;
 ghost use Rattle.brain_read.specs.Drafts.{drafted, as_read};

@@ -2,7 +2,7 @@
 //! `MissingToken` where no token is left, `UnknownWord` and `BadNumber` where the token is none of the position. A token that is refused is passed, and
 //! those behind it are left.
 ghost use Rattle.std.specs.Prelude.{◌≡◌, drop, length};
-ghost use Rattle.brain_read.specs.Judging.{positions_of_condition};
+ghost use Rattle.brain_read.specs.Judgement.{positions_of_condition};
 ghost use Rattle.line_tokens.specs.Steps.{with_rest};
 ghost use Rattle.brain_read.specs.Steps.{condition_tokens};
 ghost use Rattle.brain_read.specs.Steps as steps;

@@ -28,7 +28,7 @@ use Rattle.ant_turn.specs.Sheet.{Sheet}
 use Rattle.ant_turn.specs.Turn.{acts, ant_becomes, arrived, checked, execute, in_state, instruction_at, is_blocked, left_by_ant, stepped, turn, turn_from, turn_at, with_ant}
 use Rattle.ant_turn.proofs.Checks.{check_at-cases}
 use Rattle.ant_turn.proofs.KeptByTurns.{free_apart, free_clear}
-use Rattle.spec_record.proofs.Stepping.{stepped-from}
+use Rattle.spec_record.proofs.QuietMoves.{stepped-from}
 use Rattle.break_view.specs.Inner.CellScores.{cell_at, score_in_any, IsCounted, CanCount}
 
 -- the food that the cell at a position gives, where there is a position

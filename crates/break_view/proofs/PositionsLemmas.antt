@@ -4,9 +4,9 @@ use Rattle.ant_base.specs.Number.{number_within}
 use Rattle.cell_world.specs.declared.ant.Colour.{Colour}
 use Rattle.word_table.specs.Words.{word_place}
 use Rattle.line_tokens.specs.declared.refusal.LineFault.{LineFault}
-use Rattle.line_tokens.specs.Judging.{nothing_more, judged}
+use Rattle.line_tokens.specs.Judgement.{nothing_more, judged}
 use Rattle.line_tokens.specs.Steps.{Read, Step, ◌>>=◌, or_refused, take_word, take_number, take_end}
-use Rattle.line_tokens.proofs.JudgingLemmas as judging
+use Rattle.line_tokens.proofs.JudgementLemmas as judging
 use Rattle.line_tokens.proofs.LineFaults.{fault_of_read}
 use Rattle.line_tokens.proofs.PlacesLemmas.{named-place}
 use Rattle.break_view.specs.declared.breaks.Break.{Break}

@@ -8,7 +8,6 @@ use Rattle.hex_geometry.specs.declared.position.Pos.{Pos}
 use Rattle.hex_geometry.specs.Neighbourhood.{adjacent_pos}
 use Rattle.cell_world.specs.declared.ant.Ant.{Ant}
 use Rattle.cell_world.specs.declared.ant.Colour.{Colour}
-use Rattle.cell_world.specs.declared.ant.Colour.TheVariants.{Red, Black}
 use Rattle.cell_world.specs.declared.cell.Cell.{Cell}
 use Rattle.cell_world.specs.Cell.{is_ant, is_ant_of}
 use Rattle.cell_world.specs.Colour.{same_colour}
@@ -23,7 +22,7 @@ use Rattle.ant_turn.specs.Turn.{Outcome, has_ant, instruction_at, stepped, turn}
 use Rattle.ant_turn.proofs.KeptByTurns.{free_apart}
 use Rattle.ant_turn.proofs.OwnCells.{Stays}
 use Rattle.ant_turn.proofs.TurnParts.{Does, Stayed, turn_parts}
-use Rattle.spec_record.proofs.Stepping.{stepped-from}
+use Rattle.spec_record.proofs.QuietMoves.{stepped-from}
 use Rattle.round_book.proofs.CountLemmas.{same_colour-true}
 use Rattle.break_view.specs.declared.breaks.Break.{Break}
 use Rattle.break_view.specs.declared.breaks.Break.TheVariants.{Round, State, Stand, Food, Killed, Score}

@@ -2,7 +2,7 @@
 use Rattle.std.specs.Prelude.{ℕ, List, [], ◌∷◌, ◌++◌, Option, Some, None, option_map}
 use Rattle.ant_base.specs.Number.{number_within}
 use Rattle.line_tokens.specs.Fields.{named}
-use Rattle.line_tokens.specs.Judging.{nothing_more, judged}
+use Rattle.line_tokens.specs.Judgement.{nothing_more, judged}
 use Rattle.break_view.specs.declared.fault.BreakFault.{BreakFault}
 use Rattle.break_view.specs.declared.fault.BreakFault.TheVariants.{UnknownWord, MissingToken, BadNumber, ExtraToken}
 use Rattle.break_view.specs.declared.words.BreakWord.{BreakWord}

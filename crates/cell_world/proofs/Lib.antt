@@ -15,11 +15,11 @@ pub mod Sets
 pub mod Bodies
 pub mod StoredLemmas
 pub mod InsideLemmas
-pub mod Living
+pub mod LiveBodies
 -- Parts of cells, and a world brought up to date.
 pub mod Patches
 pub mod PartAnswers
-pub mod CatchingLemmas
+pub mod CatchUpLemmas
 -- Those that rest, told apart.
 pub mod RestingLemmas
 -- Worlds that are made: at an opening, and of cells without ants.

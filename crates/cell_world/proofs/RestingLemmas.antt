@@ -19,7 +19,7 @@ use Rattle.cell_world.specs.Limits.{most_weight}
 use Rattle.cell_world.specs.Resting.{ActsListed, ids_where, one_less, with_rest, with_rest_in, with_rests}
 use Rattle.cell_world.specs.Valid.{Valid}
 use Rattle.cell_world.specs.World.{Cells, World, area, place_in, sum_over, weight}
-use Rattle.cell_world.specs.Inner.Catching.{body_of}
+use Rattle.cell_world.specs.Inner.CatchUp.{body_of}
 use Rattle.cell_world.specs.Inner.Index.{IsIndex}
 use Rattle.cell_world.specs.Inner.Stored.{ant_from, ant_named, cell_from, grid_from, no_body, occupant_id, stored_places, tile_of}
 use Rattle.cell_world.specs.Inner.TellingApart.{ToldApart, acts_by, with_resting}

@@ -1,5 +1,5 @@
 pub mod Bodies
-pub mod Catching
+pub mod CatchUp
 pub mod Index
 pub mod Inside
 pub mod OpeningPlaces

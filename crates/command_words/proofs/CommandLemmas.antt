@@ -34,8 +34,8 @@ use Rattle.command_words.specs.Inner.Walk.{resume_setup_in, resume_setup_with, r
 use Rattle.list_lemmas.proofs.Elements.{Contains-none, Contains-cases}
 use Rattle.command_words.proofs.ListLemmas.{list_all-at, list_all-each}
 use Rattle.command_words.proofs.TableLemmas.{option-not_first, same_option, bytes_eq-same, keyword-no_name}
-use Rattle.command_words.proofs.WalkLooking.{is_among-append, is_among-none, is_among-one, is_among-cons, rest_after-none, rest_after-cons, rest_after-first}
-use Rattle.command_words.proofs.WalkLooking.{rest_after-next, rest_after-unlike, names_front-run}
+use Rattle.command_words.proofs.WalkSearch.{is_among-append, is_among-none, is_among-one, is_among-cons, rest_after-none, rest_after-cons, rest_after-first}
+use Rattle.command_words.proofs.WalkSearch.{rest_after-next, rest_after-unlike, names_front-run}
 use Rattle.command_words.proofs.WalkAmong.{is_among-neither, is_among-fit, is_among-given, given-among, names-unlike, parts-unlike}
 use Rattle.command_words.proofs.WalkNames.{given-no_name}
 

@@ -3,7 +3,7 @@ pub mod PiecesLemmas
 pub mod ListLemmas
 pub mod TableLemmas
 -- Words walked over, one after another.
-pub mod WalkLooking
+pub mod WalkSearch
 pub mod WalkAmong
 pub mod WalkSteps
 pub mod WalkNames

@@ -14,7 +14,7 @@ use Rattle.command_words.specs.Inner.Walk.{walk}
 use Rattle.list_lemmas.proofs.AllElements.{AllByRecursion-push}
 use Rattle.list_lemmas.proofs.Elements.{Contains-none, Contains-first, Contains-later, Contains-cases}
 use Rattle.command_words.proofs.TableLemmas.{option-not_first, same_option, bytes_eq-same}
-use Rattle.command_words.proofs.WalkLooking.{is_among-one}
+use Rattle.command_words.proofs.WalkSearch.{is_among-one}
 use Rattle.command_words.proofs.WalkAmong.{is_among-neither, is_among-fit}
 use Rattle.command_words.proofs.WalkShapes.{IsNew, sample_part, samples-fit, walk-accepts, walk-places, walk-options}
 use Rattle.command_words.proofs.WalkNames.{open-none, rest-from_all, all-from_rest, places-end, given-no_name}

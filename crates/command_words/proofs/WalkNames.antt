@@ -18,7 +18,7 @@ use Rattle.command_words.specs.Slots.{is_file_name, AllDiffer, AreNames, FitsPla
 use Rattle.command_words.specs.Table.{places_of, values_of, keyword_of, fewest_names, most_names, must_differ}
 use Rattle.command_words.specs.Command.{Given, given_words, joined, FitAll}
 use Rattle.command_words.specs.Inner.Walk.{is_among, has_enough, is_repeated, may_follow, closed, due_after, names_after, go_on, walk}
-use Rattle.command_words.proofs.WalkLooking.{is_among-none, is_among-cons, is_among-next, NoName}
+use Rattle.command_words.proofs.WalkSearch.{is_among-none, is_among-cons, is_among-next, NoName}
 use Rattle.list_lemmas.proofs.AllElements.{AllByRecursion-push}
 use Rattle.command_words.proofs.TableLemmas.{option-unfit, keyword-no_name}
 

@@ -16,7 +16,7 @@ use Rattle.command_words.specs.Command.{Given, given_words, joined, FitAll, IsOp
 use Rattle.command_words.specs.Inner.Walk.{choice_of, is_among, has_enough, may_follow, closed, reached, due_after_option, due_after, names_after, go_on, walk}
 use Rattle.list_lemmas.proofs.AllElements.{AllByRecursion-weaker}
 use Rattle.command_words.proofs.TableLemmas.{sample, sample-fits, choice_of-found, choice_of-known, choice_of-option, same_option-differs, bytes_eq-same}
-use Rattle.command_words.proofs.WalkLooking.{is_among-one, NoName}
+use Rattle.command_words.proofs.WalkSearch.{is_among-one, NoName}
 use Rattle.command_words.proofs.WalkAmong.{is_among-fewer, is_among-neither, is_among-fit}
 use Rattle.command_words.proofs.WalkNames.{MayBe, IsOpen, open-none, FitRest, rest-from_all, all-from_rest, Stops, RunsEnd, values-end, rest-stops, further, walk-same}
 use Rattle.command_words.proofs.WalkNames.{run-ends, walk-run, names-enough, stops-no_name, given-no_name, lacking, lacks_none, open-more}

@@ -18,7 +18,7 @@ use Rattle.spec_record.specs.Look.{LookValue, look_of}
 use Rattle.spec_record.specs.Reads.{reads}
 use Rattle.spec_record.specs.SameLooks.{SameAt, SameForLook}
 use Rattle.spec_record.proofs.SameLooks.{looks_agree}
-use Rattle.far_crew.specs.Agreeing.{AgreesWith, IsSameAnt, IsSameGame}
+use Rattle.far_crew.specs.Agreement.{AgreesWith, IsSameAnt, IsSameGame}
 use Rattle.far_crew.specs.Jobs.{FoundValue, IsLookOf}
 
 -- what was read is as it was stored where it is in the other world what it is in the own one

@@ -10,8 +10,8 @@ use Rattle.round_book.specs.Book.{FieldValue, window_of}
 use Rattle.round_book.specs.Window.{Window, look_for}
 use Rattle.spec_record.specs.Look.{LookValue}
 use Rattle.far_crew.specs.declared.line.Line.{Line}
-use Rattle.far_crew.specs.declared.picking.Pick.{Pick}
-use Rattle.far_crew.specs.declared.picking.Pick.TheVariants.{Theirs, Own}
+use Rattle.far_crew.specs.declared.pick.Pick.{Pick}
+use Rattle.far_crew.specs.declared.pick.Pick.TheVariants.{Theirs, Own}
 use Rattle.far_crew.specs.Inner.Picks.{AreFilled, AreNone, ArePicked, look_named, looks_in, looks_of_answer, looks_of_line}
 use Rattle.far_crew.specs.Jobs.{FoundValue}
 

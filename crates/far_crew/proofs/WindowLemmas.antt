@@ -7,7 +7,7 @@ use Rattle.round_book.specs.Book.{CanBegin, FieldValue, window_of}
 use Rattle.round_book.specs.Window.{guess_for, guesses_for, look_for}
 use Rattle.round_book.proofs.GuessLemmas.{guesses_for-at, guesses_for-length, guesses_for-small}
 use Rattle.spec_record.specs.Look.{LookValue, look_of}
-use Rattle.far_crew.specs.declared.guessing.GuessedTurns.{GuessedTurns}
+use Rattle.far_crew.specs.declared.guesses.GuessedTurns.{GuessedTurns}
 use Rattle.far_crew.specs.Inner.Turns.{AreTurnsOf, CanLookAt}
 
 -- the look at a turn's guess is the turn's

@@ -1,4 +1,4 @@
-pub mod Agreeing
+pub mod Agreement
 pub mod Inner
 pub mod Jobs
 pub use Rattle.ant_turn.specs.Minds

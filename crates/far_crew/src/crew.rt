@@ -5,13 +5,13 @@ ghost use Rattle.round_book.specs.Counts.{counts_of};
 ghost use Rattle.far_crew.specs.Inner.Turns.{AreTurnsOf};
 
 use crate::caller::Caller;
-use crate::dealing::prepare_all;
-use crate::guessing::{GuessedTurns, guesses_in};
+use crate::deal::prepare_all;
+use crate::guesses::{GuessedTurns, guesses_in};
 use crate::kept::{Copies, brains_in, world_in};
 use crate::line::Line;
 use crate::own_brains::OwnBrains;
-use crate::picking::{Pick, choose, take_room};
-use crate::settling::settle;
+use crate::pick::{Pick, choose, take_room};
+use crate::settle::settle;
 use ant_base::Gate;
 use cell_world::World;
 use hex_geometry::OutOfMemory;

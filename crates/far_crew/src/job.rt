@@ -12,7 +12,7 @@ ghost use Rattle.far_crew.specs.Jobs.{IsLookOf, looks_of};
 
 use crate::caller::Caller;
 use crate::found::Found;
-use crate::guessing::GuessedTurns;
+use crate::guesses::GuessedTurns;
 use crate::kept::Copies;
 use crate::own_brains::OwnBrains;
 use ant_base::Gate;

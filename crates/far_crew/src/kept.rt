@@ -3,7 +3,7 @@ ghost use Rattle.std.specs.Prelude.{◌≡◌, true, IfOk};
 ghost use Rattle.std.specs.Arc.{arc_value};
 ghost use Rattle.ant_turn.specs.Minds.{minds_of};
 
-use crate::agreeing::are_sizes_same;
+use crate::agreement::are_sizes_same;
 use crate::own_brains::OwnBrains;
 use ant_turn::Brains;
 use cell_world::World;

@@ -5,24 +5,24 @@
 //! whatever answers come, in whatever order, or not at all. All of this is this project's own.
 #![tactic(auto)]
 
-mod agreeing;
+mod agreement;
 mod caller;
 mod crew;
-mod dealing;
+mod deal;
 mod far;
 mod found;
-mod guessing;
+mod guesses;
 mod job;
 mod kept;
 mod line;
 mod own_brains;
-mod picking;
+mod pick;
 mod same_cells;
-mod settling;
+mod settle;
 #[cfg(test)]
 mod tests;
 
-pub use agreeing::agrees;
+pub use agreement::agrees;
 pub use crew::FarCrew;
 pub use far::{Errand, with_far};
 pub use found::Found;

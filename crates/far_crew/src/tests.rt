@@ -4,8 +4,8 @@ ghost use Rattle.std.specs.Prelude.{◌≡◌, ◌≤◌, true, IfOk, length};
 ghost use Rattle.ant_base.specs.Shelf.{longest};
 
 use crate::crew::FarCrew;
-use crate::dealing::{Piece, job_of};
-use crate::guessing::{GuessedTurns, guesses_in};
+use crate::deal::{Piece, job_of};
+use crate::guesses::{GuessedTurns, guesses_in};
 use crate::kept::Copies;
 use crate::line::Line;
 use crate::{Errand, Found, Job, OwnBrains, agrees, with_far};

@@ -4,7 +4,7 @@ pub mod PrintedLemmas
 -- Positions of a line.
 pub mod PlacesLemmas
 pub mod StepsLemmas
-pub mod JudgingLemmas
+pub mod JudgementLemmas
 -- Faults of lines and of texts.
 pub mod LineFaults
 pub mod LineLemmas

@@ -1,7 +1,7 @@
 pub mod Faulty
 pub mod Fields
 pub mod Inner
-pub mod Judging
+pub mod Judgement
 pub mod Steps
 pub mod TokenLines
 pub mod Tokens

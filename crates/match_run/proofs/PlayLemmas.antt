@@ -2,7 +2,7 @@
 use Rattle.std.proofs.Common.{◌≡◌, inl, inr, ℕ, ◌+◌, ◌-◌, ◌*◌, ◌^◌, ◌<◌, ◌≤◌, Bool, List, [], ◌++◌, length, refl, sym, ◌∙◌, ap, ap₂, subst, Result, Ok, Err, append_assoc, length-append, arith}
 use Rattle.ant_base.specs.Sink.{SinkState, PushedAll}
 use Rattle.ant_base.proofs.Numbered.{numbered-front, numbered-more, numbered-none}
-use Rattle.ant_base.proofs.Pushing.{all_of_nothing, all_then, front_more, front_then}
+use Rattle.ant_base.proofs.Pushes.{all_of_nothing, all_then, front_more, front_then}
 use Rattle.ant_turn.specs.Minds.{Minds}
 use Rattle.ant_turn.specs.Rounds.{Moment, after_round, after_rounds}
 use Rattle.ant_turn.proofs.KeptByRounds.{after_rounds-more}

@@ -1,12 +1,11 @@
 -- The windows of a round, one after another.
 use Rattle.std.proofs.Common.{◌≡◌, ℕ, suc, ◌+◌, ◌-◌, ◌*◌, ◌^◌, ◌<◌, ◌≤◌, min, true, refl, sym, ◌∙◌, ap, arith}
-use Rattle.ant_turn.specs.Minds.{Minds}
 use Rattle.ant_turn.specs.Rounds.{Moment, after_turns}
 use Rattle.ant_turn.proofs.KeptByRounds.{IsWithin, after_turns-place, after_turns-then}
 use Rattle.dump_print.specs.declared.totals.Totals.{Totals}
 use Rattle.round_book.specs.Book.{FieldValue, IsPlayed, field_moment, window_of}
 use Rattle.round_book.specs.Counts.{Counted, counts_of}
-use Rattle.round_book.specs.Window.{Window, moment_before}
+use Rattle.round_book.specs.Window.{moment_before}
 use Rattle.match_run.specs.Counts.{both, sum_windows, window_at, window_totals}
 use Rattle.match_run.specs.Game.{counted_on}
 use Rattle.match_run.specs.Inner.Windows.{WindowsPlayed}

@@ -15,8 +15,8 @@ mod fault;
 mod game;
 mod laws;
 mod plan;
-mod playing;
 mod sequential;
+mod whole_run;
 mod windows;
 
 pub use alone::{play_alone, play_score};
@@ -32,4 +32,4 @@ pub use laws::{
     totals_add_up, whole_rounds,
 };
 pub use plan::{MOST_ROUNDS, Plan};
-pub use playing::{play, play_rest};
+pub use whole_run::{play, play_rest};

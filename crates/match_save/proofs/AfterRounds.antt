@@ -13,7 +13,7 @@ use Rattle.hex_geometry.proofs.RowLemmas.{index_of-inside, pos_at-index_of}
 use Rattle.ant_turn.specs.Keeps.{Keeps}
 use Rattle.ant_turn.specs.Minds.{Fits, Minds}
 use Rattle.ant_turn.specs.Rounds.{after_rounds, start_of}
-use Rattle.ant_turn.proofs.Fitting.{Fits-opening}
+use Rattle.ant_turn.proofs.FitLemmas.{Fits-opening}
 use Rattle.ant_turn.proofs.HillsKept.{games_keep_hills}
 use Rattle.ant_turn.proofs.KeptByRounds.{Keeps-after_rounds, after_rounds-ids, after_rounds-place}
 use Rattle.cell_world.specs.declared.ant.Ant.{Ant}
@@ -31,9 +31,9 @@ use Rattle.match_run.specs.Counts.{totals_of}
 use Rattle.match_save.specs.Draft.{IsHead}
 use Rattle.match_save.specs.Resumed.{IsOfGame}
 use Rattle.match_save.specs.Saved.{IsSaved, head_of}
-use Rattle.match_save.specs.Saving.{GamesAreSaved, Starts, cells_at, grid_at, saved_after}
+use Rattle.match_save.specs.Saves.{GamesAreSaved, Starts, cells_at, grid_at, saved_after}
 use Rattle.match_save.proofs.GameSaves.{IsKnown, IsSaved-known, living-rests}
-use Rattle.match_save.proofs.Resting.{AllRest, after_rounds-rest}
+use Rattle.match_save.proofs.RestBounds.{AllRest, after_rounds-rest}
 
 -- the first cells of a grid's world are those of its list
 cells_at-take : (g : Grid) (n : ℕ) → length g.cells ≡ g.width * g.height → n ≤ length g.cells → cells_at (world_of g) n ≡ take n g.cells

@@ -6,7 +6,7 @@ use Rattle.ant_base.specs.Lines.{ends_in_lf, has_no_lf, is_lf, lines_of}
 use Rattle.ant_base.proofs.Linewise.{lines_of-first, lines_of-line}
 use Rattle.match_save.specs.Draft.{Draft}
 use Rattle.match_save.specs.Text.{draft_text, spaced, text_of_lines}
-use Rattle.match_save.specs.Inner.Pushing.{further_text, tokens_text}
+use Rattle.match_save.specs.Inner.LineTexts.{further_text, tokens_text}
 use Rattle.match_save.specs.Verdict.{IsDraftText}
 
 -- lines without LF are the lines of their text

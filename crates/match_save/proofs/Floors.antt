@@ -26,7 +26,7 @@ use Rattle.match_save.specs.declared.soil.Soil.TheVariants.{Rock, Clear, RedHill
 use Rattle.match_save.specs.Draft.{Draft, IsAnt, IsInForm}
 use Rattle.match_save.specs.State.{IsState, ground_cell, ground_cells, grid_of_draft, hill_count, with_ants}
 use Rattle.match_save.specs.Inner.Floor.{are_sound_cells, floor_of, is_empty_cell, is_sound_cell}
-use Rattle.match_save.specs.Inner.Standing.{CanAllStand, CanStand, weight_of_ants}
+use Rattle.match_save.specs.Inner.AntPuts.{CanAllStand, CanStand, weight_of_ants}
 use Rattle.match_save.proofs.RoundTrip.{In, IsOn, ant-there, bare-none, each, map-with_ants}
 use Rattle.match_save.proofs.SavedLaws.{on_all}
 use Rattle.match_save.proofs.Standings.{StandsInside, can-all, weight-all}

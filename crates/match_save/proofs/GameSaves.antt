@@ -31,10 +31,10 @@ use Rattle.match_save.specs.declared.head.Head.{Head}
 use Rattle.match_save.specs.Inner.Made.{made_saved}
 use Rattle.match_save.specs.declared.soil.Soil.TheVariants.{Rock}
 use Rattle.match_save.specs.Saved.{IsSaved, SavedValue, draft_of, head_of, living, living_at, placed_at, soil_of_cell, soil_of_clear}
-use Rattle.match_save.specs.Saving.{CanBeSaved, save_of}
+use Rattle.match_save.specs.Saves.{CanBeSaved, save_of}
 use Rattle.match_save.specs.State.{IsState, grid_of_draft, hill_count, is_hill, is_rocky, program_of, turns_of, with_ants}
 use Rattle.match_save.proofs.BrainForms.{IsProgram-brain, StatesBelow-brain}
-use Rattle.match_save.proofs.Resting.{AllRest}
+use Rattle.match_save.proofs.RestBounds.{AllRest}
 use Rattle.match_save.proofs.RoundTrip.{In, each}
 use Rattle.match_save.proofs.WorldAgain.{IsPlain, cells-again, clear_rocky, floors, floors-at, lives, living-apart, plain_at, read_at}
 

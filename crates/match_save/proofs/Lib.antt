@@ -24,18 +24,18 @@ pub mod SaveVerdicts
 pub mod WorldAgain
 pub mod Standings
 pub mod Floors
-pub mod Filling
-pub mod Putting
-pub mod Judging
-pub mod Settling
+pub mod FilledLists
+pub mod PutLemmas
+pub mod Judgement
+pub mod SavedBrains
 -- What is written, and how a game goes on.
 pub mod Drafted
-pub mod Writing
+pub mod WrittenTexts
 pub mod WholeTexts
-pub mod Resuming
+pub mod ResumedGames
 -- A game that is saved.
 pub mod BrainForms
-pub mod Resting
+pub mod RestBounds
 pub mod AfterRounds
 pub mod GameSaves
 -- Worked values.

@@ -12,7 +12,7 @@ use Rattle.match_save.specs.Verdict.{IsDraftText}
 use Rattle.match_save.specs.Inner.Answered.{FaultTold}
 use Rattle.match_save.specs.Inner.Judged.{Judges, ReadsSave}
 use Rattle.match_save.specs.Inner.Reading.{draft_of_text}
-use Rattle.match_save.proofs.Judging.{dec_state}
+use Rattle.match_save.proofs.Judgement.{dec_state}
 use Rattle.match_save.proofs.PlainLines.{save-lines, save-text}
 use Rattle.match_save.proofs.SavedLaws.{one_save, some_save}
 use Rattle.match_save.proofs.Verdicts.{never_both, one_draft, one_line, read-known, refused-known}

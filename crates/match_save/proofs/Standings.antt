@@ -21,7 +21,7 @@ use Rattle.cell_world.proofs.Puts.{cases_pos, put_cell-other, put_cell-same}
 use Rattle.cell_world.proofs.Sets.{grid_set, world_of-set}
 use Rattle.cell_world.proofs.Weights.{weight-put}
 use Rattle.match_save.specs.State.{StandApart, StandsAlone}
-use Rattle.match_save.specs.Inner.Standing.{CanAllStand, CanStand, all_standing, is_free, is_nobody, standing, weight_of_ants}
+use Rattle.match_save.specs.Inner.AntPuts.{CanAllStand, CanStand, all_standing, is_free, is_nobody, standing, weight_of_ants}
 use Rattle.match_save.proofs.WorldAgain.{same_list}
 
 -- the cell with this ant on it

@@ -4,11 +4,11 @@ pub mod Fit
 pub mod Floor
 pub mod Judged
 pub mod Made
-pub mod Pushing
+pub mod LineTexts
 pub mod Puts
 pub mod Readers
 pub mod Reading
 pub mod Said
-pub mod Standing
+pub mod AntPuts
 pub mod State
 pub mod Written

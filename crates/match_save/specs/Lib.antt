@@ -5,7 +5,7 @@ pub mod Inner
 pub mod Laws
 pub mod Resumed
 pub mod Saved
-pub mod Saving
+pub mod Saves
 pub mod State
 pub mod Text
 pub mod Verdict

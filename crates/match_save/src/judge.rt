@@ -7,12 +7,12 @@ ghost use Rattle.match_save.specs.Inner.Fit.{are_fit, has_turns, length_of};
 ghost use Rattle.match_save.specs.Inner.Judged.{Judges, JudgesWorld, SettlesAs};
 ghost use Rattle.match_save.specs.Inner.Said.{said};
 
+use crate::ant_puts::{put_ants, weight_of_ants};
 use crate::draft::SaveDraft;
 use crate::fault::SaveFault;
 use crate::floor::{are_sound_cells, food_sum, ground_cells, hill_count};
 use crate::head::Head;
 use crate::saved::Saved;
-use crate::standing::{put_ants, weight_of_ants};
 use brain_read::{Brain, Draft, Instr};
 use cell_world::{Colour, MOST_ANTS, MOST_WEIGHT, PlacedAnt, World};
 use std::alloc::Global;

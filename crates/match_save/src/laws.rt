@@ -1,6 +1,6 @@
 // Laws on the definitions of saves.
 ghost use Rattle.match_save.specs.Resumed.{SavesGoOn};
-ghost use Rattle.match_save.specs.Saving.{GamesAreSaved};
+ghost use Rattle.match_save.specs.Saves.{GamesAreSaved};
 ghost use Rattle.match_save.specs.Laws.{EveryTextHasOneVerdict};
 
 /// A law: every text is that of exactly one save or has exactly one fault, and never both (this project's own). The call does nothing: its

@@ -1,6 +1,7 @@
 //! Checkpoints of games: the text of a save is read, judged and written, and the game goes on.
 #![tactic(auto)]
 
+mod ant_puts;
 mod ants;
 mod draft;
 mod fault;
@@ -18,9 +19,8 @@ mod row_cell;
 mod rows;
 mod save_lines;
 mod saved;
-mod saving;
+mod saves;
 mod soil;
-mod standing;
 #[cfg(test)]
 mod tests;
 mod write;
@@ -30,5 +30,5 @@ pub use laws::{every_text_has_one_verdict, games_are_saved, saves_go_on};
 pub use read::read_saved;
 pub use rest::resume;
 pub use saved::Saved;
-pub use saving::save_of;
+pub use saves::save_of;
 pub use write::write_saved;

@@ -5,7 +5,7 @@ ghost use Rattle.brain_read.specs.Canonical.{instruction_text};
 ghost use Rattle.brain_read.specs.Drafts.{drafted};
 ghost use Rattle.match_save.specs.Text.{instruction_line};
 ghost use Rattle.match_save.specs.Inner.Answered.{Fills, ReadsAs, behind};
-ghost use Rattle.match_save.specs.Inner.Pushing.{IfPrinted};
+ghost use Rattle.match_save.specs.Inner.LineTexts.{IfPrinted};
 ghost use Rattle.match_save.specs.Inner.Readers.{many, one};
 ghost use Rattle.match_save.specs.Inner.Reading.{instruction_of, read_program};
 

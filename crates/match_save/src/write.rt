@@ -9,7 +9,7 @@ ghost use Rattle.cell_world.specs.Marks.{IsOfSix};
 ghost use Rattle.match_save.specs.Saved.{save_text, soil_of_cell};
 ghost use Rattle.dump_print.specs.Content.{colour_text};
 ghost use Rattle.match_save.specs.Text.{ant_tokens, food_byte, head_tokens, marks_byte, soil_byte};
-ghost use Rattle.match_save.specs.Inner.Pushing.{lines_text, tokens_text};
+ghost use Rattle.match_save.specs.Inner.LineTexts.{lines_text, tokens_text};
 ghost use Rattle.match_save.specs.Inner.Written.{ant_text_at, black_byte, cell_food_byte, cells_written, food_text, food_text_at, ground_byte, program_text, red_byte, row_text, rows_text, with_power, written};
 
 use crate::head::Head;

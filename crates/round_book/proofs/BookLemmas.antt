@@ -22,8 +22,8 @@ use Rattle.spec_record.specs.Reads.{reads}
 use Rattle.spec_record.specs.Writes.{writes}
 use Rattle.spec_record.proofs.Flips.{LookHolds-Holds, look-drew}
 use Rattle.spec_record.proofs.Patched.{turn-patched}
-use Rattle.spec_record.proofs.Settling.{Makes}
-use Rattle.spec_record.proofs.SettlingTurns.{look-CanSetWrites, settles}
+use Rattle.spec_record.proofs.SettledWrites.{Makes}
+use Rattle.spec_record.proofs.SettledTurns.{look-CanSetWrites, settles}
 use Rattle.spec_record.proofs.WritesAlone.{GoesOn-itself, Holds-itself}
 use Rattle.round_book.specs.declared.verdict.Cause.{Cause}
 use Rattle.round_book.specs.declared.verdict.Cause.TheVariants as cause

@@ -19,7 +19,7 @@ use Rattle.cell_world.proofs.Plans.{IsPlan-test}
 use Rattle.brain_read.specs.Soundness.{IsBrain, IsSound as IsSoundInstr}
 use Rattle.brain_read.specs.declared.instr.Instr.{Instr}
 use Rattle.brain_read.specs.declared.instr.Instr.TheVariants.{Flip, Move}
-use Rattle.ant_turn.proofs.Fitting.{Fits-opening}
+use Rattle.ant_turn.proofs.FitLemmas.{Fits-opening}
 use Rattle.ant_turn.specs.Kills.{check_at, is_surrounded, killed_at, places_around}
 use Rattle.ant_turn.specs.Rounds.{Moment, after_turn}
 use Rattle.ant_turn.specs.Turn.{stepped, turn}

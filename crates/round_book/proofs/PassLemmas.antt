@@ -13,8 +13,8 @@ use Rattle.cell_world.specs.Valid.{CanSet}
 use Rattle.cell_world.specs.World.{Cells, World, put, put_cell, with_cells}
 use Rattle.cell_world.proofs.Puts.{cases_pos, put_cell-other, put_cell-same}
 use Rattle.spec_record.specs.Claims.{EachOnce, Sighting, seen_cell, seen_parts, seen_place, seen_positions}
-use Rattle.spec_record.specs.Patching.{CanSetHeavier, CanWrite, CanSetLighter, after_lighter, patched_by_write, patched_cells, raises, with_heavier, with_lighter, with_write}
-use Rattle.spec_record.proofs.Settling.{CanPatch-again, patched-again}
+use Rattle.spec_record.specs.Patches.{CanSetHeavier, CanWrite, CanSetLighter, after_lighter, patched_by_write, patched_cells, raises, with_heavier, with_lighter, with_write}
+use Rattle.spec_record.proofs.SettledWrites.{CanPatch-again, patched-again}
 use Rattle.round_book.specs.Book.{CanPatchIn, CanTake}
 use Rattle.round_book.specs.Inner.Passes.{CanSetInPass, CanSetPass, after_pass, is_in_pass, with_pass}
 

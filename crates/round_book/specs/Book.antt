@@ -13,7 +13,7 @@ use Rattle.ant_turn.specs.Rounds.{Moment, after_turn}
 use Rattle.spec_record.specs.Claims.{Sighting, seen_cell, seen_parts, seen_place, seen_positions}
 use Rattle.spec_record.specs.Holds.{LookHolds}
 use Rattle.spec_record.specs.Look.{LookValue}
-use Rattle.spec_record.specs.Patching.{CanSetWrites, patched_cells}
+use Rattle.spec_record.specs.Patches.{CanSetWrites, patched_cells}
 use Rattle.spec_record.specs.Writes.{writes}
 use Rattle.round_book.specs.declared.verdict.Cause.{Cause}
 use Rattle.round_book.specs.declared.verdict.Cause.TheVariants as cause

@@ -16,4 +16,4 @@ pub use Rattle.cell_world.specs.World
 pub use Rattle.hex_geometry.specs.Position
 pub use Rattle.hex_geometry.specs.RowOrder
 pub use Rattle.spec_record.specs.Claims
-pub use Rattle.spec_record.specs.Patching
+pub use Rattle.spec_record.specs.Patches

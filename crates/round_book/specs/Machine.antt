@@ -5,7 +5,7 @@ use Rattle.cell_world.specs.Cell.{one_if}
 use Rattle.cell_world.specs.World.{with_cells}
 use Rattle.ant_turn.specs.Rounds.{Moment, after_turn}
 use Rattle.spec_record.specs.Look.{LookValue}
-use Rattle.spec_record.specs.Patching.{patched_cells}
+use Rattle.spec_record.specs.Patches.{patched_cells}
 use Rattle.round_book.specs.declared.verdict.Verdict.{Verdict}
 use Rattle.round_book.specs.declared.verdict.Verdict.TheVariants.{Taken, Redone}
 use Rattle.round_book.specs.Window.{Window, AreVerdicts, IsVerdict, look_for, moment_before}

@@ -4,10 +4,10 @@ ghost use Rattle.std.specs.Vec.{vec_capacity, vec_len};
 ghost use Rattle.round_book.specs.Book.{CanBegin, IsPlayed, IsSameWindow, StandsOn, window_of};
 ghost use Rattle.round_book.specs.Counts.{counts_of};
 
-use crate::advancing::advance;
 use crate::book::Book;
 use crate::counts::Counts;
 use crate::field::Field;
+use crate::one_turn::advance;
 use ant_base::Gate;
 use ant_random::Stream;
 use hex_geometry::OutOfMemory;

@@ -8,7 +8,7 @@ ghost use Rattle.cell_world.specs.Parts.{Agree};
 ghost use Rattle.cell_world.specs.World.{with_cells};
 ghost use Rattle.ant_turn.specs.Minds.{AreSound, Fits, minds_of};
 ghost use Rattle.spec_record.specs.Claims.{seen_cell, seen_parts, seen_place};
-ghost use Rattle.spec_record.specs.Patching.{patched_cells};
+ghost use Rattle.spec_record.specs.Patches.{patched_cells};
 ghost use Rattle.round_book.specs.Book.{AgreesUnwritten, BookValue, CanTake, HoldsInBook, IsCause, IsEnded, IsRedone, IsSameWindow, Settles, Wrote, moment_of};
 ghost use Rattle.round_book.specs.Counts.{is_taken_verdict};
 ghost use Rattle.round_book.specs.Inner.Kept.{IsWorkspaceReady};

@@ -6,7 +6,6 @@
 //! own.
 #![tactic(auto)]
 
-mod advancing;
 mod alone;
 mod book;
 mod counts;
@@ -14,12 +13,12 @@ mod crew;
 mod field;
 mod laws;
 mod led;
+mod one_turn;
 mod passes;
 mod solo;
 mod verdict;
 mod workspace;
 
-pub use advancing::advance;
 pub use alone::play_window;
 pub use book::{Book, recall_validity};
 pub use counts::Counts;
@@ -30,5 +29,6 @@ pub use laws::{
     put_turns_settle, standing_books_settle, taken_where_it_holds,
 };
 pub use led::Led;
+pub use one_turn::advance;
 pub use solo::SoloCrew;
 pub use verdict::{Cause, Verdict};

@@ -5,7 +5,7 @@ ghost use Rattle.cell_world.specs.Cell.{ant_weight, cell_weight};
 ghost use Rattle.cell_world.specs.Grid.{world_of};
 ghost use Rattle.cell_world.specs.Parts.{CanPatch, only, patched};
 ghost use Rattle.cell_world.specs.World.{put, with_cells};
-ghost use Rattle.spec_record.specs.Patching.{patched_cells};
+ghost use Rattle.spec_record.specs.Patches.{patched_cells};
 ghost use Rattle.round_book.specs.Book.{CanPatchIn, CanTake};
 ghost use Rattle.round_book.specs.Inner.Passes.{CanSetInPass, CanSetPass, after_pass, is_in_pass, with_pass};
 ghost use Rattle.spec_record.specs.Claims.{EachOnce, seen_positions};

@@ -4,7 +4,7 @@ use Rattle.cell_world.specs.Cell.{one_if}
 use Rattle.cell_world.specs.World.{World}
 use Rattle.ant_turn.specs.Minds.{Minds}
 use Rattle.spec_record.specs.Guess.{flips, flips_among, guess, guesses_of}
-use Rattle.spec_record.proofs.Flipping.{guesses_of-next}
+use Rattle.spec_record.proofs.FlipGuesses.{guesses_of-next}
 use Rattle.round_book.specs.Window.{Window, guess_for, guesses_for}
 
 -- ids in two parts

@@ -7,13 +7,13 @@ pub mod BoardMoves
 pub mod BoardSteps
 pub mod BoardBook
 pub mod BoardLooks
-pub mod BoardSeating
+pub mod BoardStart
 -- A board at work, and closed.
-pub mod BoardWorking
-pub mod BoardCrewing
+pub mod BoardWorkers
+pub mod BoardSeatLists
 pub mod BoardLawLemmas
 pub mod BoardWays
-pub mod BoardClosing
+pub mod BoardEnd
 -- Guesses, and pieces.
 pub mod GuessLemmas
 pub mod ShareLemmas

@@ -1,6 +1,6 @@
 -- Stepping stones between the definitions and the code: no public clause cites them.
 pub mod BoardCrew
 pub mod BoardPlaces
-pub mod BoardSettling
+pub mod BookInHand
 pub mod Pieces
 pub mod Shares

@@ -13,11 +13,11 @@ ghost use Rattle.round_workers.specs.BoardView.{first_seat, window_for};
 ghost use Rattle.round_workers.specs.Crews.{most_workers};
 
 mod book_calls;
-mod closing;
 mod crew;
+mod end;
 mod law;
 mod look_calls;
-mod looking;
+mod looks;
 mod places;
 mod room;
 mod seat;
@@ -27,8 +27,8 @@ mod worker;
 
 use crate::board::stock::Stock;
 use crate::share::Turns;
-pub use closing::Closed;
 pub use crew::BoardCrew;
+pub use end::Closed;
 use hex_geometry::OutOfMemory;
 pub use room::Room;
 use round_book::Field;

@@ -12,11 +12,11 @@
 
 mod board;
 mod fork;
-mod guessing;
+mod guesses;
 mod laws;
 mod piece;
 mod piece_crew;
-mod settling;
+mod settle;
 mod share;
 mod team;
 

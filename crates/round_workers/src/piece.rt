@@ -10,7 +10,7 @@ ghost use Rattle.round_workers.specs.Crews.{IsCrewSize};
 ghost use Rattle.round_workers.specs.Inner.Pieces.{AreLooked, HasPieceRoom, IsGuessed, IsPieceDone, IsPieceReady, all_have_room, shares_among};
 ghost use Rattle.round_workers.specs.Inner.Shares.{if_any, looks_for, shares};
 
-use crate::guessing::guess_on;
+use crate::guesses::guess_on;
 use crate::share::{Share, Turns, share_of};
 use ant_base::Gate;
 use ant_random::Stream;

@@ -2,11 +2,11 @@
 ghost use Rattle.std.specs.Prelude.{◌≡◌, ◌+◌, ◌-◌, ◌≤◌, ◌^◌, min, IfOk, OnOk, OnErr};
 ghost use Rattle.round_book.specs.Book.{CanBegin, IsPlayed, window_of};
 ghost use Rattle.round_book.specs.Counts.{counts_of};
-ghost use Rattle.round_workers.specs.Crews.{IsCrewSize, most_workers};
+ghost use Rattle.round_workers.specs.Crews.{IsCrewSize};
 
 use crate::fork::look_at_pieces;
 use crate::piece::{Piece, deal};
-use crate::settling::settle_pieces;
+use crate::settle::settle_pieces;
 use crate::share::Turns;
 use crate::team::Team;
 use ant_base::Gate;
@@ -39,7 +39,7 @@ impl<'c, R: Threads + Sync, G: Gate> PieceCrew<'c, R, G> {
     /// A crew of 1 to 16 workers, which has played no turn yet. Each worker, from 0, calls the gate before each look that it makes. It
     /// takes no memory.
     pub fn new(rt: &'c R, workers: u32, gate: &'c G) -> PieceCrew<'c, R, G>
-        requires workers { (1 ≤ workers) × (workers ≤ most_workers) }
+        requires workers { IsCrewSize workers }
         ensures { result ≡ record { workers = workers; turns = 0 } }
     {
         PieceCrew {

@@ -18,9 +18,9 @@ use Rattle.cell_world.specs.World.{Cells, World}
 use Rattle.ant_turn.specs.Kills.{places_around}
 use Rattle.spec_record.specs.Claims.{Sighting, seen_place}
 use Rattle.spec_record.specs.Reads.{ant_and_food, load_and_food, whole_ant}
-use Rattle.spec_record.specs.Inner.Going.{beyond, fallen, fallen_at, going_reads, going_writes, has_fallen, is_manned, seen_from}
+use Rattle.spec_record.specs.Inner.Moves.{beyond, fallen, fallen_at, going_reads, going_writes, has_fallen, is_manned, seen_from}
 use Rattle.spec_record.specs.Inner.Sightings.{all_sighted, sightings_of}
-use Rattle.spec_record.proofs.Noting.{manned-inner}
+use Rattle.spec_record.proofs.MoveReads.{manned-inner}
 use Rattle.spec_record.proofs.Ring.{among-beside, among-self, around-length, ring, ring-around, ring-beyond, ring-length}
 use Rattle.spec_record.proofs.Sighting.{all_sighted-append, all_sighted-fits, among, sightings_of-all}
 

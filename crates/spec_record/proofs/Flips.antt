@@ -16,7 +16,7 @@ use Rattle.spec_record.specs.Guess.{ant_flips, flips, flips_from, flips_now, is_
 use Rattle.spec_record.specs.Holds.{Holds, LookHolds}
 use Rattle.spec_record.specs.Look.{look_of}
 use Rattle.spec_record.specs.Reads.{reads}
-use Rattle.spec_record.proofs.SettlingTurns.{all_with_cells}
+use Rattle.spec_record.proofs.SettledTurns.{all_with_cells}
 
 -- a Move draws nothing, whether it goes or not
 either_drew : (one other : Outcome) (b : Bool) → one.drew ≡ false → other.drew ≡ false → (if b then one else other).drew ≡ false

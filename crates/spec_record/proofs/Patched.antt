@@ -17,9 +17,9 @@ use Rattle.spec_record.specs.Claims.{Claim, EachOnce, seen_cell, seen_parts, see
 use Rattle.spec_record.specs.Holds.{Holds}
 use Rattle.spec_record.specs.Locality.{GoesOn, IsLater, IsLookedAt, outcome_by}
 use Rattle.spec_record.specs.Look.{look_of}
-use Rattle.spec_record.specs.Patching.{parts_at, parts_there, patched_cells}
+use Rattle.spec_record.specs.Patches.{parts_at, parts_there, patched_cells}
 use Rattle.spec_record.specs.Writes.{writes, writes_from}
-use Rattle.spec_record.proofs.Claiming.{EachOnce-merged, has_part-none, has_part-union, parts_at-fresh, parts_at-merged, parts_there-elsewhere, parts_there-here, positions, union-none}
+use Rattle.spec_record.proofs.ClaimLemmas.{EachOnce-merged, has_part-none, has_part-union, parts_at-fresh, parts_at-merged, parts_there-elsewhere, parts_there-here, positions, union-none}
 use Rattle.spec_record.proofs.Steps.{CellStep, InStep, InStep-same}
 use Rattle.spec_record.proofs.TurnSteps.{turn_both}
 

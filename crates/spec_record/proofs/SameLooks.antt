@@ -30,11 +30,11 @@ use Rattle.spec_record.specs.Claims.{Claim, claim, merged, merged_onto, with_cla
 use Rattle.spec_record.specs.Look.{LookValue, look_of, look_with}
 use Rattle.spec_record.specs.Reads.{ant_and_food, emptied, load_and_food, neighbours_if_manned, reads, reads_acting, reads_besides, reads_from, reads_going, seen_around, who_and_mind, whole_ant}
 use Rattle.spec_record.specs.Writes.{writes_besides, writes_going}
-use Rattle.spec_record.specs.Inner.Standing.{rested_look}
+use Rattle.spec_record.specs.Inner.Stays.{rested_look}
 use Rattle.spec_record.proofs.CheckSteps.{Sees, all_of_flat_map, all_split, is_surrounded-alike, no_new}
-use Rattle.spec_record.proofs.Claiming.{positions, positions-merged}
-use Rattle.spec_record.proofs.Emptying.{flat_map-alike}
-use Rattle.spec_record.proofs.Looking.{look_by, look_of-dead, look_of-executes, look_of-rests}
+use Rattle.spec_record.proofs.ClaimLemmas.{positions, positions-merged}
+use Rattle.spec_record.proofs.EmptiedCells.{flat_map-alike}
+use Rattle.spec_record.proofs.LookLemmas.{look_by, look_of-dead, look_of-executes, look_of-rests}
 use Rattle.spec_record.proofs.TurnSteps.{all_both}
 use Rattle.spec_record.specs.SameLooks.{LooksAgree, SameAt, SameForLook}
 

@@ -104,6 +104,12 @@ sighted-first (old ∷ list) new beyond =
       | inr apart ↦ let e = cond-false _ zero (suc (seen_number (seen_place new) list)) apart in cond-false _ _ _ apart ∙ ap (λ more. old ∷ more) (sighted-first list new (omega (arith, e)))
     ]
 
+-- so does one for whose position a search finds the list's length
+pub sighted-unfound : (items searched : List Sighting) (new : Sighting) (k len : ℕ) → searched ≡ items → k ≡ seen_number (seen_place new) searched → len ≡ length items → len ≤ k → sighted items new ≡ items ++ new ∷ []
+sighted-unfound items searched new k len same told long beyond =
+    let at : k ≡ seen_number (seen_place new) items = told ∙ ap (seen_number (seen_place new)) same in
+    sighted-first items new (omega (arith, at, long, beyond))
+
 -- the number of a position from a place of the list on
 pub seen_number-drop : (p : Pos) (list : List Sighting) (k : ℕ) (z : Sighting) → k < length list →
     seen_number p (drop k list) ≡ cond (same_pos (slice_index_or list k z).0 p) zero (suc (seen_number p (drop (k + 1) list)))

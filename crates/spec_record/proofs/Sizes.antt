@@ -28,10 +28,10 @@ use Rattle.spec_record.specs.Inner.Sightings.{all_sighted}
 use Rattle.spec_record.specs.Reads.{ant_and_food, emptied, load_and_food, reads, reads_acting, reads_besides, reads_from, reads_going, reads_of, seen_around, who_and_mind}
 use Rattle.spec_record.specs.Writes.{writes, writes_acting, writes_besides, writes_from, writes_going, writes_of}
 use Rattle.spec_record.proofs.Bounds.{from-beside, seen-ring}
-use Rattle.spec_record.proofs.Claiming.{positions}
-use Rattle.spec_record.proofs.Emptying.{seen_around-from}
+use Rattle.spec_record.proofs.ClaimLemmas.{positions}
+use Rattle.spec_record.proofs.EmptiedCells.{seen_around-from}
 use Rattle.spec_record.proofs.Ring.{among-self, around-length, ring, ring-around, ring-length}
-use Rattle.spec_record.proofs.SettlingTurns.{all_at_places}
+use Rattle.spec_record.proofs.SettledTurns.{all_at_places}
 use Rattle.spec_record.proofs.Sighting.{all_sighted-fits, among, with_cells_at-merged}
 
 -- whose ants decide the checks around the cell that an ant enters are in the ring around it

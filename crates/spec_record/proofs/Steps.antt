@@ -12,8 +12,8 @@ use Rattle.cell_world.specs.World.{Cells, put_cell}
 use Rattle.cell_world.proofs.Patches.{CanPatch-alike}
 use Rattle.cell_world.proofs.Puts.{cases_pos, put_cell-other, put_cell-same}
 use Rattle.spec_record.specs.Claims.{Claim, claim}
-use Rattle.spec_record.specs.Patching.{parts_at}
-use Rattle.spec_record.proofs.Claiming.{Agree-union, has_part-none, has_part-union, parts_at-append, parts_there-elsewhere, parts_there-here, union-none}
+use Rattle.spec_record.specs.Patches.{parts_at}
+use Rattle.spec_record.proofs.ClaimLemmas.{Agree-union, has_part-none, has_part-union, parts_at-append, parts_there-elsewhere, parts_there-here, union-none}
 
 -- a step of one cell of each: the base's from c to c', now's from d to d'
 pub record CellStep (parts : Parts) (c d c' d' : Cell) : Type 0 where

@@ -39,7 +39,7 @@ use Rattle.spec_record.specs.Locality.{GoesOn}
 use Rattle.spec_record.specs.Reads.{asked, emptied, load_and_food, marks_part, neighbours_if_manned, reads, reads_acting, reads_besides, reads_from, reads_going, reads_of, seen_around, whole_ant}
 use Rattle.spec_record.specs.Writes.{writes_acting, writes_besides, writes_from, writes_going, writes_of}
 use Rattle.spec_record.proofs.CheckSteps.{Checked, LeavesAlike, Sees, all_of_flat_map, all_split, check_steps, claims_emptied, has_ant-alike, is_ant_of-alike}
-use Rattle.spec_record.proofs.Claiming.{AgreeInAll, AgreeInAll-merged, parts_at-both}
+use Rattle.spec_record.proofs.ClaimLemmas.{AgreeInAll, AgreeInAll-merged, parts_at-both}
 use Rattle.spec_record.proofs.OwnSteps.{arrived_step, black_step, food_step, left_step, mind_step, red_step}
 use Rattle.spec_record.proofs.Steps.{CellStep, InStep, InStep-keeps, InStep-none, InStep-put, InStep-same, InStep-then}
 

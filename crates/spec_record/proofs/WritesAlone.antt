@@ -11,7 +11,7 @@ use Rattle.spec_record.specs.Locality.{GoesOn, WritesAlone}
 use Rattle.spec_record.specs.Reads.{reads}
 use Rattle.spec_record.specs.Writes.{writes}
 use Rattle.spec_record.proofs.Patched.{look_step, unclaimed}
-use Rattle.spec_record.proofs.SettlingTurns.{all_with_cells}
+use Rattle.spec_record.proofs.SettledTurns.{all_with_cells}
 
 -- a world agrees with itself
 all_agree : (v : Cells) (claims : List Claim) → AllByRecursion (λ c. Agree c.parts (v c.at) (v c.at)) claims

@@ -22,7 +22,7 @@ use Rattle.spec_record.specs.Claims.{claim}
 use Rattle.spec_record.specs.Reads.{ant_and_food, emptied}
 use Rattle.spec_record.specs.Writes.{writes, writes_acting, writes_besides, writes_from, writes_going, writes_of}
 use Rattle.spec_record.proofs.CheckSteps.{no_new}
-use Rattle.spec_record.proofs.Claiming.{positions, positions-merged}
+use Rattle.spec_record.proofs.ClaimLemmas.{positions, positions-merged}
 
 -- the cells that checks empty held ants
 pub emptied-manned : (sheet : Sheet) (places : List Pos) (v : Cells) → AllByRecursion (λ r. has_ant (v r).ant ≡ true) (emptied sheet v places)

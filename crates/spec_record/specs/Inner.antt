@@ -1,5 +1,5 @@
-pub mod Going
+pub mod Moves
 pub mod Laid
 pub mod Near
 pub mod Sightings
-pub mod Standing
+pub mod Stays

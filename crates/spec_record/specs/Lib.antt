@@ -4,7 +4,7 @@ pub mod Holds
 pub mod Inner
 pub mod Locality
 pub mod Look
-pub mod Patching
+pub mod Patches
 pub mod Places
 pub mod Reads
 pub mod SameLooks

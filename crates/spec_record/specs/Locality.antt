@@ -13,7 +13,7 @@ use Rattle.spec_record.specs.Claims.{Claim, merged, seen_cell, seen_parts, seen_
 use Rattle.spec_record.specs.Guess.{flips}
 use Rattle.spec_record.specs.Holds.{Holds, LookHolds}
 use Rattle.spec_record.specs.Look.{LookValue, look_of}
-use Rattle.spec_record.specs.Patching.{CanSetWrites, after_heavier, after_lighter, parts_at, patched_cells}
+use Rattle.spec_record.specs.Patches.{CanSetWrites, after_heavier, after_lighter, parts_at, patched_cells}
 use Rattle.spec_record.specs.Reads.{reads}
 use Rattle.spec_record.specs.Writes.{writes}
 

@@ -5,14 +5,14 @@
 //! project's own, but where an item names a section of the task.
 #![tactic(auto)]
 
-mod going;
 mod guess;
 mod look_laws;
+mod moves;
+mod own_look;
 mod record;
 mod sightings;
-mod staying;
+mod stays;
 mod trail;
-mod working;
 
 pub use guess::{at_flip, guess_at, guesses};
 pub use look_laws::{
@@ -20,6 +20,6 @@ pub use look_laws::{
     turns_are_local_alone, turns_are_patches, turns_are_small, turns_draw_at_flips,
     turns_write_alone,
 };
+pub use own_look::{look, look_by, look_into};
 pub use record::Look;
 pub use trail::Trail;
-pub use working::{look, look_by, look_into};

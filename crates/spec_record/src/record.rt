@@ -7,7 +7,7 @@ use cell_world::{Cell, Parts};
 use hex_geometry::Pos;
 use std::marker::Model;
 
-mod filling;
+mod fill;
 
 /// A look at the turn of one ant.
 #[derive(Drop)]

@@ -4,7 +4,7 @@ pub mod PiecesLemmas
 -- Points, totals and the standing.
 pub mod TotalLemmas
 pub mod LawsLemmas
-pub mod Sorting
+pub mod SortedLines
 pub mod StandingLemmas
 -- Worked values.
 pub mod Worked

@@ -3,7 +3,7 @@ use Rattle.std.proofs.Common.{◌≡◌, ℕ, ◌+◌, ◌-◌, ◌*◌, ◌/◌
 use Rattle.std.proofs.Math.Nat.{add-mul, div-le_of_le-mul, div-mul-le_self, le-div_iff_mul-le, lt_of_not-le, mod-lt, mul-div_cancel_left, mul-le-mul_right, one-mul, zero-div, zero-mul}
 use Rattle.std.proofs.lemmas.Nat.{div-add-mod'}
 use Rattle.work_share.specs.Borders.{border}
-use Rattle.work_share.specs.Laws.{IsEven, PiecesAreEven, PiecesAreTheRow}
+use Rattle.work_share.specs.Laws.{PiecesAreEven, PiecesAreTheRow}
 
 -- the numerator of a border is small
 pub border_small : (k n w : ℕ) → k ≤ w → w ≤ 16 → n < 2 ^ 32 → k * n < 2 ^ 64

@@ -11,7 +11,7 @@ use Rattle.ant_asm.specs.declared.expand.Frame.{Frame}
 use Rattle.ant_asm.specs.declared.expand.Spot.{Spot}
 use Rattle.ant_asm.specs.Program.{Items, size_of}
 use Rattle.ant_asm.specs.Program.Items.{End, Do, Use}
-use Rattle.ant_asm.specs.Inner.Emitting.{Numbers, number_target, offset}
+use Rattle.ant_asm.specs.Inner.Emission.{Numbers, number_target, offset}
 
 -- the most instructions
 abbrev pub most : ℕ

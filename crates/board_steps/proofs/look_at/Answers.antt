@@ -6,7 +6,7 @@ use Rattle.ant_turn.specs.Minds.{Minds}
 use Rattle.spec_record.specs.Guess.{guess}
 use Rattle.round_book.specs.Book.{window_of}
 use Rattle.round_book.specs.Window.{Window, guess_for}
-use Rattle.round_workers.proofs.BoardWorking.{look-so}
+use Rattle.round_workers.proofs.BoardWorkers.{look-so}
 use Rattle.board_steps.proofs.look_at.Goals as goal
 
 guess-so : (window : Window) (t place : ℕ) (minds : Minds) (base : World) → minds ≡ window.minds → base ≡ window.base → place ≡ window.place → guess minds base place window.from t ≡ guess_for window t

@@ -8,7 +8,7 @@ use Rattle.round_book.specs.Window.{Window, look_for}
 use Rattle.round_workers.specs.declared.board.seat.Board.{Board}
 use Rattle.round_workers.specs.BoardPlays.{has_put}
 use Rattle.round_workers.specs.BoardSeats.{basis_of, known, board_window}
-use Rattle.round_workers.proofs.BoardWorking.{look-again, look-turn, window_at}
+use Rattle.round_workers.proofs.BoardWorkers.{look-again, look-turn, window_at}
 use Rattle.board_steps.specs.Seats.{IsFor}
 use Rattle.board_steps.proofs.put.Goals as goal
 

@@ -1,7 +1,7 @@
 -- Bodies of ants of which those that rest are told apart from the others.
 use Rattle.std.specs.Prelude.{◌≡◌, ℕ, ◌-◌, Bool, nat_eq, List, length}
 use Rattle.cell_world.specs.declared.body.Body.{Body}
-use Rattle.cell_world.specs.Inner.Catching.{body_of}
+use Rattle.cell_world.specs.Inner.CatchUp.{body_of}
 use Rattle.cell_world.specs.Resting.{ids_where, one_less}
 
 -- the body with this resting count

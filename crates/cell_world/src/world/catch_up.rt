@@ -4,7 +4,7 @@ ghost use Rattle.std.specs.List.{Contains};
 ghost use Rattle.std.specs.Vec.{vec_len};
 ghost use Rattle.hex_geometry.specs.Position.{IsInside};
 ghost use Rattle.hex_geometry.specs.declared.position.Pos.{Pos};
-ghost use Rattle.cell_world.specs.Inner.Catching.{Catching, Followed, IsCaught};
+ghost use Rattle.cell_world.specs.Inner.CatchUp.{Catching, Followed, IsCaught};
 ghost use Rattle.cell_world.specs.Grid.{IsWorld, world_of};
 ghost use Rattle.hex_geometry.specs.RowOrder.{index_of};
 

@@ -4,8 +4,8 @@ use Rattle.std.specs.Option.{is_some}
 use Rattle.round_book.specs.Window.{Window, look_for}
 use Rattle.spec_record.specs.Look.{LookValue}
 use Rattle.far_crew.specs.declared.line.Line.{Line}
-use Rattle.far_crew.specs.declared.picking.Pick.{Pick}
-use Rattle.far_crew.specs.declared.picking.Pick.TheVariants.{Theirs, Own}
+use Rattle.far_crew.specs.declared.pick.Pick.{Pick}
+use Rattle.far_crew.specs.declared.pick.Pick.TheVariants.{Theirs, Own}
 use Rattle.far_crew.specs.Jobs.{FoundValue}
 
 -- the looks of an answer, if there is one

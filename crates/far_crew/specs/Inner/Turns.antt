@@ -5,7 +5,7 @@ use Rattle.cell_world.specs.Grid.{Grid}
 use Rattle.ant_turn.specs.Minds.{Minds}
 use Rattle.round_book.specs.Book.{CanBegin, FieldValue, window_of}
 use Rattle.round_book.specs.Window.{Window, guesses_for}
-use Rattle.far_crew.specs.declared.guessing.GuessedTurns.{GuessedTurns}
+use Rattle.far_crew.specs.declared.guesses.GuessedTurns.{GuessedTurns}
 use Rattle.far_crew.specs.Jobs.{JobValue}
 
 -- the window of these turns that begins on a field

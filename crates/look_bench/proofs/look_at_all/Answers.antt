@@ -6,7 +6,7 @@ use Rattle.cell_world.specs.Grid.{world_of}
 use Rattle.ant_turn.specs.Minds.{minds_of}
 use Rattle.spec_record.specs.Guess.{flips, guess}
 use Rattle.spec_record.specs.Look.{LookValue}
-use Rattle.spec_record.proofs.Flipping.{guess-first, guess-next}
+use Rattle.spec_record.proofs.FlipGuesses.{guess-first, guess-next}
 use Rattle.spec_record.proofs.Flips.{look-drew}
 use Rattle.look_bench.proofs.look_at_all.Goals as goal
 

@@ -2,7 +2,7 @@
 use Rattle.std.proofs.Common.{sym, subst}
 use Rattle.cell_world.specs.Grid.{Grid, world_of}
 use Rattle.ant_turn.specs.Minds.{Fits, minds_of}
-use Rattle.ant_turn.proofs.Fitting.{Fits-opening}
+use Rattle.ant_turn.proofs.FitLemmas.{Fits-opening}
 use Rattle.look_bench.proofs.look_often.Goals as goal
 
 pub look_at_all-drawn-requires : goal.look_at_all-drawn-requires

@@ -9,7 +9,7 @@ use Rattle.cell_world.specs.Grid.{Grid, cell_in, world_of}
 use Rattle.cell_world.specs.Limits.{most_weight}
 use Rattle.cell_world.specs.World.{weight}
 use Rattle.match_save.specs.Draft.{IdsRise}
-use Rattle.match_save.specs.Inner.Standing.{CanAllStand, all_standing, weight_of_ants}
+use Rattle.match_save.specs.Inner.AntPuts.{CanAllStand, all_standing, weight_of_ants}
 
 -- some ants were put into a world, which has its cells, and these are left: with them it is what it should become; they can all stand where all could at first;
 -- their ids are above those that stand, and it stays light enough

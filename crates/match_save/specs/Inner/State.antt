@@ -7,7 +7,7 @@ use Rattle.cell_world.specs.Limits.{most_ants, most_weight}
 use Rattle.match_save.specs.Draft.{Draft}
 use Rattle.match_save.specs.State.{hill_count, program_of, turns_of}
 use Rattle.match_save.specs.Inner.Floor.{are_sound_cells, floor_of}
-use Rattle.match_save.specs.Inner.Standing.{CanAllStand, weight_of_ants}
+use Rattle.match_save.specs.Inner.AntPuts.{CanAllStand, weight_of_ants}
 
 -- what holds of a state's world
 pub record HasWorld (d : Draft) : Type 0 where

@@ -13,7 +13,7 @@ use Rattle.cell_world.specs.Grid.{Grid, cell_in, world_of}
 use Rattle.cell_world.specs.World.{place_in}
 use Rattle.match_save.specs.Saved.{SavedValue, head_of, soil_of_cell}
 use Rattle.match_save.specs.Text.{ant_tokens, food_byte, food_tokens, head_tokens, marks_byte, soil_byte}
-use Rattle.match_save.specs.Inner.Pushing.{lines_text, tokens_text}
+use Rattle.match_save.specs.Inner.LineTexts.{lines_text, tokens_text}
 
 -- the line of a brain's name and length, and its instructions
 abbrev pub program_text : List ℕ → List Instr → List ℕ

@@ -3,7 +3,7 @@ use Rattle.std.specs.Prelude.{◌≡◌, Bool, true, false, ⊤, if◌then◌els
 use Rattle.cell_world.specs.Valid.{CanSet}
 use Rattle.cell_world.specs.World.{World, put}
 use Rattle.spec_record.specs.Claims.{Sighting, seen_place}
-use Rattle.spec_record.specs.Patching.{patched_by_write, raises}
+use Rattle.spec_record.specs.Patches.{patched_by_write, raises}
 
 -- whether a write that raises its cell's weight, or doesn't, is one of the pass
 abbrev pub is_in_pass : Bool → Bool → Bool

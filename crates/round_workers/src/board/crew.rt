@@ -12,14 +12,14 @@ ghost use Rattle.round_workers.specs.BoardSeats.{IsSeatOf, known, board_window};
 ghost use Rattle.round_workers.specs.BoardWorker.{turns_in};
 ghost use Rattle.round_workers.specs.Crews.{IsCrewSize, most_workers};
 
-use crate::board::closing::Ended;
-use crate::board::looking::look_at;
+use crate::board::end::Ended;
+use crate::board::looks::look_at;
 use crate::board::places::look_in;
 use crate::board::seat::{Board, Seat};
 use crate::board::stock::Stock;
 use crate::board::view::BoardSlot;
 use crate::board::worker::Worker;
-use crate::guessing::list_guesses;
+use crate::guesses::list_guesses;
 use crate::share::Turns;
 use crate::team::Team;
 use ant_base::Gate;
@@ -56,7 +56,7 @@ impl<'c, R: Threads + Sync, G: Gate> BoardCrew<'c, R, G> {
     /// A crew of 1 to 16 workers, which has played no turn yet. Each worker, from 0, calls the gate before each look that it makes. It
     /// takes no memory.
     pub fn new(rt: &'c R, workers: u32, gate: &'c G) -> BoardCrew<'c, R, G>
-        requires workers { (1 ≤ workers) × (workers ≤ most_workers) }
+        requires workers { IsCrewSize workers }
         ensures { result ≡ record { workers = workers; turns = 0 } }
     {
         BoardCrew {

@@ -11,7 +11,7 @@ ghost use Rattle.round_workers.specs.declared.board.view.Phase.TheVariants.{Rest
 ghost use Rattle.round_workers.specs.declared.board.view.BoardSlot.TheVariants.{Nothing};
 ghost use Rattle.round_workers.specs.BoardPlays.{has_put, has_taken, puts_now, takes_now, took_look};
 ghost use Rattle.round_workers.specs.BoardRule.{turns_of};
-ghost use Rattle.round_workers.specs.Inner.BoardSettling.{CanSettle};
+ghost use Rattle.round_workers.specs.Inner.BookInHand.{CanSettle};
 ghost use Rattle.round_workers.specs.BoardSeats.{IsHandOf, IsMiss, IsSeatOf, basis_of, known, board_window};
 
 use crate::board::places::look_room;

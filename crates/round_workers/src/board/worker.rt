@@ -5,12 +5,12 @@ ghost use Rattle.std.specs.Vec.{vec_capacity};
 ghost use Rattle.round_book.specs.Book.{IsLentFor, StandsFor};
 ghost use Rattle.round_book.specs.Machine.{times};
 ghost use Rattle.round_book.specs.Window.{guesses_for, look_for};
-ghost use Rattle.round_workers.specs.Inner.BoardSettling.{CanSettle, HasSettled};
+ghost use Rattle.round_workers.specs.Inner.BookInHand.{CanSettle, HasSettled};
 ghost use Rattle.round_workers.specs.BoardSeats.{IsSeatOf, basis_of, known, board_window};
 ghost use Rattle.round_workers.specs.BoardTotals.{late_among};
 ghost use Rattle.round_workers.specs.BoardWorker.{HasServed, IsWorker, turns_in};
 
-use crate::board::looking::reach;
+use crate::board::looks::reach;
 use crate::board::room::Room;
 use crate::board::seat::{Board, Hand, Seat};
 use ant_base::Gate;

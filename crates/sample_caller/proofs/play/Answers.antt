@@ -1,4 +1,4 @@
-use Rattle.ant_turn.proofs.Fitting.{Fits-opening}
+use Rattle.ant_turn.proofs.FitLemmas.{Fits-opening}
 use Rattle.sample_caller.proofs.play.Goals as goal
 
 -- all brains fit a world at the start of a game

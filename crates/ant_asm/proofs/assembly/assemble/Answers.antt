@@ -3,7 +3,7 @@ use Rattle.std.proofs.lemmas.Result.{err_from_is_err_and}
 use Rattle.brain_read.specs.Soundness.{IsBrain}
 use Rattle.ant_asm.specs.Answers.{IsAssembledText}
 use Rattle.ant_asm.specs.Inner.ProgramView.{AreBodiesOf}
-use Rattle.ant_asm.proofs.Assembling.{fault-of, fault-only, main-brain, no-fault, program-assembled, text-assembled, want-only}
+use Rattle.ant_asm.proofs.Expansion.{fault-of, fault-only, main-brain, no-fault, program-assembled, text-assembled, want-only}
 use Rattle.ant_asm.proofs.LabelGames.{game-labelled}
 use Rattle.ant_asm.proofs.assembly.assemble.Goals as goal
 use Rattle.ant_asm.proofs.assembly.assemble.Goals.{After-with_brain}

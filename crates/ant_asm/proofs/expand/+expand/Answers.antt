@@ -5,7 +5,7 @@ use Rattle.ant_asm.specs.declared.body.Item.{Item}
 use Rattle.ant_asm.specs.declared.expand.Expansion.{Expansion}
 use Rattle.ant_asm.specs.Places.{places_of}
 use Rattle.ant_asm.specs.Program.{from_place, size_of}
-use Rattle.ant_asm.specs.Inner.Emitting.{Numbers, emitted, number_first, number_target, offset}
+use Rattle.ant_asm.specs.Inner.Emission.{Numbers, emitted, number_first, number_target, offset}
 use Rattle.ant_asm.specs.Inner.Flat.{IsGoodAction, IsGoodItem, IsGoodLabel, numbers_of, tree_at, trees_of}
 use Rattle.ant_asm.proofs.FlatLemmas.{IsUnderway, at_item, body_end, item_good, item_short, item_start, item_tree, length-map-labels, of_body, same_numbers, start_inside, underway_do, underway_end, underway_use, use_fits, use_good, with_item}
 use Rattle.ant_asm.proofs.expand.+expand.Goals.{in-Do+in_ok-emit-in-Do, in-Use+in_ok-given-in-Use+in_ok-push-in-Use+in_ok-expand-in-Use}

@@ -1,6 +1,6 @@
 use Rattle.std.proofs.Common.{◌≡◌, ℕ, ◌+◌, ◌≤◌, ap, arith, length, slice_index_or, subst, sym}
 use Rattle.ant_asm.specs.Program.{size_of}
-use Rattle.ant_asm.specs.Inner.Emitting.{offset}
+use Rattle.ant_asm.specs.Inner.Emission.{offset}
 use Rattle.ant_asm.specs.Inner.Flat.{numbers_of, tree_at}
 use Rattle.ant_asm.proofs.FlatLemmas.{end_at, number_first-after, number_first-inside, offset-rest, place_of, start_at}
 use Rattle.ant_asm.proofs.expand.number_first.Goals as goal

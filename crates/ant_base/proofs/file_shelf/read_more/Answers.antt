@@ -1,6 +1,6 @@
 -- what was read is lost, where memory can't be had for it
 use Rattle.std.proofs.Common.{arith, length, rules}
-use Rattle.ant_base.proofs.Streaming.{read_fits, read_lost}
+use Rattle.ant_base.proofs.Streams.{read_fits, read_lost}
 use Rattle.ant_base.proofs.file_shelf.read_more.Goals as goal
 
 pub returns-in_err-extend_from_slice-clause-lost : goal.returns-in_err-extend_from_slice-clause-lost

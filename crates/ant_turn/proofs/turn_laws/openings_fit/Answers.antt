@@ -1,4 +1,4 @@
-use Rattle.ant_turn.proofs.Fitting.{Fits-opening}
+use Rattle.ant_turn.proofs.FitLemmas.{Fits-opening}
 use Rattle.ant_turn.proofs.turn_laws.openings_fit.Goals as goal
 
 pub returns : goal.returns

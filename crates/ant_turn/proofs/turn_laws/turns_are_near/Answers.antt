@@ -1,4 +1,4 @@
-use Rattle.ant_turn.proofs.Killing.{turn-own}
+use Rattle.ant_turn.proofs.KillLemmas.{turn-own}
 use Rattle.ant_turn.proofs.MarksKept.{turn-marks}
 use Rattle.ant_turn.proofs.QuietLemmas.{turn-elsewhere, turn-spared, turn-stayed}
 use Rattle.ant_turn.proofs.turn_laws.turns_are_near.Goals as goal

@@ -1,4 +1,4 @@
-use Rattle.ant_turn.proofs.Counting.{turn-food}
+use Rattle.ant_turn.proofs.Sums.{turn-food}
 use Rattle.ant_turn.proofs.turn_laws.turns_keep_food.Goals as goal
 
 pub returns : goal.returns

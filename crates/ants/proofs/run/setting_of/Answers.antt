@@ -6,7 +6,7 @@ use Rattle.brain_read.specs.declared.instr.Instr.{Instr}
 use Rattle.ants.specs.declared.stop.CommandStop.{CommandStop}
 use Rattle.ants.specs.Files.FileContent.{WorldContent, BrainContent}
 use Rattle.ants.specs.Files.FileKind.{BrainFile}
-use Rattle.ants.specs.Inner.Planning.{setting_contents}
+use Rattle.ants.specs.Inner.Plans.{setting_contents}
 use Rattle.ants.specs.Inner.Reading.{ReadsFiles, ReadsText, outcome_of}
 use Rattle.ants.specs.Inner.Reading.ReadOutcome.{Contents}
 use Rattle.ants.specs.Outputs.{brain_file, world_file}

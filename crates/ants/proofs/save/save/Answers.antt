@@ -7,7 +7,7 @@ use Rattle.command_words.specs.Command.PlainCommand.{SaveCommand}
 use Rattle.command_words.specs.Words.{plain_setup}
 use Rattle.match_save.specs.Saved.{save_text}
 use Rattle.ants.specs.declared.stop.CommandStop.{CommandStop}
-use Rattle.ants.specs.Inner.Planning.{setting_contents}
+use Rattle.ants.specs.Inner.Plans.{setting_contents}
 use Rattle.ants.specs.Files.FileContent.{BrainContent, WorldContent}
 use Rattle.ants.specs.Outputs.{save_output}
 use Rattle.ants.proofs.Accepted.{fits_accepted, opened_accepted}

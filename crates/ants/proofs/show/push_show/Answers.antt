@@ -1,5 +1,5 @@
 -- the line of the seed, and then the dump
-use Rattle.ant_base.proofs.Pushing.{pushed_then}
+use Rattle.ant_base.proofs.Pushes.{pushed_then}
 use Rattle.ants.specs.Outputs.{show_output}
 use Rattle.ants.proofs.show.push_show.Goals as goal
 

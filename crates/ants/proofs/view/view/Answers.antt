@@ -6,7 +6,7 @@ use Rattle.break_view.specs.Texts.{view_of}
 use Rattle.cell_world.specs.Grid.{world_of}
 use Rattle.command_words.specs.Command.PlainCommand.{ViewCommand}
 use Rattle.ants.specs.Files.FileContent.{BreakContent}
-use Rattle.ants.specs.Inner.Planning.{setting_contents}
+use Rattle.ants.specs.Inner.Plans.{setting_contents}
 use Rattle.ants.specs.Inner.Reading.ReadOutcome.{Contents}
 use Rattle.ants.specs.Outputs.{break_file, game_files}
 use Rattle.ants.proofs.Accepted.{fits_accepted}

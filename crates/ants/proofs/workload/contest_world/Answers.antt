@@ -1,7 +1,7 @@
 -- the contest's shape is what is generated
 use Rattle.std.proofs.Common.{subst}
 use Rattle.world_gen.specs.declared.shape.Shape.{Shape}
-use Rattle.ants.specs.Inner.Planning.{IsGenerating}
+use Rattle.ants.specs.Inner.Plans.{IsGenerating}
 use Rattle.ants.proofs.Generated.{contest_shape-of}
 use Rattle.ants.proofs.workload.contest_world.Goals as goal
 

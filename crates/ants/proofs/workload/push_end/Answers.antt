@@ -1,6 +1,6 @@
 -- the score, and then the counts
 use Rattle.std.proofs.lemmas.Result.{err_from_is_err_and}
-use Rattle.ant_base.proofs.Pushing.{front_more, pushed_then}
+use Rattle.ant_base.proofs.Pushes.{front_more, pushed_then}
 use Rattle.ants.proofs.workload.push_end.Goals as goal
 
 pub returns-in_err-push_score : goal.returns-in_err-push_score

@@ -1,6 +1,6 @@
 -- the first lines, and then the others
 use Rattle.std.proofs.lemmas.Result.{err_from_is_err_and}
-use Rattle.ant_base.proofs.Pushing.{front_more, pushed_then}
+use Rattle.ant_base.proofs.Pushes.{front_more, pushed_then}
 use Rattle.ants.specs.Outputs.{workload_text}
 use Rattle.ants.proofs.workload.push_summary.Goals as goal
 

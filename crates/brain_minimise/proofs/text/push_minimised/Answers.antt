@@ -1,5 +1,5 @@
 use Rattle.std.proofs.lemmas.Result.{err_from_is_err_and}
-use Rattle.ant_base.proofs.Pushing.{front_more, pushed_then}
+use Rattle.ant_base.proofs.Pushes.{front_more, pushed_then}
 use Rattle.brain_read.specs.Canonical.{brain_text}
 use Rattle.brain_minimise.proofs.Texts.{counts_text, minimised_text-parts}
 use Rattle.brain_minimise.proofs.text.push_minimised.Goals as goal

@@ -3,7 +3,7 @@ use Rattle.std.proofs.lemmas.List.{flat_map_more, take_more}
 use Rattle.std.proofs.lemmas.List.Elements.{All-from_recursion, All-more, recursion_from_All}
 use Rattle.std.proofs.lemmas.Result.{err_from_is_err_and}
 use Rattle.ant_base.specs.Sink.{PushedAll, PushedFront}
-use Rattle.ant_base.proofs.Pushing.{all_then, front_then, front_more}
+use Rattle.ant_base.proofs.Pushes.{all_then, front_then, front_more}
 use Rattle.brain_read.specs.Canonical.{instruction_text}
 use Rattle.brain_read.specs.Forms.{HasBound}
 use Rattle.brain_read.specs.declared.instr.Instr.{Instr}

@@ -1,4 +1,4 @@
-use Rattle.ant_base.proofs.Pushing.{pushed_then}
+use Rattle.ant_base.proofs.Pushes.{pushed_then}
 use Rattle.break_view.proofs.view.push_stop.Goals as goal
 
 pub returns : goal.returns

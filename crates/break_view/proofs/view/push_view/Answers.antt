@@ -1,5 +1,5 @@
 use Rattle.std.proofs.lemmas.Result.{err_from_is_err_and}
-use Rattle.ant_base.proofs.Pushing.{front_more, pushed_then}
+use Rattle.ant_base.proofs.Pushes.{front_more, pushed_then}
 use Rattle.cell_world.specs.Grid.{world_of}
 use Rattle.break_view.proofs.ViewText.{view_text-parts}
 use Rattle.break_view.proofs.view.push_view.Goals as goal

@@ -1,6 +1,6 @@
 use Rattle.std.proofs.Common.{◌≡◌, ◌+◌, ◌∙◌, ap, arith}
 use Rattle.std.proofs.lemmas.Result.{err_from_is_err_and}
-use Rattle.ant_base.proofs.Pushing.{all_then, front_then, front_more}
+use Rattle.ant_base.proofs.Pushes.{all_then, front_then, front_more}
 use Rattle.ant_turn.specs.Minds.{minds_of}
 use Rattle.cell_world.specs.Grid.{world_of}
 use Rattle.match_run.specs.Dumps.{chooses}

@@ -1,5 +1,5 @@
 use Rattle.std.proofs.lemmas.Result.{err_from_is_err_and}
-use Rattle.ant_base.proofs.Pushing.{all_then, front_more, front_then}
+use Rattle.ant_base.proofs.Pushes.{all_then, front_more, front_then}
 use Rattle.match_run.proofs.alone.play_to_score.Goals as goal
 
 pub returns-in_err-play_rounds-clause-text : goal.returns-in_err-play_rounds-clause-text

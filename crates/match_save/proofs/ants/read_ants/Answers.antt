@@ -3,7 +3,7 @@ use Rattle.std.proofs.lemmas.Result.{err_from_is_err_and}
 use Rattle.cell_world.specs.declared.ant.PlacedAnt.{PlacedAnt}
 use Rattle.match_save.specs.Inner.Answered.{behind}
 use Rattle.match_save.specs.Inner.Reading.{ant_or_end, ants_from}
-use Rattle.match_save.proofs.Filling.{ants-last, ants-more, ants-refused, one-fewer}
+use Rattle.match_save.proofs.FilledLists.{ants-last, ants-more, ants-refused, one-fewer}
 use Rattle.match_save.proofs.ants.read_ants.Goals as goal
 
 pub returns-in_err-it : goal.returns-in_err-it

@@ -2,7 +2,7 @@ use Rattle.std.proofs.Common.{Bool, sym, ◌∙◌, ap}
 use Rattle.std.proofs.lemmas.Result.{err_from_is_err_and}
 use Rattle.match_save.specs.Inner.Reading.{line_end}
 use Rattle.match_save.specs.Inner.Said.{said}
-use Rattle.match_save.proofs.Filling.{fault-passed}
+use Rattle.match_save.proofs.FilledLists.{fault-passed}
 use Rattle.match_save.proofs.WholeTexts.{text-body, text-end, text-head, text-read}
 use Rattle.match_save.proofs.draft.read_draft.Goals as goal
 

@@ -1,7 +1,7 @@
 use Rattle.std.proofs.Common.{map, sym, subst}
 use Rattle.brain_read.specs.Drafts.{drafted}
 use Rattle.brain_read.specs.Soundness.{IsBrain}
-use Rattle.match_save.proofs.Settling.{IsBrain-program}
+use Rattle.match_save.proofs.SavedBrains.{IsBrain-program}
 use Rattle.match_save.proofs.judge.brain_of.Goals as goal
 
 pub from_list-requires : goal.from_list-requires

@@ -7,9 +7,9 @@ use Rattle.match_save.specs.Saved.{IsSaved}
 use Rattle.match_save.specs.State.{IsState, hill_count}
 use Rattle.match_save.specs.Inner.Fit.{are_fit, has_turns}
 use Rattle.match_save.specs.Inner.Said.{said}
-use Rattle.match_save.proofs.Judging.{has-state, made-is, state-world}
+use Rattle.match_save.proofs.Judgement.{has-state, made-is, state-world}
 use Rattle.match_save.proofs.SavedLaws.{saved-is}
-use Rattle.match_save.proofs.Settling.{fit-holds, fit-true, turns-hold, turns-true}
+use Rattle.match_save.proofs.SavedBrains.{fit-holds, fit-true, turns-hold, turns-true}
 use Rattle.match_save.proofs.judge.judge.Goals as goal
 use Rattle.match_save.proofs.judge.judge.Goals.{In_ok-world}
 

@@ -1,7 +1,7 @@
 use Rattle.std.proofs.Common.{◌<◌, ℕ, length, map, sym, subst, arith}
 use Rattle.brain_read.specs.Drafts.{drafted}
 use Rattle.brain_read.specs.Grammar.{StatesBelow}
-use Rattle.match_save.proofs.Settling.{SettlesOn-more, SettlesOn-stop, length-drafted}
+use Rattle.match_save.proofs.SavedBrains.{SettlesOn-more, SettlesOn-stop, length-drafted}
 use Rattle.match_save.proofs.judge.settle.Goals as goal
 
 pub returns-in_default : goal.returns-in_default

@@ -1,5 +1,5 @@
 use Rattle.std.proofs.Common.{length}
-use Rattle.match_save.proofs.Settling.{SettlesOn}
+use Rattle.match_save.proofs.SavedBrains.{SettlesOn}
 use Rattle.match_save.proofs.judge.settle.Given as goal
 
 abbrev pub invariant-loop-draft : goal.invariant-loop-draft

@@ -11,9 +11,9 @@ use Rattle.match_save.specs.Draft.{Draft}
 use Rattle.match_save.specs.State.{hill_count}
 use Rattle.match_save.specs.Inner.Floor.{are_sound_cells, floor_of}
 use Rattle.match_save.specs.Inner.Said.{said}
-use Rattle.match_save.specs.Inner.Standing.{weight_of_ants}
+use Rattle.match_save.specs.Inner.AntPuts.{weight_of_ants}
 use Rattle.match_save.proofs.Floors.{IsGround-floor, empty-floor, full-floor, inside-all, light-state, sound-state, weight-floor}
-use Rattle.match_save.proofs.Judging.{few-ants, few-cells, few-food, floor-is, light-ants, put-none, put-world, same-cells}
+use Rattle.match_save.proofs.Judgement.{few-ants, few-cells, few-food, floor-is, light-ants, put-none, put-world, same-cells}
 use Rattle.match_save.proofs.judge.world_of.Goals as goal
 
 pub are_sound_cells-requires : goal.are_sound_cells-requires

@@ -1,4 +1,4 @@
-use Rattle.match_save.proofs.Resuming as lemmas
+use Rattle.match_save.proofs.ResumedGames as lemmas
 use Rattle.match_save.proofs.laws.saves_go_on.Goals as goal
 
 pub returns : goal.returns

@@ -5,7 +5,7 @@ use Rattle.brain_read.specs.Drafts.{drafted}
 use Rattle.match_save.specs.Inner.Answered.{behind}
 use Rattle.match_save.specs.Inner.Readers.{many}
 use Rattle.match_save.specs.Inner.Reading.{instruction_of}
-use Rattle.match_save.proofs.Filling.{fault-passed, many-more, many-refused}
+use Rattle.match_save.proofs.FilledLists.{fault-passed, many-more, many-refused}
 use Rattle.match_save.proofs.Drafted.{map-more}
 use Rattle.match_save.proofs.programs.fill_program.Goals as goal
 

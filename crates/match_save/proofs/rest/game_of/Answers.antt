@@ -1,7 +1,7 @@
 use Rattle.std.proofs.Common.{◌≡◌, sym, ◌∙◌, subst, arith}
 use Rattle.ant_turn.specs.Minds.{Fits, Minds, minds_of}
 use Rattle.cell_world.specs.Grid.{Grid, world_of}
-use Rattle.match_save.proofs.Resuming.{Fits-saved, can-go, early-saved, field-is, game-is}
+use Rattle.match_save.proofs.ResumedGames.{Fits-saved, can-go, early-saved, field-is, game-is}
 use Rattle.match_save.proofs.rest.game_of.Goals as goal
 
 pub new-requires : goal.new-requires

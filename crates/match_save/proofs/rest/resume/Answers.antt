@@ -3,7 +3,7 @@ use Rattle.std.proofs.lemmas.Result.{err_from_is_err_and}
 use Rattle.match_run.specs.Dumps.{chooses}
 use Rattle.match_run.specs.Play.{PushedBy}
 use Rattle.match_run.proofs.PlayLemmas.{prefix_of_nothing}
-use Rattle.match_save.proofs.Resuming.{rest-is, rest_of-some}
+use Rattle.match_save.proofs.ResumedGames.{rest-is, rest_of-some}
 use Rattle.match_save.proofs.rest.resume.Goals as goal
 
 pub returns-in_err-game-clause-text : goal.returns-in_err-game-clause-text

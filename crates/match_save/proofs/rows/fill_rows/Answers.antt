@@ -2,7 +2,7 @@ use Rattle.std.proofs.Common.{◌≡◌, ◌+◌, ◌-◌, ℕ, suc, ◌∙◌, 
 use Rattle.std.proofs.lemmas.Result.{err_from_is_err_and}
 use Rattle.match_save.specs.Inner.Answered.{behind}
 use Rattle.match_save.specs.Inner.Reading.{read_rows}
-use Rattle.match_save.proofs.Filling.{fault-passed, rows-more, rows-refused}
+use Rattle.match_save.proofs.FilledLists.{fault-passed, rows-more, rows-refused}
 use Rattle.match_save.proofs.rows.fill_rows.Goals as goal
 
 pub returns-in_err-next_row : goal.returns-in_err-next_row

@@ -1,7 +1,7 @@
 use Rattle.std.proofs.Common.{List, ℕ, subst}
 use Rattle.ant_base.specs.Sink.{Pushed}
 use Rattle.ant_turn.specs.Minds.{minds_of}
-use Rattle.match_save.proofs.Writing.{written-parts}
+use Rattle.match_save.proofs.WrittenTexts.{written-parts}
 use Rattle.match_save.proofs.write.push_written.Goals as goal
 
 pub returns : goal.returns

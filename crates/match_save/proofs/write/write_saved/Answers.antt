@@ -1,7 +1,7 @@
 use Rattle.std.proofs.Common.{subst}
 use Rattle.ant_base.specs.Sink.{Pushed}
 use Rattle.cell_world.specs.Grid.{IsWorld}
-use Rattle.match_save.proofs.Writing.{saved-written}
+use Rattle.match_save.proofs.WrittenTexts.{saved-written}
 use Rattle.match_save.proofs.write.write_saved.Goals as goal
 
 pub returns : goal.returns

@@ -22,7 +22,7 @@ ghost use Rattle.round_workers.specs.BoardTotals.{once_below};
 ghost use Rattle.round_workers.specs.BoardView.{IsAtRest, first_seat, window_for};
 ghost use Rattle.round_workers.specs.Crews.{most_workers};
 
-use crate::board::closing::{Ended, take_slot};
+use crate::board::end::{Ended, take_slot};
 use crate::board::law::{
     Draws, GivesBook, HasPut, HasTaken, Joins, Opened, Opens, Puts, SeesEachOnce, Splits,
     TakesBook, TakesLook,

@@ -6,7 +6,7 @@ use Rattle.cell_world.proofs.Places.{place_in-inside}
 use Rattle.ant_turn.specs.Minds.{minds_of}
 use Rattle.std.proofs.lemmas.Bool.{eqb-false, eqb-true}
 use Rattle.spec_record.specs.Guess.{ant_flips, is_flip}
-use Rattle.spec_record.proofs.Flipping.{flips-dead, flips-at, flips_now-ready, flips_now-rests}
+use Rattle.spec_record.proofs.FlipGuesses.{flips-dead, flips-at, flips_now-ready, flips_now-rests}
 use Rattle.spec_record.proofs.guess.at_flip.Goals as goal
 
 pub returns-in_default : goal.returns-in_default

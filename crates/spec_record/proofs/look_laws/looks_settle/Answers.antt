@@ -1,5 +1,5 @@
 use Rattle.spec_record.proofs.Patched.{later-GoesOn}
-use Rattle.spec_record.proofs.SettlingTurns.{look-CanSetWrites, look-after}
+use Rattle.spec_record.proofs.SettledTurns.{look-CanSetWrites, look-after}
 use Rattle.spec_record.proofs.look_laws.looks_settle.Goals as goal
 
 pub returns : goal.returns

@@ -2,7 +2,7 @@
 use Rattle.std.proofs.Common.{◌+◌, Option, drop, sym, ◌∙◌, ap}
 use Rattle.cell_world.specs.declared.cell.Cell.{Cell}
 use Rattle.spec_record.specs.Inner.Laid.{newest}
-use Rattle.spec_record.proofs.Laying.{newest-next}
+use Rattle.spec_record.proofs.LaidCells.{newest-next}
 use Rattle.spec_record.proofs.trail.newest.Goals as goal
 
 pub loop-q-preserved : goal.loop-q-preserved

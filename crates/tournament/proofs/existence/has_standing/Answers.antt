@@ -1,4 +1,4 @@
-use Rattle.tournament.proofs.Sorting.{has_standing}
+use Rattle.tournament.proofs.SortedLines.{has_standing}
 use Rattle.tournament.proofs.existence.has_standing.Goals as goal
 
 pub returns : goal.returns

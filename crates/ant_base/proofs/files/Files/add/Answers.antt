@@ -1,6 +1,6 @@
 use Rattle.std.proofs.Common.{refl, ap, ◌∙◌, ◌++◌, ◌∷◌, []}
 use Rattle.ant_base.specs.MemShelf.{FileList}
-use Rattle.ant_base.proofs.Fetching.{files_in-added}
+use Rattle.ant_base.proofs.Fetches.{files_in-added}
 use Rattle.ant_base.proofs.files.Files.add.Goals as goal
 
 pub invariant_of-self-2 : goal.invariant_of-self-2

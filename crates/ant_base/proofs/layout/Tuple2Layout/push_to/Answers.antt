@@ -1,5 +1,5 @@
 use Rattle.std.proofs.lemmas.Result.{err_from_is_err_and}
-use Rattle.ant_base.proofs.Pushing.{front_more, pushed_then}
+use Rattle.ant_base.proofs.Pushes.{front_more, pushed_then}
 use Rattle.ant_base.proofs.layout.Tuple2Layout.push_to.Goals as goal
 
 pub returns-in_err-push_to : goal.returns-in_err-push_to

@@ -1,6 +1,6 @@
 -- a fetch that fails is of a name of which the shelf isn't sure
 use Rattle.std.proofs.Common.{rules, arith}
-use Rattle.ant_base.proofs.Fetching.{unsure_by_call, unsure_by_name, fetch_failed}
+use Rattle.ant_base.proofs.Fetches.{unsure_by_call, unsure_by_name, fetch_failed}
 use Rattle.ant_base.proofs.mem_shelf.MemShelf.answer.Goals as goal
 
 pub returns-then-has-clause-shelf : goal.returns-then-has-clause-shelf

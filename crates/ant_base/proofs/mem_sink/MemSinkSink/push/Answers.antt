@@ -1,5 +1,5 @@
 use Rattle.std.proofs.Common.{Some, ap, rules, arith}
-use Rattle.ant_base.proofs.Pushing.{front_of_first}
+use Rattle.ant_base.proofs.Pushes.{front_of_first}
 use Rattle.ant_base.proofs.mem_sink.MemSinkSink.push.Goals as goal
 
 pub returns-then-fitting-piece-clause-sink : goal.returns-then-fitting-piece-clause-sink

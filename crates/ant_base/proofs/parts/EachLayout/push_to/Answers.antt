@@ -1,7 +1,7 @@
 use Rattle.std.proofs.Common.{◌+◌, arith}
 use Rattle.std.proofs.lemmas.Result.{err_from_is_err_and}
 use Rattle.ant_base.proofs.Numbered.{numbered-none, numbered-more, numbered-front}
-use Rattle.ant_base.proofs.Pushing.{all_of_nothing, all_then, front_then, front_more}
+use Rattle.ant_base.proofs.Pushes.{all_of_nothing, all_then, front_then, front_more}
 use Rattle.ant_base.proofs.parts.EachLayout.push_to.Goals as goal
 
 pub loop-at-init : goal.loop-at-init

@@ -2,7 +2,7 @@
 use Rattle.std.proofs.Common.{◌≤◌, List, length, refl, subst}
 use Rattle.cell_world.proofs.Plans.{IsPlan-test}
 use Rattle.brain_read.specs.declared.instr.Instr.{Instr}
-use Rattle.ant_turn.proofs.Fitting.{Fits-opening}
+use Rattle.ant_turn.proofs.FitLemmas.{Fits-opening}
 use Rattle.ant_turn.proofs.turn.tests.each_of_seven_ants_takes_its_turn.Goals as goal
 
 pub build-requires : goal.build-requires

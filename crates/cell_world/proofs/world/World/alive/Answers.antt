@@ -4,7 +4,7 @@ use Rattle.cell_world.specs.Cell.{rock}
 use Rattle.cell_world.specs.Grid.{Grid, world_of}
 use Rattle.cell_world.specs.Score.{alive_of}
 use Rattle.cell_world.specs.Inner.Stored.{is_living, tile_of}
-use Rattle.cell_world.proofs.Living.{alive_of-bodies}
+use Rattle.cell_world.proofs.LiveBodies.{alive_of-bodies}
 use Rattle.cell_world.proofs.world.World.alive.Goals as goal
 
 pub returns-clause-alive : goal.returns-clause-alive

@@ -2,9 +2,9 @@
 use Rattle.std.proofs.Common.{◌≡◌, List, [], refl, sym, ◌∙◌, subst}
 use Rattle.cell_world.specs.declared.body.Body.{Body}
 use Rattle.cell_world.specs.Grid.{Grid}
-use Rattle.cell_world.specs.Inner.Catching.{Catching}
+use Rattle.cell_world.specs.Inner.CatchUp.{Catching}
 use Rattle.hex_geometry.specs.Position.{IsInside}
-use Rattle.cell_world.proofs.CatchingLemmas.{Catching-bodies, Pair-of, pair-early, pair-grid, pair-kept, pair-long, pair-start}
+use Rattle.cell_world.proofs.CatchUpLemmas.{Catching-bodies, Pair-of, pair-early, pair-grid, pair-kept, pair-long, pair-start}
 use Rattle.cell_world.proofs.world.World.catch_up.Goals as goal
 use Rattle.cell_world.proofs.world.World.catch_up.Goals.{After-follow_tiles}
 

@@ -1,8 +1,8 @@
 use Rattle.std.proofs.Common.{ℕ, get_or, Option, arith, subst}
 use Rattle.std.proofs.lemmas.List.Elements.{Contains-get_or}
 use Rattle.hex_geometry.specs.declared.position.Pos.{Pos}
-use Rattle.cell_world.specs.Inner.Catching.{Followed}
-use Rattle.cell_world.proofs.CatchingLemmas.{Catching-end, Catching-go}
+use Rattle.cell_world.specs.Inner.CatchUp.{Followed}
+use Rattle.cell_world.proofs.CatchUpLemmas.{Catching-end, Catching-go}
 use Rattle.cell_world.proofs.world.catch_up.follow.Goals as goal
 
 pub loop-p-preserved : goal.loop-p-preserved

@@ -1,7 +1,7 @@
 use Rattle.std.proofs.Common.{get_or, arith}
 use Rattle.std.proofs.lemmas.List.Elements.{Contains-get_or}
 use Rattle.hex_geometry.specs.declared.position.Pos.{Pos}
-use Rattle.cell_world.proofs.CatchingLemmas.{Catching-end, Catching-tile}
+use Rattle.cell_world.proofs.CatchUpLemmas.{Catching-end, Catching-tile}
 use Rattle.cell_world.proofs.world.catch_up.follow_tiles.Goals as goal
 
 pub loop-p-preserved : goal.loop-p-preserved

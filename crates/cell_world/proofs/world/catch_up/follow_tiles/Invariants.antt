@@ -1,7 +1,7 @@
 -- the tiles so far are the other world's
 use Rattle.std.proofs.Common.{List, drop}
 use Rattle.cell_world.specs.declared.body.Body.{Body}
-use Rattle.cell_world.specs.Inner.Catching.{Catching}
+use Rattle.cell_world.specs.Inner.CatchUp.{Catching}
 use Rattle.cell_world.proofs.world.catch_up.follow_tiles.Given as goal
 
 abbrev pub invariant-loop-p : goal.invariant-loop-p

@@ -4,7 +4,7 @@ use Rattle.std.specs.Prelude.{nat_eq}
 use Rattle.std.proofs.lemmas.List.{get_or_default, length-set}
 use Rattle.cell_world.specs.declared.body.Body.{Body}
 use Rattle.cell_world.specs.Cell.{one_if}
-use Rattle.cell_world.specs.Inner.Catching.{body_of}
+use Rattle.cell_world.specs.Inner.CatchUp.{body_of}
 use Rattle.cell_world.specs.Inner.Stored.{no_body}
 use Rattle.cell_world.specs.Inner.TellingApart.{ToldApart, with_resting}
 use Rattle.cell_world.proofs.GridSums.{one_if-byte, one_if-le_one}

@@ -4,7 +4,7 @@ use Rattle.cell_world.specs.Grid.{world_of}
 use Rattle.cell_world.specs.World.{World, with_cells}
 use Rattle.ant_turn.specs.Rounds.{Moment}
 use Rattle.spec_record.specs.Claims.{Sighting, seen_positions}
-use Rattle.spec_record.specs.Patching.{patched_cells}
+use Rattle.spec_record.specs.Patches.{patched_cells}
 use Rattle.round_book.specs.Book.{BookValue, IsEnded, Wrote}
 use Rattle.round_book.proofs.book.Book.end_turn.Goals as goal
 

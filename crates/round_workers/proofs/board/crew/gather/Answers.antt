@@ -1,7 +1,7 @@
 use Rattle.std.proofs.Common.{[], ◌∷◌, arith}
 use Rattle.round_workers.specs.declared.board.worker.Worker.{Worker}
 use Rattle.round_workers.specs.BoardSeats.{IsSeatOf}
-use Rattle.round_workers.proofs.BoardCrewing.{all-front, manned-joined}
+use Rattle.round_workers.proofs.BoardSeatLists.{all-front, manned-joined}
 use Rattle.round_workers.proofs.board.crew.gather.Goals as goal
 
 pub loop-worker-preserved : goal.loop-worker-preserved

@@ -5,7 +5,7 @@ use Rattle.round_workers.specs.declared.board.view.View.{View}
 use Rattle.round_workers.specs.Inner.BoardCrew.{IsRoom}
 use Rattle.round_workers.specs.BoardSeats.{board_window}
 use Rattle.round_workers.specs.BoardWorker.{turns_in}
-use Rattle.round_workers.proofs.BoardCrewing.{all-front, all-last, hired-more, manned-more}
+use Rattle.round_workers.proofs.BoardSeatLists.{all-front, all-last, hired-more, manned-more}
 use Rattle.round_workers.proofs.board.crew.hire.Goals as goal
 
 pub loop-made-preserved : goal.loop-made-preserved

@@ -8,8 +8,8 @@ use Rattle.round_workers.specs.Inner.BoardCrew.{AreLooks, IsHired, IsManned, IsR
 use Rattle.round_workers.specs.BoardPlays.{has_seen}
 use Rattle.round_workers.specs.BoardSeats.{IsSeatOf, basis_of, known, board_window}
 use Rattle.round_workers.specs.BoardWorker.{turns_in}
-use Rattle.round_workers.proofs.BoardCrewing.{book-for, lent-for, looks-left, manned-first, manned-worked, seats-worked, worked-so}
-use Rattle.round_workers.proofs.BoardWorking.{on-for}
+use Rattle.round_workers.proofs.BoardSeatLists.{book-for, lent-for, looks-left, manned-first, manned-worked, seats-worked, worked-so}
+use Rattle.round_workers.proofs.BoardWorkers.{on-for}
 use Rattle.round_workers.proofs.board.crew.settle.Goals as goal
 
 pub open_book-requires-clause-first : goal.open_book-requires-clause-first

@@ -1,5 +1,5 @@
 use Rattle.round_workers.specs.BoardSeats.{known}
-use Rattle.round_workers.proofs.BoardCrewing.{worker-new}
+use Rattle.round_workers.proofs.BoardSeatLists.{worker-new}
 use Rattle.round_workers.proofs.board.crew.worker.Goals as goal
 
 pub invariant_of-result : goal.invariant_of-result

@@ -7,7 +7,7 @@ use Rattle.round_workers.specs.BoardView.{window_about}
 use Rattle.round_workers.specs.BoardWorker.{turns_in}
 use Rattle.round_workers.specs.declared.board.view.View.{View}
 use Rattle.round_book.proofs.GuessLemmas.{guesses_for-at, guesses_for-length}
-use Rattle.round_workers.proofs.BoardWorking.{late-is, late-served, made-few, more-is, more-served, new-drawn, unput}
+use Rattle.round_workers.proofs.BoardWorkers.{late-is, late-served, made-few, more-is, more-served, new-drawn, unput}
 use Rattle.round_workers.proofs.board.worker.serve.Goals as goal
 
 pub returns-then-ticket-turns-clause-worker : goal.returns-then-ticket-turns-clause-worker

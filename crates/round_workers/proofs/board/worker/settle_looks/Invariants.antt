@@ -1,6 +1,6 @@
 use Rattle.std.proofs.Common.{◌-◌}
 use Rattle.round_book.specs.Book.{StandsFor}
-use Rattle.round_workers.specs.Inner.BoardSettling.{HasSettled}
+use Rattle.round_workers.specs.Inner.BookInHand.{HasSettled}
 use Rattle.round_workers.specs.BoardSeats.{board_window}
 use Rattle.round_workers.proofs.board.worker.settle_looks.Given as goal
 

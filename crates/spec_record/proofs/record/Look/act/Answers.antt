@@ -5,9 +5,9 @@ use Rattle.cell_world.specs.World.{Cells}
 use Rattle.ant_turn.specs.Minds.{minds_of}
 use Rattle.ant_turn.specs.Turn.{Outcome, turn}
 use Rattle.spec_record.specs.Look.{look_with}
-use Rattle.spec_record.specs.Inner.Going.{destination}
-use Rattle.spec_record.specs.Inner.Standing.{staying_reads, staying_writes}
-use Rattle.spec_record.proofs.Looking.{Acting, acting-executes, acting-inner, acting-near, look-stays, stays-once}
+use Rattle.spec_record.specs.Inner.Moves.{destination}
+use Rattle.spec_record.specs.Inner.Stays.{staying_reads, staying_writes}
+use Rattle.spec_record.proofs.LookLemmas.{Acting, acting-executes, acting-inner, acting-near, look-stays, stays-once}
 use Rattle.spec_record.proofs.record.Look.act.Goals as goal
 use Rattle.spec_record.proofs.record.Look.act.Goals.{After-instruction-instruction}
 

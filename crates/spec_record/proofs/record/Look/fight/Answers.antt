@@ -1,35 +1,22 @@
 -- the look at an ant that goes where foes are near
-use Rattle.std.proofs.Common.{◌≡◌, [], refl, sym, ◌∙◌, ap}
+use Rattle.std.proofs.Common.{◌≡◌, [], sym, ◌∙◌, ap}
 use Rattle.hex_geometry.proofs.Places.{inner_inside}
 use Rattle.cell_world.specs.Grid.{world_of}
 use Rattle.cell_world.specs.World.{Cells, World}
-use Rattle.ant_turn.specs.Minds.{minds_of, mind_of}
-use Rattle.ant_turn.specs.Turn.{Outcome, instruction_at, turn}
+use Rattle.ant_turn.specs.Minds.{minds_of}
+use Rattle.ant_turn.specs.Turn.{Outcome, turn}
 use Rattle.spec_record.specs.Look.{LookValue}
 use Rattle.spec_record.specs.Trail.{trail_world}
-use Rattle.spec_record.specs.Inner.Going.{calm_reads, going_reads, going_writes}
-use Rattle.spec_record.proofs.Looking.{Acting, goes-reads_once, goes-writes_once, look-goes, near-there, inner-there, acting-inner, reads-there, spared-there, writes-there}
+use Rattle.spec_record.specs.Inner.Moves.{calm_reads, going_reads, going_writes}
+use Rattle.spec_record.proofs.LookLemmas.{GoingActs, acting-goes, goes-reads_once, goes-writes_once, look-goes, near-there, inner-there, acting-inner, reads-there, spared-there, writes-there}
 use Rattle.spec_record.proofs.record.Look.fight.Goals as goal
 use Rattle.spec_record.proofs.record.Look.fight.Goals.{After-execute-trail, Start}
 
--- the outcome of the turn
-abbrev outcome : Start → Outcome
-outcome c = turn (minds_of c.args.brains) c.args.stream.now.seed (world_of c.args.base.now) c.args.stream.now.place c.args.id
-
 -- the ant acts
-acting : (c : Start) →
-    Acting (minds_of c.args.brains) c.args.stream.now.seed (world_of c.args.base.now) c.args.stream.now.place c.args.id c.args.step.from c.requires.goes.ant
-    (instruction_at (mind_of (minds_of c.args.brains) c.requires.goes.ant.colour) c.requires.goes.ant.state) (outcome c)
-acting c = record {
-  valid = c.requires.valid;
-  found = c.requires.goes.found;
-  holds = c.requires.goes.holds;
-  ready = c.requires.goes.ready;
-  at = refl;
-  is = refl;
-}
+acting : (c : Start) → GoingActs (minds_of c.args.brains) c.args.stream.now.seed (world_of c.args.base.now) c.args.stream.now.place c.args.id c.args.step.from c.args.step.to c.requires.goes
+acting c = acting-goes (minds_of c.args.brains) c.args.stream.now.seed (world_of c.args.base.now) c.args.stream.now.place c.args.id c.args.step.from c.args.step.to c.requires.goes c.requires.valid
 
--- the same once it was executed on the trail
+-- the outcome of the turn, as it is executed on the trail
 abbrev executed : After-execute-trail → Outcome
 executed c = turn (minds_of c.args.brains) c.args.stream.now.seed (world_of c.args.base.now) c.args.stream.now.place c.args.id
 

@@ -10,34 +10,21 @@ use Rattle.cell_world.specs.Parts.{only}
 use Rattle.cell_world.proofs.Patches.{some_one}
 use Rattle.cell_world.specs.World.{Cells}
 use Rattle.ant_turn.specs.Minds.{minds_of, mind_of}
-use Rattle.ant_turn.specs.Turn.{Outcome, instruction_at, turn}
+use Rattle.ant_turn.specs.Turn.{instruction_at}
 use Rattle.spec_record.specs.Claims.{EachOnce, Sighting, seen_positions}
 use Rattle.spec_record.specs.Look.{LookValue}
 use Rattle.spec_record.specs.Reads.{whole_ant}
-use Rattle.spec_record.specs.Inner.Going.{calm_reads, calm_writes, seen_from, state_gone}
+use Rattle.spec_record.specs.Inner.Moves.{calm_reads, calm_writes, seen_from, state_gone}
 use Rattle.spec_record.specs.Inner.Near.{AreNoneOf}
 use Rattle.spec_record.specs.Inner.Sightings.{all_sighted, sightings_of}
-use Rattle.spec_record.specs.Inner.Standing.{blank_look}
-use Rattle.spec_record.proofs.Looking.{Acting, acting-inner, calm-once, calm-room, calm-writes_once, look-calm, within-there}
+use Rattle.spec_record.specs.Inner.Stays.{blank_look}
+use Rattle.spec_record.proofs.LookLemmas.{GoingActs, acting-goes, acting-inner, calm-once, calm-room, calm-writes_once, look-calm, within-there}
 use Rattle.spec_record.proofs.record.Look.go.Goals as goal
 use Rattle.spec_record.proofs.record.Look.go.Goals.{After-note_checks, After-push, After-push-3, Start}
 
--- the outcome of the turn
-abbrev outcome : Start → Outcome
-outcome c = turn (minds_of c.args.brains) c.args.stream.now.seed (world_of c.args.base.now) c.args.stream.now.place c.args.id
-
 -- the ant acts
-acting : (c : Start) →
-    Acting (minds_of c.args.brains) c.args.stream.now.seed (world_of c.args.base.now) c.args.stream.now.place c.args.id c.args.step.from c.requires.goes.ant
-    (instruction_at (mind_of (minds_of c.args.brains) c.requires.goes.ant.colour) c.requires.goes.ant.state) (outcome c)
-acting c = record {
-  valid = c.requires.valid;
-  found = c.requires.goes.found;
-  holds = c.requires.goes.holds;
-  ready = c.requires.goes.ready;
-  at = refl;
-  is = refl;
-}
+acting : (c : Start) → GoingActs (minds_of c.args.brains) c.args.stream.now.seed (world_of c.args.base.now) c.args.stream.now.place c.args.id c.args.step.from c.args.step.to c.requires.goes
+acting c = acting-goes (minds_of c.args.brains) c.args.stream.now.seed (world_of c.args.base.now) c.args.stream.now.place c.args.id c.args.step.from c.args.step.to c.requires.goes c.requires.valid
 
 -- the ant that is found there
 found : (c : After-push) → c.in-Some.ant ≡ c.requires.goes.ant

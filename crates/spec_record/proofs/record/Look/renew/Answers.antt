@@ -5,8 +5,8 @@ use Rattle.cell_world.specs.declared.cell.Cell.{Cell}
 use Rattle.cell_world.specs.Grid.{world_of}
 use Rattle.cell_world.proofs.Places.{place_in-inside}
 use Rattle.ant_turn.specs.Minds.{minds_of}
-use Rattle.spec_record.specs.Inner.Standing.{blank_look, rested_look}
-use Rattle.spec_record.proofs.Looking.{look_of-dead, look_of-empty, look_of-rests}
+use Rattle.spec_record.specs.Inner.Stays.{blank_look, rested_look}
+use Rattle.spec_record.proofs.LookLemmas.{look_of-dead, look_of-empty, look_of-rests}
 use Rattle.spec_record.proofs.record.Look.renew.Goals as goal
 
 pub returns-in_default-clause-look : goal.returns-in_default-clause-look

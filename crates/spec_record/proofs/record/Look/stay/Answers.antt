@@ -11,8 +11,8 @@ use Rattle.cell_world.specs.World.{Cells}
 use Rattle.cell_world.proofs.Puts.{put_cell-same}
 use Rattle.cell_world.proofs.Weights.{food-light}
 use Rattle.spec_record.specs.Look.{LookValue}
-use Rattle.spec_record.specs.Inner.Standing.{staying_reads, written_besides}
-use Rattle.spec_record.proofs.Looking.{read_at-inside, stays-seeing}
+use Rattle.spec_record.specs.Inner.Stays.{staying_reads, written_besides}
+use Rattle.spec_record.proofs.LookLemmas.{read_at-inside, stays-seeing}
 use Rattle.spec_record.proofs.record.Look.stay.Goals as goal
 
 pub cell-there-requires : goal.cell-there-requires

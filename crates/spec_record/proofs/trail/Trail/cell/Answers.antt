@@ -4,7 +4,7 @@ use Rattle.cell_world.specs.Grid.{world_of}
 use Rattle.cell_world.specs.Valid.{Valid}
 use Rattle.spec_record.specs.Inner.Laid.{newest}
 use Rattle.spec_record.specs.Trail.{TrailValue, trail_world}
-use Rattle.spec_record.proofs.Laying.{laid-newest, or_cell}
+use Rattle.spec_record.proofs.LaidCells.{laid-newest, or_cell}
 use Rattle.spec_record.proofs.trail.Trail.cell.Goals as goal
 
 pub returns-in-Some-clause-content : goal.returns-in-Some-clause-content

@@ -4,7 +4,7 @@ use Rattle.cell_world.specs.Grid.{world_of}
 use Rattle.cell_world.specs.Valid.{Valid}
 use Rattle.cell_world.specs.World.{with_cells}
 use Rattle.spec_record.specs.Trail.{Sets, laid}
-use Rattle.spec_record.proofs.Laying.{laid-nothing}
+use Rattle.spec_record.proofs.LaidCells.{laid-nothing}
 use Rattle.spec_record.proofs.trail.Trail.over.Goals as goal
 
 pub returns-clause-world : goal.returns-clause-world

@@ -5,7 +5,7 @@ use Rattle.cell_world.specs.Valid.{Valid}
 use Rattle.cell_world.specs.World.{put, with_cells}
 use Rattle.cell_world.proofs.ValidLemmas.{Valid-put}
 use Rattle.spec_record.specs.Trail.{Sets, TrailValue, laid, trail_room, trail_world}
-use Rattle.spec_record.proofs.Laying.{laid-last}
+use Rattle.spec_record.proofs.LaidCells.{laid-last}
 use Rattle.spec_record.proofs.trail.TrailGround.set.Goals as goal
 use Rattle.spec_record.proofs.trail.TrailGround.set.Goals.{After-push}
 

@@ -1,6 +1,6 @@
 use Rattle.std.proofs.Common.{List, None, length, slice_index_or, ap, ◌∙◌, Option}
 use Rattle.spec_record.specs.Look.{LookValue}
-use Rattle.round_workers.proofs.BoardClosing.{looks-of, places-looked}
+use Rattle.round_workers.proofs.BoardEnd.{looks-of, places-looked}
 use Rattle.round_workers.proofs.board.seat.Board.close.Goals as goal
 
 pub returns-clause-turns : goal.returns-clause-turns

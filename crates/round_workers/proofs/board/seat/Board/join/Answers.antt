@@ -1,7 +1,7 @@
 use Rattle.std.proofs.Common.{ap, ◌∙◌}
 use Rattle.round_workers.specs.BoardSeats.{known}
 use Rattle.round_workers.specs.BoardView.{out_with}
-use Rattle.round_workers.proofs.BoardSeating.{drew-apart}
+use Rattle.round_workers.proofs.BoardStart.{drew-apart}
 use Rattle.round_workers.proofs.board.seat.Board.join.Goals as goal
 
 pub join_step-requires-clause-bare : goal.join_step-requires-clause-bare

@@ -1,6 +1,6 @@
 use Rattle.std.proofs.Common.{arith}
 use Rattle.round_workers.specs.BoardSeats.{basis_of}
-use Rattle.round_workers.proofs.BoardSeating.{joins}
+use Rattle.round_workers.proofs.BoardStart.{joins}
 use Rattle.round_workers.proofs.board.seat.Board.join_step.Goals as goal
 
 pub join_seat-requires : goal.join_seat-requires

@@ -4,7 +4,7 @@ use Rattle.cell_world.specs.Grid.{world_of}
 use Rattle.round_book.specs.Window.{Window, guess_for, look_for}
 use Rattle.round_book.proofs.SoloLemmas.{guess_for-le}
 use Rattle.round_workers.specs.BoardSeats.{basis_of, board_window}
-use Rattle.round_workers.proofs.BoardWorking.{look-so}
+use Rattle.round_workers.proofs.BoardWorkers.{look-so}
 use Rattle.round_workers.proofs.BoardMoves.{At, hand_after, put-done, put-rests, slot-held}
 use Rattle.round_workers.proofs.board.seat.Board.look_and_put.Goals as goal
 

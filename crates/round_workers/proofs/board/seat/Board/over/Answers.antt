@@ -1,6 +1,6 @@
 use Rattle.std.proofs.Common.{ap, ap₂, sym, ◌∙◌, ℕ, ◌+◌, ◌-◌, replicate, subst}
 use Rattle.round_workers.specs.Inner.BoardPlaces.{AreBare}
-use Rattle.round_workers.proofs.BoardSeating.{starts-so}
+use Rattle.round_workers.proofs.BoardStart.{starts-so}
 use Rattle.round_workers.proofs.board.seat.Board.over.Goals as goal
 
 pub new-requires : goal.new-requires

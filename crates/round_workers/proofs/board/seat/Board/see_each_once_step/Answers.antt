@@ -1,6 +1,6 @@
 use Rattle.std.proofs.Common.{arith}
 use Rattle.round_workers.specs.BoardSeats.{basis_of}
-use Rattle.round_workers.proofs.BoardSeating.{sees-each-once}
+use Rattle.round_workers.proofs.BoardStart.{sees-each-once}
 use Rattle.round_workers.proofs.board.seat.Board.see_each_once_step.Goals as goal
 
 pub load-requires : goal.load-requires

@@ -1,6 +1,6 @@
 use Rattle.std.proofs.Common.{arith}
 use Rattle.round_workers.specs.BoardSeats.{basis_of}
-use Rattle.round_workers.proofs.BoardSeating.{splits}
+use Rattle.round_workers.proofs.BoardStart.{splits}
 use Rattle.round_workers.proofs.board.seat.Board.split_step.Goals as goal
 
 pub split_seat-requires : goal.split_seat-requires

@@ -5,7 +5,7 @@ use Rattle.std.specs.Mem.Slots.{slots_len}
 use Rattle.round_workers.specs.BoardSeats.{basis_of, known, board_window}
 use Rattle.round_workers.specs.BoardLaws.{IsWhereClosed, Way}
 use Rattle.round_workers.specs.BoardTotals.{once_below}
-use Rattle.round_workers.proofs.BoardClosing.{book-at-slot, index-at, lasts, look-at-slot, places-more, stands-so}
+use Rattle.round_workers.proofs.BoardEnd.{book-at-slot, index-at, lasts, look-at-slot, places-more, stands-so}
 use Rattle.round_workers.proofs.BoardMoves.{some-same, some-there}
 use Rattle.round_workers.proofs.board.seat.Board.take_apart.Goals as goal
 

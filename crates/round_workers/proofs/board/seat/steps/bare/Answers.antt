@@ -1,6 +1,6 @@
 use Rattle.std.proofs.Common.{◌++◌, ◌∷◌, [], ◌∙◌, ap, arith}
 use Rattle.round_workers.specs.declared.board.view.BoardSlot.TheVariants.{TheBook}
-use Rattle.round_workers.proofs.BoardSeating.{bare-first, bare-more}
+use Rattle.round_workers.proofs.BoardStart.{bare-first, bare-more}
 use Rattle.round_workers.proofs.board.seat.steps.bare.Goals as goal
 
 pub loop-init : goal.loop-init

@@ -2,7 +2,7 @@ use Rattle.std.proofs.Common.{sym, ap, subst}
 use Rattle.round_workers.specs.BoardSeats.{known, board_window}
 use Rattle.round_workers.specs.BoardView.{window_about}
 use Rattle.round_workers.specs.BoardWorker.{HasServed, turns_in}
-use Rattle.round_workers.proofs.BoardWorking.{fewer, put-drawn}
+use Rattle.round_workers.proofs.BoardWorkers.{fewer, put-drawn}
 use Rattle.round_workers.proofs.board.worker.Worker.work.Goals as goal
 
 pub stream-smaller : goal.stream-smaller

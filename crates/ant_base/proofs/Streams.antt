@@ -1,0 +1,160 @@
+-- What writers took and readers gave.
+use Rattle.std.proofs.Common.{◌≡◌, ℕ, zero, suc, Result, Ok, Err, is_ok, if◌then◌else◌, ◌<◌, ◌≤◌, ◌^◌, ◌+◌, ◌-◌, List, [], ◌∷◌, ◌++◌, length, take, drop, Option, Some, None, IfSome, inl, inr, refl, sym, ◌∙◌, ap, subst, append_assoc, append-nil, take-append-drop, arith}
+use Rattle.std.proofs.lemmas.List.{length-append, length-take}
+use Rattle.std.specs.Io.KnownBytes.{Appends, Consumes, IsAtEnd, Keeps, WriteAppends}
+use Rattle.std.specs.Counts.{IsPrefixLen}
+use Rattle.std.specs.Prelude.{true, IfOk, OnOk, OnErr}
+use Rattle.std.specs.IoError.{error_kind}
+use Rattle.std.specs.declared.io.Error.{Error}
+use Rattle.std.specs.declared.io.ErrorKind.{ErrorKind}
+use Rattle.std.specs.declared.io.ErrorKind.TheVariants.{Interrupted}
+use Rattle.ant_base.specs.declared.shelf.FetchFault.{FetchFault}
+use Rattle.ant_base.specs.declared.sink.Failed.{Failed}
+use Rattle.ant_base.specs.Faults.{one_more}
+use Rattle.ant_base.specs.Lines.{ends_in_lf}
+use Rattle.ant_base.specs.Inner.Answered.{given_at, given_of, taken_at, taken_of}
+use Rattle.ant_base.specs.Shelf.{longest}
+use Rattle.ant_base.specs.System.{TakesAtMost}
+use Rattle.ant_base.specs.Sink.{Pushed}
+use Rattle.list_lemmas.proofs.Elements.{append-empty}
+use Rattle.ant_base.proofs.Pushes.{ends_in_lf-append}
+use Rattle.ant_base.specs.Streams.{IsFlushedByLines, StreamState, TookUpTo, Takes, sink_of_stream}
+
+consumes_nothing : (known : Option (List ℕ)) → Consumes known known []
+consumes_nothing None = tt
+consumes_nothing (Some bytes) = refl
+
+consumes_then : (start now next : Option (List ℕ)) (a b : List ℕ) → Consumes start now a → Consumes now next b → Consumes start next (a ++ b)
+consumes_then None now next a b first second = tt
+consumes_then (Some bytes) None next a b first second = absurd first
+consumes_then (Some bytes) (Some left) None a b first second = absurd second
+consumes_then (Some bytes) (Some left) (Some rest) a b first second = first ∙ ap (λ xs. a ++ xs) second ∙ sym (append_assoc a b rest)
+
+-- nothing is taken from a reader yet
+pub read_none : (known : Option (List ℕ)) (content : List ℕ) → content ≡ [] → Consumes known known content
+read_none known content empty = subst (Consumes known known) (sym empty) (consumes_nothing known)
+
+-- some bytes more are taken, within the bound
+pub read_lost : {T E : Type 0} (result : Result T E) (start now next : Option (List ℕ)) (content chunk : List ℕ) (given room most : ℕ) → Consumes start now content → Consumes now next (take given chunk)
+    → given ≤ room → length content + room ≤ most → OnErr result (TakesAtMost most start next)
+read_lost (Ok value) start now next content chunk given room most first second fits few = tt
+read_lost (Err fault) start now next content chunk given room most first second fits few =
+    record { bytes = content ++ take given chunk; taken = consumes_then start now next content (take given chunk) first second; few = omega (arith, length-append content (take given chunk), length-take given chunk) }
+
+given_fits : (kind : ErrorKind) (n : ℕ) (room : ℕ) → given_at kind ≡ Ok (Some n) → n ≤ room
+given_fits Interrupted n room is = absurd (cc)
+given_fits _ n room is = absurd (cc)
+
+-- a read gives no more than it was asked for
+pub read_fits : (answer : Result ℕ Error) (read : Result (Option ℕ) FetchFault) (field : Option ℕ) (chunk : List ℕ) (given : ℕ) → IfOk answer (λ n. IsPrefixLen n chunk) → read ≡ given_of answer → read ≡ Ok field → field ≡ Some given → given ≤ length chunk
+read_fits (Ok n) read field chunk given bound is was some = let same : n ≡ given = cc in subst (λ m. m ≤ length chunk) same bound.0
+read_fits (Err error) read field chunk given bound is was some = given_fits (error_kind error) given (length chunk) (sym is ∙ was ∙ ap Ok some)
+
+-- a reader that gave more than the longest has more
+pub read_long : (known now : Option (List ℕ)) (content : List ℕ) → Consumes known now content → longest < length content → IfSome known (λ bytes. longest < length bytes)
+read_long None now content consumes long = tt
+read_long (Some bytes) None content consumes long = absurd consumes
+read_long (Some bytes) (Some rest) content consumes long = omega (arith, ap length consumes, length-append content rest)
+
+-- a reader that has nothing left gave all
+pub read_whole : (known now : Option (List ℕ)) (content : List ℕ) → Consumes known now content → IsAtEnd now → IfSome known (λ bytes. content ≡ bytes)
+read_whole None now content consumes end = tt
+read_whole (Some bytes) None content consumes end = absurd consumes
+read_whole (Some bytes) (Some rest) content consumes end = sym (consumes ∙ ap (λ xs. content ++ xs) end ∙ append-nil content)
+
+appends_nothing : (held : Option (List ℕ)) → Appends held held []
+appends_nothing None = tt
+appends_nothing (Some held) = sym (append-nil held)
+
+appends_then : (held now next : Option (List ℕ)) (a b : List ℕ) → Appends held now a → Appends now next b → Appends held next (a ++ b)
+appends_then None now next a b first second = tt
+appends_then (Some held) None next a b first second = absurd first
+appends_then (Some held) (Some holds) None a b first second = absurd second
+appends_then (Some held) (Some holds) (Some more) a b first second = second ∙ ap (λ bytes. bytes ++ b) first ∙ append_assoc held a b
+
+appends_kept : (held now next : Option (List ℕ)) (a : List ℕ) → Appends held now a → Keeps now next → Appends held next a
+appends_kept None now next a first keeps = tt
+appends_kept (Some held) None next a first keeps = absurd first
+appends_kept (Some held) (Some holds) None a first keeps = absurd keeps
+appends_kept (Some held) (Some holds) (Some stays) a first keeps = keeps ∙ first
+
+keeps_is_nothing : (held now : Option (List ℕ)) → Keeps held now → Appends held now []
+keeps_is_nothing None now keeps = tt
+keeps_is_nothing (Some held) None keeps = absurd keeps
+keeps_is_nothing (Some held) (Some stays) keeps = keeps ∙ sym (append-nil held)
+
+nothing_is_kept : (held now : Option (List ℕ)) → Appends held now [] → Keeps held now
+nothing_is_kept None now appends = tt
+nothing_is_kept (Some held) None appends = absurd appends
+nothing_is_kept (Some held) (Some stays) appends = appends ∙ append-nil held
+
+-- nothing is taken yet
+pub took_none : (taken : List ℕ) (written : Option (List ℕ)) (piece : List ℕ) → TookUpTo taken taken written written piece piece
+took_none taken written piece = record { front = []; whole = refl; took = sym (append-nil taken); told = appends_nothing written }
+
+-- some bytes more are taken
+pub took_more : (taken now next : List ℕ) (written tells told : Option (List ℕ)) (piece rest : List ℕ) (n : ℕ) → TookUpTo taken now written tells piece rest → next ≡ now ++ take n rest → Appends tells told (take n rest)
+    → TookUpTo taken next written told piece (drop n rest)
+took_more taken now next written tells told piece rest n took noted appends = record {
+  front = took.front ++ take n rest;
+  whole = took.whole ∙ ap (λ bytes. took.front ++ bytes) (sym (take-append-drop n rest)) ∙ sym (append_assoc took.front (take n rest) (drop n rest));
+  took = noted ∙ ap (λ bytes. bytes ++ take n rest) took.took ∙ append_assoc taken took.front (take n rest);
+  told = appends_then written tells told took.front (take n rest) took.told appends;
+}
+
+-- nothing more is taken
+pub took_still : (taken now : List ℕ) (written tells told : Option (List ℕ)) (piece rest : List ℕ) → TookUpTo taken now written tells piece rest → Keeps tells told → TookUpTo taken now written told piece rest
+took_still taken now written tells told piece rest took keeps = record {
+  front = took.front;
+  whole = took.whole;
+  took = took.took;
+  told = appends_kept written tells told took.front took.told keeps;
+}
+
+-- a failed write that is no fault took no byte
+none_taken : (kind : ErrorKind) (n : ℕ) → taken_at kind ≡ Ok n → 0 ≡ n
+none_taken Interrupted n is = cc
+none_taken _ n is = absurd (cc)
+
+-- a write that wasn't a fault took so many bytes
+pub write_took : (tells told : Option (List ℕ)) (answer : Result ℕ Error) (rest : List ℕ) (n : ℕ) → WriteAppends tells told answer rest → taken_of answer ≡ Ok n → Appends tells told (take n rest)
+write_took tells told (Ok zero) rest n appends is = absurd (cc)
+write_took tells told (Ok (suc m)) rest n appends is = let same : suc m ≡ n = cc in subst (λ k. Appends tells told (take k rest)) same appends
+write_took tells told (Err error) rest n appends is =
+    subst (λ k. Appends tells told (take k rest)) (none_taken (error_kind error) n is) (keeps_is_nothing tells told appends)
+
+-- a write that was a fault took nothing
+pub write_failed : (tells told : Option (List ℕ)) (answer : Result ℕ Error) (rest : List ℕ) (failed : Failed) → WriteAppends tells told answer rest → taken_of answer ≡ Err failed → Keeps tells told
+write_failed tells told (Ok zero) rest failed appends is = nothing_is_kept tells told appends
+write_failed tells told (Ok (suc m)) rest failed appends is = absurd (cc)
+write_failed tells told (Err error) rest failed appends is = appends
+
+-- a sink over a stream that took a piece, or a front of it, was pushed to
+pub pushed_by_taking : (old new : StreamState) (piece : List ℕ) (result : Result (Unit {0}) Failed) → old.faults ≤ 2 ^ 64 - 1 → Takes old.taken new.taken old.written new.written piece result → new.faults ≡ (if is_ok result then old.faults else one_more old.faults)
+    → OnOk result (ends_in_lf piece ≡ true → new.waiting ≡ []) → (piece ≡ [] → old.waiting ≡ [] → new.waiting ≡ []) → Pushed (sink_of_stream old) (sink_of_stream new) piece result
+pushed_by_taking old new piece (Ok _) most takes count sent kept = record {
+  held = ap Some (takes.took ∙ ap (λ bytes. old.taken ++ bytes) (sym (append-nil takes.front) ∙ sym takes.whole));
+  quiet = count;
+  flushed = sent;
+  kept = kept;
+}
+pushed_by_taking old new piece (Err _) most takes count sent kept = record {
+  front = takes.1.front;
+  rest = takes.0;
+  whole = takes.1.whole;
+  held = ap Some takes.1.took;
+  rose = omega (arith, count);
+  later = omega (arith, count);
+}
+
+-- a sink whose stream took a piece that has bytes, or failed, waits with nothing behind the end of a line as long as no push failed
+pub flushed_by_taking : (old new : StreamState) (piece : List ℕ) (result : Result (Unit {0}) Failed) → (piece ≡ [] → ⊥) → Takes old.taken new.taken old.written new.written piece result
+    → new.faults ≡ (if is_ok result then old.faults else one_more old.faults) → OnOk result (ends_in_lf piece ≡ true → new.waiting ≡ []) → IsFlushedByLines new.faults new.taken new.waiting
+flushed_by_taking old new [] (Ok _) some takes count sent none text = absurd (some refl)
+flushed_by_taking old new (byte ∷ piece) (Ok _) some takes count sent none text =
+    let taken : new.taken ≡ old.taken ++ byte ∷ piece = takes.took ∙ ap (λ bytes. old.taken ++ bytes) (sym (append-nil takes.front) ∙ sym takes.whole) in
+    elim text [
+      | inl empty ↦ absurd (some (append-empty old.taken (byte ∷ piece) (sym taken ∙ empty)).1)
+      | inr ends ↦ sent (sym (ends_in_lf-append old.taken byte piece) ∙ ap ends_in_lf (sym taken) ∙ ends)
+    ]
+flushed_by_taking old new piece (Err _) some takes count sent none text = absurd (omega (arith, count, none))
