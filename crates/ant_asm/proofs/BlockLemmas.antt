@@ -1,5 +1,6 @@
 -- A block that ends, and a text that ends.
-use Rattle.std.proofs.Common.{◌≡◌, inl, inr, ℕ, zero, suc, ◌<◌, ◌≤◌, Bool, true, false, cond, List, [], ◌∷◌, ◌++◌, length, Option, Some, None, Ok, refl, sym, ap, ap₂, ◌∙◌, subst, arith}
+use Rattle.std.proofs.Common.{◌≡◌, inl, inr, ℕ, zero, suc, ◌<◌, ◌≤◌, Bool, true, false, cond, List, [], ◌∷◌, ◌++◌, length, Option, Some, None, Ok, refl, sym, ap, ap₂, ◌∙◌, subst, arith, add-one}
+use Rattle.std.proofs.lemmas.List.{length_push}
 use Rattle.std.specs.Prelude.{slice_get, if◌then◌else◌, ◌==◌, bytes_eq, option_map}
 use Rattle.std.proofs.Math.Path.{fun_ext}
 use Rattle.std.proofs.lemmas.Bool.{eq-eqb, eqb-true, false_from_ne_true}
@@ -21,7 +22,7 @@ use Rattle.ant_asm.specs.Inner.ProgramView.{AreBodiesOf, AreGoodBlocks, FailsTex
 use Rattle.ant_asm.specs.Inner.Ranged.{AreRanged}
 use Rattle.ant_asm.specs.Inner.Scopes.{known_as}
 use Rattle.ant_asm.specs.Inner.View.{FailsWith, IsClosedAs, IsGoodOpen, open_items, open_seen, parameters_in}
-use Rattle.ant_asm.proofs.OpenLemmas.{AreGood-push, closed-good, closed-ranged, closed-some, closed-tree, length-append-one, length-open, open-push, open_seen-push, tree_at-before}
+use Rattle.ant_asm.proofs.OpenLemmas.{AreGood-push, closed-good, closed-ranged, closed-some, closed-tree, length-open, open-push, open_seen-push, tree_at-before}
 use Rattle.ant_asm.proofs.ReadingLemmas.{reading-leads}
 
 -- a body that has items becomes one of the bodies
@@ -34,7 +35,7 @@ module _ (bodies : List Body) (draft : OpenBody) (body : Body) (blocks : AreGood
       go true is = subst (λ (k : ℕ). P (tree_at (bodies ++ body ∷ []) k)) (sym (eqb-true n (length bodies) is)) last
       go false is =
           let apart : n ≡ length bodies → ⊥ = λ same. let never : true ≡ false = sym (eq-eqb n (length bodies) same) ∙ is in absurd (cc) in
-          let more = length-append-one bodies body in
+          let more = length_push bodies body in
           let early : n < length bodies = below n (length bodies) apart (omega (arith, inside, more)) in
           subst P (sym (tree_at-before bodies body n early)) (before n early)
         where
@@ -112,7 +113,7 @@ module _ (p : Program) (number : ℕ) where
       seen-with =
           parts (open_seen (trees_of (p.bodies.items ++ body ∷ [])) outer.main) (length (p.bodies.items ++ body ∷ [])) (blocks_seen (p.bodies.items ++ body ∷ []) new.blocks.entries)
           (open_seen-push p.bodies.items body outer.main outer-good ∙ ap (λ (o : Option Outer). open_seen (trees_of p.bodies.items) (main_of o p.current)) (sym is))
-          (length-append-one p.bodies.items body)
+          (length_push p.bodies.items body ∙ add-one (length p.bodies.items))
           (fun_ext (blocks-with (known_as new.blocks.entries) blocks))
           ∙ sym (ap (λ (o : Option Outer). ended (begun_seen (trees_of p.bodies.items) o p.current) (program_seen p)) is)
 
@@ -130,13 +131,13 @@ module _ (p : Program) (number : ℕ) where
       inside-with name n known = go (bytes_eq outer.name.now name) (ap (λ (k : List ℕ → Option ℕ). k name) (sym blocks) ∙ known)
         where
           go : (b : Bool) → cond b (Some (length p.bodies.items)) (known_as p.blocks.entries name) ≡ Some n → n < length (p.bodies.items ++ body ∷ [])
-          go true q = let same : length p.bodies.items ≡ n = cc in let all = length-append-one p.bodies.items body in omega (arith, same, all)
-          go false q = let early = good.blocks name n q in let all = length-append-one p.bodies.items body in omega (arith, early, all)
+          go true q = let same : length p.bodies.items ≡ n = cc in let all = length_push p.bodies.items body in omega (arith, same, all)
+          go false q = let early = good.blocks name n q in let all = length_push p.bodies.items body in omega (arith, early, all)
 
       pub end-good : IsGoodProgram new
       end-good = record {
         bodies = subst AreGoodBlocks (sym bodies) (blocks-push p.bodies.items p.current body good.bodies good.current closed (positive (length p.current.items.items) some));
-        few = (let room : length p.bodies.items < 256 = (subst (IsGoodOuter p.bodies.items) is good.outer).1 in let all = length-append-one p.bodies.items body in let same = ap length bodies in omega (arith, room, all, same));
+        few = (let room : length p.bodies.items < 256 = (subst (IsGoodOuter p.bodies.items) is good.outer).1 in let all = length_push p.bodies.items body in let same = ap length bodies in omega (arith, room, all, same));
         blocks = λ name n known. subst (λ (b : List Body). n < length b) (sym bodies) (inside-with name n known);
         current = subst (λ (d : OpenBody). IsGoodOpen new.bodies.items d) (sym current) (subst (λ (b : List Body). IsGoodOpen b outer.main) (sym bodies) (open-push p.bodies.items body outer.main outer-good));
         outer = subst (IsGoodOuter new.bodies.items) (sym none) tt;
@@ -170,8 +171,8 @@ pub text-bodies : (text : List ℕ) (p : Program) (main : Body) → IsGoodProgra
     AreBodiesOf text (p.bodies.items ++ main ∷ [])
 text-bodies text p main good read free closed = record {
   blocks = blocks-push p.bodies.items p.current main good.bodies good.current closed (positive (length p.current.items.items) refl);
-  some = (let all = length-append-one p.bodies.items main in omega (arith, all));
-  few = (let all = length-append-one p.bodies.items main in let few = good.few in omega (arith, all, few));
+  some = (let all = length_push p.bodies.items main in omega (arith, all));
+  few = (let all = length_push p.bodies.items main in let few = good.few in omega (arith, all, few));
   main = subst (λ (n : ℕ). IsAsmText text (tree_at (p.bodies.items ++ main ∷ []) n)) (sym last) (record {
     standing = program_seen p;
     leads = reading-leads nothing_yet (lines_with_tokens text) (program_seen p) read;
@@ -186,7 +187,7 @@ text-bodies text p main good read free closed = record {
     none = last-outer p free
 
     last : last_of (p.bodies.items ++ main ∷ []) ≡ length p.bodies.items
-    last = let all = length-append-one p.bodies.items main in omega (arith, all)
+    last = let all = length_push p.bodies.items main in omega (arith, all)
 
     positive : (n : ℕ) → length p.current.items.items ≡ n → 1 ≤ n
     positive zero is =

@@ -66,8 +66,9 @@ element (x ∷ list) zero inside = (x, refl)
 element (x ∷ list) (suc i) inside = element list i (omega (arith, inside))
 
 module _ (main : Items) (brain : List Instr) (list : List Address) (assembled : IsAssembled main brain list) where
-  some : 1 ≤ length (places main)
-  some = subst (λ (l : List Address). 1 ≤ length l) assembled.places assembled.some
+  -- the program has a place
+  pub some_places : 1 ≤ length (places main)
+  some_places = subst (λ (l : List Address). 1 ≤ length l) assembled.places assembled.some
 
   -- the number of a label's target is below the length
   target-below : (address : Address) (label : Label) → number_in list ((placed main address).target label) < length list
@@ -75,7 +76,7 @@ module _ (main : Items) (brain : List Instr) (list : List Address) (assembled : 
       let target : Address = (placed main address).target label in
       let there : slice_get (places main) (number_in (places main) target) ≡ Some target =
       placed-leads (λ a. slice_get (places main) (number_in (places main) a) ≡ Some a) main
-      (HoldsIn-all (λ a. slice_get (places main) (number_in (places main) a) ≡ Some a) main [] 0 (λ a among. number_in-found (places main) a among)) (beginning-place main some) address label in
+      (HoldsIn-all (λ a. slice_get (places main) (number_in (places main) a) ≡ Some a) main [] 0 (λ a among. number_in-found (places main) a among)) (beginning-place main some_places) address label in
       subst (λ (l : List Address). number_in l target < length l) (sym assembled.places) (slice_get_within (places main) (number_in (places main) target) target there)
 
   pub assembled-brain : AreRanged main → length brain ≤ most_states → IsBrain brain

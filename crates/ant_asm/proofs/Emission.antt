@@ -1,5 +1,6 @@
 -- What is emitted is the assembled program.
 use Rattle.std.proofs.Common.{◌≡◌, inl, ℕ, zero, suc, ◌+◌, ◌≤◌, false, List, [], ◌∷◌, ◌++◌, length, map, Option, Some, refl, sym, ap, ap₂, ◌∙◌, subst, arith}
+use Rattle.std.proofs.lemmas.List.{length-map}
 use Rattle.std.specs.Prelude.{slice_get, slice_index_or, if◌then◌else◌, ◌==◌}
 use Rattle.std.proofs.Math.Path.{fun_ext}
 use Rattle.std.proofs.lemmas.Bool.{cond-false, eqb-true, false_from_ne_true}
@@ -207,10 +208,6 @@ module _ (main : Items) where
     slice_get-map (place ∷ list) zero address at = let same : place ≡ address = cc in ap (λ (a : Address). Some (assembled a)) same
     slice_get-map (place ∷ list) (suc i) address at = slice_get-map list i address at
 
-    length-map : (list : List Address) → length (map assembled list) ≡ length list
-    length-map [] = refl
-    length-map (place ∷ list) = ap suc (length-map list)
-
     -- main is assembled so
     pub emitted-assembled : IsAssembled main (emitted main main main_numbers 0) (places main)
     unfolding placed
@@ -220,6 +217,6 @@ module _ (main : Items) where
           places = refl;
           once = λ i j address first second. place-once i j address first second;
           some = some;
-          as_many = ap length all ∙ length-map (places main);
+          as_many = ap length all ∙ length-map (places main) assembled;
           each = λ i address at. ap (λ (l : List Instr). slice_get l i) all ∙ slice_get-map (places main) i address at;
         }

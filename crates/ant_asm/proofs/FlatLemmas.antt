@@ -1,5 +1,6 @@
 -- Bodies and their items.
-use Rattle.std.proofs.Common.{◌≡◌, ℕ, zero, suc, ◌+◌, ◌<◌, ◌≤◌, List, [], ◌∷◌, ◌++◌, length, map, Some, refl, sym, ap, ap₂, ◌∙◌, subst, arith}
+use Rattle.std.proofs.Common.{◌≡◌, ℕ, zero, suc, ◌+◌, ◌<◌, ◌≤◌, List, [], ◌∷◌, ◌++◌, length, Some, refl, sym, ap, ap₂, ◌∙◌, subst, arith}
+use Rattle.std.proofs.lemmas.List.{length_push}
 use Rattle.std.specs.Prelude.{slice_get, slice_index_or, ◌==◌}
 use Rattle.std.specs.List.{AllByRecursion}
 use Rattle.std.proofs.lemmas.Bool.{cond-true, cond-false, eqb-true, eq-eqb, false_from_ne_true}
@@ -73,16 +74,12 @@ pub get_or-last : (list : List Items) (tree : Items) → slice_index_or (list ++
 get_or-last [] tree = refl
 get_or-last (other ∷ list) tree = get_or-last list tree
 
-pub length-last : (list : List Items) (tree : Items) → length (list ++ tree ∷ []) ≡ suc (length list)
-length-last [] tree = refl
-length-last (other ∷ list) tree = ap suc (length-last list tree)
-
 -- further bodies change no tree
 trees_from-keeps : (trees : List Items) (bodies : List Body) (i : ℕ) → i < length trees → slice_index_or (trees_from trees bodies) i End ≡ slice_index_or trees i End
 trees_from-keeps trees [] i inside = refl
 trees_from-keeps trees (body ∷ bodies) i inside =
     let tree : Items = tree_of trees body.items.items in
-    let more : length (trees ++ tree ∷ []) ≡ suc (length trees) = length-last trees tree in
+    let more : length (trees ++ tree ∷ []) ≡ suc (length trees) = omega (arith, length_push trees tree) in
     trees_from-keeps (trees ++ tree ∷ []) bodies i (omega arith) ∙ get_or-front trees (tree ∷ []) i inside
 
 -- the uses of some items are of blocks below a number
@@ -109,7 +106,7 @@ trees_from-at trees [] i body at below = absurd (cc)
 trees_from-at trees (other ∷ bodies) zero body at below =
     let same : other ≡ body = cc in
     let tree : Items = tree_of trees other.items.items in
-    let more : length (trees ++ tree ∷ []) ≡ suc (length trees) = length-last trees tree in
+    let more : length (trees ++ tree ∷ []) ≡ suc (length trees) = omega (arith, length_push trees tree) in
     let here : length trees + 0 ≡ length trees = omega arith in
     ap (λ (n : ℕ). slice_index_or (trees_from (trees ++ tree ∷ []) bodies) n End) here
     ∙ trees_from-keeps (trees ++ tree ∷ []) bodies (length trees) (omega arith)
@@ -119,7 +116,7 @@ trees_from-at trees (other ∷ bodies) zero body at below =
     (λ b early. sym (trees_from-keeps (trees ++ tree ∷ []) bodies b (omega arith) ∙ get_or-front trees (tree ∷ []) b early))
 trees_from-at trees (other ∷ bodies) (suc i) body at below =
     let tree : Items = tree_of trees other.items.items in
-    let more : length (trees ++ tree ∷ []) ≡ suc (length trees) = length-last trees tree in
+    let more : length (trees ++ tree ∷ []) ≡ suc (length trees) = omega (arith, length_push trees tree) in
     let shift : length (trees ++ tree ∷ []) + i ≡ length trees + suc i = omega arith in
     subst (λ (n : ℕ). slice_index_or (trees_from (trees ++ tree ∷ []) bodies) n End ≡ tree_of (trees_from (trees ++ tree ∷ []) bodies) body.items.items) shift
     (trees_from-at (trees ++ tree ∷ []) bodies i body at (subst (λ (n : ℕ). UsesBelow n body.items.items) (sym shift) below))
@@ -297,10 +294,6 @@ body_end bodies number body good known is = ap (from_place (length body.items.it
 pub use_good : {bodies : List Body} {number : ℕ} {body : Body} {k : ℕ} {item : Item} → AtItem bodies number body k item → (block : ℕ) (handed : Vec Label Global) → item ≡ Item.Use block handed →
     IsGoodItem bodies number body.parameters (length body.items.items) (Item.Use block handed)
 use_good {bodies} {number} {body} a block handed puts = subst (IsGoodItem bodies number body.parameters (length body.items.items)) puts (item_good a)
-
-pub length-map-labels : (f : Label → ℕ) (labels : List Label) → length (map f labels) ≡ length labels
-length-map-labels f [] = refl
-length-map-labels f (label ∷ labels) = ap suc (length-map-labels f labels)
 
 pub same_numbers : {base one after other : ℕ} {given handed : List ℕ} → base ≡ one → after ≡ other → given ≡ handed →
     (let n : Numbers = record { base = base; after = after; given = given } in n) ≡ record { base = one; after = other; given = handed }

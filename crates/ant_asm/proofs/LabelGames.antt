@@ -1,5 +1,6 @@
 -- Games with an assembled brain, and with its labelled program.
-use Rattle.std.proofs.Common.{◌≡◌, ◌≢◌, ℕ, zero, suc, ◌+◌, ◌≤◌, Bool, true, List, [], ◌∷◌, length, Option, Some, None, refl, sym, ap, ap₂, ◌∙◌, subst}
+use Rattle.std.proofs.Common.{◌≡◌, ◌≢◌, ℕ, zero, suc, ◌+◌, Bool, true, List, [], ◌∷◌, Option, Some, None, refl, sym, ap, ap₂, ◌∙◌, subst}
+use Rattle.ant_asm.proofs.Brains.{some_places}
 use Rattle.std.specs.Prelude.{option_map, if◌then◌else◌}
 use Rattle.std.proofs.Math.Path.{fun_ext}
 use Rattle.std.proofs.lemmas.Bool.{cond_both}
@@ -47,18 +48,15 @@ module _ (main : Items) (brain : List Instr) (list : List Address) (assembled : 
   abbrev number : Address → ℕ
   number = number_in list
 
-  some_places : 1 ≤ length (places main)
-  some_places = subst (λ (l : List Address). 1 ≤ length l) assembled.places assembled.some
-
   -- labels lead to places
   leads_to : (address : Address) (label : Label) → HasPlace list ((placed main address).target label)
-  leads_to address label = subst (λ (l : List Address). HasPlace l ((placed main address).target label)) (sym assembled.places) (target-place main some_places address label)
+  leads_to address label = subst (λ (l : List Address). HasPlace l ((placed main address).target label)) (sym assembled.places) (target-place main (some_places main brain list assembled) address label)
 
   begins : HasPlace list (beginning main)
-  begins = subst (λ (l : List Address). HasPlace l (beginning main)) (sym assembled.places) (beginning-place main some_places)
+  begins = subst (λ (l : List Address). HasPlace l (beginning main)) (sym assembled.places) (beginning-place main (some_places main brain list assembled))
 
   begins_zero : number (beginning main) ≡ 0
-  begins_zero = subst (λ (l : List Address). number_in l (beginning main) ≡ 0) (sym assembled.places) (beginning-number main some_places)
+  begins_zero = subst (λ (l : List Address). number_in l (beginning main) ≡ 0) (sym assembled.places) (beginning-number main (some_places main brain list assembled))
 
   -- the state for a label of the instruction at an address
   abbrev state_of : Address → Label → ℕ

@@ -1,5 +1,6 @@
 -- Bodies that are being read, and the blocks that they become.
-use Rattle.std.proofs.Common.{◌≡◌, ◌⊎◌, inl, inr, ℕ, zero, suc, ◌+◌, ◌<◌, ◌≤◌, Bool, true, false, ◌||◌, cond, List, [], ◌∷◌, ◌++◌, length, map, Option, Some, None, refl, sym, ap, ap₂, ◌∙◌, subst, arith}
+use Rattle.std.proofs.Common.{◌≡◌, ◌⊎◌, inl, inr, ℕ, zero, suc, ◌+◌, ◌<◌, ◌≤◌, Bool, true, false, ◌||◌, cond, List, [], ◌∷◌, ◌++◌, length, map, Option, Some, None, refl, sym, ap, ap₂, ◌∙◌, subst, arith, add-one}
+use Rattle.std.proofs.lemmas.List.{length-map, length_push}
 use Rattle.std.specs.Prelude.{unwrap_or, slice_get, slice_index_or, bytes_eq}
 use Rattle.std.specs.List.{AllByRecursion, list_any}
 use Rattle.std.proofs.lemmas.Option.{same_Some}
@@ -29,7 +30,7 @@ use Rattle.ant_asm.specs.Inner.ReadLine.{labels_seen}
 use Rattle.ant_asm.specs.Inner.Scopes.{known_as}
 use Rattle.ant_asm.specs.Inner.View.{AreGoodItems, Flat, IsClosedAs, IsGoodKind, IsGoodOpen, IsNew, flat_kind, flat_of, flat_resolved, kind_seen, open_item, open_items, open_seen, parameters_in, start_of}
 use Rattle.ant_asm.specs.Inner.View.Flat.{Acts, Puts}
-use Rattle.ant_asm.proofs.FlatLemmas.{get_or-front, get_or-last, length-last}
+use Rattle.ant_asm.proofs.FlatLemmas.{get_or-front, get_or-last}
 
 -- one more item at the end
 pub good-append : (bodies : List Body) (before : ℕ) (items : List OpenItem) (all size : ℕ) (item : OpenItem) → AreGoodItems bodies before items all → IsGoodKind bodies size item.kind → item.start ≡ all →
@@ -41,10 +42,6 @@ good-append bodies before (first ∷ items) all size item good kind start =
 pub items-append : (trees : List Items) (items : List OpenItem) (item : OpenItem) → open_items trees (items ++ item ∷ []) ≡ open_items trees items ++ open_item trees item ∷ []
 items-append trees [] item = refl
 items-append trees (first ∷ items) item = ap (λ (l : List ItemLine). open_item trees first ∷ l) (items-append trees items item)
-
-pub length-append-one : {A : Type 0} (list : List A) (x : A) → length (list ++ x ∷ []) ≡ suc (length list)
-length-append-one [] x = refl
-length-append-one (y ∷ list) x = ap suc (length-append-one list x)
 
 pub length-open : (trees : List Items) (items : List OpenItem) → length (open_items trees items) ≡ length items
 length-open trees [] = refl
@@ -132,17 +129,13 @@ labels-good : {A : Type 0} (parameters count : ℕ) (f : A → Label) (each : (x
 labels-good parameters count f each [] = tt
 labels-good parameters count f each (x ∷ list) = (each x, labels-good parameters count f each list)
 
-length-map : {A B : Type 0} (f : A → B) (list : List A) → length (map f list) ≡ length list
-length-map f [] = refl
-length-map f (x ∷ list) = ap suc (length-map f list)
-
 module _ (bodies more : List Body) (parameters count : ℕ) (way : Named → Label) (each : (label : Named) → IsGoodLabel parameters count (way label)) where
   kind-good : (size : ℕ) (kind : OpenKind) → IsGoodKind bodies size kind → IsGoodFlat (bodies ++ more) (length bodies) parameters count (flat_kind way kind)
   kind-good size (OpenKind.Do action) good = action-good parameters count (λ label. way (seen label)) (λ label. each (seen label)) action
   kind-good size (OpenKind.Use block handed) good = (
     good.0,
     labels-good parameters count (λ label. way (seen label)) (λ label. each (seen label)) handed.items,
-    λ body at. length-map (λ label. way (seen label)) handed.items ∙ good.1 ∙ ap parameters_in (sym (slice_get-front bodies more block good.0) ∙ at),
+    λ body at. length-map handed.items (λ label. way (seen label)) ∙ good.1 ∙ ap parameters_in (sym (slice_get-front bodies more block good.0) ∙ at),
   )
 
   resolved-good : (before : ℕ) (items : List OpenItem) (all : ℕ) → AreGoodItems bodies before items all → AllByRecursion (IsGoodFlat (bodies ++ more) (length bodies) parameters count) (map (flat_resolved way) items)
@@ -203,7 +196,7 @@ trees_from-push trees (first ∷ bodies) body = trees_from-push (trees ++ tree_o
 trees_from-length : (trees : List Items) (bodies : List Body) → length (trees_from trees bodies) ≡ length trees + length bodies
 trees_from-length trees [] = let e : length trees ≡ length trees + 0 = omega arith in e
 trees_from-length trees (body ∷ bodies) =
-    let more = length-last trees (tree_of trees body.items.items) in
+    let more = length_push trees (tree_of trees body.items.items) in
     trees_from-length (trees ++ tree_of trees body.items.items ∷ []) bodies ∙ (let e : length (trees ++ tree_of trees body.items.items ∷ []) + length bodies ≡ length trees + suc (length bodies) = omega (arith, more) in e)
 
 pub trees_of-length : (bodies : List Body) → length (trees_of bodies) ≡ length bodies
@@ -265,7 +258,7 @@ module _ (bodies : List Body) (body : Body) where
   kind-push : (size : ℕ) (kind : OpenKind) → IsGoodKind bodies size kind → IsGoodKind (bodies ++ body ∷ []) size kind
   kind-push size (OpenKind.Do action) good = good
   kind-push size (OpenKind.Use block handed) good = (
-    let below = good.0 in let more = length-append-one bodies body in omega (arith, below, more),
+    let below = good.0 in let more = length_push bodies body in omega (arith, below, more),
     good.1 ∙ ap parameters_in (sym (slice_get-front bodies (body ∷ []) block good.0)),
     good.2 ∙ ap size_of (sym (tree_at-before block good.0)),
     good.3,
@@ -308,7 +301,7 @@ module _ (bodies : List Body) (draft : OpenBody) (body : Body) (good : IsGoodOpe
   way = way_or_next (known_as draft.names.entries)
 
   closed-length : length body.items.items ≡ length draft.items.items
-  closed-length = sym (length-map flat_of body.items.items) ∙ ap length closed.items ∙ length-map (flat_resolved way) draft.items.items
+  closed-length = sym (length-map body.items.items flat_of) ∙ ap length closed.items ∙ length-map draft.items.items (flat_resolved way)
 
   closed-flat : tree_of (trees_of bodies) body.items.items ≡ tree_by (trees_of bodies) (map (flat_resolved way) draft.items.items)
   closed-flat = tree_of-flat (trees_of bodies) body.items.items ∙ ap (tree_by (trees_of bodies)) closed.items
@@ -341,7 +334,7 @@ module _ (bodies : List Body) (draft : OpenBody) (body : Body) (good : IsGoodOpe
         ∙ tree-starts bodies way 0 draft.items.items draft.size k good.items (subst (λ (n : ℕ). k ≤ n) closed-length inside)
         ∙ ap Some (let e : 0 + offset k (tree_by (trees_of bodies) (map (flat_resolved way) draft.items.items)) ≡ offset k (tree_by (trees_of bodies) (map (flat_resolved way) draft.items.items)) = omega arith in e)
         ∙ ap (λ (t : Items). Some (offset k t)) (sym closed-place);
-    counted = ap length closed.starts ∙ length-append-one (map start_of draft.items.items) draft.size ∙ ap suc (length-map start_of draft.items.items ∙ sym closed-length);
+    counted = ap length closed.starts ∙ length_push (map start_of draft.items.items) draft.size ∙ add-one (length (map start_of draft.items.items)) ∙ ap suc (length-map draft.items.items start_of ∙ sym closed-length);
     short = (let few = good.few in let low = items-size bodies 0 draft.items.items draft.size good.items in let same = closed-length in omega (arith, few, low, same));
     few = (let few = good.few in let all = closed-size in omega (arith, few, all));
   }

@@ -1,5 +1,6 @@
 -- The reading of a text's lines, as what they lead to, or the first line at fault.
 use Rattle.std.proofs.Common.{◌≡◌, inl, inr, ℕ, ◌+◌, true, false, List, [], ◌∷◌, ◌++◌, ◌≤◌, length, Option, Some, None, Result, Ok, Err, refl, sym, ap, ◌∙◌, subst}
+use Rattle.line_tokens.proofs.LineLemmas.{with_line-none}
 use Rattle.ant_base.specs.Lines.{lines_of}
 use Rattle.line_tokens.specs.Tokens.{has_token, tokens_of}
 use Rattle.line_tokens.specs.TokenLines.{TokenLine, lines_with_tokens, token_lines, with_line}
@@ -74,11 +75,7 @@ reading-fault text fault e =
 -- a line without a token changes nothing but the number of the next line
 pub reading_from-skip : (above : Standing) (number : ℕ) (line : List ℕ) (lines : List (List ℕ)) → has_token (tokens_of line) ≡ false → reading_from above (number + 1) lines ≡ reading_from above number (line ∷ lines)
 unfolding reading_from
-reading_from-skip above number line lines none = sym (ap (reading above) (skip (tokens_of line) (token_lines (number + 1) lines) none))
-  where
-    skip : (tokens : List (List ℕ)) (later : List TokenLine) → has_token tokens ≡ false → with_line number tokens later ≡ later
-    skip [] later e = refl
-    skip (token ∷ tokens) later e = (let never : true ≡ false = e in absurd (cc))
+reading_from-skip above number line lines none = sym (ap (reading above) (with_line-none number (tokens_of line) (token_lines (number + 1) lines) none))
 
 -- a line with a token
 pub reading_from-line : (above : Standing) (number : ℕ) (line : List ℕ) (lines : List (List ℕ)) → has_token (tokens_of line) ≡ true →

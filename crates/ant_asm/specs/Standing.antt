@@ -1,5 +1,6 @@
 -- What stands above a line of a labelled program, and what the line adds (this project's own).
 use Rattle.std.specs.Prelude.{ℕ, suc, ◌+◌, Bool, false, not, ◌||◌, nat_lt, nat_le, ◌==◌, List, [], ◌∷◌, ◌++◌, length, map, min, Option, Some, None, is_none, is_some, unwrap_or, if◌then◌else◌, bytes_eq}
+use Rattle.ant_base.specs.Names.{has_name}
 use Rattle.std.specs.List.{list_any}
 use Rattle.brain_read.specs.Soundness.{most_states}
 use Rattle.ant_asm.specs.declared.action.Action.{Action}
@@ -146,14 +147,10 @@ abbrev pub item_size : Item → ℕ
 item_size (Instruction action) = 1
 item_size (Call handed block) = size_of block
 
--- whether a name is one of some
-abbrev pub is_one_of : List (List ℕ) → List ℕ → Bool
-is_one_of names name = list_any (λ other. bytes_eq other name) names
-
 -- whether a name is there twice
 abbrev pub has_twice : List (List ℕ) → Bool
 has_twice [] = false
-has_twice (name ∷ names) = is_one_of names name || has_twice names
+has_twice (name ∷ names) = has_name names name || has_twice names
 
 -- the body to which a line adds: the block that has begun, or main
 abbrev pub current_of : Option Begun → Draft → Draft

@@ -8,7 +8,8 @@ ghost use Rattle.ant_asm.specs.Program.{size_of};
 ghost use Rattle.ant_asm.specs.Lines.{IsLineInRange};
 ghost use Rattle.ant_asm.specs.Lines.Line.{Begins, Ends, Instructs, Marks, Uses};
 ghost use Rattle.ant_asm.specs.Text.{last_fault};
-ghost use Rattle.ant_asm.specs.Standing.{earlier, has_twice, is_one_of, mapped, nothing_yet, place_fault};
+ghost use Rattle.ant_base.specs.Names.{has_name};
+ghost use Rattle.ant_asm.specs.Standing.{earlier, has_twice, mapped, nothing_yet, place_fault};
 ghost use Rattle.ant_asm.specs.Inner.Flat.{most, tree_at};
 ghost use Rattle.ant_asm.specs.Inner.Reading.{seen};
 ghost use Rattle.ant_asm.specs.Inner.ReadLine.{labels_seen, line_seen, names_seen};
@@ -260,7 +261,7 @@ fn has_twice(names: &[&[u8]]) -> bool
 
 // Whether a name is one of some.
 fn is_one_of(names: &[&[u8]], name: &[u8]) -> bool
-    ensures { result ≡ is_one_of (names_seen names.now) name.now }
+    ensures { result ≡ has_name (names_seen names.now) name.now }
 {
     match names {
         [] => false,

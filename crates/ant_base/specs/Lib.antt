@@ -6,6 +6,7 @@ pub mod Layout
 pub mod Lines
 pub mod MemShelf
 pub mod MemSink
+pub mod Names
 pub mod Number
 pub mod NumberList
 pub mod Shelf

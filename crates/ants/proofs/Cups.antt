@@ -20,16 +20,12 @@ use Rattle.command_words.specs.Laws.{CupWithin}
 use Rattle.command_words.specs.Slots.{AllDiffer}
 use Rattle.command_words.specs.Words.{texts}
 use Rattle.match_run.specs.Run.{most_rounds, world_after}
-use Rattle.tournament.specs.Names.{has_name, with_name}
+use Rattle.ant_base.specs.Names.{has_name}
+use Rattle.tournament.specs.Names.{with_name}
+use Rattle.far_crew.proofs.JobLemmas.{all_at}
 use Rattle.ants.specs.Files.{AreAccepted}
 use Rattle.ants.specs.Inner.Cups.{AreReady, CanBePlayed, Opens}
 use Rattle.ants.specs.Outputs.{brain_file, cup_contents, cup_files, nowhere, score_between}
-
--- what holds of all of a list holds at each place
-all_at : {X : Type 0} (P : X → Type 0) (xs : List X) (i : ℕ) (none : X) → AllByRecursion P xs → i < length xs → P (get_or xs i none)
-all_at P [] i none all below = absurd (omega arith)
-all_at P (x ∷ xs) zero none all below = all.0
-all_at P (x ∷ xs) (suc i) none all below = all_at P xs i none all.1 (omega arith)
 
 -- what was read of the files of a cup: so many worlds at the start of a game, and so many brains with a state at least
 pub record IsRoster (world_count player_count : ℕ) (worlds : List Grid) (players : List (List Instr)) : Type 0 where

@@ -1,6 +1,6 @@
 -- Numbering the classes of the seen states, and keeping an instruction for each number.
 pub use Rattle.ant_turn.proofs.RenumberedTurns.{the_number}
-use Rattle.std.proofs.Common.{◌≡◌, ◌⊎◌, inl, inr, ℕ, zero, suc, ◌+◌, ◌<◌, ◌≤◌, Bool, true, false, List, [], ◌∷◌, ◌++◌, length, slice_index, slice_get, Option, Some, None, unwrap_or, IsSome, refl, sym, ap, ◌∙◌, subst, arith}
+use Rattle.std.proofs.Common.{◌≡◌, ◌⊎◌, inl, inr, ℕ, ◌+◌, ◌<◌, ◌≤◌, Bool, true, false, List, [], ◌∷◌, ◌++◌, length, slice_index, slice_get, Option, Some, None, unwrap_or, IsSome, refl, sym, ap, ◌∙◌, subst, arith}
 use Rattle.std.specs.Prelude.{nat_eq}
 use Rattle.std.specs.List.{IsDistinct}
 use Rattle.std.proofs.lemmas.Bool.{cases_lt, cases_order, eq-eqb, false≢true}
@@ -8,6 +8,7 @@ use Rattle.std.proofs.lemmas.List.{get_or_append_left, get_or_past, get_or_push,
 use Rattle.std.proofs.lemmas.Map.Keys.{apart_from_distinct}
 use Rattle.std.proofs.lemmas.Option.{none-some, same_Some}
 use Rattle.list_lemmas.proofs.AllElements.{AllByRecursion-weaker}
+use Rattle.list_lemmas.proofs.Entries.{slice_get-front, slice_get-last}
 use Rattle.brain_read.specs.declared.instr.Instr.{Instr}
 use Rattle.brain_read.specs.Grammar.{states_of}
 use Rattle.brain_read.specs.Soundness.{IsBrain}
@@ -48,17 +49,6 @@ seen-inside seen state was =
       | inl below ↦ below
       | inr above ↦ absurd (false≢true (sym (get_or_past seen state false above) ∙ was))
     ]
-
--- an instruction of a longer list
-pub slice_get_left : (list more : List Instr) (k : ℕ) → k < length list → slice_get (list ++ more) k ≡ slice_get list k
-slice_get_left [] more k below = absurd (omega arith)
-slice_get_left (x ∷ list) more zero below = refl
-slice_get_left (x ∷ list) more (suc k) below = slice_get_left list more k (omega arith)
-
--- and the last one
-slice_get_last : (list : List Instr) (x : Instr) → slice_get (list ++ x ∷ []) (length list) ≡ Some x
-slice_get_last [] x = refl
-slice_get_last (y ∷ list) x = slice_get_last list x
 
 -- a number is that of a state of the map
 pub number-inside : (numbers : List (Option ℕ)) (state number : ℕ) → new_number numbers state ≡ Some number → state < length numbers
@@ -250,10 +240,10 @@ IsKeeping-more brain numbers table list i instruction before next is =
       from = λ number below. elim (cases_lt number (length list)) [
         | inl old ↦
             let it = before.from number old in
-            (it.0, omega (arith, it.1), it.2, slice_get_left list (instruction ∷ []) number old ∙ it.3)
+            (it.0, omega (arith, it.1), it.2, slice_get-front list (instruction ∷ []) number old ∙ it.3)
         | inr new ↦
             let one : length list ≡ number = omega arith in
-            (i, omega arith, next ∙ ap Some one, subst (λ k. slice_get (list ++ instruction ∷ []) k ≡ Some (redirected (slice_index table) (instruction_at brain i))) one (slice_get_last list instruction ∙ ap Some is))
+            (i, omega arith, next ∙ ap Some one, subst (λ k. slice_get (list ++ instruction ∷ []) k ≡ Some (redirected (slice_index table) (instruction_at brain i))) one (slice_get-last list instruction ∙ ap Some is))
       ];
     }
 

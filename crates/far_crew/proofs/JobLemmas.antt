@@ -7,6 +7,7 @@ use Rattle.ant_turn.specs.Minds.{Minds}
 use Rattle.spec_record.specs.Look.{LookValue, look_of}
 use Rattle.far_crew.specs.Jobs.{IsLookOf, JobValue, looks_of}
 
+-- what holds of all of a list holds at each place
 pub all_at : {X : Type 0} (P : X → Type 0) (xs : List X) (i : ℕ) (d : X) → AllByRecursion P xs → i < length xs → P (slice_index_or xs i d)
 all_at P [] i d all early = absurd (omega arith)
 all_at P (x ∷ xs) zero d all early = all.0

@@ -2,6 +2,6 @@
 pub mod CellLemmas
 pub mod JobLemmas
 -- An answer that agrees, and what a window picks of all.
-pub mod AgreeingLemmas
+pub mod AgreementLemmas
 pub mod PickLemmas
 pub mod WindowLemmas

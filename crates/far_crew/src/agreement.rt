@@ -48,7 +48,7 @@ pub(crate) fn is_look_for(
     is_known(field, found, look, guess)
 }
 
-#[tactic(auto, using(crate::proofs::AgreeingLemmas::look_known))]
+#[tactic(auto, using(crate::proofs::AgreementLemmas::look_known))]
 fn is_known(field: &Field<'_>, found: &Found, look: &Look, guess: u64) -> bool
     requires { IsLookOf found.now.minds found.now.seed found.now.base look.now }
     ensures { result ≡ true → look.now ≡ look_of field.now.minds field.now.seed (world_of field.now.world) guess look.now.turn }
@@ -58,7 +58,7 @@ fn is_known(field: &Field<'_>, found: &Found, look: &Look, guess: u64) -> bool
 }
 
 // Whether a look of an answer agrees.
-#[tactic(auto, using(crate::proofs::AgreeingLemmas::agrees_test))]
+#[tactic(auto, using(crate::proofs::AgreementLemmas::agrees_test))]
 fn is_agreeing(field: &Field<'_>, found: &Found, look: &Look, guess: u64) -> bool
     requires { IsLookOf found.now.minds found.now.seed found.now.base look.now }
     ensures { (result ≡ true) ↔ AgreesWith field.now found.now look.now guess }
@@ -94,7 +94,7 @@ fn are_reads_same(field: &Field<'_>, found: &Found, look: &Look) -> bool
 }
 
 // Whether seeds, sheets, sizes and numbers of ids are equal.
-#[tactic(auto, using(crate::proofs::AgreeingLemmas::game_test))]
+#[tactic(auto, using(crate::proofs::AgreementLemmas::game_test))]
 fn is_same_game(field: &Field<'_>, found: &Found) -> bool
     ensures { (result ≡ true) ↔ IsSameGame field.now found.now }
 {
@@ -120,7 +120,7 @@ pub(crate) fn are_sizes_same(one: &World, other: &World) -> bool
 }
 
 // Whether an ant is dead in both, or alive in both and at the same instruction.
-#[tactic(auto, using(crate::proofs::AgreeingLemmas::dead_test))]
+#[tactic(auto, using(crate::proofs::AgreementLemmas::dead_test))]
 fn is_same_ant(field: &Field<'_>, found: &Found, id: u32) -> bool
     ensures { (result ≡ true) ↔ IsSameAnt field.now found.now id }
 {
@@ -131,7 +131,7 @@ fn is_same_ant(field: &Field<'_>, found: &Found, id: u32) -> bool
 }
 
 // The same of an ant that lives in the answer's world.
-#[tactic(auto, using(crate::proofs::AgreeingLemmas::living_dead, crate::proofs::AgreeingLemmas::living_test))]
+#[tactic(auto, using(crate::proofs::AgreementLemmas::living_dead, crate::proofs::AgreementLemmas::living_test))]
 fn is_living_same(field: &Field<'_>, found: &Found, id: u32, p: Pos) -> bool
     requires { place_in (world_of found.now.base) id ≡ Some p }
     ensures { (result ≡ true) ↔ IsSameAnt field.now found.now id }
@@ -144,7 +144,7 @@ fn is_living_same(field: &Field<'_>, found: &Found, id: u32, p: Pos) -> bool
 }
 
 // The ant of an id at its place.
-#[tactic(auto, using(crate::proofs::AgreeingLemmas::placed_inside, crate::proofs::AgreeingLemmas::placed_ant))]
+#[tactic(auto, using(crate::proofs::AgreementLemmas::placed_inside, crate::proofs::AgreementLemmas::placed_ant))]
 fn ant_at(base: &World, id: u32, p: Pos) -> Ant
     requires { place_in (world_of base.now) id ≡ Some p }
     ensures { ((world_of base.now).cells p).ant ≡ Some result }

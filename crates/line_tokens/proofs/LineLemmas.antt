@@ -126,15 +126,16 @@ with_front-nothing : {P F : Type 0} (made : Result (List P) F) → with_front []
 with_front-nothing (Ok xs) = refl
 with_front-nothing (Err fault) = refl
 
+-- a line without a token adds none
+pub with_line-none : (number : ℕ) (tokens : List (List ℕ)) (later : List TokenLine) → has_token tokens ≡ false → with_line number tokens later ≡ later
+with_line-none number [] later e = refl
+with_line-none number (token ∷ tokens) later e = (let never : true ≡ false = e in absurd (cc))
+
 module _ {A P F : Type 0} (r : Reader A P F) where
   -- A line without a token changes nothing but the number of the next line.
   pub reading_from-skip : (front : List P) (number : ℕ) (line : List ℕ) (lines : List (List ℕ)) → has_token (tokens_of line) ≡ false → reading_from r front (number + 1) lines ≡ reading_from r front number (line ∷ lines)
   unfolding reading_from
-  reading_from-skip front number line lines none = sym (ap (λ ls. with_front front (read_lines r (length front) ls)) (skip (tokens_of line) (token_lines (number + 1) lines) none))
-    where
-      skip : (tokens : List (List ℕ)) (later : List TokenLine) → has_token tokens ≡ false → with_line number tokens later ≡ later
-      skip [] later e = refl
-      skip (token ∷ tokens) later e = (let never : true ≡ false = e in absurd (cc))
+  reading_from-skip front number line lines none = sym (ap (λ ls. with_front front (read_lines r (length front) ls)) (with_line-none number (tokens_of line) (token_lines (number + 1) lines) none))
 
   -- a line with a token
   reading_from-line : (front : List P) (number : ℕ) (line : List ℕ) (lines : List (List ℕ)) → has_token (tokens_of line) ≡ true

@@ -154,9 +154,7 @@ module _ (old : GameValue) (field : FieldValue) (next : ℕ) (totals : Totals) (
         place_from = omega (arith, place_from, first_from);
         place_to = omega (arith, place_to, first_to, turns, last, over);
         early = is.early;
-      } where
-        mod-none : (n : ℕ) → 1 ≤ n → 0 % n ≡ 0
-        mod-none n more = mod-eq_of_lt (omega (arith, more))
+      }
 
   pub IsRoundPlayed-windows : old.field.world.ids ≤ next → IsRoundPlayed old (with_field old field (old.done + 1) 0 totals)
   IsRoundPlayed-windows over =

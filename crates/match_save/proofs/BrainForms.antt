@@ -1,12 +1,17 @@
 -- Brains are lines of saves.
 use Rattle.std.proofs.Common.{◌≡◌, ℕ, suc, ◌<◌, ◌≤◌, List, [], ◌∷◌, length, slice_get, Some, refl, arith}
 use Rattle.std.specs.List.{AllByRecursion}
+use Rattle.cell_world.specs.declared.ant.Colour.{Colour}
+use Rattle.cell_world.specs.declared.ant.Colour.TheVariants.{Red, Black}
 use Rattle.brain_read.specs.declared.instr.Instr.{Instr}
 use Rattle.brain_read.specs.declared.instr.Instr.TheVariants.{Sense, Mark, Unmark, PickUp, Drop, Turn, Move, Flip}
 use Rattle.brain_read.specs.Forms.{HasBound, IsInRange}
 use Rattle.brain_read.specs.Grammar.{StatesBelow, states_of}
 use Rattle.brain_read.specs.Soundness.{IsBrain, IsSound, most_states}
+use Rattle.ant_turn.specs.Minds.{mind_of}
 use Rattle.match_save.specs.Draft.{IsInstruction, IsProgram}
+use Rattle.match_save.specs.Saved.{SavedValue, draft_of}
+use Rattle.match_save.specs.State.{program_of}
 
 -- a sound instruction, whose bound is at most the largest, is in range, and its states are below the number of states
 record IsFit (n : ℕ) (i : Instr) : Type 0 where
@@ -47,3 +52,9 @@ IsProgram-brain list brain bounds = record { some = brain.some; few = brain.few;
 -- and their states are below their number
 pub StatesBelow-brain : (list : List Instr) → IsBrain list → AllByRecursion HasBound list → StatesBelow (length list) list
 StatesBelow-brain list brain bounds = states-below (length list) list (all_fit (length list) list brain.sound bounds)
+
+-- a colour's program has as many lines as its brain has states
+pub program-length : (s : SavedValue) (colour : Colour) → length (program_of (draft_of s) colour) ≡ length (mind_of s.minds colour)
+unfolding draft_of
+program-length s Red = refl
+program-length s Black = refl

@@ -28,14 +28,8 @@ use Rattle.match_save.specs.State.{IsState, ground_cell, ground_cells, grid_of_d
 use Rattle.match_save.specs.Inner.Floor.{are_sound_cells, floor_of, is_empty_cell, is_sound_cell}
 use Rattle.match_save.specs.Inner.AntPuts.{CanAllStand, CanStand, weight_of_ants}
 use Rattle.match_save.proofs.RoundTrip.{In, IsOn, ant-there, bare-none, each, map-with_ants}
-use Rattle.match_save.proofs.SavedLaws.{on_all}
+use Rattle.match_save.proofs.SavedLaws.{AreAlike, alike, on_all}
 use Rattle.match_save.proofs.Standings.{StandsInside, can-all, weight-all}
-
--- lists of one length each
-pub record AreAlike (soils : List Soil) (reds blacks foods : List ℕ) : Type 0 where
-  pub reds_full : length reds ≡ length soils
-  pub blacks_full : length blacks ≡ length soils
-  pub foods_full : length foods ≡ length soils
 
 module _ (width height : ℕ) where
   -- where each cell is sound, all are
@@ -135,15 +129,19 @@ empty-rock : is_empty_cell rock ≡ true
 unfolding rock
 empty-rock = refl
 
+-- behind the last cell there is rock
+get_or_late : (cells : List Cell) (i : ℕ) → length cells ≤ i → get_or cells i rock ≡ rock
+get_or_late [] zero late = refl
+get_or_late [] (suc i) late = refl
+get_or_late (cell ∷ cells) zero late = absurd (let wrong : ⊥ = omega (arith, late) in wrong)
+get_or_late (cell ∷ cells) (suc i) late = get_or_late cells i (omega (arith, late))
+
 module _ (d : Draft) (ok : IsInForm d) where
   floor : Grid
   floor = floor_of d
 
-  pub alike : AreAlike d.soils d.red_marks d.black_marks d.foods
-  alike = record { reds_full = ok.red_marks ∙ sym ok.soils; blacks_full = ok.black_marks ∙ sym ok.soils; foods_full = ok.foods ∙ sym ok.soils }
-
   pub full-floor : length (floor_of d).cells ≡ d.head.width * d.head.height
-  full-floor = length-ground_cells d.soils d.red_marks d.black_marks d.foods alike ∙ ok.soils ∙ omega arith
+  full-floor = length-ground_cells d.soils d.red_marks d.black_marks d.foods (alike d ok) ∙ ok.soils ∙ omega arith
 
   -- no ant stands on the floor
   pub empty-floor : (p : Pos) → (cell_in (floor_of d) p).ant ≡ None
@@ -161,7 +159,7 @@ module _ (d : Draft) (ok : IsInForm d) where
   on = on_all d.head.width d.head.height (length (floor_of d).cells) d.ants (full-floor ∙ omega arith) ok.ants
 
   pub weight-floor : weight (world_of (floor_of d)) ≡ sum d.foods
-  weight-floor = weight-list (floor_of d) full-floor ∙ weight-ground_cells d.soils d.red_marks d.black_marks d.foods alike
+  weight-floor = weight-list (floor_of d) full-floor ∙ weight-ground_cells d.soils d.red_marks d.black_marks d.foods (alike d ok)
 
   -- where the cells are sound and the food isn't too much, the floor is a world without ants
   pub IsGround-floor : hill_count d.soils ≤ most_ants → are_sound_cells d.head.width d.head.height 0 (floor_of d).cells ≡ true → sum d.foods ≤ most_weight → IsGround (floor_of d)
@@ -213,12 +211,6 @@ module _ (d : Draft) (ok : IsInForm d) where
       ]
     ]
       where
-        get_or_late : (cells : List Cell) (i : ℕ) → length cells ≤ i → get_or cells i rock ≡ rock
-        get_or_late [] zero late = refl
-        get_or_late [] (suc i) late = refl
-        get_or_late (cell ∷ cells) zero late = absurd (let wrong : ⊥ = omega (arith, late) in wrong)
-        get_or_late (cell ∷ cells) (suc i) late = get_or_late cells i (omega (arith, late))
-
         row_below : p.y * d.head.width + p.x < d.head.width * d.head.height → p.y < d.head.height
         row_below below = elim (cases_lt p.y d.head.height) [
           | inl row ↦ row
@@ -244,15 +236,9 @@ module _ (d : Draft) (ok : IsInForm d) where
                 ap (λ b. cond b (is_empty_cell (cell_in (floor_of d) p)) (not (is_on_rim d.head.width d.head.height (pos_at d.head.width (index_of d.head.width p))))) (sym rocky) ∙ sound-cell p (record { column = column; row = row }) in
                 at ∙ rocky-is d.soils d.red_marks d.black_marks d.foods (index_of d.head.width p) (ap (λ (c : Cell). c.rocky) (sym at) ∙ rocky) (ap is_empty_cell (sym at) ∙ told)
             | inr below ↦
-                at ∙ late (floor_of d).cells (index_of d.head.width p) (let l = full-floor in let r : d.head.height * d.head.width ≤ p.y * d.head.width = mul-le d.head.height d.head.width p.y d.head.width below (omega arith) in omega (arith, l, r))
+                at ∙ get_or_late (floor_of d).cells (index_of d.head.width p) (let l = full-floor in let r : d.head.height * d.head.width ≤ p.y * d.head.width = mul-le d.head.height d.head.width p.y d.head.width below (omega arith) in omega (arith, l, r))
           ]
     ]
-      where
-        late : (cells : List Cell) (i : ℕ) → length cells ≤ i → get_or cells i rock ≡ rock
-        late [] zero high = refl
-        late [] (suc i) high = refl
-        late (cell ∷ cells) zero high = absurd (let wrong : ⊥ = omega (arith, high) in wrong)
-        late (cell ∷ cells) (suc i) high = late cells i (omega (arith, high))
 
   module _ (state : IsState d) where
     -- the ants of a state can stand on its floor

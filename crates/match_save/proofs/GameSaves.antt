@@ -33,7 +33,7 @@ use Rattle.match_save.specs.declared.soil.Soil.TheVariants.{Rock}
 use Rattle.match_save.specs.Saved.{IsSaved, SavedValue, draft_of, head_of, living, living_at, placed_at, soil_of_cell, soil_of_clear}
 use Rattle.match_save.specs.Saves.{CanBeSaved, save_of}
 use Rattle.match_save.specs.State.{IsState, grid_of_draft, hill_count, is_hill, is_rocky, program_of, turns_of, with_ants}
-use Rattle.match_save.proofs.BrainForms.{IsProgram-brain, StatesBelow-brain}
+use Rattle.match_save.proofs.BrainForms.{IsProgram-brain, StatesBelow-brain, program-length}
 use Rattle.match_save.proofs.RestBounds.{AllRest}
 use Rattle.match_save.proofs.RoundTrip.{In, each}
 use Rattle.match_save.proofs.WorldAgain.{IsPlain, cells-again, clear_rocky, floors, floors-at, lives, living-apart, plain_at, read_at}
@@ -51,10 +51,6 @@ of_all : (P : PlacedAnt → Type 0) (ants : List PlacedAnt) (it : PlacedAnt) →
 of_all P [] it all is_in = absurd is_in
 of_all P (first ∷ ants) it all (inl same) = subst P same all.0
 of_all P (first ∷ ants) it all (inr is_in) = of_all P ants it all.1 is_in
-
-pub all_in_turn : (P : PlacedAnt → Type 0) (ants last : List PlacedAnt) → AllByRecursion P ants → AllByRecursion P last → AllByRecursion P (ants ++ last)
-all_in_turn P [] last all also = also
-all_in_turn P (it ∷ ants) last all also = (all.0, all_in_turn P ants last all.1 also)
 
 -- a cell's soil is of a hill where the cell is
 hill-clear : (hill : Option Colour) → one_if (is_hill (soil_of_clear hill)) ≡ one_if (is_some hill)
@@ -194,13 +190,8 @@ module _ (s : SavedValue) (is : IsKnown s) where
   unfolding draft_of
   turns-same = ap (λ n. n * s.round) ids-same
 
-  mind-same : (colour : Colour) → length (program_of (draft_of s) colour) ≡ length (mind_of s.minds colour)
-  unfolding draft_of
-  mind-same Red = refl
-  mind-same Black = refl
-
   fits-same : (it : PlacedAnt) → In it (living s.world s.world.ids) → it.ant.state < length (program_of (draft_of s) it.ant.colour)
-  fits-same it is_in = subst (λ n. it.ant.state < n) (sym (mind-same it.ant.colour)) (fits it is_in)
+  fits-same it is_in = subst (λ n. it.ant.state < n) (sym (program-length s it.ant.colour)) (fits it is_in)
 
   state : IsState (draft_of s)
   unfolding draft_of

@@ -1,5 +1,6 @@
 -- Ants that are put one after another.
-use Rattle.std.proofs.Common.{◌≡◌, ℕ, zero, suc, ◌+◌, ◌*◌, ◌<◌, ◌≤◌, List, [], ◌∷◌, length, get_or, drop, Some, None, refl, sym, ◌∙◌, ap, subst, arith, true, false}
+use Rattle.std.proofs.Common.{◌≡◌, ℕ, suc, ◌+◌, ◌*◌, ◌<◌, ◌≤◌, List, [], ◌∷◌, length, get_or, drop, Some, None, refl, sym, ◌∙◌, ap, subst, arith, true, false, add-one}
+use Rattle.std.proofs.Math.Seq.{drop-cons}
 use Rattle.std.specs.List.{AllByRecursion}
 use Rattle.hex_geometry.specs.Position.{IsInside}
 use Rattle.hex_geometry.specs.declared.position.Pos.{Pos}
@@ -63,8 +64,6 @@ PutsOn-stop new it rest on put can = put (on.could can).0
 pub PutsOn-end : {old now : Grid} {all : List PlacedAnt} → PutsOn old now all [] → PutsAll old now all true
 PutsOn-end on = (on.can tt, on.becomes)
 
--- the ants from one on
-pub ants-from : (ants : List PlacedAnt) (i : ℕ) (none : PlacedAnt) → i < length ants → drop i ants ≡ get_or ants i none ∷ drop (i + 1) ants
-ants-from [] i none below = absurd (let wrong : ⊥ = omega (arith, below) in wrong)
-ants-from (it ∷ ants) zero none below = refl
-ants-from (it ∷ ants) (suc i) none below = ants-from ants i none (omega (arith, below)) ∙ ap (λ (n : ℕ). get_or ants i none ∷ drop n (it ∷ ants)) (let s : suc (i + 1) ≡ suc i + 1 = omega arith in s)
+-- the elements of a list from one on
+pub drop-from : {X : Type 0} (xs : List X) (i : ℕ) (none : X) → i < length xs → drop i xs ≡ get_or xs i none ∷ drop (i + 1) xs
+drop-from xs i none below = drop-cons xs i none below ∙ ap (λ n. get_or xs i none ∷ drop n xs) (sym (add-one i))

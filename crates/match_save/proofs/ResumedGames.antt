@@ -5,8 +5,6 @@ use Rattle.hex_geometry.specs.declared.position.Pos.{Pos}
 use Rattle.hex_geometry.specs.RowOrder.{index_of}
 use Rattle.cell_world.specs.declared.ant.Ant.{Ant}
 use Rattle.cell_world.specs.declared.ant.PlacedAnt.{PlacedAnt}
-use Rattle.cell_world.specs.declared.ant.Colour.{Colour}
-use Rattle.cell_world.specs.declared.ant.Colour.TheVariants.{Red, Black}
 use Rattle.cell_world.specs.Cell.{rock}
 use Rattle.cell_world.specs.Grid.{Grid, cell_in, world_of}
 use Rattle.ant_base.specs.Layout.{◌+++◌}
@@ -25,6 +23,7 @@ use Rattle.match_save.specs.Resumed.{SavesGoOn, field_of, moment_of, rest_of}
 use Rattle.match_save.specs.Saved.{IsSaved, SavedValue, draft_of}
 use Rattle.match_save.specs.State.{IsState, grid_of_draft, hill_count, program_of, turns_of}
 use Rattle.match_save.specs.Inner.Floor.{floor_of}
+use Rattle.match_save.proofs.BrainForms.{program-length}
 use Rattle.match_save.proofs.Floors.{on}
 use Rattle.match_save.proofs.RoundTrip.{In, Stands, back, bare-none}
 
@@ -59,14 +58,10 @@ saves_go_on s w rounds chosen stats is left =
 pub Fits-saved : (s : SavedValue) → IsSaved s → Fits (world_of s.world) s.minds
 unfolding draft_of
 Fits-saved s is = record { below = below } where
-  same : (colour : Colour) → length (program_of (draft_of s) colour) ≡ length (mind_of s.minds colour)
-  same Red = refl
-  same Black = refl
-
   below : (p : Pos) (ant : Ant) → (cell_in s.world p).ant ≡ Some ant → ant.state < length (mind_of s.minds ant.colour)
   below p ant there =
       let fit = fits-of (draft_of s) is.in_form is.state p ant (ap (λ (g : Grid). (cell_in g p).ant) is.same ∙ there) in
-      let long = same ant.colour in
+      let long = program-length s ant.colour in
       omega (arith, fit, long)
 
 -- and it can go on

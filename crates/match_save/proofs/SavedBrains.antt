@@ -13,6 +13,7 @@ use Rattle.brain_read.proofs.SoundnessLemmas.{sound_of}
 use Rattle.cell_world.specs.declared.ant.Colour.{Colour}
 use Rattle.cell_world.specs.declared.ant.Colour.TheVariants.{Red, Black}
 use Rattle.cell_world.specs.declared.ant.PlacedAnt.{PlacedAnt}
+use Rattle.match_save.proofs.PutLemmas.{drop-from}
 use Rattle.match_save.specs.declared.head.Head.{Head}
 use Rattle.match_save.specs.Draft.{Draft as SaveDraft, IsInstruction, IsProgram}
 use Rattle.match_save.specs.State.{program_of}
@@ -56,11 +57,6 @@ below-part : (n : ℕ) (a b : List Instr) → StatesBelow n (a ++ b) → StatesB
 below-part n [] b p = p
 below-part n (x ∷ a) b p = below-part n a b p.1
 
-drafts-from : (drafts : List Draft) (i : ℕ) (none : Draft) → i < length drafts → drop i drafts ≡ get_or drafts i none ∷ drop (i + 1) drafts
-drafts-from [] i none below = absurd (let wrong : ⊥ = omega (arith, below) in wrong)
-drafts-from (d ∷ drafts) zero none below = refl
-drafts-from (d ∷ drafts) (suc i) none below = drafts-from drafts i none (omega (arith, below)) ∙ ap (λ (n : ℕ). get_or drafts i none ∷ drop n (d ∷ drafts)) (let s : suc (i + 1) ≡ suc i + 1 = omega arith in s)
-
 pub SettlesOn-more : (n : ℕ) (list new : List Instr) (drafts : List Draft) (i : ℕ) (none : Draft) (j : Instr) → i < length drafts → SettlesOn n list drafts i → draft_settled n (drafted (get_or drafts i none)) ≡ Ok j → new ≡ list ++ j ∷ [] → SettlesOn n new drafts (i + 1)
 SettlesOn-more n list new drafts i none j low on e pushed =
     let ok = settled-ok n (drafted (get_or drafts i none)) j e in
@@ -68,7 +64,7 @@ SettlesOn-more n list new drafts i none j low on e pushed =
       are =
           append_assoc list (j ∷ []) (map drafted (drop (i + 1) drafts))
           ∙ ap (λ (x : Instr). list ++ (x ∷ map drafted (drop (i + 1) drafts))) (sym ok.0)
-          ∙ ap (λ (l : List Draft). list ++ map drafted l) (sym (drafts-from drafts i none low))
+          ∙ ap (λ (l : List Draft). list ++ map drafted l) (sym (drop-from drafts i none low))
           ∙ on.are;
       below = below-append n list (j ∷ []) on.below (subst (AreBelow n) ok.0 ok.1, tt);
     })
@@ -76,7 +72,7 @@ SettlesOn-more n list new drafts i none j low on e pushed =
 pub SettlesOn-stop : (n : ℕ) (list : List Instr) (drafts : List Draft) (i : ℕ) (none : Draft) (s : ℕ) → i < length drafts → SettlesOn n list drafts i → draft_settled n (drafted (get_or drafts i none)) ≡ Err s → StatesBelow n (map drafted drafts) → ⊥
 SettlesOn-stop n list drafts i none s low on e all =
     let rest = below-part n list (map drafted (drop i drafts)) (subst (StatesBelow n) (sym on.are) all) in
-    let here = subst (λ (l : List Draft). StatesBelow n (map drafted l)) (drafts-from drafts i none low) rest in
+    let here = subst (λ (l : List Draft). StatesBelow n (map drafted l)) (drop-from drafts i none low) rest in
     settled-err n (drafted (get_or drafts i none)) s e here.0
 
 pub length-drafted : (drafts : List Draft) → length (map drafted drafts) ≡ length drafts

@@ -15,10 +15,10 @@ use Rattle.match_save.proofs.RoundTrip.{In, IsOn, ant-there, each, living-all, m
 use Rattle.match_save.proofs.Verdicts.{one_draft}
 
 -- lists of one length each
-record AreAlike (soils : List Soil) (reds blacks foods : List ℕ) : Type 0 where
-  reds_full : length reds ≡ length soils
-  blacks_full : length blacks ≡ length soils
-  foods_full : length foods ≡ length soils
+pub record AreAlike (soils : List Soil) (reds blacks foods : List ℕ) : Type 0 where
+  pub reds_full : length reds ≡ length soils
+  pub blacks_full : length blacks ≡ length soils
+  pub foods_full : length foods ≡ length soils
 
 -- what the cells without ants say again
 record SayAgain (soils : List Soil) (reds blacks foods : List ℕ) : Type 0 where
@@ -60,12 +60,12 @@ on_all width height count [] full all = tt
 on_all width height count (it ∷ ants) full all =
     (record { column = all.0.column; cell = (let l = index_of-below width height it.place.x it.place.y all.0.column all.0.row in omega (arith, l, full)) }, on_all width height count ants full all.1)
 
-module _ (d : Draft) (ok : IsInForm d) (state : IsState d) where
-  alike : AreAlike d.soils d.red_marks d.black_marks d.foods
-  alike = record { reds_full = ok.red_marks ∙ sym ok.soils; blacks_full = ok.black_marks ∙ sym ok.soils; foods_full = ok.foods ∙ sym ok.soils }
+pub alike : (d : Draft) → IsInForm d → AreAlike d.soils d.red_marks d.black_marks d.foods
+alike d ok = record { reds_full = ok.red_marks ∙ sym ok.soils; blacks_full = ok.black_marks ∙ sym ok.soils; foods_full = ok.foods ∙ sym ok.soils }
 
+module _ (d : Draft) (ok : IsInForm d) (state : IsState d) where
   said : SayAgain d.soils d.red_marks d.black_marks d.foods
-  said = again d.soils d.red_marks d.black_marks d.foods alike
+  said = again d.soils d.red_marks d.black_marks d.foods (alike d ok)
 
   on : AllByRecursion (IsOn d.head.width (length (ground_cells d.soils d.red_marks d.black_marks d.foods))) d.ants
   on = on_all d.head.width d.head.height (length (ground_cells d.soils d.red_marks d.black_marks d.foods)) d.ants (said.full ∙ ok.soils) ok.ants

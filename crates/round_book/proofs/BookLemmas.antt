@@ -1,5 +1,6 @@
 -- What a look is worth in a book.
 use Rattle.std.proofs.Common.{◌≡◌, ◌≢◌, inl, inr, ⊎_elim, ℕ, suc, ◌+◌, ◌-◌, ◌<◌, ◌≤◌, false, List, [], ◌∷◌, ◌++◌, map, refl, sym, ◌∙◌, ap, subst, arith}
+use Rattle.spec_record.proofs.ClaimLemmas.{seen_positions-claims}
 use Rattle.std.specs.List.{AllByRecursion, Contains}
 use Rattle.std.proofs.lemmas.List.Elements.{Contains-append_right}
 use Rattle.list_lemmas.proofs.Elements.{Contains-cases, Contains-none}
@@ -68,13 +69,9 @@ own-turn minds seed w place t valid =
     sym (ap (λ (out : Outcome). record { world = with_cells w out.cells; place = place + one_if out.drew }) same)
 
 -- the positions of a look's writes are those of the turn's writes
-seen_positions-claims : (after : Cells) (claims : List Claim) → seen_positions (with_cells_at after claims) ≡ map (λ write. write.at) claims
-seen_positions-claims after [] = refl
-seen_positions-claims after (c ∷ claims) = ap (λ l. c.at ∷ l) (seen_positions-claims after claims)
-
 look-places : (minds : Minds) (seed : ℕ) (w : World) (place t : ℕ) → seen_positions (look_of minds seed w place t).writes ≡ map (λ write. write.at) (writes minds w t)
 unfolding look_of
-look-places minds seed w place t = seen_positions-claims (turn minds seed w place t).cells (writes minds w t)
+look-places minds seed w place t = sym (seen_positions-claims (turn minds seed w place t).cells (writes minds w t))
 
 -- a turn that ended as the look at it in the book's own world was executed anew
 pub IsRedone-ended : (minds : Minds) (found : Cause) (look : LookValue) (book new : BookValue) → Valid (world_of book.world) → look ≡ look_of minds book.seed (world_of book.world) book.place book.next →

@@ -1,5 +1,6 @@
 -- What a worker does with a ticket.
 use Rattle.std.proofs.Common.{◌≡◌, ◌≢◌, ℕ, suc, ◌+◌, ◌-◌, ◌<◌, ◌≤◌, Bool, true, false, cond, nat_eq, nat_le, nat_lt, List, [], ◌∷◌, ◌++◌, map, length, Some, sym, refl, ap, ap₂, ◌∙◌, subst, arith, length-append, lt_of_not-le, Option}
+use Rattle.std.proofs.lemmas.List.{length-map, map-append}
 use native.Mathlib.Decide.{dec_le}
 use Rattle.std.specs.List.{AllByRecursion}
 use Rattle.std.proofs.lemmas.Bool.{and_from, and_parts, false≢true, le-leb, le-ltb, leb-true, lt-ltb}
@@ -71,14 +72,6 @@ times-above : (t : ℕ) (xs : List ℕ) → AllByRecursion (λ k. k < t) xs → 
 times-above t [] all = refl
 times-above t (x ∷ xs) all = let l : x < t = all.0 in let not_it = other-none x t (λ e. omega arith) in let rest = times-above t xs all.1 in omega arith
 
-map-snoc : (f : ℕ → ℕ) (xs : List ℕ) (t : ℕ) → map f (xs ++ t ∷ []) ≡ map f xs ++ f t ∷ []
-map-snoc f [] t = refl
-map-snoc f (x ∷ xs) t = ap (λ (l : List ℕ). f x ∷ l) (map-snoc f xs t)
-
-map-length : (f : ℕ → ℕ) (xs : List ℕ) → length (map f xs) ≡ length xs
-map-length f [] = refl
-map-length f (x ∷ xs) = ap suc (map-length f xs)
-
 module _ (v : View) (made : List ℕ) (is : IsWorker v made) (t : ℕ) (above : AllByRecursion (λ k. k < t) v.drawn) where
   abbrev turns : ℕ
   turns = turns_in (window_about v.about)
@@ -86,7 +79,7 @@ module _ (v : View) (made : List ℕ) (is : IsWorker v made) (t : ℕ) (above : 
   -- what it put is no more than what it drew
   pub made-few : length made ≤ t
   made-few = let put_few = those_below-length turns v.drawn in let drawn_few = ascends-length 0 t v.drawn (omega arith) is.in_order above in
-      let a : length made ≡ length v.put = ap length is.made_them ∙ map-length (λ k. (window_about v.about).from + k) v.put in let b : length v.put ≡ length (those_below turns v.drawn) = ap length is.puts in omega arith
+      let a : length made ≡ length v.put = ap length is.made_them ∙ length-map v.put (λ k. (window_about v.about).from + k) in let b : length v.put ≡ length (those_below turns v.drawn) = ap length is.puts in omega arith
 
   -- it didn't put the look of a new ticket
   pub unput : times t v.put ≡ 0
@@ -120,7 +113,7 @@ module _ (v : View) (made : List ℕ) (is : IsWorker v made) (t : ℕ) (above : 
           alone = same.parts ∙ (is.alone ∙ ap (λ (k : ℕ). k ∷ []) (sym same.number));
           in_order = ap (ascends 0) same.drawn ∙ ascends-snoc 0 t v.drawn (omega arith) is.in_order above;
           puts = same.put ∙ (put ∙ ap₂ (λ (z : Option _) (l : List ℕ). those_below (turns_in (window_about z)) l) (sym same.about) (sym same.drawn));
-          made_them = ap (λ (l : List ℕ). l ++ (from + t) ∷ []) is.made_them ∙ (sym (map-snoc (λ k. from + k) v.put t) ∙ ap₂ (λ (z : Option _) (l : List ℕ). map (λ k. (window_about z).from + k) l) (sym same.about) (sym same.put));
+          made_them = ap (λ (l : List ℕ). l ++ (from + t) ∷ []) is.made_them ∙ (sym (map-append (λ k. from + k) v.put (t ∷ [])) ∙ ap₂ (λ (z : Option _) (l : List ℕ). map (λ k. (window_about z).from + k) l) (sym same.about) (sym same.put));
         }
 
     early-then : (a b : ℕ) → a < b → (xs : List ℕ) → AllByRecursion (λ k. k < a) xs → AllByRecursion (λ k. k < b) (xs ++ a ∷ [])

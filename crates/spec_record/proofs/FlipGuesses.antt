@@ -1,6 +1,5 @@
 -- Which ants flip, and the guesses that follow.
-use Rattle.std.proofs.Common.{◌≡◌, ℕ, zero, suc, refl, ◌+◌, ◌-◌, ◌≤◌, Bool, true, false, ◌∷◌, Some, None, sym, ap, ◌∙◌, add-one, arith}
-use mir.Val.{bool_byte}
+use Rattle.std.proofs.Common.{◌≡◌, ℕ, zero, suc, refl, ◌+◌, ◌-◌, ◌≤◌, false, ◌∷◌, Some, None, sym, ap, ◌∙◌, add-one, arith}
 use Rattle.hex_geometry.specs.declared.position.Pos.{Pos}
 use Rattle.cell_world.specs.declared.ant.Ant.{Ant}
 use Rattle.cell_world.specs.Cell.{one_if}
@@ -8,11 +7,6 @@ use Rattle.cell_world.specs.World.{World, place_in}
 use Rattle.ant_turn.specs.Minds.{Minds, mind_of}
 use Rattle.ant_turn.specs.Turn.{instruction_at}
 use Rattle.spec_record.specs.Guess.{ant_flips, flips, flips_among, flips_from, flips_now, guess, guesses_of, is_flip}
-
--- a truth as a number
-pub one_if-byte : (b : Bool) → bool_byte b ≡ one_if b
-one_if-byte true = refl
-one_if-byte false = refl
 
 -- nobody flips that has no place
 pub flips-dead : (minds : Minds) (w : World) (t : ℕ) → place_in w t ≡ None → flips minds w t ≡ false

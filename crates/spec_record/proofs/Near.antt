@@ -1,6 +1,6 @@
 -- The cells near one, marked as they are noted.
 use Rattle.std.proofs.Common.{◌≡◌, inl, inr, ⊎_elim, ℕ, ◌<◌, Bool, true, false, ◌||◌, List, [], ◌∷◌, ◌++◌, replicate, slice_index_or, slice_set, refl, sym, ◌∙◌, ap, subst, arith}
-use Rattle.std.proofs.Math.Bool.{or-false, or-true}
+use Rattle.std.proofs.Math.Bool.{or-false, or-true, or_assoc}
 use Rattle.std.specs.List.{AllByRecursion}
 use Rattle.std.proofs.lemmas.Bool.{cases_Bool, cases_eq, cond-false, cond-true, or_parts}
 use Rattle.std.proofs.lemmas.List.{get_or-replicate, get_or-set_other, get_or-set_same, length-replicate, length-set}
@@ -79,11 +79,7 @@ number_near-one q r s first second same =
 -- a position is in a list with one more where it is that one's, or was in it
 is_seen-more : (list : List Sighting) (new : Sighting) (p : Pos) → is_seen p (list ++ new ∷ []) ≡ (is_seen p list || same_pos (seen_place new) p)
 is_seen-more [] new p = or-false (same_pos (seen_place new) p)
-is_seen-more (old ∷ list) new p = ap (λ b. same_pos (seen_place old) p || b) (is_seen-more list new p) ∙ assoc (same_pos (seen_place old) p) (is_seen p list) (same_pos (seen_place new) p)
-  where
-    assoc : (x y z : Bool) → (x || (y || z)) ≡ ((x || y) || z)
-    assoc true y z = refl
-    assoc false y z = refl
+is_seen-more (old ∷ list) new p = ap (λ b. same_pos (seen_place old) p || b) (is_seen-more list new p) ∙ sym (or_assoc (same_pos (seen_place old) p) (is_seen p list) (same_pos (seen_place new) p))
 
 -- a position that isn't in the list comes last
 pub sighted-unseen : (list : List Sighting) (new : Sighting) → is_seen (seen_place new) list ≡ false → sighted list new ≡ list ++ new ∷ []

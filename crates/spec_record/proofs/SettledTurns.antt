@@ -10,7 +10,7 @@ use Rattle.cell_world.proofs.Patches.{patched-only}
 use Rattle.ant_turn.specs.Minds.{AreSound, Fits, Minds}
 use Rattle.ant_turn.specs.Turn.{Outcome, turn}
 use Rattle.ant_turn.proofs.KeptByTurns.{Keeps-turn}
-use Rattle.spec_record.specs.Claims.{Claim, EachOnce, Sighting, seen_place, seen_positions, with_cells_at}
+use Rattle.spec_record.specs.Claims.{Claim, EachOnce, Sighting, seen_place, with_cells_at}
 use Rattle.spec_record.specs.Holds.{Holds}
 use Rattle.spec_record.specs.Locality.{GoesOn}
 use Rattle.spec_record.specs.Look.{look_of}

@@ -6,7 +6,8 @@ use Rattle.std.proofs.lemmas.List.Sorted.{IsPermutation-append_comm}
 use Rattle.cell_world.specs.declared.score.Score.{Score}
 use Rattle.tournament.specs.declared.games.Pairing.{Pairing}
 use Rattle.tournament.specs.declared.standing.Line.{Line}
-use Rattle.tournament.specs.Names.{has_name, with_name}
+use Rattle.ant_base.specs.Names.{has_name}
+use Rattle.tournament.specs.Names.{with_name}
 use Rattle.tournament.specs.Games.{below, above, games_with, games_on, games_of, all_played}
 use Rattle.tournament.specs.Standing.{line_of, StandsAbove, IsStandingOf}
 use Rattle.tournament.specs.Text.{table_line_text, standing_text, IsCupText}

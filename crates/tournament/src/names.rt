@@ -1,6 +1,7 @@
 // The names of a cup's players.
 ghost use Rattle.std.specs.Prelude.{◌≡◌, ◌<◌, [], length, IfOk, OnOk, OnErr, if◌then◌else◌};
-ghost use Rattle.tournament.specs.Names.{has_name, with_name, name_of};
+ghost use Rattle.ant_base.specs.Names.{has_name};
+ghost use Rattle.tournament.specs.Names.{with_name, name_of};
 ghost use Rattle.tournament.specs.declared.names.Added.TheVariants.{New, Known};
 
 use hex_geometry::OutOfMemory;

@@ -1,5 +1,6 @@
 -- A draft without elements.
 use Rattle.cell_world.specs.Cell.{one_if}
+use Rattle.hex_geometry.proofs.Places.{inner_inside}
 use Rattle.cell_world.specs.Limits.{most_size}
 use Rattle.hex_geometry.proofs.Rim.{inner-off_rim, off_rim-inner}
 use Rattle.hex_geometry.proofs.RowLemmas.{index_of-inside, pos_at-index_of}
@@ -7,7 +8,7 @@ use Rattle.hex_geometry.specs.RowOrder.{index_of, pos_at}
 use Rattle.cell_world.specs.Opening.{IsFed, hill_count, is_hill, kind_at}
 use Rattle.cell_world.specs.declared.kind.Kind.{Kind}
 use Rattle.cell_world.specs.declared.kind.Kind.TheVariants as kind
-use Rattle.hex_geometry.specs.Position.{IsInner, IsInside, is_on_rim}
+use Rattle.hex_geometry.specs.Position.{IsInside, is_on_rim}
 use Rattle.hex_geometry.specs.declared.position.Pos.{Pos}
 use Rattle.list_lemmas.proofs.Elements.{Contains-none}
 use Rattle.std.proofs.Common.{◌≡◌, ℕ, zero, suc, ◌+◌, ◌*◌, ◌<◌, ◌≤◌, List, [], ◌∷◌, ◌++◌, length, get_or, true, false, refl, sym, ◌∙◌, ap, arith, inl, inr, add-one}
@@ -101,9 +102,6 @@ bare_kind_is : (width height : ℕ) (p : Pos) → IsInside width height p → ki
 bare_kind_is width height p inside =
     bare_kinds_at width height (width * height) (index_of width p) kind.Rock (index_of-inside width height p inside) ∙ ap (λ q. bare_kind (is_on_rim width height q)) (pos_at-index_of width p inside.column)
 
-inner_inside : (width height : ℕ) (p : Pos) → IsInner width height p → IsInside width height p
-inner_inside width height p inner = record { column = (let h = inner.to_right in omega arith); row = (let h = inner.to_bottom in omega arith) }
-
 -- the draft without elements keeps what a draft keeps
 pub bare_draft : (width height : ℕ) → width ≤ most_size → height ≤ most_size → IsDraft width height [] (bare_blocked width height (width * height)) (bare_kinds width height (width * height))
 bare_draft width height narrow low = record {
@@ -117,7 +115,7 @@ bare_draft width height narrow low = record {
   };
   shut = λ p other inside among touched free. Contains-none other among;
   free = λ p inner none.
-      let inside = inner_inside width height p inner in
+      let inside = inner_inside inner in
       open_from width height _ p inside (bare_blocked_is width height p inside ∙ inner-off_rim width height p inner);
   off_rim = λ other q among cell. absurd (Contains-none other among);
   painted = record {
@@ -128,7 +126,7 @@ bare_draft width height narrow low = record {
           | inr off ↦ absurd (outer (off_rim-inner width height p inside off))
         ];
     cell = λ p spot among cell. absurd (Contains-none spot among);
-    floor = λ p inner none. bare_kind_is width height p (inner_inside width height p inner) ∙ ap bare_kind (inner-off_rim width height p inner);
+    floor = λ p inner none. bare_kind_is width height p (inner_inside inner) ∙ ap bare_kind (inner-off_rim width height p inner);
   };
   fed = bare_kinds_fed width height (width * height);
 }

@@ -1,5 +1,6 @@
 use Rattle.std.proofs.Common.{◌≡◌, ℕ, suc, ◌+◌, ◌<◌, ◌≤◌, length, sym, ap, ◌∙◌, subst, arith, map, List, [], ◌∷◌, ◌++◌}
 use Rattle.std.specs.List.{AllByRecursion}
+use Rattle.std.proofs.lemmas.List.{length-map}
 use Rattle.ant_asm.specs.declared.body.Body.{Body}
 use Rattle.ant_asm.specs.declared.body.Item.{Item}
 use Rattle.ant_asm.specs.declared.expand.Expansion.{Expansion}
@@ -7,7 +8,7 @@ use Rattle.ant_asm.specs.Places.{places_of}
 use Rattle.ant_asm.specs.Program.{from_place, size_of}
 use Rattle.ant_asm.specs.Inner.Emission.{Numbers, emitted, number_first, number_target, offset}
 use Rattle.ant_asm.specs.Inner.Flat.{IsGoodAction, IsGoodItem, IsGoodLabel, numbers_of, tree_at, trees_of}
-use Rattle.ant_asm.proofs.FlatLemmas.{IsUnderway, at_item, body_end, item_good, item_short, item_start, item_tree, length-map-labels, of_body, same_numbers, start_inside, underway_do, underway_end, underway_use, use_fits, use_good, with_item}
+use Rattle.ant_asm.proofs.FlatLemmas.{IsUnderway, at_item, body_end, item_good, item_short, item_start, item_tree, of_body, same_numbers, start_inside, underway_do, underway_end, underway_use, use_fits, use_good, with_item}
 use Rattle.ant_asm.proofs.expand.+expand.Goals.{in-Do+in_ok-emit-in-Do, in-Use+in_ok-given-in-Use+in_ok-push-in-Use+in_ok-expand-in-Use}
 use Rattle.ant_asm.proofs.expand.+expand.Goals as goal
 
@@ -86,7 +87,7 @@ expand-requires t c =
           (omega arith),
           (
             (λ b there. ap length (c.as_slice-in-Use.ensures.value ∙ c.in_ok-given-in-Use.ensures ∙ ap (map (number_target (tree_at c.args.bodies.now c.args.number) (numbers_of c.args.frame) c.loop-place.place)) c.as_slice.ensures.value)
-                ∙ length-map-labels (number_target (tree_at c.args.bodies.now c.args.number) (numbers_of c.args.frame) c.loop-place.place) c.in-Use.handed.items ∙ good.2 b there),
+                ∙ length-map c.in-Use.handed.items (number_target (tree_at c.args.bodies.now c.args.number) (numbers_of c.args.frame) c.loop-place.place) ∙ good.2 b there),
             (omega arith),
           ),
         ),

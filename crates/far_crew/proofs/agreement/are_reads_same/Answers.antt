@@ -3,7 +3,7 @@ use Rattle.std.specs.Prelude.{◌↔◌}
 use Rattle.std.specs.List.{AllByRecursion}
 use Rattle.cell_world.specs.Grid.{Grid, world_of}
 use Rattle.spec_record.specs.Claims.{Sighting, seen_cell, seen_place}
-use Rattle.far_crew.proofs.AgreeingLemmas.{reads-test}
+use Rattle.far_crew.proofs.AgreementLemmas.{reads-test}
 use Rattle.far_crew.proofs.agreement.are_reads_same.Goals as goal
 
 pub returns : goal.returns

@@ -1,4 +1,4 @@
-use Rattle.std.proofs.Common.{ℕ, ◌+◌, ◌-◌, List, ◌++◌, sym, ap, ◌∙◌, arith}
+use Rattle.std.proofs.Common.{ℕ, ◌-◌, List, ◌++◌, sym, ap, ◌∙◌, arith}
 use Rattle.spec_record.specs.Guess.{guesses_of}
 use Rattle.round_book.specs.Book.{window_of}
 use Rattle.round_book.proofs.SoloLemmas.{guess_for-from}

@@ -1,5 +1,5 @@
 -- the workers so far have their shares, and the guess of the next turn is known
-use Rattle.std.proofs.Common.{◌≡◌, ◌-◌, ◌≤◌}
+use Rattle.std.proofs.Common.{◌≡◌, ◌≤◌}
 use Rattle.std.specs.Vec.{vec_len}
 use Rattle.round_book.specs.Book.{window_of}
 use Rattle.round_book.specs.Window.{guess_for}

@@ -4,8 +4,9 @@ use Rattle.cell_world.proofs.GridSums.{one_if-le_one}
 use Rattle.cell_world.specs.Grid.{world_of}
 use Rattle.cell_world.specs.Cell.{one_if}
 use Rattle.ant_turn.specs.Minds.{minds_of}
+use Rattle.cell_world.proofs.GridSums.{one_if-byte}
 use Rattle.spec_record.specs.Guess.{flips, guess}
-use Rattle.spec_record.proofs.FlipGuesses.{guess-first, guess-next, one_if-byte}
+use Rattle.spec_record.proofs.FlipGuesses.{guess-first, guess-next}
 use Rattle.spec_record.proofs.guess.guess_at.Goals as goal
 
 pub loop-id-init : goal.loop-id-init

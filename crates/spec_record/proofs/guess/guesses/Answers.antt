@@ -4,8 +4,9 @@ use Rattle.cell_world.proofs.GridSums.{one_if-le_one}
 use Rattle.cell_world.specs.Grid.{world_of}
 use Rattle.cell_world.specs.Cell.{one_if}
 use Rattle.ant_turn.specs.Minds.{minds_of}
+use Rattle.cell_world.proofs.GridSums.{one_if-byte}
 use Rattle.spec_record.specs.Guess.{flips, guess, guesses_of}
-use Rattle.spec_record.proofs.FlipGuesses.{guess-first, guess-next, guesses_of-next, one_if-byte}
+use Rattle.spec_record.proofs.FlipGuesses.{guess-first, guess-next, guesses_of-next}
 use Rattle.spec_record.proofs.guess.guesses.Goals as goal
 
 pub loop-id-init : goal.loop-id-init

@@ -1,5 +1,6 @@
 use Rattle.std.proofs.Common.{◌≡◌, drop}
-use Rattle.tournament.specs.Names.{has_name, texts_of}
+use Rattle.ant_base.specs.Names.{has_name}
+use Rattle.tournament.specs.Names.{texts_of}
 use Rattle.tournament.proofs.names.Names.has.Given as goal
 
 -- whether the name is among those that are left
