@@ -1,4 +1,4 @@
--- The promise on one page, to be read from the top down. Each run of the program ends with one of six statuses, and each status says what was
+-- The promise on one page, to be read from the top down. Each run of `run_to_exit` ends with one of six statuses, and each status says what was
 -- fetched, accepted and written (this project's own). `IsRunTo` is what the call that `main` makes ensures; the law `headline` says that all
 -- below follows from it.
 use Rattle.std.specs.Prelude.{◌≡◌, ◌⊎◌, ℕ, ◌+◌, List, [], ◌∷◌, Ok}

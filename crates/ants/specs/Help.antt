@@ -40,7 +40,7 @@ file_lines =
     +++ codes "  brain FILE\n"
     +++ codes "      checks a brain, and prints it with one instruction a line\n"
     +++ codes "  minimise FILE\n"
-    +++ codes "      prints the brain of fewest states that acts as this one\n"
+    +++ codes "      merges equivalent states of a brain, and keeps what state 0 leads to\n"
     +++ codes "  asm FILE\n"
     +++ codes "      prints the brain of a program with labels and blocks\n"
     +++ codes "  --help\n"

@@ -73,7 +73,7 @@ impl Layout for FileLines {
             "  brain FILE\n",
             "      checks a brain, and prints it with one instruction a line\n",
             "  minimise FILE\n",
-            "      prints the brain of fewest states that acts as this one\n",
+            "      merges equivalent states of a brain, and keeps what state 0 leads to\n",
             "  asm FILE\n",
             "      prints the brain of a program with labels and blocks\n",
             "  --help\n",
