@@ -26,10 +26,10 @@ LAST = (
 )
 ENDINGS = ("Endings", "Which files were fetched, how a run ended, what it reported, and its status. The first definitions are those that the clauses name.")
 
-READING = """**How to read it.** `ℕ` are the whole numbers from 0 on, and `a - b` is 0 where b is greater. `[]` is the empty list, `x ∷ xs` has x before xs, `++` joins lists;
+READING = """**How to read it.** `ℕ` are the whole numbers from 0 on, and `a - b` is 0 where b is greater. `[]` is the empty list, `x ∷ xs` has x before xs, `++` and `+++` join lists;
 `codes "text"` and `decimal n` are texts as lists of bytes, `slice_index_or list i x` is the element at i, or x where there is none. `zero` is 0 and `suc n` is n + 1;
 `record x { f = y }` is x with y for its field f; `==`, `nat_eq`, `nat_lt`, `nat_le`, `&&`, `||` are tests that compute, as in a program. `a ≡ b` says that they are
-equal, `¬` not, `×` and, `⊎` or; `⊥` never holds, `⊤` and `Unit` always do. `(x : A) → B` says that B holds for every x, `(x : A) × B` that it does for some x.
+equal, `≢` that they aren't, `¬` not, `↔` just where, `×` and, `⊎` or; `⊥` never holds, `⊤` and `Unit` always do. `(x : A) → B` says that B holds for every x, `(x : A) × B` that it does for some x.
 `IfSome`, `IfOk` and their like say something where there is such a value, `AllByRecursion` something of each element of a list, `AllZip` of each two of two lists;
 `prefix_len test list` is how many elements at its beginning pass a test, `suffix_len` how many at its end. `λ x. b` is the function that gives b at x. A `record` has all of its fields; where a
 field is a fact, it says so. A definition by several equations means the first that fits. `unfoldable` and `abbrev` tell the checker when to open a definition,
@@ -245,7 +245,7 @@ def page(spec):
     contest, game, run, whole = counts(spec)
     out.append(
         "Made from the tree by `.ci/make-documents`; not edited by hand. These are exactly the definitions that the clauses of\n%s reach,\n"
-        "and no other: whoever believes them, and the types of the code that they name, knows what the program does. Each stands with its\n"
+        "and the page of the headline, and no other: whoever believes them, and the types of the code that they name, knows what the program does. Each stands with its\n"
         "comment and a link to its file; nothing here is code or proof. A definition comes first, and what it names after it.\n" % links
     )
     out.append(
@@ -273,8 +273,8 @@ def page(spec):
         game, uncounted, words = spec.game_lines()
         out.append("## The headline\n")
         out.append(
-            "The law [%s](../%s): the promise on one page of %d lines. It follows from the clauses, which is checked; so whoever reads it can leave the chapter on\n"
-            "endings. What `%s` rests on are %s lines, or %s without the counts of `--stats`, which are `%s` and what it alone names; and `%s`, which says what the\n"
+            "The law [%s](../%s): the promise on one page of %d lines. It follows from the clauses, which is checked; so of the chapter on\n"
+            "endings only what it names has to be read. What `%s` rests on are %s lines, or %s without the counts of `--stats`, which are `%s` and what it alone names; and `%s`, which says what the\n"
             "words mean, %s more.\n"
             % (LAW, spec.headline.law.link, spec.headline.lines, GAME, number(game), number(uncounted), COUNTS, WORDS, number(words))
         )
