@@ -22,7 +22,7 @@ FIRST = (
 )
 LAST = (
     ("Words", ("IsCommand", "IsRefusedAt"), "Which words are a command, what they say, and which word is refused."),
-    ("What is wrong with a file", ("Refuses",), "The one fault of each text that is no world, no brain or no list of breaks."),
+    ("What is wrong with a file", ("Refuses",), "The one fault of each text that isn't of its file's kind."),
 )
 ENDINGS = ("Endings", "Which files were fetched, how a run ended, what it reported, and its status. The first definitions are those that the clauses name.")
 
