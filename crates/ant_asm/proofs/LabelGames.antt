@@ -1,6 +1,5 @@
 -- Games with an assembled brain, and with its labelled program.
 use Rattle.std.proofs.Common.{◌≡◌, ◌≢◌, ℕ, zero, suc, ◌+◌, Bool, true, List, [], ◌∷◌, Option, Some, None, refl, sym, ap, ap₂, ◌∙◌, subst}
-use Rattle.ant_asm.proofs.Brains.{some_places}
 use Rattle.std.specs.Prelude.{option_map, if◌then◌else◌}
 use Rattle.std.proofs.Math.Path.{fun_ext}
 use Rattle.std.proofs.lemmas.Bool.{cond_both}
@@ -35,6 +34,7 @@ use Rattle.ant_asm.specs.Places.{Address, Placed, beginning, placed, places}
 use Rattle.ant_asm.specs.LabelGame.{LabelMoment, address_acted, address_at, address_from, bare_instruction, instruction_by, label_outcome, label_rounds, label_start, label_taken, label_turn, label_turns, with_address}
 use Rattle.ant_asm.specs.Assembled.{IsAssembled, number_in}
 use Rattle.ant_asm.specs.Match.{label_game, numbered_ant, numbered_cell, numbered_moment}
+use Rattle.ant_asm.proofs.Brains.{some_places}
 use Rattle.ant_asm.proofs.Addresses.{HasPlace, beginning-number, beginning-place, target-place}
 use Rattle.ant_asm.proofs.NextStates.{OfAll, OfOthers, execute-of, leaves, state_taken}
 use Rattle.ant_asm.proofs.LabelTurns.{address_from-has, address_from-states, agrees_side, cond-one, mind_of-side, redirected-bare, same_colour-side, state_taken-by, turn-side, wiped, with_address-has, with_address-other, with_address-own, with_address-same}

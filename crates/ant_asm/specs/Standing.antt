@@ -1,7 +1,7 @@
 -- What stands above a line of a labelled program, and what the line adds (this project's own).
 use Rattle.std.specs.Prelude.{ℕ, suc, ◌+◌, Bool, false, not, ◌||◌, nat_lt, nat_le, ◌==◌, List, [], ◌∷◌, ◌++◌, length, map, min, Option, Some, None, is_none, is_some, unwrap_or, if◌then◌else◌, bytes_eq}
-use Rattle.ant_base.specs.Names.{has_name}
 use Rattle.std.specs.List.{list_any}
+use Rattle.ant_base.specs.Names.{has_name}
 use Rattle.brain_read.specs.Soundness.{most_states}
 use Rattle.ant_asm.specs.declared.action.Action.{Action}
 use Rattle.ant_asm.specs.declared.action.Action.TheVariants.{Sense, Mark, Unmark, PickUp, Drop, Turn, Move, Flip}

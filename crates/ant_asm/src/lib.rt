@@ -27,6 +27,3 @@ pub use assembly::{Assembled, assemble};
 pub use fault::AsmFault;
 pub use laws::{one_brain, one_program_or_one_fault, plays_labelled, scores_labelled};
 pub use places::{Address, Places};
-
-#[cfg(test)]
-mod tests;

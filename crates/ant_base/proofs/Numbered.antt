@@ -26,7 +26,7 @@ numbered-add f n (suc k) =
     let at : n + suc k ≡ (n + k) + 1 = omega arith in
     ap (numbered f) at ∙ numbered-more f (n + k) ∙ ap (λ t. t ++ f (n + k)) (numbered-add f n k) ∙ append_assoc (numbered f n) (parts_from f n k) (f (n + k))
 
--- the first parts are a front of all
+-- the first parts are a prefix of all
 pub numbered-front : (f : ℕ → List ℕ) (i n : ℕ) → i ≤ n → (rest : List ℕ) × (numbered f n ≡ numbered f i ++ rest)
 numbered-front f i n le =
     let at : n ≡ i + (n - i) = omega arith in

@@ -15,7 +15,7 @@ with_more-with_more (Some held) a b = ap Some (append_assoc held a b)
 pub rose_later : (before mid now : ℕ) → before ≤ mid → Rose mid now → Rose before now
 rose_later before mid now le rose = omega arith
 
--- a front of a text is a front of a longer one
+-- a prefix of a text is a prefix of a longer one
 pub front_more : (old new : SinkState) (a b : List ℕ) → PushedFront old new a → PushedFront old new (a ++ b)
 front_more old new a b p = record {
   front = p.front;
@@ -26,7 +26,7 @@ front_more old new a b p = record {
   later = p.later;
 }
 
--- one text, and then a front of another
+-- one text, and then a prefix of another
 pub front_then : (old mid new : SinkState) (a b : List ℕ) → PushedAll old mid a → PushedFront mid new b → PushedFront old new (a ++ b)
 front_then old mid new a b p q = record {
   front = a ++ q.front;
@@ -76,7 +76,7 @@ with_more-nothing (Some held) = ap Some (sym (append-nil held))
 pub all_of_nothing : (state : SinkState) → PushedAll state state []
 all_of_nothing state = record { held = with_more-nothing state.held; quiet = refl; flushed = λ ends. absurd (false≢true ends); kept = λ none waits. waits }
 
--- the first bytes of a text are a front of it
+-- the first bytes of a text are a prefix of it
 pub front_of_first : (old new : SinkState) (text : List ℕ) (n : ℕ) → new.held ≡ with_more old.held (take n text) → Rose old.faults new.faults → old.faults ≤ new.faults → PushedFront old new text
 front_of_first old new text n held rose later = record {
   front = take n text;

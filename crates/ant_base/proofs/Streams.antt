@@ -129,7 +129,7 @@ write_failed tells told (Ok zero) rest failed appends is = nothing_is_kept tells
 write_failed tells told (Ok (suc m)) rest failed appends is = absurd (cc)
 write_failed tells told (Err error) rest failed appends is = appends
 
--- a sink over a stream that took a piece, or a front of it, was pushed to
+-- a sink over a stream that took a piece, or a prefix of it, was pushed to
 pub pushed_by_taking : (old new : StreamState) (piece : List ℕ) (result : Result (Unit {0}) Failed) → old.faults ≤ 2 ^ 64 - 1 → Takes old.taken new.taken old.written new.written piece result → new.faults ≡ (if is_ok result then old.faults else one_more old.faults)
     → OnOk result (ends_in_lf piece ≡ true → new.waiting ≡ []) → (piece ≡ [] → old.waiting ≡ [] → new.waiting ≡ []) → Pushed (sink_of_stream old) (sink_of_stream new) piece result
 pushed_by_taking old new piece (Ok _) most takes count sent kept = record {

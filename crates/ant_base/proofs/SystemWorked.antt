@@ -30,7 +30,7 @@ counts_stay = refl
 dash_alone : dash ≡ codes "-"
 dash_alone = refl
 
--- want of memory is told from every other fault
+-- out of memory is told from every other fault
 faults_of_kinds : map fetch_fault_at (kind.NotFound ∷ kind.PermissionDenied ∷ kind.OutOfMemory ∷ kind.Interrupted ∷ []) ≡ fault.Failed ∷ fault.Failed ∷ fault.OutOfMemory ∷ fault.Failed ∷ []
 faults_of_kinds = refl
 

@@ -12,7 +12,7 @@ pub trait Layout {
     /// The text that is printed.
     ghost text: { Self → List ℕ };
 
-    /// Pushes the text. At `Failed` a front of it was appended, and the count of faults rose.
+    /// Pushes the text. At `Failed` a prefix of it was appended, and the count of faults rose.
     fn push_to<K: Sink>(&self, sink: &mut K) -> Result<(), Failed>
         ensures { Pushed (K.state sink.old) (K.state sink.new) (text self.now) result };
 }

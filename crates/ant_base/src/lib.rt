@@ -25,8 +25,6 @@ mod sink;
 mod stream_sink;
 mod system;
 mod system_log;
-#[cfg(test)]
-mod tests;
 mod writer;
 
 pub use calls::Calls;

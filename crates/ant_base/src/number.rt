@@ -41,7 +41,7 @@ pub fn read_number_within(text: &[u8], least: u64, most: u64) -> Option<u64>
     }
 }
 
-/// Pushes the decimal text of n, from 0 to 18,446,744,073,709,551,615, without leading zeros. At `Failed` a front of it was appended, and
+/// Pushes the decimal text of n, from 0 to 18,446,744,073,709,551,615, without leading zeros. At `Failed` a prefix of it was appended, and
 /// the count of faults rose.
 pub fn push_number<K: Sink>(sink: &mut K, n: u64) -> Result<(), Failed>
     ensures { Pushed (K.state sink.old) (K.state sink.new) (decimal n) result }

@@ -138,6 +138,3 @@ fn flush_line<W: Writer>(stream: &mut W, piece: &[u8]) -> Result<(), Failed>
         Err(_) => Err(Failed),
     }
 }
-
-#[cfg(test)]
-mod tests;

@@ -14,6 +14,3 @@ mod stream;
 
 pub use steps::Steps;
 pub use stream::Stream;
-
-#[cfg(test)]
-mod tests;

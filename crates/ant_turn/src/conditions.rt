@@ -9,9 +9,6 @@ use brain_read::Cond;
 use cell_world::{Cell, Colour, Ground, Marks};
 use hex_geometry::Pos;
 
-#[cfg(test)]
-mod tests;
-
 /// Whether the cell at `p`, which is inside, meets a condition for an ant of this colour (the task's phenomenology).
 ///
 /// A marker of 6 or above is never set. The ground's world and room stay.

@@ -15,9 +15,6 @@ use arrayvec::ArrayVec;
 use cell_world::{Ant, Cell, Ground};
 use hex_geometry::{Pos, neighbours};
 
-#[cfg(test)]
-mod tests;
-
 /// Whether an ant is at `p` and foes of it are on as many of the six neighbours as the sheet asks for, or more (the task's martial arts).
 ///
 /// The position is inside and not on the rim. The ground's world and room stay.

@@ -264,6 +264,3 @@ pub fn take_acting_turn<G: Ground>(
     let instruction = brains.of(ant.colour).at(ant.state);
     execute(ground, brains.sheet, stream, standing, instruction)
 }
-
-#[cfg(test)]
-mod tests;

@@ -56,7 +56,7 @@ pub record IsCrowded (command : PlainCommand) (before after : Outside) (fetches 
   pub lacks : LacksRoom command element
   pub unwritten : after.out ≡ before.out
 
--- memory could not be had before the text was begun; no fetch failed or was too long, each file but perhaps the last was accepted, and nothing was written
+-- memory could not be had before the text was begun; no fetch failed or was too long, each file that was fetched, but perhaps the last, was accepted, and nothing was written
 pub record IsUnbegun (command : PlainCommand) (before after : Outside) (fetches : List Fetched) : Type 0 where
   pub begun : AreBegun (files_of command) fetches
   pub unwritten : after.out ≡ before.out

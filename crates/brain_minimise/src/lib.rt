@@ -27,6 +27,3 @@ pub use laws::{
 pub use merge::{Minimised, minimise};
 pub use state_map::StateMap;
 pub use text::push_minimised;
-
-#[cfg(test)]
-mod tests;

@@ -20,8 +20,6 @@ mod line;
 pub mod positions;
 mod read;
 mod same;
-#[cfg(test)]
-mod tests;
 mod write;
 
 pub use brain::{Brain, MOST_STATES};

@@ -22,7 +22,7 @@ use Rattle.cell_world.specs.World.{Cells, World, area, place_in, sum_over, weigh
 use Rattle.cell_world.specs.Inner.CatchUp.{body_of}
 use Rattle.cell_world.specs.Inner.Index.{IsIndex}
 use Rattle.cell_world.specs.Inner.Stored.{ant_from, ant_named, cell_from, grid_from, no_body, occupant_id, stored_places, tile_of}
-use Rattle.cell_world.specs.Inner.TellingApart.{ToldApart, acts_by, with_resting}
+use Rattle.cell_world.specs.Inner.ToldApart.{ToldApart, acts_by, with_resting}
 use Rattle.cell_world.proofs.Places.{first_of-same, holds_id-own}
 use Rattle.cell_world.proofs.StoredLemmas.{ant-read}
 use Rattle.cell_world.proofs.ValidLemmas.{HasMarksOfSix-same}

@@ -5,4 +5,4 @@ pub mod Inside
 pub mod OpeningPlaces
 pub mod Replaces
 pub mod Stored
-pub mod TellingApart
+pub mod ToldApart

@@ -175,6 +175,3 @@ fn hill_cell(colour: Colour, id: u32) -> Cell
         ..floor()
     }
 }
-
-#[cfg(test)]
-mod tests;

@@ -18,8 +18,6 @@ mod catch_up;
 mod counts;
 mod ground;
 mod resting;
-#[cfg(test)]
-mod tests;
 
 /// A world (the task's geography, chemistry and biology).
 ///
@@ -52,7 +50,7 @@ impl Model for World {
 impl World {
     /// The world of these kinds at the start of a game (the task's geography and biology). The kinds stand in row order: row by row from
     /// the top, each row from the left. Width and height are from 3 to 512, there are width times height kinds, the rim is rock, at most
-    /// 16,384 kinds are hills and food is from 1 to 9. It is refused for want of memory alone.
+    /// 16,384 kinds are hills and food is from 1 to 9. The one refusal is out of memory.
     pub fn build(
         alloc: Global,
         width: u16,
@@ -94,7 +92,7 @@ impl World {
         })
     }
 
-    /// An equal world of its own. It is refused for want of memory alone.
+    /// An equal world of its own. The one refusal is out of memory.
     pub fn copy(&self, alloc: Global) -> Result<World, OutOfMemory>
         ensures { IfOk result (λ w. w ≡ self.now) }
     {

@@ -8,7 +8,7 @@ use crate::totals::Totals;
 use ant_base::{Failed, Layout, Sink, layout};
 use cell_world::{Score, World};
 
-/// Pushes the line of a seed, as `random seed: 12345`. Where the sink failed, a front of the line was pushed.
+/// Pushes the line of a seed, as `random seed: 12345`. Where the sink failed, a prefix of the line was pushed.
 #[tactic(auto, unfolding(crate::specs::Texts::seed_text))]
 pub fn push_seed<K: Sink>(seed: u32, sink: &mut K) -> Result<(), Failed>
     ensures { Pushed (K.state sink.old) (K.state sink.new) (seed_text seed) result }
@@ -16,7 +16,7 @@ pub fn push_seed<K: Sink>(seed: u32, sink: &mut K) -> Result<(), Failed>
     layout!("random seed: ", seed, "\n").push_to(sink)
 }
 
-/// Pushes a line for each cell, row by row from the top, each row from the left, as `cell (1, 1): red hill; `. Where the sink failed, a front of the lines was pushed.
+/// Pushes a line for each cell, row by row from the top, each row from the left, as `cell (1, 1): red hill; `. Where the sink failed, a prefix of the lines was pushed.
 pub fn push_cells<K: Sink>(world: &World, sink: &mut K) -> Result<(), Failed>
     ensures { Pushed (K.state sink.old) (K.state sink.new) (cells_text (world_of world.now)) result }
 {
@@ -24,7 +24,7 @@ pub fn push_cells<K: Sink>(world: &World, sink: &mut K) -> Result<(), Failed>
 }
 
 /// Pushes the dump of a world after a round, counted from 0 for the start: an empty line, `After round 0...` and the lines of the
-/// cells. Where the sink failed, a front of the dump was pushed.
+/// cells. Where the sink failed, a prefix of the dump was pushed.
 #[tactic(auto, unfolding(crate::specs::Texts::dump_text))]
 pub fn push_dump<K: Sink>(world: &World, round: u32, sink: &mut K) -> Result<(), Failed>
     ensures { Pushed (K.state sink.old) (K.state sink.new) (dump_text (world_of world.now) round) result }
@@ -41,7 +41,7 @@ pub fn push_score<K: Sink>(score: Score, sink: &mut K) -> Result<(), Failed>
     layout!("\nscore: red ", score.red, " black ", score.black, "\n").push_to(sink)
 }
 
-/// Pushes the line of a game's counts, as `turns 7 taken 5 redone 2`. Where the sink failed, a front of the line
+/// Pushes the line of a game's counts, as `turns 7 taken 5 redone 2`. Where the sink failed, a prefix of the line
 /// was pushed.
 #[tactic(auto, unfolding(crate::specs::Texts::stats_text))]
 pub fn push_stats<K: Sink>(totals: Totals, sink: &mut K) -> Result<(), Failed>

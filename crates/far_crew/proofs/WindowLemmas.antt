@@ -1,12 +1,12 @@
 -- The guesses and looks of a window's turns.
 use Rattle.std.proofs.Common.{◌≡◌, ℕ, ◌+◌, ◌-◌, ◌<◌, ◌≤◌, ◌^◌, length, slice_index_or, ap, sym, subst, ◌∙◌, List, arith}
+use Rattle.std.specs.List.{AllByRecursion}
 use Rattle.cell_world.specs.Grid.{Grid, world_of}
 use Rattle.ant_turn.specs.Minds.{Minds}
-use Rattle.std.specs.List.{AllByRecursion}
+use Rattle.spec_record.specs.Look.{LookValue, look_of}
 use Rattle.round_book.specs.Book.{CanBegin, FieldValue, window_of}
 use Rattle.round_book.specs.Window.{guess_for, guesses_for, look_for}
 use Rattle.round_book.proofs.GuessLemmas.{guesses_for-at, guesses_for-length, guesses_for-small}
-use Rattle.spec_record.specs.Look.{LookValue, look_of}
 use Rattle.far_crew.specs.declared.guesses.GuessedTurns.{GuessedTurns}
 use Rattle.far_crew.specs.Inner.Turns.{AreTurnsOf, CanLookAt}
 

@@ -28,7 +28,7 @@ bytes_judged = refl
 tokens_judged : map has_bad_byte ([] ∷ codes "ab~" ∷ (127 ∷ codes "ab") ∷ (codes "a" ++ 200 ∷ codes "b") ∷ (codes "ab" ++ 7 ∷ []) ∷ []) ≡ false ∷ false ∷ true ∷ true ∷ true ∷ []
 tokens_judged = refl
 
--- a word is found in any ASCII case, the first of two that are alike, and no front of it
+-- a word is found in any ASCII case, the first of two that are alike, and no prefix of it
 words_named : map (named (λ word. word) (codes "Left" ∷ codes "left" ∷ codes "Right" ∷ [])) (codes "LEFT" ∷ codes "right" ∷ codes "Righ" ∷ codes "" ∷ [])
     ≡ Some (codes "Left") ∷ Some (codes "Right") ∷ None ∷ None ∷ []
 words_named = refl

@@ -1,19 +1,20 @@
 -- Whether the lines of a save describe a state of a game.
+use Rattle.std.proofs.Common.{◌≡◌, ℕ, suc, ◌+◌, ◌*◌, ◌<◌, ◌≤◌, Bool, true, false, List, [], ◌∷◌, length, get_or, Option, Some, None, refl, sym, ◌∙◌, ap, subst, arith, sum}
 use native.Mathlib.Decide.{dec_le, dec_lt, map_dec, ℕ_discrete}
 use mathlib.Core.Bool.{Bool-discrete}
 use mathlib.Core.Logic.Dec
-use Rattle.std.proofs.Common.{◌≡◌, ℕ, suc, ◌+◌, ◌*◌, ◌<◌, ◌≤◌, Bool, true, false, List, [], ◌∷◌, length, get_or, Option, Some, None, refl, sym, ◌∙◌, ap, subst, arith, sum}
 use Rattle.std.specs.List.{AllByRecursion}
 use Rattle.std.proofs.lemmas.Nat.{mul-le}
-use Rattle.cell_world.proofs.GridSums.{one_if-le_one}
+use Rattle.std.proofs.lemmas.List.Sums.{sum_by-cons}
+use Rattle.hex_geometry.specs.RowOrder.{index_of}
 use Rattle.cell_world.specs.declared.ant.Ant.{Ant}
 use Rattle.cell_world.specs.declared.ant.PlacedAnt.{PlacedAnt}
 use Rattle.cell_world.specs.declared.cell.Cell.{Cell}
 use Rattle.cell_world.specs.Cell.{rock}
 use Rattle.cell_world.specs.Grid.{Grid, IsWorld, cell_in, world_of}
-use Rattle.hex_geometry.specs.RowOrder.{index_of}
 use Rattle.cell_world.specs.Limits.{most_ants, most_weight}
 use Rattle.cell_world.specs.World.{weight}
+use Rattle.cell_world.proofs.GridSums.{one_if-le_one}
 use Rattle.cell_world.proofs.GridLemmas.{cell_in-column}
 use Rattle.cell_world.proofs.Sets.{IsWorld-set}
 use Rattle.brain_read.specs.declared.instr.Instr.{Instr}
@@ -22,7 +23,6 @@ use Rattle.match_save.specs.declared.soil.Soil.{Soil}
 use Rattle.match_save.specs.Draft.{Draft, IdsRise, IsAnt, IsInForm}
 use Rattle.match_save.specs.State.{IsState, grid_of_draft, ground_cells, hill_count, program_of, turns_of}
 use Rattle.match_save.specs.Inner.Floor.{are_sound_cells, floor_of}
-use Rattle.std.proofs.lemmas.List.Sums.{sum_by-cons}
 use Rattle.match_save.specs.Inner.Made.{made_saved}
 use Rattle.match_save.specs.Saved.{saved_of}
 use Rattle.match_save.specs.Inner.State.{HasRest, HasWorld}

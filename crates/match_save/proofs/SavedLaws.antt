@@ -1,4 +1,4 @@
--- Every text is that of one save, or has one fault.
+-- Lines that describe a state of a game are those of one save.
 use Rattle.std.proofs.Common.{◌≡◌, ℕ, suc, ◌*◌, ◌<◌, List, [], ◌∷◌, length, map, refl, sym, ◌∙◌, ap, subst, inl, inr, arith}
 use Rattle.std.specs.List.{AllByRecursion}
 use Rattle.cell_world.specs.declared.ant.PlacedAnt.{PlacedAnt}

@@ -3,12 +3,10 @@ use Rattle.std.proofs.Common.{◌≡◌, ℕ, zero, suc, ◌+◌, ◌*◌, ◌%�
 use Rattle.std.proofs.lemmas.Grind.{flat_map-append}
 use Rattle.std.proofs.lemmas.List.{drop-drop, get_or-drop, get_or-take, length-drop, length-map, length-take-le}
 use Rattle.std.specs.List.{flat_map}
-use Rattle.ant_base.specs.Layout.{numbered}
-use Rattle.ant_base.proofs.Numbered.{numbered-list, numbered-none, numbered-same}
 use Rattle.std.proofs.lemmas.Bool.{lt-ltb}
 use Rattle.std.proofs.lemmas.Nat.{mod_below}
-use Rattle.brain_read.specs.Canonical.{brain_text}
-use Rattle.brain_read.specs.declared.instr.Instr.{Instr}
+use Rattle.ant_base.specs.Layout.{numbered}
+use Rattle.ant_base.proofs.Numbered.{numbered-list, numbered-none, numbered-same}
 use Rattle.hex_geometry.specs.RowOrder.{pos_at}
 use Rattle.hex_geometry.specs.declared.position.Pos.{Pos}
 use Rattle.hex_geometry.proofs.RowLemmas.{index_of-pos_at}
@@ -18,6 +16,8 @@ use Rattle.cell_world.specs.World.{place_in}
 use Rattle.cell_world.specs.declared.ant.Ant.{Ant}
 use Rattle.cell_world.specs.declared.ant.PlacedAnt.{PlacedAnt}
 use Rattle.cell_world.specs.declared.cell.Cell.{Cell}
+use Rattle.brain_read.specs.Canonical.{brain_text}
+use Rattle.brain_read.specs.declared.instr.Instr.{Instr}
 use Rattle.ant_turn.specs.Minds.{Minds}
 use Rattle.match_save.specs.declared.head.Head.{Head}
 use Rattle.match_save.specs.Draft.{Draft}

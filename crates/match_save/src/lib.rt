@@ -21,8 +21,6 @@ mod save_lines;
 mod saved;
 mod saves;
 mod soil;
-#[cfg(test)]
-mod tests;
 mod write;
 
 pub use fault::SaveFault;

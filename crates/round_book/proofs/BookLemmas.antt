@@ -1,6 +1,5 @@
 -- What a look is worth in a book.
 use Rattle.std.proofs.Common.{◌≡◌, ◌≢◌, inl, inr, ⊎_elim, ℕ, suc, ◌+◌, ◌-◌, ◌<◌, ◌≤◌, false, List, [], ◌∷◌, ◌++◌, map, refl, sym, ◌∙◌, ap, subst, arith}
-use Rattle.spec_record.proofs.ClaimLemmas.{seen_positions-claims}
 use Rattle.std.specs.List.{AllByRecursion, Contains}
 use Rattle.std.proofs.lemmas.List.Elements.{Contains-append_right}
 use Rattle.list_lemmas.proofs.Elements.{Contains-cases, Contains-none}
@@ -21,6 +20,7 @@ use Rattle.spec_record.specs.Locality.{GoesOn, outcome_by}
 use Rattle.spec_record.specs.Look.{LookValue, look_of}
 use Rattle.spec_record.specs.Reads.{reads}
 use Rattle.spec_record.specs.Writes.{writes}
+use Rattle.spec_record.proofs.ClaimLemmas.{seen_positions-claims}
 use Rattle.spec_record.proofs.Flips.{LookHolds-Holds, look-drew}
 use Rattle.spec_record.proofs.Patched.{turn-patched}
 use Rattle.spec_record.proofs.SettledWrites.{Makes}

@@ -20,7 +20,7 @@ const ALONE: u32 = 0;
 /// Plays the turns of the ids from `from` up to, and not including, `to` on the caller's thread, which calls the gate as worker 0 before
 /// each look that it makes. The field is whole, `from` is at most `to`, `to` at most the number of ids, and the place with the number of
 /// turns is below 2^63. The field is whole afterwards, its world and place are those to which the turns lead in order, and the answer counts
-/// the looks that were taken and the turns that were executed anew. It is refused for want of memory alone; the field is as before then.
+/// the looks that were taken and the turns that were executed anew. The one refusal is out of memory; the field is as before then.
 pub fn play_window<G: Gate>(
     gate: &G,
     alloc: Global,

@@ -24,7 +24,7 @@ pub trait Crew {
     /// Plays the turns of the ids from `from` up to, and not including, `to`. The field is whole, `from` is at most `to`, `to` at most the
     /// number of ids, and the place with the number of turns is below 2^63. The field is whole afterwards, its world and place are those to
     /// which the turns lead in order, and the answer counts the looks that were taken and the turns that were executed anew. It is refused
-    /// for want of memory alone; the field and the count of turns are as before then.
+    /// where it runs out of memory alone; the field and the count of turns are as before then.
     fn window(
         &mut self,
         alloc: Global,

@@ -118,7 +118,7 @@ impl<'b> Field<'b> {
 
     /// Begins the window of the turns of the ids from `from` up to, and not including, `to`: the field is lent for them, and the book stands
     /// on it, with no turn settled yet. The field is whole, `from` is at most `to`, `to` at most the number of ids, and the place with the number
-    /// of turns is below 2^63. It is refused for want of memory alone; the field is whole and as before then. No call on the book takes
+    /// of turns is below 2^63. The one refusal is out of memory; the field is whole and as before then. No call on the book takes
     /// memory: there is room for the positions that the turns write, seven each and no more than the world has cells.
     #[inline(always)]
     pub fn begin(&mut self, _alloc: Global, from: u32, to: u32) -> Result<Book, OutOfMemory>

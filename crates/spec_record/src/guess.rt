@@ -33,7 +33,7 @@ pub fn at_flip(base: &World, brains: Brains<'_>, id: u32) -> bool
 /// would in the base.
 ///
 /// Each ant's state is below the length of its colour's brain, `from` is at most `to`, `to` at most the number of ids, and place + to -
-/// from is below 2^63. It is refused for want of memory alone.
+/// from is below 2^63. The one refusal is out of memory.
 pub fn guesses(
     alloc: Global,
     base: &World,

@@ -30,6 +30,3 @@ pub use play::play_all;
 pub use referee::Referee;
 pub use standing::{Line, Standing};
 pub use text::push_standing;
-
-#[cfg(test)]
-mod tests;

@@ -2,7 +2,7 @@
 use Rattle.std.proofs.Common.{◌≡◌, true, false, [], ◌∷◌, map, Some, None, codes, refl}
 use Rattle.word_table.specs.Words.{are_distinct, word_place}
 
--- a word is found in another case; a front of a word and a longer text are no word
+-- a word is found in another case; a prefix of a word and a longer text are no word
 pub places_of_sides : map (word_place (codes "Left" ∷ codes "Right" ∷ [])) (codes "left" ∷ codes "rIGHT" ∷ codes "Righ" ∷ codes "Lefty" ∷ [])
     ≡ Some 0 ∷ Some 1 ∷ None ∷ None ∷ []
 places_of_sides = refl

@@ -1,16 +1,4 @@
 -- A draft without elements.
-use Rattle.cell_world.specs.Cell.{one_if}
-use Rattle.hex_geometry.proofs.Places.{inner_inside}
-use Rattle.cell_world.specs.Limits.{most_size}
-use Rattle.hex_geometry.proofs.Rim.{inner-off_rim, off_rim-inner}
-use Rattle.hex_geometry.proofs.RowLemmas.{index_of-inside, pos_at-index_of}
-use Rattle.hex_geometry.specs.RowOrder.{index_of, pos_at}
-use Rattle.cell_world.specs.Opening.{IsFed, hill_count, is_hill, kind_at}
-use Rattle.cell_world.specs.declared.kind.Kind.{Kind}
-use Rattle.cell_world.specs.declared.kind.Kind.TheVariants as kind
-use Rattle.hex_geometry.specs.Position.{IsInside, is_on_rim}
-use Rattle.hex_geometry.specs.declared.position.Pos.{Pos}
-use Rattle.list_lemmas.proofs.Elements.{Contains-none}
 use Rattle.std.proofs.Common.{◌≡◌, ℕ, zero, suc, ◌+◌, ◌*◌, ◌<◌, ◌≤◌, List, [], ◌∷◌, ◌++◌, length, get_or, true, false, refl, sym, ◌∙◌, ap, arith, inl, inr, add-one}
 use Rattle.std.proofs.lemmas.Bool.{and_from, and_parts, cases_Bool, cases_lt, lt-ltb, ltb-true, not-true}
 use Rattle.std.proofs.lemmas.List.{get_or_push, length_push}
@@ -18,6 +6,18 @@ use Rattle.std.proofs.Math.ListN.{get_or-append}
 use Rattle.std.proofs.lemmas.List.Elements.{All-push}
 use Rattle.std.specs.List.{All}
 use Rattle.std.specs.Prelude.{Bool, not}
+use Rattle.list_lemmas.proofs.Elements.{Contains-none}
+use Rattle.hex_geometry.specs.RowOrder.{index_of, pos_at}
+use Rattle.hex_geometry.specs.Position.{IsInside, is_on_rim}
+use Rattle.hex_geometry.specs.declared.position.Pos.{Pos}
+use Rattle.hex_geometry.proofs.Places.{inner_inside}
+use Rattle.hex_geometry.proofs.Rim.{inner-off_rim, off_rim-inner}
+use Rattle.hex_geometry.proofs.RowLemmas.{index_of-inside, pos_at-index_of}
+use Rattle.cell_world.specs.Cell.{one_if}
+use Rattle.cell_world.specs.Limits.{most_size}
+use Rattle.cell_world.specs.Opening.{IsFed, hill_count, is_hill, kind_at}
+use Rattle.cell_world.specs.declared.kind.Kind.{Kind}
+use Rattle.cell_world.specs.declared.kind.Kind.TheVariants as kind
 use Rattle.world_gen.specs.Inner.Open.{is_unblocked}
 use Rattle.world_gen.specs.Inner.Drafts.{IsDraft, bare_blocked, bare_kind, bare_kinds}
 

@@ -1,32 +1,24 @@
 -- Each seed and shape has a world, or an element without room: the elements are placed one after another, and their cells painted.
-use Rattle.cell_world.specs.Cell.{one_if}
-use Rattle.cell_world.specs.Grid.{Grid}
-use Rattle.cell_world.specs.Opening.{is_hill, is_rock, opening}
-use Rattle.cell_world.specs.declared.ant.Colour.{Colour}
-use Rattle.cell_world.specs.declared.ant.Colour.TheVariants.{Red, Black}
-use Rattle.cell_world.specs.declared.kind.Kind.{Kind}
-use Rattle.hex_geometry.proofs.BallRows.{rows_list}
-use Rattle.hex_geometry.proofs.BallSizes.{rows_size}
-use Rattle.hex_geometry.proofs.Beside.{adjacent_pos_inside}
-use Rattle.hex_geometry.proofs.Places.{inner_inside}
+use Rattle.std.proofs.Common.{◌≡◌, ◌⊎◌, inl, inr, ℕ, zero, suc, ◌+◌, ◌*◌, ◌<◌, ◌≤◌, Bool, true, List, [], ◌∷◌, ◌++◌, length, set, refl, sym, ◌∙◌, ap, subst, append_assoc, append-nil, arith}
+use Rattle.std.proofs.lemmas.Bool.{false≢true}
+use Rattle.std.proofs.lemmas.List.Elements.{All-contains_itself, All-head, All-tail, All-weaker}
+use Rattle.std.specs.Prelude.{All, Contains}
 use Rattle.hex_geometry.specs.Direction.{dir_of}
 use Rattle.hex_geometry.specs.Inner.BallRows.{rows}
 use Rattle.hex_geometry.specs.Neighbourhood.{adjacent_pos}
 use Rattle.hex_geometry.specs.Position.{IsInner, point_of}
 use Rattle.hex_geometry.specs.RowOrder.{index_of}
 use Rattle.hex_geometry.specs.declared.position.Pos.{Pos}
-use Rattle.std.proofs.Common.{◌≡◌, ◌⊎◌, inl, inr, ℕ, zero, suc, ◌+◌, ◌*◌, ◌<◌, ◌≤◌, Bool, true, List, [], ◌∷◌, ◌++◌, length, set, refl, sym, ◌∙◌, ap, subst, append_assoc, append-nil, arith}
-use Rattle.std.proofs.lemmas.Bool.{false≢true}
-use Rattle.std.proofs.lemmas.List.Elements.{All-contains_itself, All-head, All-tail, All-weaker}
-use Rattle.std.specs.Prelude.{All, Contains}
-use Rattle.world_gen.proofs.Balls.{ball_has}
-use Rattle.world_gen.proofs.Bares.{bare_blocked_length}
-use Rattle.world_gen.proofs.Follows.{goes_as, goes_fits}
-use Rattle.world_gen.proofs.HasPlacings.{AllPlaced, IsListed, goes_or_barred, inner_placed, listed_by, dec_ball, dec_fits, dec_inner}
-use Rattle.world_gen.proofs.Lines.{lines_each, lines_every}
-use Rattle.world_gen.proofs.Makings.{begun_more, begun_none, begun_whole}
-use Rattle.world_gen.proofs.Stamps.{round_all, round_first, round_more, stamped_more, stamped_none}
-use Rattle.world_gen.proofs.Steps.{fits_open, open_fits, point_one}
+use Rattle.hex_geometry.proofs.BallRows.{rows_list}
+use Rattle.hex_geometry.proofs.BallSizes.{rows_size}
+use Rattle.hex_geometry.proofs.Beside.{adjacent_pos_inside}
+use Rattle.hex_geometry.proofs.Places.{inner_inside}
+use Rattle.cell_world.specs.Cell.{one_if}
+use Rattle.cell_world.specs.Grid.{Grid}
+use Rattle.cell_world.specs.Opening.{is_hill, is_rock, opening}
+use Rattle.cell_world.specs.declared.ant.Colour.{Colour}
+use Rattle.cell_world.specs.declared.ant.Colour.TheVariants.{Red, Black}
+use Rattle.cell_world.specs.declared.kind.Kind.{Kind}
 use Rattle.world_gen.specs.Elements.{count_of, element_of}
 use Rattle.world_gen.specs.Existence.{HasOutcome}
 use Rattle.world_gen.specs.FreeSpots.{IsFreeSpot}
@@ -40,6 +32,14 @@ use Rattle.world_gen.specs.declared.shape.Shape.{Shape}
 use Rattle.world_gen.specs.declared.spot.Figure.{Figure}
 use Rattle.world_gen.specs.declared.spot.Figure.TheVariants.{Hill, Rock, Blob}
 use Rattle.world_gen.specs.declared.spot.Spot.{Spot}
+use Rattle.world_gen.proofs.Balls.{ball_has}
+use Rattle.world_gen.proofs.Bares.{bare_blocked_length}
+use Rattle.world_gen.proofs.Follows.{goes_as, goes_fits}
+use Rattle.world_gen.proofs.HasPlacings.{AllPlaced, IsListed, goes_or_barred, inner_placed, listed_by, dec_ball, dec_fits, dec_inner}
+use Rattle.world_gen.proofs.Lines.{lines_each, lines_every}
+use Rattle.world_gen.proofs.Makings.{begun_more, begun_none, begun_whole}
+use Rattle.world_gen.proofs.Stamps.{round_all, round_first, round_more, stamped_more, stamped_none}
+use Rattle.world_gen.proofs.Steps.{fits_open, open_fits, point_one}
 
 -- a list with the entries of a position and its neighbours set
 record RoundSet (width height : ℕ) (p : Pos) (n : ℕ) (xs : List Bool) : Type 0 where

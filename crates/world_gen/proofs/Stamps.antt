@@ -1,15 +1,4 @@
 -- Cells stamped one after another.
-use Rattle.cell_world.specs.Cell.{one_if}
-use Rattle.hex_geometry.specs.RowOrder.{index_of}
-use Rattle.cell_world.specs.Opening.{IsFed, hill_count, is_hill}
-use Rattle.cell_world.specs.declared.kind.Kind.{Kind}
-use Rattle.hex_geometry.proofs.Beside.{neighbours_of_contains, neighbours_of_only}
-use Rattle.hex_geometry.proofs.Turns.{dir_of_number_of, number_of_below}
-use Rattle.hex_geometry.specs.Direction.{dir_of, number_of}
-use Rattle.hex_geometry.specs.Neighbourhood.{adjacent_pos, neighbours_of}
-use Rattle.hex_geometry.specs.Position.{IsInside}
-use Rattle.hex_geometry.specs.declared.position.Pos.{Pos}
-use Rattle.list_lemmas.proofs.Elements.{Contains-none}
 use Rattle.std.proofs.Common.{◌≡◌, ℕ, zero, suc, ◌+◌, ◌*◌, ◌<◌, ◌≤◌, List, [], ◌∷◌, ◌++◌, length, take, get_or, true, sym, ◌∙◌, ap, arith, subst, inl, inr}
 use Rattle.std.proofs.Math.ListN.{length-set, set}
 use Rattle.std.proofs.Math.Seq.{take-append_seam}
@@ -17,9 +6,20 @@ use Rattle.std.proofs.lemmas.Bool.{cases_lt}
 use Rattle.std.proofs.lemmas.List.{length_push, take_more}
 use Rattle.std.proofs.lemmas.List.Elements.{All-set, Contains-append_left, Contains-push, Contains-push_cases}
 use Rattle.std.specs.Prelude.{Bool, Contains, ◌⊎◌}
-use Rattle.world_gen.proofs.SetLists.{sets_as, sets_both, sets_none, sets_one}
+use Rattle.list_lemmas.proofs.Elements.{Contains-none}
+use Rattle.hex_geometry.specs.RowOrder.{index_of}
+use Rattle.hex_geometry.specs.Direction.{dir_of, number_of}
+use Rattle.hex_geometry.specs.Neighbourhood.{adjacent_pos, neighbours_of}
+use Rattle.hex_geometry.specs.Position.{IsInside}
+use Rattle.hex_geometry.specs.declared.position.Pos.{Pos}
+use Rattle.hex_geometry.proofs.Beside.{neighbours_of_contains, neighbours_of_only}
+use Rattle.hex_geometry.proofs.Turns.{dir_of_number_of, number_of_below}
+use Rattle.cell_world.specs.Cell.{one_if}
+use Rattle.cell_world.specs.Opening.{IsFed, hill_count, is_hill}
+use Rattle.cell_world.specs.declared.kind.Kind.{Kind}
 use Rattle.world_gen.specs.Inner.Sets.{IsRound, IsRoundAny, IsRoundBelow, SetsWhere}
 use Rattle.world_gen.specs.Inner.Drafts.{IsStamped}
+use Rattle.world_gen.proofs.SetLists.{sets_as, sets_both, sets_none, sets_one}
 
 -- the cell alone is blocked
 pub round_first : (width height : ℕ) (p : Pos) (xs : List Bool) → length xs ≡ width * height → IsInside width height p → SetsWhere width height true (IsRoundBelow p 0) xs (set xs (index_of width p) true)

@@ -26,6 +26,3 @@ pub use generator::{GenFault, generate};
 pub use hex_geometry::OutOfMemory;
 pub use laws::{elements_lie_apart, placing_is_one};
 pub use shape::Shape;
-
-#[cfg(test)]
-mod tests;

@@ -12,6 +12,6 @@ pub mod VerdictLemmas
 -- The world as a text again.
 pub mod OpenedLemmas
 pub mod CanonicalLemmas
-pub mod LeavingLemmas
+pub mod ReadsAsLemmas
 -- Worked values.
 pub mod Worked

@@ -15,8 +15,6 @@ mod read;
 mod row;
 mod rows;
 mod size;
-#[cfg(test)]
-mod tests;
 mod write;
 
 pub use fault::WorldFault;

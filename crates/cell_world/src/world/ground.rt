@@ -71,6 +71,3 @@ fn note_change(bodies: &mut [Body], p: Pos, before: Option<u16>, after: Option<A
         bodies[ant.id as usize] = Body::at(p, ant);
     }
 }
-
-#[cfg(test)]
-mod tests;

@@ -3,7 +3,7 @@ ghost use Rattle.std.specs.Prelude.{◌≡◌, ◌+◌, ◌-◌, ◌≤◌, leng
 ghost use Rattle.cell_world.specs.Grid.{IsWorld, world_of};
 ghost use Rattle.cell_world.specs.Limits.{most_ants};
 ghost use Rattle.cell_world.specs.Resting.{ActsListed, rested};
-ghost use Rattle.cell_world.specs.Inner.TellingApart.{ToldApart, with_resting};
+ghost use Rattle.cell_world.specs.Inner.ToldApart.{ToldApart, with_resting};
 
 use crate::body::Body;
 use crate::world::World;

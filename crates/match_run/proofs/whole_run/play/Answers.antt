@@ -1,13 +1,13 @@
 use Rattle.std.proofs.Common.{◌≡◌, ◌-◌, List, ℕ, ap, ◌∙◌, subst}
 use Rattle.std.proofs.lemmas.Result.{err_from_is_err_and}
-use Rattle.ant_base.proofs.Pushes.{front_more, front_then}
-use Rattle.ant_turn.specs.Minds.{minds_of}
-use Rattle.ant_turn.specs.Rounds.{after_rounds}
-use Rattle.ant_base.specs.Sink.{PushedAll, PushedFront}
 use Rattle.std.specs.Prelude.{IfOk}
+use Rattle.ant_base.specs.Sink.{PushedAll, PushedFront}
+use Rattle.ant_base.proofs.Pushes.{front_more, front_then}
 use Rattle.cell_world.specs.Score.{score_of}
 use Rattle.cell_world.specs.declared.score.Score.{Score}
 use Rattle.cell_world.specs.Grid.{world_of}
+use Rattle.ant_turn.specs.Minds.{minds_of}
+use Rattle.ant_turn.specs.Rounds.{after_rounds}
 use Rattle.match_run.specs.Dumps.{chooses}
 use Rattle.match_run.specs.Game.{GameValue, now_of}
 use Rattle.match_run.specs.Play.{PushedBy}

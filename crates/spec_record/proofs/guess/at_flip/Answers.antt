@@ -1,10 +1,10 @@
 -- a dead ant, one that rests and one that acts
 use Rattle.std.proofs.Common.{◌≡◌, ◌≢◌, ◌≤◌, sym, ◌∙◌, ap, arith}
+use Rattle.std.proofs.lemmas.Bool.{eqb-false, eqb-true}
 use Rattle.cell_world.specs.Grid.{world_of}
 use Rattle.cell_world.specs.declared.cell.Cell.{Cell}
 use Rattle.cell_world.proofs.Places.{place_in-inside}
 use Rattle.ant_turn.specs.Minds.{minds_of}
-use Rattle.std.proofs.lemmas.Bool.{eqb-false, eqb-true}
 use Rattle.spec_record.specs.Guess.{ant_flips, is_flip}
 use Rattle.spec_record.proofs.FlipGuesses.{flips-dead, flips-at, flips_now-ready, flips_now-rests}
 use Rattle.spec_record.proofs.guess.at_flip.Goals as goal

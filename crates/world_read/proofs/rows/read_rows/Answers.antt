@@ -1,7 +1,7 @@
 use Rattle.std.proofs.Common.{◌+◌, ◌-◌, Ok, ◌∙◌, ap, arith}
 use Rattle.std.proofs.lemmas.Result.{err_from_is_err_and}
 use Rattle.world_read.specs.Inner.Reading.{rows_from, with_row}
-use Rattle.world_read.proofs.LeavingLemmas.{ReadsAs-part}
+use Rattle.world_read.proofs.ReadsAsLemmas.{ReadsAs-part}
 use Rattle.world_read.proofs.RowReads.{rows_from-more, rows_from-missing}
 use Rattle.world_read.proofs.rows.read_rows.Goals as goal
 

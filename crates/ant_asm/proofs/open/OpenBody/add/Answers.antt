@@ -1,6 +1,6 @@
 use Rattle.std.proofs.Common.{◌≡◌, ◌+◌, suc, List, length, refl, sym, ap, ◌∙◌, subst, arith, add-one}
-use Rattle.ant_asm.specs.declared.open.OpenItem.{OpenItem}
 use Rattle.std.proofs.lemmas.List.{length_push}
+use Rattle.ant_asm.specs.declared.open.OpenItem.{OpenItem}
 use Rattle.ant_asm.specs.Inner.View.{AreGoodItems}
 use Rattle.ant_asm.proofs.OpenLemmas.{good-append, label-more}
 use Rattle.ant_asm.proofs.open.OpenBody.add.Goals as goal

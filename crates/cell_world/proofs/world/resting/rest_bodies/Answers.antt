@@ -6,7 +6,7 @@ use Rattle.cell_world.specs.declared.body.Body.{Body}
 use Rattle.cell_world.specs.Cell.{one_if}
 use Rattle.cell_world.specs.Inner.CatchUp.{body_of}
 use Rattle.cell_world.specs.Inner.Stored.{no_body}
-use Rattle.cell_world.specs.Inner.TellingApart.{ToldApart, with_resting}
+use Rattle.cell_world.specs.Inner.ToldApart.{ToldApart, with_resting}
 use Rattle.cell_world.proofs.GridSums.{one_if-byte, one_if-le_one}
 use Rattle.cell_world.proofs.RestingLemmas.{ToldApart-more, ToldApart-none}
 use Rattle.cell_world.proofs.world.resting.rest_bodies.Goals as goal

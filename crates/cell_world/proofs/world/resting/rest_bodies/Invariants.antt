@@ -1,6 +1,6 @@
 -- the ids so far were told apart
 use Rattle.std.proofs.Common.{◌≡◌, ◌-◌, ◌≤◌, length, take}
-use Rattle.cell_world.specs.Inner.TellingApart.{ToldApart}
+use Rattle.cell_world.specs.Inner.ToldApart.{ToldApart}
 use Rattle.cell_world.proofs.world.resting.rest_bodies.Given as goal
 
 abbrev pub invariant-loop-id : goal.invariant-loop-id

@@ -1,0 +1,205 @@
+// What no clause says: that cups succeed, their exact text, and that games are played side by side.
+ghost use Rattle.std.specs.Prelude.{ℕ};
+
+use ant_base::{Calls, MemSink};
+use cell_world::Score;
+use hex_geometry::OutOfMemory;
+use std::alloc::Global;
+use std::hint::spin_loop;
+use std::process::Abort;
+use std::sync::atomic::{AtomicBool, Ordering};
+use std::test::Fail;
+use std::thread::Threads;
+use tournament::{Added, Names, Referee, play_all, push_standing};
+
+// More bytes than any text of these tests has.
+const ROOM: u64 = 2000;
+
+// Turns after which a game that waits for another one gives up.
+const PATIENCE: u32 = 100000000;
+
+// Player 1 as red wins 3 to 0; with player 0 as red no side gets food.
+struct OneWin;
+
+impl Referee for OneWin {
+    ghost use Rattle.std.specs.Prelude.{◌==◌, if◌then◌else◌};
+
+    ghost score = { λ _ _ red _. if red == 1 then record { red = 3; black = 0 } else record { red = 0; black = 0 } };
+
+    fn game(&self, _: Global, _: u32, red: u32, _: u32) -> Result<Score, OutOfMemory> {
+        if red == 1 {
+            return Ok(Score { red: 3, black: 0 });
+        }
+        Ok(Score { red: 0, black: 0 })
+    }
+}
+
+// Player 0 loses every game by one particle; all others draw.
+struct OneLoser;
+
+impl Referee for OneLoser {
+    ghost use Rattle.std.specs.Prelude.{◌==◌, if◌then◌else◌};
+
+    ghost score = { λ _ _ red black. if red == 0 then record { red = 0; black = 1 } else (if black == 0 then record { red = 1; black = 0 } else record { red = 2; black = 2 }) };
+
+    fn game(&self, _: Global, _: u32, red: u32, black: u32) -> Result<Score, OutOfMemory> {
+        if red == 0 {
+            return Ok(Score { red: 0, black: 1 });
+        }
+        if black == 0 {
+            return Ok(Score { red: 1, black: 0 });
+        }
+        Ok(Score { red: 2, black: 2 })
+    }
+}
+
+// Every game is drawn.
+struct Even;
+
+impl Referee for Even {
+    ghost score = { λ _ _ _ _. record { red = 5; black = 5 } };
+
+    fn game(&self, _: Global, _: u32, _: u32, _: u32) -> Result<Score, OutOfMemory> {
+        Ok(Score { red: 5, black: 5 })
+    }
+}
+
+// Two games that wait for each other, each up to its patience.
+#[derive(Drop)]
+struct Meeting {
+    first: AtomicBool,
+    second: AtomicBool,
+    alone: AtomicBool,
+}
+
+impl Referee for Meeting {
+    ghost score = { λ _ _ _ _. record { red = 0; black = 0 } };
+
+    fn game(&self, _: Global, _: u32, red: u32, _: u32) -> Result<Score, OutOfMemory> {
+        let met = if red == 0 {
+            meets(&self.first, &self.second)
+        } else {
+            meets(&self.second, &self.first)
+        };
+        if !met {
+            self.alone.store(true, Ordering::SeqCst);
+        }
+        Ok(Score { red: 0, black: 0 })
+    }
+}
+
+// Says that one game has begun, and whether the other one begins within its patience.
+fn meets(own: &AtomicBool, other: &AtomicBool) -> bool {
+    own.store(true, Ordering::SeqCst);
+    for _ in 0..PATIENCE {
+        if other.load(Ordering::SeqCst) {
+            return true;
+        }
+        spin_loop();
+    }
+    false
+}
+
+// These names.
+fn named(alloc: Global, list: &[&str]) -> Result<Names, Fail> {
+    let mut names = Names::new(alloc);
+    for name in list {
+        names.add(name)?;
+    }
+    Ok(names)
+}
+
+// Asserts that the cup of these players has this text with 1, 2 and 16 workers.
+fn check<R: Threads + Sync + Abort, F: Referee>(
+    rt: &R,
+    alloc: Global,
+    referee: &F,
+    names: &Names,
+    worlds: u32,
+    text: &str,
+) -> Result<(), Fail>
+    requires { (world red black : ℕ) → F.knows referee.now world red black }
+{
+    let players = names.len();
+    assert!(rt; 2 <= players && players <= 16);
+    assert!(rt; 1 <= worlds && worlds <= 16);
+    for workers in [1, 2, 16] {
+        let standing = play_all(rt, alloc, referee, players as u32, worlds, workers)?;
+        let mut out = MemSink::with_room(alloc, ROOM, Calls::new(alloc))?;
+        let pushed = push_standing(&standing, names, &mut out);
+        assert!(rt; pushed.is_ok());
+        assert_eq!(rt; str::from_utf8(out.held())?, text, "with {workers} workers");
+    }
+    Ok(())
+}
+
+#[test]
+fn the_winner_stands_first_with_any_number_of_workers(rt: HostRuntime) -> Result<(), Fail> {
+    let names = named(rt.alloc(), &["a", "b"])?;
+    check(
+        &rt,
+        rt.alloc(),
+        &OneWin,
+        &names,
+        1,
+        "3 points: b (1 won, 1 drawn, 0 lost)\n1 points: a (0 won, 1 drawn, 1 lost)\n",
+    )
+}
+
+#[test]
+fn equal_points_stand_in_the_order_of_the_players(rt: HostRuntime) -> Result<(), Fail> {
+    let names = named(rt.alloc(), &["c", "b", "-"])?;
+    check(
+        &rt,
+        rt.alloc(),
+        &OneLoser,
+        &names,
+        1,
+        "6 points: b (2 won, 2 drawn, 0 lost)\n6 points: - (2 won, 2 drawn, 0 lost)\n0 points: c (0 won, 0 drawn, 4 lost)\n",
+    )
+}
+
+#[test]
+fn drawn_games_leave_the_players_in_their_order(rt: HostRuntime) -> Result<(), Fail> {
+    let names = named(rt.alloc(), &["z", "y", "x"])?;
+    check(
+        &rt,
+        rt.alloc(),
+        &Even,
+        &names,
+        2,
+        "8 points: z (0 won, 8 drawn, 0 lost)\n8 points: y (0 won, 8 drawn, 0 lost)\n8 points: x (0 won, 8 drawn, 0 lost)\n",
+    )
+}
+
+#[test]
+fn two_workers_play_two_games_at_once(rt: HostRuntime) -> Result<(), Fail> {
+    let meeting = Meeting {
+        first: AtomicBool::new(false),
+        second: AtomicBool::new(false),
+        alone: AtomicBool::new(false),
+    };
+    let standing = play_all(&rt, rt.alloc(), &meeting, 2, 1, 2)?;
+    assert_eq!(rt; standing.len(), 2);
+    assert!(rt;
+        !meeting.alone.load(Ordering::SeqCst),
+        "a game waited alone"
+    );
+    Ok(())
+}
+
+#[test]
+fn a_known_name_keeps_its_place(rt: HostRuntime) -> Result<(), Fail> {
+    let mut names = Names::new(rt.alloc());
+    for (name, added, length) in [
+        ("a", Added::New, 1),
+        ("ab", Added::New, 2),
+        ("a", Added::Known, 2),
+        ("", Added::New, 3),
+        ("ab", Added::Known, 3),
+    ] {
+        assert_eq!(rt; names.add(name)?, added, "at {name}");
+        assert_eq!(rt; names.len(), length, "at {name}");
+    }
+    Ok(())
+}

@@ -1,0 +1,529 @@
+// Texts of saves with what they are read as, written out.
+use ant_base::{Calls, LONGEST, MemSink};
+use match_run::{Dumps, MOST_ROUNDS, Rounds};
+use match_save::{SaveFault, read_saved, resume, write_saved};
+use round_book::SoloCrew;
+use std::alloc::Global;
+use std::process::Abort;
+use std::test::Fail;
+
+// A game of one red ant after one round, in a world of 3 by 3 cells.
+const ROW: &str =
+    "ants save 1\nseed 12345\nsheet 5 3 14\nwindow 16384\nround 1\nplace 0\ntaken 1 redone 0\nsize 3 3\nred 1\nTurn Left 0\nblack 1\nTurn Left 0\n###\n#+#\n###\n000\n000\n000\n000\n000\n000\n000\n000\n000\nant 0 red 1 1 5 0 0 0\nend\n";
+
+// What is pushed of the row's game up to round 2, with the dumps of rounds 1 and 2 and with the counts.
+const REST: &str =
+    "\nAfter round 2...\ncell (0, 0): rock\ncell (1, 0): rock\ncell (2, 0): rock\ncell (0, 1): rock\ncell (1, 1): red hill; red ant of id 0, dir 4, food 0, state 0, resting 0\ncell (2, 1): rock\ncell (0, 2): rock\ncell (1, 2): rock\ncell (2, 2): rock\n\nscore: red 0 black 0\nturns 2 taken 2 redone 0\n";
+
+// What is pushed of it up to round 1, with the counts.
+const NO_REST: &str = "\nscore: red 0 black 0\nturns 1 taken 1 redone 0\n";
+
+// What the first so many bytes of the row, from one number to another, are read as.
+const PREFIXES: [(usize, usize, Option<SaveFault>); 27] = [
+    (0, 10, Some(SaveFault::BadLine { line: 1 })),
+    (11, 17, Some(SaveFault::BadLine { line: 2 })),
+    (18, 33, Some(SaveFault::BadLine { line: 3 })),
+    (34, 43, Some(SaveFault::BadLine { line: 4 })),
+    (44, 55, Some(SaveFault::BadLine { line: 5 })),
+    (56, 63, Some(SaveFault::BadLine { line: 6 })),
+    (64, 80, Some(SaveFault::BadLine { line: 7 })),
+    (81, 89, Some(SaveFault::BadLine { line: 8 })),
+    (90, 95, Some(SaveFault::BadLine { line: 9 })),
+    (96, 107, Some(SaveFault::BadLine { line: 10 })),
+    (108, 115, Some(SaveFault::BadLine { line: 11 })),
+    (116, 127, Some(SaveFault::BadLine { line: 12 })),
+    (128, 131, Some(SaveFault::BadLine { line: 13 })),
+    (132, 135, Some(SaveFault::BadLine { line: 14 })),
+    (136, 139, Some(SaveFault::BadLine { line: 15 })),
+    (140, 143, Some(SaveFault::BadLine { line: 16 })),
+    (144, 147, Some(SaveFault::BadLine { line: 17 })),
+    (148, 151, Some(SaveFault::BadLine { line: 18 })),
+    (152, 155, Some(SaveFault::BadLine { line: 19 })),
+    (156, 159, Some(SaveFault::BadLine { line: 20 })),
+    (160, 163, Some(SaveFault::BadLine { line: 21 })),
+    (164, 167, Some(SaveFault::BadLine { line: 22 })),
+    (168, 171, Some(SaveFault::BadLine { line: 23 })),
+    (172, 175, Some(SaveFault::BadLine { line: 24 })),
+    (176, 197, Some(SaveFault::BadLine { line: 25 })),
+    (198, 202, Some(SaveFault::BadLine { line: 26 })),
+    (203, 203, None),
+];
+
+// What the row is read as with `!` at one place, from one to another.
+const BANGS: [(usize, usize, Option<SaveFault>); 26] = [
+    (0, 11, Some(SaveFault::BadLine { line: 1 })),
+    (12, 22, Some(SaveFault::BadLine { line: 2 })),
+    (23, 35, Some(SaveFault::BadLine { line: 3 })),
+    (36, 48, Some(SaveFault::BadLine { line: 4 })),
+    (49, 56, Some(SaveFault::BadLine { line: 5 })),
+    (57, 64, Some(SaveFault::BadLine { line: 6 })),
+    (65, 81, Some(SaveFault::BadLine { line: 7 })),
+    (82, 90, Some(SaveFault::BadLine { line: 8 })),
+    (91, 96, Some(SaveFault::BadLine { line: 9 })),
+    (97, 108, Some(SaveFault::BadLine { line: 10 })),
+    (109, 116, Some(SaveFault::BadLine { line: 11 })),
+    (117, 128, Some(SaveFault::BadLine { line: 12 })),
+    (129, 132, Some(SaveFault::BadLine { line: 13 })),
+    (133, 136, Some(SaveFault::BadLine { line: 14 })),
+    (137, 140, Some(SaveFault::BadLine { line: 15 })),
+    (141, 144, Some(SaveFault::BadLine { line: 16 })),
+    (145, 148, Some(SaveFault::BadLine { line: 17 })),
+    (149, 152, Some(SaveFault::BadLine { line: 18 })),
+    (153, 156, Some(SaveFault::BadLine { line: 19 })),
+    (157, 160, Some(SaveFault::BadLine { line: 20 })),
+    (161, 164, Some(SaveFault::BadLine { line: 21 })),
+    (165, 168, Some(SaveFault::BadLine { line: 22 })),
+    (169, 172, Some(SaveFault::BadLine { line: 23 })),
+    (173, 176, Some(SaveFault::BadLine { line: 24 })),
+    (177, 198, Some(SaveFault::BadLine { line: 25 })),
+    (199, 202, Some(SaveFault::BadLine { line: 26 })),
+];
+
+// What the row is read as with `0` at one place, from one to another.
+const ZEROS: [(usize, usize, Option<SaveFault>); 69] = [
+    (0, 11, Some(SaveFault::BadLine { line: 1 })),
+    (12, 17, Some(SaveFault::BadLine { line: 2 })),
+    (18, 21, None),
+    (22, 22, Some(SaveFault::BadLine { line: 2 })),
+    (23, 30, Some(SaveFault::BadLine { line: 3 })),
+    (31, 31, None),
+    (32, 33, Some(SaveFault::BadLine { line: 3 })),
+    (34, 34, None),
+    (35, 35, Some(SaveFault::BadLine { line: 3 })),
+    (36, 43, Some(SaveFault::BadLine { line: 4 })),
+    (44, 47, None),
+    (48, 48, Some(SaveFault::BadLine { line: 4 })),
+    (49, 54, Some(SaveFault::BadLine { line: 5 })),
+    (55, 55, Some(SaveFault::BadState)),
+    (56, 56, Some(SaveFault::BadLine { line: 5 })),
+    (57, 62, Some(SaveFault::BadLine { line: 6 })),
+    (63, 63, None),
+    (64, 64, Some(SaveFault::BadLine { line: 6 })),
+    (65, 70, Some(SaveFault::BadLine { line: 7 })),
+    (71, 71, Some(SaveFault::BadState)),
+    (72, 79, Some(SaveFault::BadLine { line: 7 })),
+    (80, 80, None),
+    (81, 81, Some(SaveFault::BadLine { line: 7 })),
+    (82, 90, Some(SaveFault::BadLine { line: 8 })),
+    (91, 96, Some(SaveFault::BadLine { line: 9 })),
+    (97, 106, Some(SaveFault::BadLine { line: 10 })),
+    (107, 107, None),
+    (108, 108, Some(SaveFault::BadLine { line: 10 })),
+    (109, 116, Some(SaveFault::BadLine { line: 11 })),
+    (117, 126, Some(SaveFault::BadLine { line: 12 })),
+    (127, 127, None),
+    (128, 128, Some(SaveFault::BadLine { line: 12 })),
+    (129, 132, Some(SaveFault::BadLine { line: 13 })),
+    (133, 136, Some(SaveFault::BadLine { line: 14 })),
+    (137, 140, Some(SaveFault::BadLine { line: 15 })),
+    (141, 143, None),
+    (144, 144, Some(SaveFault::BadLine { line: 16 })),
+    (145, 147, None),
+    (148, 148, Some(SaveFault::BadLine { line: 17 })),
+    (149, 151, None),
+    (152, 152, Some(SaveFault::BadLine { line: 18 })),
+    (153, 155, None),
+    (156, 156, Some(SaveFault::BadLine { line: 19 })),
+    (157, 159, None),
+    (160, 160, Some(SaveFault::BadLine { line: 20 })),
+    (161, 163, None),
+    (164, 164, Some(SaveFault::BadLine { line: 21 })),
+    (165, 167, None),
+    (168, 168, Some(SaveFault::BadLine { line: 22 })),
+    (169, 171, None),
+    (172, 172, Some(SaveFault::BadLine { line: 23 })),
+    (173, 175, None),
+    (176, 176, Some(SaveFault::BadLine { line: 24 })),
+    (177, 180, Some(SaveFault::BadLine { line: 25 })),
+    (181, 181, None),
+    (182, 186, Some(SaveFault::BadLine { line: 25 })),
+    (187, 187, Some(SaveFault::BadState)),
+    (188, 188, Some(SaveFault::BadLine { line: 25 })),
+    (189, 189, Some(SaveFault::BadState)),
+    (190, 190, Some(SaveFault::BadLine { line: 25 })),
+    (191, 191, None),
+    (192, 192, Some(SaveFault::BadLine { line: 25 })),
+    (193, 193, None),
+    (194, 194, Some(SaveFault::BadLine { line: 25 })),
+    (195, 195, None),
+    (196, 196, Some(SaveFault::BadLine { line: 25 })),
+    (197, 197, None),
+    (198, 198, Some(SaveFault::BadLine { line: 25 })),
+    (199, 202, Some(SaveFault::BadLine { line: 26 })),
+];
+
+// Texts, and what they are read as.
+const TEXTS: [(&str, Option<SaveFault>); 60] = [
+    (
+        "ants save 1\nseed 12345\nsheet 5 3 14\nwindow 16384\nround 1\nplace 0\ntaken 1 redone 0\nsize 3 3\nred 1\nTurn Left 0\nblack 1\nTurn Left 0\n###\n#+#\n###\n000\n000\n000\n000\n000\n000\n000\n0n0\n000\nant 0 red 1 1 5 0 0 0\nend\n",
+        None,
+    ),
+    (
+        "ants save 1\nseed 12345\nsheet 5 3 14\nwindow 16384\nround 1\nplace 0\ntaken 1 redone 0\nsize 3 3\nred 1\nTurn Left 0\nblack 1\nTurn Left 0\n###\n#+#\n###\n000\n000\n000\n000\n000\n000\n000\n0o0\n000\nfood 1 1 63\nant 0 red 1 1 5 0 0 0\nend\n",
+        None,
+    ),
+    (
+        "ants save 1\nseed 12345\nsheet 5 3 14\nwindow 16384\nround 1\nplace 0\ntaken 1 redone 0\nsize 3 3\nred 1\nTurn Left 0\nblack 1\nTurn Left 0\n###\n#+#\n###\n000\n000\n000\n000\n000\n000\n000\n0o0\n000\nfood 1 1 62\nant 0 red 1 1 5 0 0 0\nend\n",
+        Some(SaveFault::BadLine { line: 25 }),
+    ),
+    (
+        "ants save 1\nseed 12345\nsheet 5 3 14\nwindow 16384\nround 1\nplace 0\ntaken 1 redone 0\nsize 3 3\nred 1\nTurn Left 0\nblack 1\nTurn Left 0\n###\n#+#\n###\n000\n000\n000\n000\n000\n000\n000\n0o0\n000\nfood 1 1 2340891\nant 0 red 1 1 5 0 0 0\nend\n",
+        None,
+    ),
+    (
+        "ants save 1\nseed 12345\nsheet 5 3 14\nwindow 16384\nround 1\nplace 0\ntaken 1 redone 0\nsize 3 3\nred 1\nTurn Left 0\nblack 1\nTurn Left 0\n###\n#+#\n###\n000\n000\n000\n000\n000\n000\n000\n0o0\n000\nfood 1 1 2340892\nant 0 red 1 1 5 0 0 0\nend\n",
+        Some(SaveFault::BadState),
+    ),
+    (
+        "ants save 1\nseed 12345\nsheet 5 3 14\nwindow 16384\nround 1\nplace 0\ntaken 1 redone 0\nsize 3 3\nred 1\nTurn Left 0\nblack 1\nTurn Left 0\n###\n#+#\n###\n000\n000\n000\n000\n000\n000\n000\n0o0\n000\nfood 1 1 2340900\nend\n",
+        None,
+    ),
+    (
+        "ants save 1\nseed 12345\nsheet 5 3 14\nwindow 16384\nround 1\nplace 0\ntaken 1 redone 0\nsize 3 3\nred 1\nTurn Left 0\nblack 1\nTurn Left 0\n###\n#+#\n###\n000\n000\n000\n000\n000\n000\n000\n0o0\n000\nfood 1 1 2340901\nend\n",
+        Some(SaveFault::BadLine { line: 25 }),
+    ),
+    (
+        "ants save 1\nseed 12345\nsheet 5 3 14\nwindow 16384\nround 1\nplace 0\ntaken 1 redone 0\nsize 3 3\nred 1\nTurn Left 0\nblack 1\nTurn Left 0\n###\n#+#\n###\n000\n000\n000\n000\n000\n000\n000\n0o0\n000\nfood 0 1 63\nant 0 red 1 1 5 0 0 0\nend\n",
+        Some(SaveFault::BadLine { line: 25 }),
+    ),
+    (
+        "ants save 1\nseed 12345\nsheet 5 3 14\nwindow 16384\nround 1\nplace 0\ntaken 1 redone 0\nsize 3 3\nred 1\nTurn Left 0\nblack 1\nTurn Left 0\n###\n#+#\n###\n000\n000\n000\n000\n000\n000\n000\n0o0\n000\nant 0 red 1 1 5 0 0 0\nend\n",
+        Some(SaveFault::BadLine { line: 25 }),
+    ),
+    (
+        "ants save 1\nseed 12345\nsheet 5 3 14\nwindow 16384\nround 1\nplace 0\ntaken 1 redone 0\nsize 3 3\nred 1\nTurn Left 0\nblack 1\nTurn Left 0\n###\n#+#\n###\n000\n000\n000\n000\n000\n000\n000\n000\n000\nfood 1 1 63\nant 0 red 1 1 5 0 0 0\nend\n",
+        Some(SaveFault::BadLine { line: 25 }),
+    ),
+    (
+        "ants save 1\nseed 12345\nsheet 5 3 14\nwindow 16384\nround 1\nplace 0\ntaken 1 redone 0\nsize 3 3\nred 1\nTurn Left 0\nblack 1\nTurn Left 0\n###\n#+#\n###\n000\n000\n000\n000\n000\n000\n000\n0p0\n000\nant 0 red 1 1 5 0 0 0\nend\n",
+        Some(SaveFault::BadLine { line: 23 }),
+    ),
+    (
+        "ants save 1\nseed 12345\nsheet 5 3 14\nwindow 16384\nround 1\nplace 0\ntaken 1 redone 0\nsize 3 3\nred 1\nTurn Left 0\nblack 1\nTurn Left 0\n###\n#+#\n###\n000\n000\n000\n000\n000\n000\n000\n000\n000\nend\n",
+        None,
+    ),
+    (
+        "ants save 1\nseed 12345\nsheet 5 3 14\nwindow 16384\nround 1\nplace 0\ntaken 1 redone 0\nsize 3 3\nred 1\nTurn Left 0\nblack 1\nTurn Left 0\n###\n#+#\n###\n000\n000\n000\n000\n000\n000\n000\n000\n000\nant 0 red 1 1 5 0 0 0\nend",
+        Some(SaveFault::BadLine { line: 26 }),
+    ),
+    (
+        "ants save 1\nseed 12345\nsheet 5 3 14\nwindow 16384\nround 1\nplace 0\ntaken 1 redone 0\nsize 3 3\nred 1\nTurn Left 0\nblack 1\nTurn Left 0\n###\n#+#\n###\n000\n000\n000\n000\n000\n000\n000\n000\n000\nant 0 red 1 1 5 0 0 0\nend\n\n",
+        Some(SaveFault::BadLine { line: 27 }),
+    ),
+    (
+        "ants save 1\nseed 12345\nsheet 5 3 14\nwindow 16384\nround 1\nplace 0\ntaken 1 redone 0\nsize 3 3\nred 1\nTurn Left 0\nblack 1\nTurn Left 0\n###\n#+#\n###\n000\n000\n000\n000\n000\n000\n000\n000\n000\nant 0 red 1 1 5 0 0 0\nend\nend\n",
+        Some(SaveFault::BadLine { line: 27 }),
+    ),
+    (
+        "ants save 1\nseed 12345\nsheet 5 3 14\nwindow 16384\nround 1\nplace 0\ntaken 1 redone 0\nsize 3 3\nred 1\nTurn Left 0\nblack 1\nTurn Left 0\n###\n#+#\n###\n000\n0o0\n000\n000\n000\n000\n000\n000\n000\nant 0 red 1 1 5 0 0 0\nend\n",
+        None,
+    ),
+    (
+        "ants save 1\nseed 12345\nsheet 5 3 14\nwindow 16384\nround 1\nplace 0\ntaken 1 redone 0\nsize 3 3\nred 1\nTurn Left 0\nblack 1\nTurn Left 0\n###\n#+#\n###\n000\n0p0\n000\n000\n000\n000\n000\n000\n000\nant 0 red 1 1 5 0 0 0\nend\n",
+        Some(SaveFault::BadLine { line: 17 }),
+    ),
+    (
+        "ants save 1\nseed 12345\nsheet 5 3 14\nwindow 16384\nround 1\nplace 0\ntaken 1 redone 0\nsize 3 3\nred 1\nTurn Left 0\nblack 1\nTurn Left 0\n###\n#+#\n###\n100\n000\n000\n000\n000\n000\n000\n000\n000\nant 0 red 1 1 5 0 0 0\nend\n",
+        Some(SaveFault::BadState),
+    ),
+    (
+        "ants save 1\nseed 12345\nsheet 5 3 14\nwindow 16384\nround 1\nplace 0\ntaken 1 redone 0\nsize 3 3\nred 1\nTurn Left 0\nblack 1\nTurn Left 0\n###\n#+#\n###\n000\n000\n000\n100\n000\n000\n000\n000\n000\nant 0 red 1 1 5 0 0 0\nend\n",
+        Some(SaveFault::BadState),
+    ),
+    (
+        "ants save 1\nseed 12345\nsheet 5 3 14\nwindow 16384\nround 1\nplace 0\ntaken 1 redone 0\nsize 3 3\nred 1\nTurn Left 0\nblack 1\nTurn Left 0\n###\n#+#\n###\n000\n000\n000\n000\n000\n000\n100\n000\n000\nant 0 red 1 1 5 0 0 0\nend\n",
+        Some(SaveFault::BadState),
+    ),
+    (
+        "ants save 1\nseed 12345\nsheet 5 3 14\nwindow 16384\nround 1\nplace 0\ntaken 1 redone 0\nsize 3 3\nred 1\nTurn Left 0\nblack 1\nTurn Left 0\n###\n#+.\n###\n000\n000\n000\n000\n000\n000\n000\n000\n000\nant 0 red 1 1 5 0 0 0\nend\n",
+        Some(SaveFault::BadState),
+    ),
+    (
+        "ants save 1\nseed 12345\nsheet 5 3 14\nwindow 16384\nround 1\nplace 0\ntaken 1 redone 0\nsize 3 3\nred 1\nTurn Left 0\nblack 1\nTurn Left 0\n###\n#+#\n###\n000\n000\n000\n000\n000\n000\n000\n000\n000\nant 0 red 0 1 5 0 0 0\nend\n",
+        Some(SaveFault::BadState),
+    ),
+    (
+        "ants save 1\nseed 12345\nsheet 5 3 14\nwindow 16384\nround 1\nplace 0\ntaken 1 redone 0\nsize 3 3\nred 1\nTurn Left 0\nblack 1\nTurn Left 0\n###\n#+#\n###\n000\n000\n000\n000\n000\n000\n000\n000\n000\nant 1 red 1 1 5 0 0 0\nend\n",
+        Some(SaveFault::BadState),
+    ),
+    (
+        "ants save 1\nseed 12345\nsheet 5 3 14\nwindow 16384\nround 1\nplace 0\ntaken 1 redone 0\nsize 3 3\nred 1\nTurn Left 0\nblack 1\nTurn Left 0\n###\n#+#\n###\n000\n000\n000\n000\n000\n000\n000\n000\n000\nant 0 black 1 1 5 0 0 0\nend\n",
+        None,
+    ),
+    (
+        "ants save 1\nseed 12345\nsheet 5 3 14\nwindow 16384\nround 1\nplace 0\ntaken 1 redone 0\nsize 3 3\nred 1\nTurn Left 0\nblack 1\nTurn Left 0\n###\n#+#\n###\n000\n000\n000\n000\n000\n000\n000\n000\n000\nant 0 red 1 1 5 0 1 0\nend\n",
+        Some(SaveFault::BadState),
+    ),
+    (
+        "ants save 1\nseed 12345\nsheet 5 3 14\nwindow 16384\nround 1\nplace 0\ntaken 1 redone 0\nsize 3 3\nred 1\nTurn Left 0\nblack 1\nTurn Left 0\n###\n#+#\n###\n000\n000\n000\n000\n000\n000\n000\n000\n000\nant 0 red 1 1 5 0 10000 0\nend\n",
+        Some(SaveFault::BadLine { line: 25 }),
+    ),
+    (
+        "ants save 1\nseed 12345\nsheet 5 3 14\nwindow 16384\nround 1\nplace 0\ntaken 1 redone 0\nsize 3 3\nred 1\nTurn Left 0\nblack 1\nTurn Left 0\n###\n#+#\n###\n000\n000\n000\n000\n000\n000\n000\n000\n000\nant 0 red 3 1 5 0 0 0\nend\n",
+        Some(SaveFault::BadLine { line: 25 }),
+    ),
+    (
+        "ants save 1\nseed 12345\nsheet 5 3 14\nwindow 16384\nround 1\nplace 0\ntaken 1 redone 0\nsize 3 3\nred 1\nTurn Left 0\nblack 1\nTurn Left 0\n###\n#+#\n###\n000\n000\n000\n000\n000\n000\n000\n000\n000\nant 16384 red 1 1 5 0 0 0\nend\n",
+        Some(SaveFault::BadLine { line: 25 }),
+    ),
+    (
+        "ants save 1\nseed 12345\nsheet 5 3 14\nwindow 16384\nround 1\nplace 0\ntaken 1 redone 0\nsize 3 3\nred 1\nTurn Left 0\nblack 1\nTurn Left 0\n###\n#+#\n###\n000\n000\n000\n000\n000\n000\n000\n000\n000\nant 0 red 1 1 6 0 0 0\nend\n",
+        Some(SaveFault::BadLine { line: 25 }),
+    ),
+    (
+        "ants save 1\nseed 12345\nsheet 5 3 14\nwindow 16384\nround 1\nplace 0\ntaken 1 redone 0\nsize 3 3\nred 1\nTurn Left 0\nblack 1\nTurn Left 0\n###\n#+#\n###\n000\n000\n000\n000\n000\n000\n000\n000\n000\nant 0 red 1 1 5 2 0 0\nend\n",
+        Some(SaveFault::BadLine { line: 25 }),
+    ),
+    (
+        "ants save 1\nseed 12345\nsheet 5 3 14\nwindow 16384\nround 1\nplace 0\ntaken 1 redone 0\nsize 3 3\nred 1\nTurn Left 0\nblack 1\nTurn Left 0\n###\n#+#\n###\n000\n000\n000\n000\n000\n000\n000\n000\n000\nant 0 red 1 1 5 0 0 256\nend\n",
+        Some(SaveFault::BadLine { line: 25 }),
+    ),
+    (
+        "ants save 1\nseed 12345\nsheet 5 3 14\nwindow 16384\nround 1\nplace 0\ntaken 1 redone 0\nsize 3 3\nred 1\nTurn Left 0\nblack 1\nTurn Left 0\n###\n#+#\n###\n000\n000\n000\n000\n000\n000\n000\n000\n000\nant 0 red 1 1 5 0 0 0\nant 0 red 1 1 5 0 0 0\nend\n",
+        Some(SaveFault::BadLine { line: 26 }),
+    ),
+    (
+        "ants save 1\nseed 12345\nsheet 5 3 14\nwindow 16384\nround 1\nplace 0\ntaken 2 redone 0\nsize 4 3\nred 1\nTurn Left 0\nblack 1\nTurn Left 0\n####\n#+-#\n####\n0000\n0000\n0000\n0000\n0000\n0000\n0000\n0000\n0000\nant 0 red 1 1 5 0 0 0\nant 1 black 2 1 5 0 0 0\nend\n",
+        None,
+    ),
+    (
+        "ants save 1\nseed 12345\nsheet 5 3 14\nwindow 16384\nround 1\nplace 0\ntaken 2 redone 0\nsize 4 3\nred 1\nTurn Left 0\nblack 1\nTurn Left 0\n####\n#+-#\n####\n0000\n0000\n0000\n0000\n0000\n0000\n0000\n0000\n0000\nant 1 black 2 1 5 0 0 0\nant 0 red 1 1 5 0 0 0\nend\n",
+        Some(SaveFault::BadLine { line: 26 }),
+    ),
+    (
+        "ants save 1\nseed 12345\nsheet 5 3 14\nwindow 16384\nround 1\nplace 0\ntaken 2 redone 0\nsize 4 3\nred 1\nTurn Left 0\nblack 1\nTurn Left 0\n####\n#+-#\n####\n0000\n0000\n0000\n0000\n0000\n0000\n0000\n0000\n0000\nant 0 red 1 1 5 0 0 0\nant 1 black 1 1 5 0 0 0\nend\n",
+        Some(SaveFault::BadState),
+    ),
+    (
+        "ants save 1\nseed 12345\nsheet 5 3 14\nwindow 16384\nround 1\nplace 0\ntaken 2 redone 0\nsize 4 3\nred 1\nTurn Left 0\nblack 1\nTurn Left 0\n####\n#+-#\n####\n0000\n0000\n0000\n0000\n0000\n0000\n0000\n0000\n0000\nant 1 black 2 1 5 0 0 0\nend\n",
+        None,
+    ),
+    (
+        "ants save 1\nseed 12345\nsheet 5 3 14\nwindow 16384\nround 1\nplace 0\ntaken 2 redone 0\nsize 3 3\nred 1\nTurn Left 0\nblack 1\nTurn Left 0\n###\n#+#\n###\n000\n000\n000\n000\n000\n000\n000\n000\n000\nant 0 red 1 1 5 0 0 0\nend\n",
+        Some(SaveFault::BadState),
+    ),
+    (
+        "ants save 1\nseed 12345\nsheet 5 3 14\nwindow 16384\nround 1\nplace 0\ntaken 0 redone 1\nsize 3 3\nred 1\nTurn Left 0\nblack 1\nTurn Left 0\n###\n#+#\n###\n000\n000\n000\n000\n000\n000\n000\n000\n000\nant 0 red 1 1 5 0 0 0\nend\n",
+        None,
+    ),
+    (
+        "ants save 1\nseed 12345\nsheet 5 3 14\nwindow 16384\nround 1\nplace 1\ntaken 1 redone 0\nsize 3 3\nred 1\nTurn Left 0\nblack 1\nTurn Left 0\n###\n#+#\n###\n000\n000\n000\n000\n000\n000\n000\n000\n000\nant 0 red 1 1 5 0 0 0\nend\n",
+        None,
+    ),
+    (
+        "ants save 1\nseed 12345\nsheet 5 3 14\nwindow 16384\nround 1\nplace 2\ntaken 1 redone 0\nsize 3 3\nred 1\nTurn Left 0\nblack 1\nTurn Left 0\n###\n#+#\n###\n000\n000\n000\n000\n000\n000\n000\n000\n000\nant 0 red 1 1 5 0 0 0\nend\n",
+        Some(SaveFault::BadState),
+    ),
+    (
+        "ants save 1\nseed 12345\nsheet 5 3 14\nwindow 16384\nround 1\nplace 99999999999\ntaken 1 redone 0\nsize 3 3\nred 1\nTurn Left 0\nblack 1\nTurn Left 0\n###\n#+#\n###\n000\n000\n000\n000\n000\n000\n000\n000\n000\nant 0 red 1 1 5 0 0 0\nend\n",
+        Some(SaveFault::BadState),
+    ),
+    (
+        "ants save 1\nseed 12345\nsheet 5 3 14\nwindow 16384\nround 1\nplace 100000000000\ntaken 1 redone 0\nsize 3 3\nred 1\nTurn Left 0\nblack 1\nTurn Left 0\n###\n#+#\n###\n000\n000\n000\n000\n000\n000\n000\n000\n000\nant 0 red 1 1 5 0 0 0\nend\n",
+        Some(SaveFault::BadLine { line: 6 }),
+    ),
+    (
+        "ants save 1\nseed 012345\nsheet 5 3 14\nwindow 16384\nround 1\nplace 0\ntaken 1 redone 0\nsize 3 3\nred 1\nTurn Left 0\nblack 1\nTurn Left 0\n###\n#+#\n###\n000\n000\n000\n000\n000\n000\n000\n000\n000\nant 0 red 1 1 5 0 0 0\nend\n",
+        Some(SaveFault::BadLine { line: 2 }),
+    ),
+    (
+        "ants save 1\nseed 4294967296\nsheet 5 3 14\nwindow 16384\nround 1\nplace 0\ntaken 1 redone 0\nsize 3 3\nred 1\nTurn Left 0\nblack 1\nTurn Left 0\n###\n#+#\n###\n000\n000\n000\n000\n000\n000\n000\n000\n000\nant 0 red 1 1 5 0 0 0\nend\n",
+        Some(SaveFault::BadLine { line: 2 }),
+    ),
+    (
+        "ants save 1\nseed 12345\nsheet 3 3 14\nwindow 16384\nround 1\nplace 0\ntaken 1 redone 0\nsize 3 3\nred 1\nTurn Left 0\nblack 1\nTurn Left 0\n###\n#+#\n###\n000\n000\n000\n000\n000\n000\n000\n000\n000\nant 0 red 1 1 5 0 0 0\nend\n",
+        Some(SaveFault::BadLine { line: 3 }),
+    ),
+    (
+        "ants save 1\nseed 12345\nsheet 5 3 14\nwindow 0\nround 1\nplace 0\ntaken 1 redone 0\nsize 3 3\nred 1\nTurn Left 0\nblack 1\nTurn Left 0\n###\n#+#\n###\n000\n000\n000\n000\n000\n000\n000\n000\n000\nant 0 red 1 1 5 0 0 0\nend\n",
+        Some(SaveFault::BadLine { line: 4 }),
+    ),
+    (
+        "ants save 1\nseed 12345\nsheet 5 3 14\nwindow 16385\nround 1\nplace 0\ntaken 1 redone 0\nsize 3 3\nred 1\nTurn Left 0\nblack 1\nTurn Left 0\n###\n#+#\n###\n000\n000\n000\n000\n000\n000\n000\n000\n000\nant 0 red 1 1 5 0 0 0\nend\n",
+        Some(SaveFault::BadLine { line: 4 }),
+    ),
+    (
+        "ants save 1\nseed 12345\nsheet 5 3 14\nwindow 16384\nround 1000001\nplace 0\ntaken 1 redone 0\nsize 3 3\nred 1\nTurn Left 0\nblack 1\nTurn Left 0\n###\n#+#\n###\n000\n000\n000\n000\n000\n000\n000\n000\n000\nant 0 red 1 1 5 0 0 0\nend\n",
+        Some(SaveFault::BadLine { line: 5 }),
+    ),
+    (
+        "ants save 1\nseed 12345\nsheet 5 3 14\nwindow 16384\nround 1\nplace 0\ntaken 1 redone 0\nsize 2 3\nred 1\nTurn Left 0\nblack 1\nTurn Left 0\n###\n#+#\n###\n000\n000\n000\n000\n000\n000\n000\n000\n000\nant 0 red 1 1 5 0 0 0\nend\n",
+        Some(SaveFault::BadLine { line: 8 }),
+    ),
+    (
+        "ants save 1\nseed 12345\nsheet 5 3 14\nwindow 16384\nround 1\nplace 0\ntaken 1 redone 0\nsize 3 3\nred 0\nTurn Left 0\nblack 1\nTurn Left 0\n###\n#+#\n###\n000\n000\n000\n000\n000\n000\n000\n000\n000\nant 0 red 1 1 5 0 0 0\nend\n",
+        Some(SaveFault::BadLine { line: 9 }),
+    ),
+    (
+        "ants save 1\nseed 12345\nsheet 5 3 14\nwindow 16384\nround 1\nplace 0\ntaken 1 redone 0\nsize 3 3\nred 10001\nTurn Left 0\nblack 1\nTurn Left 0\n###\n#+#\n###\n000\n000\n000\n000\n000\n000\n000\n000\n000\nant 0 red 1 1 5 0 0 0\nend\n",
+        Some(SaveFault::BadLine { line: 9 }),
+    ),
+    (
+        "ants save 1\nseed 12345\nsheet 5 3 14\nwindow 16384\nround 1\nplace 0\ntaken 1 redone 0\nsize 3 3\nred 1\nTurn Left 0\nblack 1\nturn Left 0\n###\n#+#\n###\n000\n000\n000\n000\n000\n000\n000\n000\n000\nant 0 red 1 1 5 0 0 0\nend\n",
+        Some(SaveFault::BadLine { line: 12 }),
+    ),
+    (
+        "ants save 1\nseed 12345\nsheet 5 3 14\nwindow 16384\nround 1\nplace 0\ntaken 1 redone 0\nsize 3 3\nred 1\nTurn Left 0\nblack 1\nTurn Left 0 \n###\n#+#\n###\n000\n000\n000\n000\n000\n000\n000\n000\n000\nant 0 red 1 1 5 0 0 0\nend\n",
+        Some(SaveFault::BadLine { line: 12 }),
+    ),
+    (
+        "ants save 1\nseed 12345\nsheet 5 3 14\nwindow 16384\nround 1\nplace 0\ntaken 1 redone 0\nsize 3 3\nred 1\nTurn Left 0\nblack 1\nTurn Left 0\r\n###\n#+#\n###\n000\n000\n000\n000\n000\n000\n000\n000\n000\nant 0 red 1 1 5 0 0 0\nend\n",
+        Some(SaveFault::BadLine { line: 12 }),
+    ),
+    (
+        "ants save 1\nseed 12345\nsheet 5 3 14\nwindow 16384\nround 1\nplace 0\ntaken 1 redone 0\nsize 3 3\nred 1\nTurn Left 0\nblack 1\nTurn Left 00\n###\n#+#\n###\n000\n000\n000\n000\n000\n000\n000\n000\n000\nant 0 red 1 1 5 0 0 0\nend\n",
+        Some(SaveFault::BadLine { line: 12 }),
+    ),
+    (
+        "ants save 1\nseed 12345\nsheet 5 3 14\nwindow 16384\nround 1\nplace 0\ntaken 1 redone 0\nsize 3 3\nred 1\nTurn Left 0\nblack 1\nTurn Left 1\n###\n#+#\n###\n000\n000\n000\n000\n000\n000\n000\n000\n000\nant 0 red 1 1 5 0 0 0\nend\n",
+        Some(SaveFault::BadState),
+    ),
+    (
+        "ants save 1\nseed 12345\nsheet 5 3 14\nwindow 16384\nround 1\nplace 0\ntaken 1 redone 0\nsize 3 3\nred 1\nTurn Left 0\nblack 1\nTurn Left 9999999999\n###\n#+#\n###\n000\n000\n000\n000\n000\n000\n000\n000\n000\nant 0 red 1 1 5 0 0 0\nend\n",
+        Some(SaveFault::BadState),
+    ),
+    (
+        "ants save 1\nseed 12345\nsheet 5 3 14\nwindow 16384\nround 1\nplace 0\ntaken 1 redone 0\nsize 3 3\nred 1\nTurn Left 0\nblack 1\nTurn Left 10000000000\n###\n#+#\n###\n000\n000\n000\n000\n000\n000\n000\n000\n000\nant 0 red 1 1 5 0 0 0\nend\n",
+        Some(SaveFault::BadLine { line: 12 }),
+    ),
+    (
+        "ants save 1\nseed 12345\nsheet 5 3 14\nwindow 16384\nround 1\nplace 0\ntaken 1 redone 0\nsize 3 3\nred 1\nTurn Left 0\nblack 1\nMark 6 0\n###\n#+#\n###\n000\n000\n000\n000\n000\n000\n000\n000\n000\nant 0 red 1 1 5 0 0 0\nend\n",
+        Some(SaveFault::BadLine { line: 12 }),
+    ),
+    (
+        "ants save 1\nseed 12345\nsheet 5 3 14\nwindow 16384\nround 1\nplace 0\ntaken 1 redone 0\nsize 3 3\nred 1\nTurn Left 0\nblack 1\nSense Here 0 0 Marker 5\n###\n#+#\n###\n000\n000\n000\n000\n000\n000\n000\n000\n000\nant 0 red 1 1 5 0 0 0\nend\n",
+        None,
+    ),
+];
+
+// The fault of these bytes, if they are no save.
+fn fault_of<R: Abort>(rt: &R, alloc: Global, text: &[u8]) -> Option<SaveFault> {
+    assert!(rt; text.len() <= LONGEST);
+    read_saved(alloc, text).err()
+}
+
+// Asserts what the first so many bytes of the row are read as, for the numbers of each line of the table.
+fn check_prefixes<R: Abort>(rt: &R, alloc: Global, table: &[(usize, usize, Option<SaveFault>)]) {
+    let text = ROW.as_bytes();
+    for (from, to, fault) in table {
+        for length in *from..=*to {
+            assert!(rt; length <= text.len());
+            assert_eq!(rt;
+                fault_of(rt, alloc, &text[..length]),
+                *fault,
+                "at {length} bytes"
+            );
+        }
+    }
+}
+
+// Asserts what the row is read as with this byte at one place, for the places of each line of the table.
+fn check_bytes<R: Abort>(
+    rt: &R,
+    alloc: Global,
+    byte: u8,
+    table: &[(usize, usize, Option<SaveFault>)],
+) -> Result<(), Fail> {
+    for (from, to, fault) in table {
+        for place in *from..=*to {
+            let mut text = Vec::from_slice(alloc, ROW.as_bytes())?;
+            assert!(rt; place < text.len());
+            text[place] = byte;
+            assert_eq!(rt; fault_of(rt, alloc, &text), *fault, "at place {place}");
+        }
+    }
+    Ok(())
+}
+
+// Asserts what texts are read as.
+fn check_texts<R: Abort>(rt: &R, alloc: Global, table: &[(&str, Option<SaveFault>)]) {
+    for (text, fault) in table {
+        assert_eq!(rt; fault_of(rt, alloc, text.as_bytes()), *fault, "at {text:?}");
+    }
+}
+
+#[test]
+fn a_text_cut_anywhere_has_its_first_bad_line(rt: HostRuntime) {
+    check_prefixes(&rt, rt.alloc(), &PREFIXES);
+}
+
+#[test]
+fn a_byte_that_stands_nowhere_makes_its_line_bad(rt: HostRuntime) -> Result<(), Fail> {
+    check_bytes(&rt, rt.alloc(), b'!', &BANGS)
+}
+
+#[test]
+fn a_zero_anywhere_makes_another_save_or_a_fault(rt: HostRuntime) -> Result<(), Fail> {
+    check_bytes(&rt, rt.alloc(), b'0', &ZEROS)
+}
+
+#[test]
+fn texts_are_judged_by_their_lines_and_their_state(rt: HostRuntime) {
+    check_texts(&rt, rt.alloc(), &TEXTS);
+}
+
+// Asserts that each text of a save is written again as it stands.
+fn check_again<R: Abort>(
+    rt: &R,
+    alloc: Global,
+    table: &[(&str, Option<SaveFault>)],
+) -> Result<(), Fail> {
+    for (text, fault) in table {
+        if fault.is_none() {
+            let bytes = text.as_bytes();
+            assert!(rt; bytes.len() <= LONGEST);
+            let saved = read_saved(alloc, bytes).expect(rt, "it is a save");
+            let mut sink = MemSink::with_room(alloc, 4000, Calls::new(alloc))?;
+            let pushed = write_saved(&saved, &mut sink);
+            assert!(rt; pushed.is_ok());
+            assert_eq!(rt; sink.held(), bytes, "of {text:?}");
+        }
+    }
+    Ok(())
+}
+
+#[test]
+fn a_save_that_is_read_is_written_as_it_stood(rt: HostRuntime) -> Result<(), Fail> {
+    check_again(&rt, rt.alloc(), &[(ROW, None)])?;
+    check_again(&rt, rt.alloc(), &TEXTS)
+}
+
+#[test]
+fn a_save_knows_its_round(rt: HostRuntime) -> Result<(), Fail> {
+    let text = ROW.as_bytes();
+    assert!(rt; text.len() <= LONGEST);
+    let saved = read_saved(rt.alloc(), text).expect(&rt, "it is a save");
+    assert_eq!(rt; saved.round(), 1);
+    Ok(())
+}
+
+// Asserts what is pushed of the row's game up to these rounds, with the dumps of rounds 1 and 2 and with the counts.
+fn check_rest<R: Abort>(rt: &R, alloc: Global, rounds: u32, wanted: &str) -> Result<(), Fail> {
+    let text = ROW.as_bytes();
+    assert!(rt; text.len() <= LONGEST);
+    let saved = read_saved(alloc, text).expect(rt, "it is a save");
+    let mut chosen = Rounds::new(alloc);
+    chosen.add(1)?;
+    chosen.add(2)?;
+    assert!(rt; saved.round() <= rounds && rounds <= MOST_ROUNDS);
+    let mut sink = MemSink::with_room(alloc, 1000, Calls::new(alloc))?;
+    let dumps = Dumps::Chosen(chosen);
+    let score = resume(
+        alloc,
+        &mut SoloCrew::new(),
+        &saved,
+        rounds,
+        &dumps,
+        true,
+        &mut sink,
+    );
+    assert!(rt; score.is_ok());
+    assert_eq!(rt; sink.held(), wanted.as_bytes(), "at {rounds} rounds");
+    Ok(())
+}
+
+#[test]
+fn a_save_goes_on_with_its_later_rounds(rt: HostRuntime) -> Result<(), Fail> {
+    check_rest(&rt, rt.alloc(), 1, NO_REST)?;
+    check_rest(&rt, rt.alloc(), 2, REST)
+}

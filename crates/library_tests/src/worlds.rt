@@ -1,0 +1,141 @@
+// What no clause says: that there is memory for worlds and for a copy, a world that is written out, that threads may share worlds and be
+// handed them, and that the calls of a ground go through at a world, here by a function over any ground.
+ghost use Rattle.std.specs.Prelude.{◌≡◌, ◌≤◌, false, IsSome};
+ghost use Rattle.hex_geometry.specs.Position.{IsInside};
+
+use crate::shared;
+use cell_world::{Ant, Cell, Colour, Ground, Kind, Marks, Score, World};
+use hex_geometry::{Dir, Pos};
+
+#[test]
+fn hill_cells_are_manned_in_row_order(rt: HostRuntime) {
+    let rock = Kind::Rock;
+    let (red, black) = (Kind::RedHill, Kind::BlackHill);
+    let kinds = [
+        rock, rock, rock, rock, rock, rock, red, red, black, rock, rock, rock, rock, rock, rock,
+    ];
+    let world = World::build(rt.alloc(), 5, 3, &kinds).expect(&rt, "there is memory");
+    assert_eq!(rt; world.ant_count(), 3);
+    assert_eq!(rt; world.ant_place(0), Some(Pos { x: 1, y: 1 }));
+    assert_eq!(rt; world.ant_place(2), Some(Pos { x: 3, y: 1 }));
+    let first = Ant {
+        id: 0,
+        colour: Colour::Red,
+        state: 0,
+        resting: 0,
+        facing: Dir::East,
+        laden: false,
+    };
+    assert_eq!(rt; world.cell(Pos { x: 1, y: 1 }).ant, Some(first));
+}
+
+#[test]
+fn cells_without_ants_are_a_world(rt: HostRuntime) {
+    let none = Marks::none();
+    let clear = Cell {
+        rocky: false,
+        hill: None,
+        food: 0,
+        red: none,
+        black: none,
+        ant: None,
+    };
+    let rock = Cell {
+        rocky: true,
+        ..clear
+    };
+    let fed = Cell { food: 4, ..clear };
+    let cells = [
+        rock, rock, rock, rock, rock, rock, fed, clear, clear, rock, rock, rock, rock, rock, rock,
+    ];
+    let world = World::of_ground(rt.alloc(), 5, 3, 2, &cells).expect(&rt, "there is memory");
+    assert_eq!(rt; world.ant_count(), 2);
+    assert_eq!(rt; world.ant_place(1), None);
+    assert_eq!(rt; world.cell(Pos { x: 1, y: 1 }).food, 4);
+}
+
+#[test]
+fn worlds_cells_ants_and_scores_may_go_to_threads(rt: HostRuntime) {
+    let rock = Kind::Rock;
+    let kinds = [
+        rock,
+        rock,
+        rock,
+        rock,
+        Kind::RedHill,
+        rock,
+        rock,
+        rock,
+        rock,
+    ];
+    let world = World::build(rt.alloc(), 3, 3, &kinds).expect(&rt, "there is memory");
+    let cell = shared(&world).cell(Pos { x: 1, y: 1 });
+    let ant = Ant {
+        id: 0,
+        colour: Colour::Red,
+        state: 0,
+        resting: 0,
+        facing: Dir::East,
+        laden: false,
+    };
+    assert_eq!(rt; shared(&cell).ant, Some(*shared(&ant)));
+    let score = world.score();
+    assert_eq!(rt; *shared(&score), Score { red: 0, black: 0 });
+}
+
+#[test]
+fn a_copy_is_an_equal_world(rt: HostRuntime) {
+    let rock = Kind::Rock;
+    let kinds = [
+        rock,
+        rock,
+        rock,
+        rock,
+        Kind::RedHill,
+        rock,
+        rock,
+        rock,
+        rock,
+    ];
+    let world = World::build(rt.alloc(), 3, 3, &kinds).expect(&rt, "there is memory");
+    let copy = world.copy(rt.alloc()).expect(&rt, "there is memory");
+    assert_eq!(rt; copy.width(), 3);
+    assert_eq!(rt; copy.ant_count(), 1);
+    assert_eq!(rt; copy.ant_place(0), Some(Pos { x: 1, y: 1 }));
+    assert_eq!(rt; copy.alive(Colour::Red), 1);
+}
+
+// The ant at `p`, which is a clear cell with an ant, dies there and leaves three food particles.
+fn fall<G: Ground>(ground: &mut G, p: Pos)
+    requires room { 1 ≤ G.room ground.old }
+    requires inside { IsInside (G.world ground.old).width (G.world ground.old).height p }
+    requires clear { ((G.world ground.old).cells p).rocky ≡ false }
+    requires ant { IsSome ((G.world ground.old).cells p).ant }
+{
+    let here = ground.cell_at(p);
+    ground.set(
+        p,
+        Cell {
+            ant: None,
+            food: here.food + 3,
+            ..here
+        },
+    );
+}
+
+#[test]
+fn a_dead_ant_is_counted_no_more_and_its_food_is(rt: HostRuntime) {
+    let rock = Kind::Rock;
+    let (red, black) = (Kind::RedHill, Kind::BlackHill);
+    let kinds = [
+        rock, rock, rock, rock, rock, rock, red, red, black, rock, rock, rock, rock, rock, rock,
+    ];
+    let mut world = World::build(rt.alloc(), 5, 3, &kinds).expect(&rt, "there is memory");
+    fall(&mut world, Pos { x: 2, y: 1 });
+    assert_eq!(rt; world.place_of(0), Some(Pos { x: 1, y: 1 }));
+    assert_eq!(rt; world.place_of(1), None);
+    assert_eq!(rt; world.cell_at(Pos { x: 2, y: 1 }).food, 3);
+    assert_eq!(rt; world.alive(Colour::Red), 1);
+    assert_eq!(rt; world.alive(Colour::Black), 1);
+    assert_eq!(rt; world.score(), Score { red: 3, black: 0 });
+}
