@@ -2,7 +2,7 @@
 import glob
 import re
 
-from tree import Unknown, crates, read
+from tree import Unknown, crates, read, source_files
 
 FILE = "docs/gate_costs.txt"
 KINDS = ("proof", "tests", "edits")
@@ -22,8 +22,12 @@ def costs_in(log):
     return found
 
 
+def has_tests(name):
+    return any("#[test]" in read(file) for file in source_files("crates/%s/src" % name, ".rt"))
+
+
 def text_of(costs, before, names):
-    """The file's text: the figures that were measured, and else those of before."""
+    """The file's text: the figures that were measured, and else those of before, but none of tests that are gone."""
     for name, _ in costs:
         if name not in names:
             raise Unknown("the log has a crate %s, and crates.txt hasn't" % name)
@@ -31,6 +35,8 @@ def text_of(costs, before, names):
     for name in names:
         old = before.get(name, ["-"] * len(KINDS))
         figures = [costs.get((name, kind), it) for kind, it in zip(KINDS, old)]
+        if not has_tests(name):
+            figures[KINDS.index("tests")] = "-"
         if set(figures) != {"-"}:
             lines.append(" ".join([name] + figures))
     return HEAD + "\n".join(lines) + "\n"
