@@ -1,6 +1,0 @@
--- the kinds that are written out are a plan
-use Rattle.cell_world.proofs.OpeningWorked.{IsPlan-one_hill}
-use Rattle.library_tests.proofs.worlds.worlds_cells_ants_and_scores_may_go_to_threads.Goals as goal
-
-pub build-requires : goal.build-requires
-build-requires g c = IsPlan-one_hill

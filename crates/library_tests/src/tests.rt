@@ -1,0 +1,35 @@
+// Each file has tests of one library, by what it calls; some libraries have several files.
+mod brains;
+mod conditions;
+mod cups;
+mod files_and_texts;
+mod generated;
+mod kills;
+mod labelled_programs;
+mod minimised;
+mod numbers;
+mod saves;
+mod stream_sinks;
+mod turns;
+mod world_files;
+mod worlds;
+
+ghost use Rattle.std.specs.Prelude.{◌≡◌};
+
+use cell_world::Kind;
+
+// The kinds of which the worlds of tests are made.
+const ROCK: Kind = Kind::Rock;
+
+const CLEAR: Kind = Kind::Clear;
+
+const RED: Kind = Kind::RedHill;
+
+const BLACK: Kind = Kind::BlackHill;
+
+// What may be lent to threads and handed to them.
+fn shared<T: Send + Sync>(value: &T) -> &T
+    ensures { result.now ≡ value.now }
+{
+    value
+}
