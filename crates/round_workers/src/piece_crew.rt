@@ -79,10 +79,8 @@ impl<'c, R: Threads + Sync, G: Gate> PieceCrew<'c, R, G> {
         ensures unchanged { OnErr result (field.new ≡ field.old) }
         ensures as_before { OnErr result (self.new ≡ self.old) }
     {
-        let mut pieces = self.pieces.take().unwrap_or_else(|| Vec::new(alloc));
-        let played = play(&self.team, alloc, &mut pieces, field, Turns { from, to });
-        self.pieces = Some(pieces);
-        let counts = played?;
+        let pieces = self.pieces.get_or_insert_with(|| Vec::new(alloc));
+        let counts = play(&self.team, alloc, pieces, field, Turns { from, to })?;
         self.turns = self.turns.saturating_add(u64::from(to - from));
         Ok(counts)
     }

@@ -3,7 +3,7 @@ use ant_base::Gate;
 use std::thread::Threads;
 
 // The workers of a crew: the runtime of their threads, the gate that they call before each look, and how many there are.
-#[derive_where(Clone, Copy)]
+#[derive(Drop)]
 pub struct Team<'c, R: Threads + Sync, G: Gate> {
     pub rt: &'c R,
     pub gate: &'c G,

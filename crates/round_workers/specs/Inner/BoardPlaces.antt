@@ -1,13 +1,19 @@
 -- What lies in a slot of a board (this project's own).
-use Rattle.std.specs.Prelude.{◌≡◌, ℕ, ◌+◌, ◌<◌, ◌≤◌, Bool, true, false, List, [], length, replicate, slice_index_or, Option, Some, None}
+use Rattle.std.specs.Prelude.{◌≡◌, ℕ, ◌+◌, ◌-◌, ◌<◌, ◌≤◌, ◌^◌, Bool, true, false, List, [], length, replicate, slice_index_or, Option, Some, None}
 use Rattle.std.specs.Vec.{vec_capacity, vec_len}
 use mathlib.Core.Option as maybe
 use lib.ListN.{get_elem?}
 use Rattle.spec_record.specs.Look.{LookValue}
-use Rattle.round_book.specs.Book.{BookValue}
+use Rattle.atomic_table.specs.Seated.{TableId}
+use Rattle.atomic_table.specs.declared.shared.Seat.{Seat as Hand}
+use Rattle.round_book.specs.Book.{BookValue, FieldValue, window_of}
 use Rattle.round_workers.specs.declared.board.stock.Stock.{Stock}
+use Rattle.round_workers.specs.declared.board.view.Basis.{Basis}
 use Rattle.round_workers.specs.declared.board.view.BoardSlot.{BoardSlot}
 use Rattle.round_workers.specs.declared.board.view.BoardSlot.TheVariants.{Nothing, OneLook, Spare, TheBook}
+use Rattle.round_workers.specs.declared.board.view.View.{View}
+use Rattle.round_workers.specs.declared.share.Turns.{Turns}
+use Rattle.round_workers.specs.BoardView.{first_seat, window_for}
 
 -- what the room of the book has in it
 abbrev pub book_room : BoardSlot → Option (Option BookValue)
@@ -49,3 +55,15 @@ pub record AreBare (turns : ℕ) (slots : List BoardSlot) : Type 0 where
   pub long : length slots ≡ turns + 1
   pub book : get_elem? slots 0 ≡ maybe.some (TheBook None)
   pub spares : (j : ℕ) → j < turns → (old : Option LookValue) × (get_elem? slots (j + 1) ≡ maybe.some (Spare old))
+
+-- what a table has that is laid for these turns of a field: what it was told, its counts, and the hand of its first seat
+pub record IsTableFor (field : FieldValue) (turns : Turns) (key : Basis) (table_id : TableId) (hand : Hand BoardSlot View) : Type 0 where
+  pub window : window_for key ≡ window_of field turns.from turns.to
+  pub from : key.from ≡ turns.from
+  pub to : key.to ≡ turns.to
+  pub ids : turns.to ≤ key.world.value.ids
+  pub lasting : key.place + (turns.to - turns.from) < 2 ^ 63
+  pub words : table_id.words ≡ turns.to - turns.from + 2
+  pub slots : table_id.slots ≡ turns.to - turns.from + 1
+  pub table : hand.table_id ≡ table_id
+  pub me : hand.me ≡ (first_seat key, [])

@@ -146,10 +146,8 @@ fn play<R: Threads + Sync, G: Gate>(
     if team.workers.min(turns.to - turns.from) <= 1 {
         return play_window(team.gate, alloc, field, turns.from, turns.to);
     }
-    let mut kept = stock.take().unwrap_or_else(|| CrewStock::new(alloc));
-    let played = play_on_board(team, alloc, &mut kept, field, turns);
-    *stock = Some(kept);
-    played
+    let kept = stock.get_or_insert_with(|| CrewStock::new(alloc));
+    play_on_board(team, alloc, kept, field, turns)
 }
 
 // Plays a window on a board of its own.

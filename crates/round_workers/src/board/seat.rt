@@ -14,6 +14,9 @@ use spec_record::Look;
 use std::alloc::Global;
 pub(crate) use steps::{FULL, HOME};
 
+// The table of a board.
+type BoardTable = Table<BoardSlot, View, Basis, Law, Global>;
+
 // A seat of the table: what it knows, and the slots that are out with it.
 pub(crate) type Hand = atomic_table::Seat<BoardSlot, View>;
 
@@ -27,7 +30,7 @@ pub struct Seat {
 /// The tickets, the book and the looks of one window of a field, passed between threads.
 #[derive(Drop)]
 pub struct Board {
-    table: Table<BoardSlot, View, Basis, Law, Global>,
+    table: BoardTable,
     places: Vec<BoardSlot>,
     room: Vec<Option<Look>>,
     pub(crate) from: u32,

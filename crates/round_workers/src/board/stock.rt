@@ -10,6 +10,7 @@ use hex_geometry::OutOfMemory;
 use round_book::Book;
 use spec_record::Look;
 use std::alloc::Global;
+use std::mem;
 
 // What boards are made of, kept from one to the next, so that a board takes memory for its table alone, and where it has more turns than
 // those before. Nothing is known of what lies in it between two boards.
@@ -47,6 +48,17 @@ impl Stock {
         zeros(&mut self.words, turns + 2)?;
         bare(&mut self.places, turns)?;
         bare(&mut self.looks, turns)
+    }
+
+    // Hands out the room for the places of a board's looks, and for the looks.
+    pub(crate) fn lend_room(&mut self, alloc: Global) -> (Vec<BoardSlot>, Vec<Option<Look>>)
+        ensures places { result.0 ≡ self.old.places }
+        ensures looks { result.1 ≡ self.old.looks }
+        ensures rooms { self.new.rooms ≡ self.old.rooms }
+    {
+        let places = mem::replace(&mut self.places, Vec::new(alloc));
+        let looks = mem::replace(&mut self.looks, Vec::new(alloc));
+        (places, looks)
     }
 
     // Takes back what a board was made of, which is in these places.

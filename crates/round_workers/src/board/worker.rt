@@ -66,7 +66,7 @@ impl Worker {
 }
 
 // What a worker works with: the board, the field and its guesses, and the gate, which it calls with its number.
-#[derive_where(Clone, Copy)]
+#[derive(Drop)]
 struct Task<'t, 'b, G: Gate> {
     board: &'t Board,
     field: &'t Field<'b>,

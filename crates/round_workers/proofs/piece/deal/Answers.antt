@@ -1,4 +1,4 @@
-use Rattle.std.proofs.Common.{◌≡◌, ℕ, ◌+◌, ◌-◌, refl, sym, ap, ◌∙◌, arith}
+use Rattle.std.proofs.Common.{◌≡◌, ℕ, add-one, ◌+◌, ◌-◌, List, ◌++◌, refl, sym, ap, ap₂, ◌∙◌, arith}
 use Rattle.std.proofs.lemmas.List.Elements.{All-nil}
 use Rattle.work_share.proofs.BordersLemmas.{border_within, pieces_are_the_row}
 use Rattle.work_share.specs.Borders.{border}
@@ -7,7 +7,7 @@ use Rattle.round_book.specs.Window.{guess_for}
 use Rattle.round_book.proofs.SoloLemmas.{guess_for-from}
 use Rattle.round_workers.specs.declared.share.Share.{Share}
 use Rattle.round_workers.specs.Inner.Pieces.{HasPieceRoom}
-use Rattle.round_workers.specs.Inner.Shares.{first_turn}
+use Rattle.round_workers.specs.Inner.Shares.{first_turn, if_any, share_of, shares, window_share}
 use Rattle.round_workers.proofs.piece.deal.Goals as goal
 
 pub loop-worker-init : goal.loop-worker-init
@@ -27,3 +27,13 @@ guess_on-guess-requires-clause-last c =
     let n : ℕ = c.args.turns.to - c.args.turns.from in let forwards = c.requires.window.forwards in let below = c.loop-worker-test.true in
     let within = border_within (c.loop-worker.worker + 1) n c.args.workers (omega arith) in
     let end : c.share_of-share.result.to ≡ c.args.turns.from + border c.args.workers n (c.loop-worker.worker + 1) = ap (λ (s : Share). s.to) c.share_of-share.ensures in omega arith
+
+pub loop-worker-preserved : goal.loop-worker-preserved
+loop-worker-preserved c =
+    let window = window_of c.args.field.now c.args.turns.from c.args.turns.to in let n : ℕ = c.args.turns.to - c.args.turns.from in let old = c.loop-worker.invariant in let k : ℕ = c.loop-worker.worker in
+    let is : c.share_of-share.result ≡ window_share window c.args.workers k = c.share_of-share.ensures ∙ ap (share_of c.args.workers c.args.turns.from n k) old.guess in record {
+      guess = c.guess_on-guess.ensures ∙ ap (λ (s : Share). guess_for window s.to) c.share_of-share.ensures;
+      shares = c.in_ok-dealt.ensures.shares ∙ (ap₂ (λ (l : List Share) (s : Share). l ++ if_any s) old.shares is ∙ ap (shares window c.args.workers) (sym (add-one k)));
+      rooms = c.in_ok-dealt.ensures.rooms old.rooms;
+      within = c.in_ok-dealt.ensures.within;
+    }

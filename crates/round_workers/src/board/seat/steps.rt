@@ -2,7 +2,7 @@
 //
 // A step is one of the functions below, each of them one call of `atomic_table` on one word, with these numbers. What is called elsewhere
 // knows of the table what these functions tell.
-ghost use Rattle.std.specs.Prelude.{◌≡◌, ◌≢◌, [], ◌∷◌, ◌+◌, ◌-◌, ◌<◌, ◌≤◌, ◌^◌, ℕ, true, false, length, slice_index_or, Some, None, Option, IfOk, OnOk, IsSomeAnd};
+ghost use Rattle.std.specs.Prelude.{◌≡◌, ◌≢◌, [], ◌∷◌, ◌+◌, ◌-◌, ◌<◌, ◌≤◌, ◌^◌, ℕ, true, false, length, slice_index_or, Some, None, Option, replicate, IfErr, IfOk, OnOk, IsSomeAnd};
 ghost use Rattle.std.specs.List.{AllByRecursion};
 ghost use Rattle.std.specs.Vec.{vec_capacity, vec_len};
 ghost use Rattle.atomic_table.specs.Table.{rest};
@@ -13,7 +13,7 @@ ghost use Rattle.round_book.specs.Window.{IsPlayable, look_for};
 ghost use Rattle.round_workers.specs.declared.board.view.BoardSlot.{BoardSlot};
 ghost use Rattle.round_workers.specs.declared.board.view.BoardSlot.TheVariants.{Nothing, OneLook, Spare, TheBook};
 ghost use Rattle.round_workers.specs.declared.board.view.Phase.TheVariants.{Resting, Opening, Putting, Taking};
-ghost use Rattle.round_workers.specs.Inner.BoardPlaces.{AreBare, look_in};
+ghost use Rattle.round_workers.specs.Inner.BoardPlaces.{AreBare, IsTableFor, look_in};
 ghost use Rattle.round_workers.specs.BoardLaws.{IsWhereClosed, Way};
 ghost use Rattle.round_workers.specs.BoardPlays.{TellsTake, TellsTakeLook, drew, has_put, has_seen, has_taken, made_one, newcomer, opens_now, puts_now, views_joined, without_book};
 ghost use Rattle.round_workers.specs.BoardRule.{turns_of};
@@ -29,16 +29,15 @@ use crate::board::law::{
 };
 use crate::board::places::{book_room, keep};
 use crate::board::room::Room;
-use crate::board::seat::{Board, Hand, Seat};
+use crate::board::seat::{Board, BoardTable, Hand, Seat};
 use crate::board::stock::Stock;
 use crate::board::view::{Basis, BoardSlot, View};
 use crate::share::Turns;
-use atomic_table::Table;
+use atomic_table::{Refused, Table};
 use hex_geometry::OutOfMemory;
 use round_book::{Book, Field};
 use spec_record::Look;
 use std::alloc::Global;
-use std::mem;
 use std::snapshot::Snapshot;
 
 // The word of the tickets: how many are drawn.
@@ -77,24 +76,22 @@ impl Board {
         ensures first { IfOk result (λ made. known made.1 ≡ first_seat (basis_of made.0)) }
         ensures room { OnOk result (vec_len stock.new.rooms + (turns.to - turns.from) ≤ vec_capacity stock.new.rooms) }
     {
-        let Turns { from, to } = turns;
-        let basis = basis(field, from, to);
-        let count = (to - from) as usize;
-        stock.fill(count)?;
-        let slots = bare(alloc, count, &mut stock.rooms, &mut stock.home)?;
-        let (table, hand) = match Table::new(alloc, &stock.words, slots, &basis) {
-            Ok(made) => made,
-            Err(mut refused) => {
-                keep(&mut stock.rooms, &mut refused.slots);
-                return Err(OutOfMemory);
-            }
-        };
+        stock.fill((turns.to - turns.from) as usize)?;
+        let (table, hand) = lay(
+            alloc,
+            field,
+            turns,
+            &stock.words,
+            &mut stock.rooms,
+            &mut stock.home,
+        )?;
+        let (places, room) = stock.lend_room(alloc);
         let board = Board {
             table,
-            places: mem::replace(&mut stock.places, Vec::new(alloc)),
-            room: mem::replace(&mut stock.looks, Vec::new(alloc)),
-            from,
-            to,
+            places,
+            room,
+            from: turns.from,
+            to: turns.to,
         };
         Ok((board, Seat { hand }))
     }
@@ -315,6 +312,49 @@ impl Board {
     {
         self.table.shared.exchange(hand, slot, place)
     }
+}
+
+// The table of a board for these turns of a field, with words and rooms that were kept, and what is wanted besides, and the hand of its
+// first seat. Where memory is wanting, the rooms of looks that are there by then are kept.
+fn lay(
+    alloc: Global,
+    field: &Field<'_>,
+    turns: Turns,
+    words: &[u64],
+    kept: &mut Vec<Room<Look>>,
+    home: &mut Option<Room<Book>>,
+) -> Result<(BoardTable, Hand), OutOfMemory>
+    requires window { CanBegin field.now turns.from turns.to }
+    requires words { words.now ≡ replicate (turns.to - turns.from + 2) 0 }
+    requires room { vec_len kept.old + (turns.to - turns.from) + 1 ≤ vec_capacity kept.old }
+    ensures laid { IfOk result (λ laid. IsTableFor field.now turns laid.0.shared.key laid.0.shared.table_id laid.1) }
+    ensures room { OnOk result (vec_len kept.new + (turns.to - turns.from) + 1 ≤ vec_capacity kept.new) }
+{
+    let slots = bare(alloc, (turns.to - turns.from) as usize, kept, home)?;
+    match table_of(alloc, field, turns, words, slots) {
+        Ok(laid) => Ok(laid),
+        Err(mut refused) => {
+            keep(kept, &mut refused.slots);
+            Err(OutOfMemory)
+        }
+    }
+}
+
+// The table with these words and slots, and the hand of its first seat; or the slots, where memory is wanting.
+fn table_of(
+    alloc: Global,
+    field: &Field<'_>,
+    turns: Turns,
+    words: &[u64],
+    slots: Vec<BoardSlot>,
+) -> Result<(BoardTable, Hand), Refused<BoardSlot, Global>>
+    requires window { CanBegin field.now turns.from turns.to }
+    requires words { words.now ≡ replicate (turns.to - turns.from + 2) 0 }
+    requires bare { AreBare (turns.to - turns.from) slots.items }
+    ensures laid { IfOk result (λ laid. IsTableFor field.now turns laid.0.shared.key laid.0.shared.table_id laid.1) }
+    ensures slots { IfErr result (λ refused. refused.slots.items ≡ slots.items) }
+{
+    Table::new(alloc, words, slots, &basis(field, turns.from, turns.to))
 }
 
 // The window of these turns of a field, as a board knows it.
