@@ -1,8 +1,9 @@
 // A crew whose looks are made in pieces.
-ghost use Rattle.std.specs.Prelude.{◌≡◌, ◌+◌, ◌-◌, ◌≤◌, ◌^◌, min, IfOk, OnOk, OnErr};
+ghost use Rattle.std.specs.Prelude.{◌≡◌, ◌+◌, ◌-◌, ◌<◌, ◌≤◌, ◌^◌, All, map, min, IfOk, OnOk, OnErr};
 ghost use Rattle.round_book.specs.Book.{CanBegin, IsPlayed, window_of};
 ghost use Rattle.round_book.specs.Counts.{counts_of};
 ghost use Rattle.round_workers.specs.Crews.{IsCrewSize};
+ghost use Rattle.round_workers.specs.Inner.Pieces.{AreConsecutive, IsPieceReady};
 
 use crate::fork::look_at_pieces;
 use crate::piece::{Piece, deal};
@@ -100,14 +101,31 @@ fn play<R: Threads + Sync, G: Gate>(
     ensures counts { IfOk result (λ counts. counts ≡ counts_of (window_of field.old turns.from turns.to)) }
     ensures unchanged { OnErr result (field.new ≡ field.old) }
 {
-    let Turns { from, to } = turns;
-    if team.workers.min(to - from) <= 1 {
-        return play_window(team.gate, alloc, field, from, to);
+    if team.workers.min(turns.to - turns.from) <= 1 {
+        return play_window(team.gate, alloc, field, turns.from, turns.to);
     }
     let dealt = deal(pieces, alloc, field, turns, team.workers)?;
-    let pieces = &mut pieces[..dealt];
-    look_at_pieces(team, field, from, pieces);
-    let mut book = field.begin(alloc, from, to)?;
+    play_pieces(team, alloc, &mut pieces[..dealt], field, turns)
+}
+
+// Plays a window whose turns are dealt out, in these pieces.
+fn play_pieces<R: Threads + Sync, G: Gate>(
+    team: &Team<'_, R, G>,
+    alloc: Global,
+    pieces: &mut [Piece],
+    field: &mut Field<'_>,
+    turns: Turns,
+) -> Result<Counts, OutOfMemory>
+    requires workers { 0 < team.now.workers }
+    requires window { CanBegin field.old turns.from turns.to }
+    requires ready { All (IsPieceReady field.old turns.from) pieces.old }
+    requires follow { AreConsecutive (map (λ piece. piece.share) pieces.old) turns.from turns.to }
+    ensures played { OnOk result (IsPlayed field.old turns.from turns.to field.new) }
+    ensures counts { IfOk result (λ counts. counts ≡ counts_of (window_of field.old turns.from turns.to)) }
+    ensures unchanged { OnErr result (field.new ≡ field.old) }
+{
+    look_at_pieces(team, field, turns.from, pieces);
+    let mut book = field.begin(alloc, turns.from, turns.to)?;
     settle_pieces(&mut book, field, pieces);
     Ok(field.finish(book))
 }
