@@ -1,4 +1,4 @@
-use Rattle.std.proofs.Common.{All, List, [], length, sym, ap, ◌∙◌, subst}
+use Rattle.std.proofs.Common.{◌≡◌, ◌+◌, All, List, [], length, sym, ap, ◌∙◌, subst, arith}
 use Rattle.std.proofs.lemmas.List.Elements.{All-nil, All-same}
 use Rattle.cell_world.proofs.InsideLemmas.{refilled}
 use Rattle.round_book.specs.Window.{Window, guesses_for}
@@ -9,6 +9,7 @@ use Rattle.round_workers.specs.BoardPlays.{has_seen}
 use Rattle.round_workers.specs.BoardSeats.{IsSeatOf, basis_of, known, board_window}
 use Rattle.round_workers.specs.BoardWorker.{turns_in}
 use Rattle.round_workers.proofs.BoardSeatLists.{book-for, lent-for, looks-left, manned-first, manned-worked, seats-worked, worked-so}
+use Rattle.round_workers.proofs.BoardTotalLemmas.{below-one}
 use Rattle.round_workers.proofs.BoardWorkers.{on-for}
 use Rattle.round_workers.proofs.board.crew.settle.Goals as goal
 
@@ -71,3 +72,27 @@ gather-requires-clause-seats g c =
     let board = c.args.laid.board in let old = c.hire.new.workers in let new = c.work_all.new.workers in let long = c.work_all.ensures.len ∙ ap length c.deref_mut.ensures.value in
     let worked = worked-so board c.deref_mut.result.now old.items new c.deref_mut.ensures.value c.work_all.ensures.worked in
     subst (λ (l : List Worker). All (λ (w : Worker). IsSeatOf board w.seat) l) (sym (refilled old.len old.items new old.ok.0 long)) (seats-worked board old.items new long worked)
+
+pub hire-requires-clause-few : goal.hire-requires-clause-few
+hire-requires-clause-few g c = let none_yet : (known c.open_book.new.seat).made ≡ 0 = ap (λ (v : View). v.made) (c.open_book.ensures.opened ∙ ap has_seen c.requires.laid.first) in let few = c.requires.stocked.few in omega arith
+
+pub take_apart-ended-requires-clause-board : goal.take_apart-ended-requires-clause-board
+take_apart-ended-requires-clause-board g c = c.gather.ensures.seat
+
+pub take_apart-ended-requires-clause-first : goal.take_apart-ended-requires-clause-first
+take_apart-ended-requires-clause-first g c = c.gather.ensures.zeroth
+
+pub take_apart-ended-requires-clause-whole : goal.take_apart-ended-requires-clause-whole
+take_apart-ended-requires-clause-whole g c k le = let here = c.gather.ensures.numbered k in let one = below-one k ((known c.gather.new.first).made + 1) (omega arith) in omega arith
+
+pub take_apart-ended-requires-clause-opened : goal.take_apart-ended-requires-clause-opened
+take_apart-ended-requires-clause-opened g c = c.gather.ensures.opened
+
+pub take_apart-ended-requires-clause-free : goal.take_apart-ended-requires-clause-free
+take_apart-ended-requires-clause-free g c = c.gather.ensures.free
+
+pub settle_left-requires-clause-guesses : goal.settle_left-requires-clause-guesses
+settle_left-requires-clause-guesses g c = c.deref-2.ensures.value ∙ c.requires.stocked.guesses
+
+pub settle_left-requires-clause-room : goal.settle_left-requires-clause-room
+settle_left-requires-clause-room g c = c.requires.stocked.rooms

@@ -58,6 +58,12 @@ look_and_put-requires-clause-guess g c =
     let w = board_window c.args.task.now.board.now in let t : ℕ = c.draw-ticket.result in let inside : t < turns_in w = (let l = c.if-ticket-turns.false in let b = c.turns.ensures in omega arith) in
     c.reach.ensures.place ∙ (ap (λ (l : List ℕ). slice_index_or l t 0) c.requires.guesses ∙ guesses_for-at w t 0 inside)
 
+pub settle_with_book-requires-clause-opened : goal.settle_with_book-requires-clause-opened
+settle_with_book-requires-clause-opened g c = ap (λ (v : View). v.opened) c.look_and_put.ensures.put ∙ (ap (λ (v : View). v.opened) c.draw-ticket.ensures.drew ∙ c.requires.opened)
+
+pub settle_with_book-requires-clause-free : goal.settle_with_book-requires-clause-free
+settle_with_book-requires-clause-free g c = ap (λ (v : View). v.holds) c.look_and_put.ensures.put ∙ (ap (λ (v : View). v.holds) c.draw-ticket.ensures.drew ∙ c.requires.worker.free)
+
 pub returns-clause-worker : goal.returns-clause-worker
 returns-clause-worker g c =
     let key = basis_of c.args.task.now.board.now in let v = known c.args.seat.now in let t : ℕ = c.draw-ticket.result in
