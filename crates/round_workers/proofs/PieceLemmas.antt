@@ -1,6 +1,6 @@
 -- Pieces of a window, and their looks in order.
 use Rattle.hex_geometry.specs.declared.memory.OutOfMemory.{OutOfMemory}
-use Rattle.std.proofs.Common.{Result, Ok, Err, OnOk, slice_set, take_all, ◌≡◌, ℕ, zero, suc, ◌+◌, ◌-◌, ◌<◌, ◌≤◌, ◌^◌, ◌++◌, Bool, true, false, nat_eq, List, [], ◌∷◌, length, get_or, take, drop, map, All, refl, sym, ◌∙◌, ap, ap₂, subst, arith}
+use Rattle.std.proofs.Common.{Result, Ok, Err, OnOk, slice_set, take_all, ◌≡◌, ℕ, zero, suc, add-one, ◌+◌, ◌-◌, ◌<◌, ◌≤◌, ◌^◌, ◌++◌, Bool, true, false, nat_eq, List, [], ◌∷◌, length, get_or, take, drop, map, All, refl, sym, ◌∙◌, ap, ap₂, subst, arith}
 use Rattle.std.proofs.lemmas.Bool.{eqb-false, eqb-true}
 use Rattle.std.proofs.lemmas.List.{length-append, take_more_set}
 use Rattle.std.proofs.Math.ListN.{get_or-append}
@@ -160,6 +160,14 @@ AreConsecutive-item pieces i piece from to below is follow =
     let front : AreConsecutive (map (λ p. p.share) (get_or pieces i piece ∷ drop (suc i) pieces)) from to = subst (λ ps. AreConsecutive (map (λ p. p.share) ps) from to) (drop-cons pieces i piece below) follow in
     let rest : (get_or pieces i piece).share.to ≤ to = AreConsecutive-within (map (λ p. p.share) (drop (suc i) pieces)) (get_or pieces i piece).share.to to front.2 in
     subst (λ (p : Piece). p.share.to ≤ to) (sym is) rest
+
+-- and what is left behind it follows it
+pub AreConsecutive-after : (pieces : List Piece) (i : ℕ) (piece : Piece) (from to next end : ℕ) → i < length pieces → piece ≡ get_or pieces i piece → AreConsecutive (map (λ p. p.share) (drop i pieces)) from to
+    → next ≡ piece.share.to → end ≡ to → AreConsecutive (map (λ p. p.share) (drop (i + 1) pieces)) next end
+AreConsecutive-after pieces i piece from to next end below is follow here ends =
+    let front : AreConsecutive (map (λ p. p.share) (get_or pieces i piece ∷ drop (suc i) pieces)) from to = subst (λ ps. AreConsecutive (map (λ p. p.share) ps) from to) (drop-cons pieces i piece below) follow in
+    let after : AreConsecutive (map (λ p. p.share) (drop (suc i) pieces)) piece.share.to to = subst (λ (p : Piece). AreConsecutive (map (λ q. q.share) (drop (suc i) pieces)) p.share.to to) (sym is) front.2 in
+    subst (λ (z : ℕ × ℕ × ℕ). AreConsecutive (map (λ p. p.share) (drop z.0 pieces)) z.1 z.2) (λ j. (sym (add-one i) j, sym here j, sym ends j)) after
 
 module _ (window : Window) (share : Share) (looks : List LookValue) (looked : AreLooked window share looks) where
   -- it has as many looks as turns
