@@ -2,7 +2,7 @@
 use Rattle.hex_geometry.specs.declared.memory.OutOfMemory.{OutOfMemory}
 use Rattle.std.proofs.Common.{Result, Ok, Err, OnOk, slice_set, take_all, ◌≡◌, ℕ, zero, suc, add-one, ◌+◌, ◌-◌, ◌<◌, ◌≤◌, ◌^◌, ◌++◌, Bool, true, false, nat_eq, List, [], ◌∷◌, length, get_or, take, drop, map, All, refl, sym, ◌∙◌, ap, ap₂, subst, arith}
 use Rattle.std.proofs.lemmas.Bool.{eqb-false, eqb-true}
-use Rattle.std.proofs.lemmas.List.{length-append, take_more_set}
+use Rattle.std.proofs.lemmas.List.{length-append, map-append, take_more_set}
 use Rattle.std.proofs.Math.ListN.{get_or-append}
 use Rattle.std.proofs.Math.Seq.{drop-cons, get_or-append_seam}
 use Rattle.std.proofs.lemmas.List.Elements.{All-append, All-cons, All-nil, All-same}
@@ -103,6 +103,20 @@ pub rooms-push : (pieces new : List Piece) (n : ℕ) (piece : Piece) → n ≡ l
 rooms-push pieces new n piece at room is =
     let long : length new ≡ length pieces + 1 = ap length is ∙ length-append pieces (piece ∷ []) in
     rooms-more pieces new n piece room (take_all (n + 1) new (omega arith) ∙ is ∙ ap (λ xs. xs ++ piece ∷ []) (sym (take_all n pieces (omega arith))))
+
+-- and the shares
+shares-more : (pieces new : List Piece) (n : ℕ) (piece : Piece) (share : Share) → piece.share ≡ share → take (n + 1) new ≡ take n pieces ++ piece ∷ [] → shares_among (n + 1) new ≡ shares_among n pieces ++ share ∷ []
+shares-more pieces new n piece share has is =
+    ap (map (λ p. p.share)) is ∙ (map-append (λ (p : Piece). p.share) (take n pieces) (piece ∷ []) ∙ ap (λ (s : Share). shares_among n pieces ++ s ∷ []) has)
+
+pub shares-set : {A : Type 0} (result : Result A OutOfMemory) (pieces : List Piece) (n : ℕ) (piece : Piece) (share : Share) → n < length pieces → piece.share ≡ share → OnOk result (shares_among (n + 1) (slice_set pieces n piece) ≡ shares_among n pieces ++ share ∷ [])
+shares-set (Ok x) pieces n piece share within has = shares-more pieces (slice_set pieces n piece) n piece share has (take_more_set pieces n piece within)
+shares-set (Err e) pieces n piece share within has = tt
+
+pub shares-push : (pieces new : List Piece) (n : ℕ) (piece : Piece) (share : Share) → n ≡ length pieces → piece.share ≡ share → new ≡ pieces ++ piece ∷ [] → shares_among (n + 1) new ≡ shares_among n pieces ++ share ∷ []
+shares-push pieces new n piece share at has is =
+    let long : length new ≡ length pieces + 1 = ap length is ∙ length-append pieces (piece ∷ []) in
+    shares-more pieces new n piece share has (take_all (n + 1) new (omega arith) ∙ is ∙ ap (λ xs. xs ++ piece ∷ []) (sym (take_all n pieces (omega arith))))
 
 -- a window's piece, where the window may begin
 begin-front : (field : FieldValue) (from to end : ℕ) → CanBegin field from to → from ≤ end → end ≤ to → CanBegin field from end

@@ -1,4 +1,4 @@
-use Rattle.std.proofs.Common.{Some, ◌≡◌, ℕ, ◌+◌, ◌-◌, ◌<◌, ◌≤◌, [], ◌∷◌, length, length-append, arith, sym, subst, ap, ◌∙◌}
+use Rattle.std.proofs.Common.{Some, ◌≡◌, ℕ, ◌+◌, ◌-◌, ◌<◌, ◌≤◌, [], ◌∷◌, length, length-append, arith, refl, sym, subst, ap, ◌∙◌}
 use lib.ListN.{get_elem?}
 use Rattle.std.specs.Vec.{vec_capacity}
 use Rattle.std.specs.Mem.Slots.{slots_len}
@@ -81,3 +81,16 @@ free-requires c k h =
     let e : c.args.self.to - c.args.self.from ≤ c.loop-ticket.ticket = c.loop-ticket-test.false in
     let long : slots_len c.loop-ticket.closed.slots ≡ c.args.self.to - c.args.self.from + 1 = c.loop-ticket.invariant.len ∙ (c.take_slot.ensures.len ∙ (c.close_with-closed.ensures.counts.1 ∙ c.args.self.slots)) in
     c.loop-ticket.invariant.taken.taken k (omega arith)
+
+pub loop-ticket-init : goal.loop-ticket-init
+loop-ticket-init c = record {
+  items = refl;
+  len = refl;
+  taken = c.take_slot.ensures.taken;
+  placed = ap length c.args.self.unplaced;
+  capacity = refl;
+  looks = λ k below. absurd (omega arith);
+}
+
+pub returns-clause-roomy : goal.returns-clause-roomy
+returns-clause-roomy c = let board = c.args.self in subst (λ (z : ℕ × ℕ). z.1 - z.0 ≤ vec_capacity board.room) (λ i. (sym board.first i, sym board.last i)) board.roomy
