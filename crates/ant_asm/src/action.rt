@@ -1,5 +1,6 @@
 // Instructions with labels for states.
 use brain_read::{Cond, Side, Sight};
+use std::alloc::AllocError;
 
 /// A label of an item in its body: what follows the item, a place of the body, from 0 to its length, or the parameter of this number.
 #[derive(Clone, Copy)]
@@ -10,7 +11,7 @@ pub enum Label {
 }
 
 /// An instruction with an `L` for each state (the task's neurology; labels are this project's own).
-#[derive(Clone, Copy)]
+#[derive(Copy)]
 pub enum Action<L> {
     Sense {
         sight: Sight,
@@ -46,4 +47,11 @@ pub enum Action<L> {
         met: L,
         unmet: L,
     },
+}
+
+// By hand, since a copy has no ways out: a derived one clones part by part, and may find no memory at each.
+impl<L: Copy> Clone for Action<L> {
+    fn clone(&self) -> Result<Self, AllocError> {
+        Ok(*self)
+    }
 }

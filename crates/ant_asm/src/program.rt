@@ -200,20 +200,30 @@ impl<'t> Program<'t> {
         ensures into { OnOk result (IsReadInto (program_seen self.old) number Ends (program_seen self.new)) }
         ensures fault { IfErr result (λ fault. FailsWith fault (place_fault (program_seen self.old) number Ends)) }
     {
-        let Some(outer) = self.outer.take() else {
+        let Some(outer) = &self.outer else {
             return Err(AsmFault::Misplaced { line: number });
         };
         if self.current.items.is_empty() {
             return Err(AsmFault::EmptyBlock { line: number });
         }
+        let name = outer.name;
         let unknown = first_unknown(&self.current);
         let body = close_body(alloc, &self.current)?;
         let block = self.bodies.len();
-        self.blocks.insert(outer.name, block)?;
         self.bodies.push(body)?;
-        self.current = outer.main;
+        self.blocks.insert(name, block)?;
         self.unknown = earlier(self.unknown, unknown);
+        self.leave_block();
         Ok(())
+    }
+
+    // Lines add to main again, where they added to a block.
+    fn leave_block(&mut self)
+        ensures { (outer : Outer) → self.old.outer ≡ Some outer → self.new ≡ record self.old { current = outer.main; outer = None } }
+    {
+        if let Some(outer) = self.outer.take() {
+            self.current = outer.main;
+        }
     }
 
     // The number of the block of this name that has ended.
@@ -286,32 +296,58 @@ fn earlier(line: Option<u32>, other: Option<u32>) -> Option<u32>
     }
 }
 
-// What is read of a text.
-fn read_program<'t>(alloc: Global, text: &'t [u8]) -> Result<Program<'t>, AsmFault>
-    requires { length text.now ≤ longest }
-    ensures good { IfOk result IsGoodProgram }
-    ensures read { IfOk result (λ program. reading nothing_yet (lines_with_tokens text.now) ≡ Ok (program_seen program)) }
-    ensures fault { IfErr result (λ fault. FailsAs fault (reading nothing_yet (lines_with_tokens text.now))) }
-{
-    let mut program = Program::new(alloc);
-    let mut number = 1;
-    for line in Lines::new(text) {
-        program.read(alloc, line, number)?;
-        number += 1;
-    }
-    Ok(program)
-}
-
 // The bodies of a text: its blocks, and main last.
 pub(crate) fn read_bodies(alloc: Global, text: &[u8]) -> Result<Vec<Body>, AsmFault>
     requires { length text.now ≤ longest }
     ensures bodies { IfOk result (λ bodies. AreBodiesOf text.now bodies.items) }
     ensures fault { IfErr result (FailsText text.now) }
 {
-    let mut program = read_program(alloc, text)?;
-    let main = main_of(alloc, &program)?;
+    let mut program = Program::new(alloc);
+    bodies_into(alloc, text, &mut program)
+}
+
+// The bodies of a text, which is read into a program that has nothing yet.
+fn bodies_into<'t>(
+    alloc: Global,
+    text: &'t [u8],
+    program: &mut Program<'t>,
+) -> Result<Vec<Body>, AsmFault>
+    requires short { length text.now ≤ longest }
+    requires nothing { program_seen program.old ≡ nothing_yet }
+    requires good { IsGoodProgram program.old }
+    ensures bodies { IfOk result (λ bodies. AreBodiesOf text.now bodies.items) }
+    ensures fault { IfErr result (FailsText text.now) }
+{
+    read_lines(alloc, text, program)?;
+    take_bodies(alloc, program)
+}
+
+// The lines of a text, which are read into a program that has nothing yet.
+fn read_lines<'t>(alloc: Global, text: &'t [u8], program: &mut Program<'t>) -> Result<(), AsmFault>
+    requires short { length text.now ≤ longest }
+    requires nothing { program_seen program.old ≡ nothing_yet }
+    requires good { IsGoodProgram program.old }
+    ensures good { OnOk result (IsGoodProgram program.new) }
+    ensures read { OnOk result (reading nothing_yet (lines_with_tokens text.now) ≡ Ok (program_seen program.new)) }
+    ensures fault { IfErr result (λ fault. FailsAs fault (reading nothing_yet (lines_with_tokens text.now))) }
+{
+    let mut number = 1;
+    for line in Lines::new(text) {
+        program.read(alloc, line, number)?;
+        number += 1;
+    }
+    Ok(())
+}
+
+// The bodies of a program whose lines were read: its blocks, and main last.
+fn take_bodies(alloc: Global, program: &mut Program) -> Result<Vec<Body>, AsmFault>
+    requires good { IsGoodProgram program.old }
+    ensures bodies { (text : List ℕ) → reading nothing_yet (lines_with_tokens text) ≡ Ok (program_seen program.old) → IfOk result (λ bodies. AreBodiesOf text bodies.items) }
+    ensures fault { (text : List ℕ) → reading nothing_yet (lines_with_tokens text) ≡ Ok (program_seen program.old) → IfErr result (FailsText text) }
+{
+    let main = main_of(alloc, program)?;
     program.bodies.push(main)?;
-    Ok(program.bodies)
+    Ok(mem::replace(&mut program.bodies, Vec::new(alloc)))
 }
 
 // Main, where no line is at fault and the text as a whole isn't.

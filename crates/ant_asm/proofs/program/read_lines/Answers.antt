@@ -2,7 +2,7 @@ use Rattle.std.proofs.Common.{sym, ap, ◌∙◌, subst}
 use Rattle.std.proofs.lemmas.Result.{err_from_is_err_and}
 use Rattle.ant_asm.specs.Inner.ProgramView.{FailsAs, program_seen, reading_from}
 use Rattle.ant_asm.proofs.ReadingLemmas.{reading_from-end, reading_from-start}
-use Rattle.ant_asm.proofs.program.read_program.Goals as goal
+use Rattle.ant_asm.proofs.program.read_lines.Goals as goal
 
 pub returns-in_err-read-clause-fault : goal.returns-in_err-read-clause-fault
 returns-in_err-read-clause-fault c =

@@ -1,5 +1,5 @@
 use Rattle.ant_asm.proofs.ReadingLemmas.{IsUnderway}
-use Rattle.ant_asm.proofs.program.read_program.Given as goal
+use Rattle.ant_asm.proofs.program.read_lines.Given as goal
 
 -- the lines before were read, and the others are still to be read
 abbrev pub invariant-loop-line : goal.invariant-loop-line
