@@ -25,5 +25,6 @@ pub mod ProgramLemmas
 pub mod Expansion
 pub mod HasAssembled
 pub mod OnAnswers
+pub mod MadeLists
 -- Worked values.
 pub mod Worked

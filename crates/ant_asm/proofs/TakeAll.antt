@@ -1,10 +1,13 @@
 -- Tokens that are taken one after another.
-use Rattle.std.proofs.Common.{◌≡◌, inl, inr, ℕ, zero, suc, true, false, List, [], ◌∷◌, ◌++◌, Ok, Err, refl, sym, ap, ◌∙◌, subst, ◌+◌, ◌-◌, ◌<◌, arith}
+use Rattle.std.proofs.Common.{◌≡◌, inl, inr, ℕ, zero, suc, true, false, List, [], ◌∷◌, ◌++◌, Ok, Err, refl, sym, ap, ◌∙◌, subst, ◌+◌, ◌-◌, ◌<◌, ◌≤◌, arith}
 use Rattle.line_tokens.specs.Tokens.{has_token}
+use Rattle.std.proofs.lemmas.List.{append-nil}
+use Rattle.line_tokens.specs.declared.refusal.Refusal.{Refusal}
+use Rattle.line_tokens.specs.Steps as brain
 use Rattle.line_tokens.specs.Steps.{take_end}
 use Rattle.ant_asm.specs.declared.spelling.SpellingFault.{SpellingFault}
 use Rattle.ant_asm.specs.declared.spelling.SpellingFault.TheVariants.{MissingToken}
-use Rattle.ant_asm.specs.Inner.Reading.{Read, Step, ◌>>=◌, all_read, lifted, put_before, take_all, take_token, with_rest}
+use Rattle.ant_asm.specs.Inner.Reading.{Read, Step, ◌>>=◌, all_read, lifted, put_before, spelling_of, take_all, take_token, with_rest}
 use Rattle.ant_asm.specs.Inner.ReadLine.{StopsAs, all_before}
 
 module _ {A : Type 0} (read : List ℕ → Read A) (front : List A) where
@@ -59,3 +62,24 @@ stops-same made other fault same stops = subst (λ (m : Step (List _)). StopsAs 
 -- how many are left
 pub left-one : (k : ℕ) → k < 8 → suc (8 - (k + 1)) ≡ 8 - k
 left-one k inside = omega (arith, inside)
+
+-- no token is taken any more, and the line ends or doesn't
+module _ {A : Type 0} (read : List ℕ → Read A) (front : List A) (k : ℕ) (left tokens : List (List ℕ)) (done : 8 ≤ k) (before : all_before front (take_all read (8 - k) left) ≡ take_all read 8 tokens) where
+  all-taken : take_all read 8 tokens ≡ Ok (front, left)
+  all-taken =
+      sym before
+      ∙ ap (λ (n : ℕ). all_before front (take_all read n left)) (none-left k done)
+      ∙ ap (λ (l : List A). Ok (l, left)) (append-nil front)
+    where
+      none-left : (k : ℕ) → 8 ≤ k → 8 - k ≡ 0
+      none-left k done = omega (arith, done)
+
+  pub all-ends : (end : Unit {0} × List (List ℕ)) → take_end left ≡ Ok end → all_read read 8 tokens ≡ Ok front
+  all-ends end is =
+      ap (λ (m : Step (List A)). m >>= (λ others. lifted (take_end others.1) >>= (λ end. Ok others.0))) all-taken
+      ∙ ap (λ (m : brain.Step (Unit {0})). lifted m >>= (λ end. Ok front)) is
+
+  pub all-goes-on : (refusal : Refusal) → take_end left ≡ Err refusal → all_read read 8 tokens ≡ Err (spelling_of refusal)
+  all-goes-on refusal is =
+      ap (λ (m : Step (List A)). m >>= (λ others. lifted (take_end others.1) >>= (λ end. Ok others.0))) all-taken
+      ∙ ap (λ (m : brain.Step (Unit {0})). lifted m >>= (λ end. Ok front)) is
