@@ -6,17 +6,18 @@ ghost use Rattle.ant_asm.specs.Standing.{item_size, labels_in, mark_fault, size_
 ghost use Rattle.ant_asm.specs.declared.body.Body.{Body};
 ghost use Rattle.ant_asm.specs.Inner.Scopes.{known_as};
 ghost use Rattle.ant_asm.specs.Inner.Reading.{seen};
-ghost use Rattle.ant_asm.specs.Inner.ReadLine.{labels_seen};
-ghost use Rattle.ant_asm.specs.Inner.View.{FailsWith, IsClosedAs, IsGoodOpen, flat_kind, flat_of, flat_resolved, kind_seen, open_seen, open_items, start_of, IsGoodKind};
+ghost use Rattle.ant_asm.specs.Inner.ReadLine.{labels_seen, names_seen};
+ghost use Rattle.ant_asm.specs.Inner.View.{FailsWith, IsClosedAs, IsGoodOpen, IsNew, flat_kind, flat_of, flat_resolved, kind_seen, open_seen, open_items, start_of, IsGoodKind};
 ghost use Rattle.ant_asm.specs.Inner.Flat.{most};
 
 use crate::action::{Action, Label};
 use crate::body::{Body, Item};
 use crate::fault::AsmFault;
-use crate::scope::{Names, add_name, is_unknown, meaning_of, resolve, way_or_next};
+use crate::scope::{Names, add_name, add_parameters, is_unknown, meaning_of, resolve, way_or_next};
 use crate::spelling::Source;
 use brain_read::MOST_STATES;
 use hex_geometry::OutOfMemory;
+use indexmap::IndexMap;
 use std::alloc::Global;
 
 /// An item by names: an instruction, or the block of this number put in place.
@@ -48,6 +49,33 @@ pub struct OpenBody<'t> {
 }
 
 impl<'t> OpenBody<'t> {
+    // A body with so many parameters, which have no names yet, and nothing else.
+    pub(crate) fn new(alloc: Global, parameters: usize) -> Self
+        ensures count { result.parameters ≡ parameters }
+        ensures unnamed { result.names.entries ≡ [] }
+        ensures empty { result.items.items ≡ [] }
+        ensures none { result.size ≡ 0 }
+    {
+        OpenBody {
+            parameters,
+            names: IndexMap::new(alloc),
+            items: Vec::new(alloc),
+            size: 0,
+        }
+    }
+
+    // The names of its parameters, where it has nothing else.
+    pub(crate) fn name_parameters(&mut self, parameters: &[&'t [u8]]) -> Result<(), OutOfMemory>
+        requires few { length parameters.now ≤ 8 }
+        requires count { self.old.parameters ≡ length parameters.now }
+        requires unnamed { self.old.names.entries ≡ [] }
+        requires empty { self.old.items.items ≡ [] }
+        requires none { self.old.size ≡ 0 }
+        ensures { OnOk result (IsNew (names_seen parameters.now) self.new) }
+    {
+        add_parameters(&mut self.names, parameters)
+    }
+
     // The item that follows is named so.
     pub(crate) fn mark(&mut self, name: &'t [u8], line: u32) -> Result<(), AsmFault>
         requires few { length self.old.items.items ≤ most }

@@ -15,17 +15,15 @@ ghost use Rattle.ant_asm.specs.Inner.Reading.{seen};
 ghost use Rattle.ant_asm.specs.Inner.ReadLine.{labels_seen, line_seen, names_seen};
 ghost use Rattle.ant_asm.specs.Inner.Scopes.{known_as};
 ghost use Rattle.ant_asm.specs.Inner.ProgramView.{AreBodiesOf, FailsAs, FailsText, IsGoodProgram, IsReadInto, program_seen, reading, reading_from};
-ghost use Rattle.ant_asm.specs.Inner.View.{FailsWith, IsClosedAs, IsNew};
+ghost use Rattle.ant_asm.specs.Inner.View.{FailsWith, IsClosedAs};
 
 use crate::action::Action;
 use crate::body::Body;
 use crate::fault::AsmFault;
 use crate::line::{Line, read_line};
 use crate::open::{OpenBody, OpenKind, close_body, first_unknown};
-use crate::scope::parameter_names;
 use crate::spelling::Source;
 use ant_base::Lines;
-use hex_geometry::OutOfMemory;
 use indexmap::IndexMap;
 use line_tokens::Tokens;
 use std::alloc::Global;
@@ -59,14 +57,8 @@ impl<'t> Program<'t> {
         ensures is { program_seen result ≡ nothing_yet }
         ensures good { IsGoodProgram result }
     {
-        let current = OpenBody {
-            parameters: 0,
-            names: IndexMap::new(alloc),
-            items: Vec::new(alloc),
-            size: 0,
-        };
         Program {
-            current,
+            current: OpenBody::new(alloc, 0),
             outer: None,
             bodies: Vec::new(alloc),
             blocks: IndexMap::new(alloc),
@@ -183,13 +175,14 @@ impl<'t> Program<'t> {
         if self.bodies.len() >= MOST_BLOCKS {
             return Err(AsmFault::TooMany { line: number });
         }
-        let block = new_body(alloc, parameters)?;
+        let block = OpenBody::new(alloc, parameters.len());
         let main = mem::replace(&mut self.current, block);
         self.outer = Some(Outer {
             main,
             name,
             line: number,
         });
+        self.current.name_parameters(parameters)?;
         Ok(())
     }
 
@@ -243,20 +236,6 @@ impl<'t> Program<'t> {
         let body = &self.bodies[block];
         body.starts[body.items.as_slice().len()] as usize
     }
-}
-
-// A body with these parameters and nothing else.
-fn new_body<'t>(alloc: Global, parameters: &[&'t [u8]]) -> Result<OpenBody<'t>, OutOfMemory>
-    requires few { length parameters.now ≤ 8 }
-    ensures { IfOk result (IsNew (names_seen parameters.now)) }
-{
-    let names = parameter_names(alloc, parameters)?;
-    Ok(OpenBody {
-        parameters: parameters.len(),
-        names,
-        items: Vec::new(alloc),
-        size: 0,
-    })
 }
 
 // Whether a name is there twice.

@@ -1,5 +1,5 @@
 // What the names of a body stand for.
-ghost use Rattle.std.specs.Prelude.{◌≡◌, ◌≤◌, length, is_none, OnOk, IfOk};
+ghost use Rattle.std.specs.Prelude.{◌≡◌, ◌≤◌, [], length, is_none, OnOk};
 ghost use Rattle.ant_asm.specs.Inner.Reading.{seen};
 ghost use Rattle.ant_asm.specs.Inner.ReadLine.{names_seen};
 ghost use Rattle.ant_asm.specs.Inner.Scopes.{known_as};
@@ -9,7 +9,6 @@ use crate::action::{Action, Label};
 use crate::spelling::Source;
 use hex_geometry::OutOfMemory;
 use indexmap::IndexMap;
-use std::alloc::Global;
 
 /// What each name of a body stands for.
 pub type Names<'t> = IndexMap<&'t [u8], Label>;
@@ -96,17 +95,17 @@ pub(crate) fn resolve(names: &Names, action: Action<Source>) -> Action<Label>
     }
 }
 
-// What the parameters of a body stand for.
-pub(crate) fn parameter_names<'t>(
-    alloc: Global,
+// The names of parameters, where there is no other.
+pub(crate) fn add_parameters<'t>(
+    names: &mut Names<'t>,
     parameters: &[&'t [u8]],
-) -> Result<Names<'t>, OutOfMemory>
+) -> Result<(), OutOfMemory>
     requires few { length parameters.now ≤ 8 }
-    ensures { IfOk result (λ names. known_as names.entries ≡ parameter_names 0 (names_seen parameters.now)) }
+    requires unnamed { names.old.entries ≡ [] }
+    ensures { OnOk result (known_as names.new.entries ≡ parameter_names 0 (names_seen parameters.now)) }
 {
-    let mut names = IndexMap::new(alloc);
     for i in (0..parameters.len()).rev() {
-        add_name(&mut names, parameters[i], Label::Parameter(i as u32))?;
+        add_name(names, parameters[i], Label::Parameter(i as u32))?;
     }
-    Ok(names)
+    Ok(())
 }

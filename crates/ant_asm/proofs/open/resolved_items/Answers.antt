@@ -13,7 +13,7 @@ loop-item-init c =
 
 pub loop-item-preserved : goal.loop-item-preserved
 loop-item-preserved c =
-    made-more (flat_resolved (way_or_next (known_as c.args.names.now.entries))) c.args.items.now (map flat_of c.loop-item.made.items) c.loop-item.item-index c.item-item.result (map flat_of c.push.new.self.items) c.loop-item-test.true c.item-item.is
+    made-more (flat_resolved (way_or_next (known_as c.args.names.now.entries))) c.args.items.now (map flat_of c.loop-item.made.items) c.loop-item.item-index c.item-item.result c.item-item.result (map flat_of c.push.new.self.items) c.loop-item-test.true c.item-item.is
     (ap (λ (l : List Item). map flat_of l) c.in_ok-push.ensures.items
     ∙ map-append flat_of c.loop-item.made.items (c.in_ok-one.one ∷ [])
     ∙ ap (λ (flat : Flat). map flat_of c.loop-item.made.items ++ flat ∷ []) c.in_ok-one.ensures)

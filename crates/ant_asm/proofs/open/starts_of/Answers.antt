@@ -8,7 +8,7 @@ loop-item-init c = made-none start_of c.args.items.now c.in_ok-starts.starts.ite
 
 pub loop-item-preserved : goal.loop-item-preserved
 loop-item-preserved c =
-    made-more start_of c.args.items.now c.loop-item.starts.items c.loop-item.item-index c.item-item.result c.push.new.self.items c.loop-item-test.true c.item-item.is c.in_ok-push.ensures.items c.loop-item.invariant
+    made-more start_of c.args.items.now c.loop-item.starts.items c.loop-item.item-index c.item-item.result c.item-item.result c.push.new.self.items c.loop-item-test.true c.item-item.is c.in_ok-push.ensures.items c.loop-item.invariant
 
 pub returns : goal.returns
 returns c =
