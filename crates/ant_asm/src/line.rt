@@ -2,10 +2,11 @@
 ghost use Rattle.std.specs.Prelude.{◌≡◌, ℕ, suc, None, OnOk, IfErr};
 ghost use Rattle.word_table.specs.Words.{word_place};
 ghost use Rattle.brain_read.specs.Forms.{form_words};
-ghost use Rattle.ant_asm.specs.Lines.Line.{Begins, Ends, Uses};
+ghost use Rattle.ant_asm.specs.Lines.Line.{Begins, Ends, Instructs, Uses};
 ghost use Rattle.ant_asm.specs.Lines.{most_parameters};
 ghost use Rattle.ant_asm.specs.Inner.Reading as reading;
-ghost use Rattle.ant_asm.specs.Inner.Reading.{all_read, good_token, keyword_words, read_branches, read_by, read_drop, read_flip, read_form, read_keyword, read_label, read_line, read_mark, read_marked, read_name, read_named, read_sense, read_turn, take_all};
+ghost use Rattle.ant_asm.specs.Standing.{mapped};
+ghost use Rattle.ant_asm.specs.Inner.Reading.{all_read, good_token, keyword_words, read_branches, read_by, read_drop, read_flip, read_form, read_keyword, read_label, read_line, read_mark, read_marked, read_name, read_named, read_sense, read_turn, seen, take_all};
 ghost use Rattle.ant_asm.specs.Inner.ReadLine.{Reads, ReadsAs, StopsAs, all_before, action_read, keyword_seen, labels_seen, names_seen};
 ghost use Rattle.ant_asm.specs.declared.action.Action.TheVariants.{Mark, Unmark, PickUp, Move};
 
@@ -125,6 +126,17 @@ fn instruction<'t>(form: Form, tokens: &mut Tokens<'t>) -> Result<Action<Source<
     }
 }
 
+// An instruction, where no token is left.
+fn ended<'t>(
+    tokens: &mut Tokens<'t>,
+    action: Action<Source<'t>>,
+) -> Result<Action<Source<'t>>, SpellingFault>
+    ensures { reading.ending (Instructs (mapped seen action.entry)) tokens.old ≡ action_read result }
+{
+    tokens.end()?;
+    Ok(action)
+}
+
 #[tactic(auto, unfolding(crate::specs::Inner::Reading::read_sense))]
 fn sense<'t>(tokens: &mut Tokens<'t>) -> Result<Action<Source<'t>>, SpellingFault>
     ensures { read_sense tokens.old ≡ action_read result }
@@ -133,13 +145,13 @@ fn sense<'t>(tokens: &mut Tokens<'t>) -> Result<Action<Source<'t>>, SpellingFaul
     let met = label(tokens)?;
     let unmet = label(tokens)?;
     let cond = condition(tokens)?;
-    tokens.end()?;
-    Ok(Action::Sense {
+    let action = Action::Sense {
         sight,
         met,
         unmet,
         cond,
-    })
+    };
+    ended(tokens, action)
 }
 
 #[tactic(auto, unfolding(crate::specs::Inner::Reading::read_marked))]
@@ -148,8 +160,7 @@ fn mark<'t>(tokens: &mut Tokens<'t>) -> Result<Action<Source<'t>>, SpellingFault
 {
     let mark = marker(tokens)?;
     let on = label(tokens)?;
-    tokens.end()?;
-    Ok(Action::Mark { mark, on })
+    ended(tokens, Action::Mark { mark, on })
 }
 
 #[tactic(auto, unfolding(crate::specs::Inner::Reading::read_marked))]
@@ -158,8 +169,7 @@ fn unmark<'t>(tokens: &mut Tokens<'t>) -> Result<Action<Source<'t>>, SpellingFau
 {
     let mark = marker(tokens)?;
     let on = label(tokens)?;
-    tokens.end()?;
-    Ok(Action::Unmark { mark, on })
+    ended(tokens, Action::Unmark { mark, on })
 }
 
 #[tactic(auto, unfolding(crate::specs::Inner::Reading::read_branches))]
@@ -168,8 +178,7 @@ fn pick_up<'t>(tokens: &mut Tokens<'t>) -> Result<Action<Source<'t>>, SpellingFa
 {
     let met = label(tokens)?;
     let unmet = label(tokens)?;
-    tokens.end()?;
-    Ok(Action::PickUp { met, unmet })
+    ended(tokens, Action::PickUp { met, unmet })
 }
 
 #[tactic(auto, unfolding(crate::specs::Inner::Reading::read_drop))]
@@ -177,8 +186,7 @@ fn drop_food<'t>(tokens: &mut Tokens<'t>) -> Result<Action<Source<'t>>, Spelling
     ensures { read_drop tokens.old ≡ action_read result }
 {
     let on = label(tokens)?;
-    tokens.end()?;
-    Ok(Action::Drop { on })
+    ended(tokens, Action::Drop { on })
 }
 
 #[tactic(auto, unfolding(crate::specs::Inner::Reading::read_turn))]
@@ -187,8 +195,7 @@ fn turn<'t>(tokens: &mut Tokens<'t>) -> Result<Action<Source<'t>>, SpellingFault
 {
     let side = side(tokens)?;
     let on = label(tokens)?;
-    tokens.end()?;
-    Ok(Action::Turn { side, on })
+    ended(tokens, Action::Turn { side, on })
 }
 
 #[tactic(auto, unfolding(crate::specs::Inner::Reading::read_branches))]
@@ -197,8 +204,7 @@ fn step<'t>(tokens: &mut Tokens<'t>) -> Result<Action<Source<'t>>, SpellingFault
 {
     let met = label(tokens)?;
     let unmet = label(tokens)?;
-    tokens.end()?;
-    Ok(Action::Move { met, unmet })
+    ended(tokens, Action::Move { met, unmet })
 }
 
 #[tactic(auto, unfolding(crate::specs::Inner::Reading::read_flip))]
@@ -208,8 +214,7 @@ fn flip<'t>(tokens: &mut Tokens<'t>) -> Result<Action<Source<'t>>, SpellingFault
     let bound = bound(tokens)?;
     let met = label(tokens)?;
     let unmet = label(tokens)?;
-    tokens.end()?;
-    Ok(Action::Flip { bound, met, unmet })
+    ended(tokens, Action::Flip { bound, met, unmet })
 }
 
 // The line of a keyword, from the tokens after it.
