@@ -30,7 +30,7 @@ use Rattle.ant_turn.proofs.FitLemmas.{Fits-opening}
 use Rattle.ant_turn.proofs.RenumberLemmas.{after, place_in-renumbered}
 use Rattle.ant_asm.specs.declared.action.Label.{Label}
 use Rattle.ant_asm.specs.Program.{Items}
-use Rattle.ant_asm.specs.Places.{Address, Placed, beginning, placed, places}
+use Rattle.ant_asm.specs.Places.{Address, Placed, beginning, placed}
 use Rattle.ant_asm.specs.LabelGame.{LabelMoment, address_acted, address_at, address_from, bare_instruction, instruction_by, label_outcome, label_rounds, label_start, label_taken, label_turn, label_turns, with_address}
 use Rattle.ant_asm.specs.Assembled.{IsAssembled, number_in}
 use Rattle.ant_asm.specs.Match.{label_game, numbered_ant, numbered_cell, numbered_moment}

@@ -15,7 +15,7 @@ use Rattle.ant_random.specs.Stream.{drawn}
 use Rattle.ant_turn.specs.Conditions.{meets}
 use Rattle.ant_turn.specs.Minds.{Minds, mind_of}
 use Rattle.ant_turn.specs.Renumber.{redirected, renumbered_ant, renumbered_cells, renumbered_world, with_mind}
-use Rattle.ant_turn.specs.Turn.{has_ant, instruction_at, is_blocked, turn}
+use Rattle.ant_turn.specs.Turn.{instruction_at, is_blocked, turn}
 use Rattle.ant_turn.proofs.OtherAnts.{has_ant-mapped}
 use Rattle.ant_turn.proofs.RenumberLemmas.{after, meets-renumbered}
 use Rattle.ant_turn.proofs.RenumberedTurns.{redirected-self, turn-alike, with_mind-sheet}

@@ -130,13 +130,13 @@ pub(crate) fn expand(
                 emit(alloc, spot, *action, out)?;
             }
             Item::Use { block, handed } => {
+                out.path.push(place as u32)?;
                 let given = handed_numbers(alloc, spot, handed.as_slice())?;
                 let inner = Frame {
                     base: frame.base + body.starts[place],
                     after: number_first(bodies, number, frame, place + 1),
                     given: given.as_slice(),
                 };
-                out.path.push(place as u32)?;
                 expand(alloc, bodies, *block, inner, out)?;
                 leave(&mut out.path);
             }
@@ -159,9 +159,9 @@ fn emit(
     ensures places { OnOk result (out.new.places.items ≡ out.old.places.items ++ (out.old.path.items ++ spot.entry.place ∷ []) ∷ []) }
     ensures path { OnOk result (out.new.path.items ≡ out.old.path.items) }
 {
-    let address = with_place(alloc, out.path.as_slice(), spot.place)?;
     let instruction = numbered_at(spot, action);
     out.list.push(instruction)?;
+    let address = with_place(alloc, out.path.as_slice(), spot.place)?;
     out.places.push(address)?;
     Ok(())
 }

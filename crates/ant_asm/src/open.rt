@@ -243,8 +243,8 @@ pub(crate) fn close_body(alloc: Global, draft: &OpenBody) -> Result<Body, OutOfM
     requires small { draft.now.size ≤ most }
     ensures { IfOk result (IsClosedAs draft.now) }
 {
-    let items = resolved_items(alloc, &draft.names, draft.items.as_slice())?;
     let starts = starts_of(alloc, draft.items.as_slice(), draft.size)?;
+    let items = resolved_items(alloc, &draft.names, draft.items.as_slice())?;
     Ok(Body {
         parameters: draft.parameters,
         items,

@@ -9,7 +9,7 @@ use Rattle.ant_asm.specs.Program.{from_place, size_of}
 use Rattle.ant_asm.specs.Inner.Emission.{Numbers, emitted, number_first, number_target, offset}
 use Rattle.ant_asm.specs.Inner.Flat.{IsGoodAction, IsGoodItem, IsGoodLabel, numbers_of, tree_at, trees_of}
 use Rattle.ant_asm.proofs.FlatLemmas.{IsUnderway, at_item, body_end, item_good, item_short, item_start, item_tree, of_body, same_numbers, start_inside, underway_do, underway_end, underway_use, use_fits, use_good, with_item}
-use Rattle.ant_asm.proofs.expand.+expand.Goals.{in-Do+in_ok-emit-in-Do, in-Use+in_ok-given-in-Use+in_ok-push-in-Use+in_ok-expand-in-Use}
+use Rattle.ant_asm.proofs.expand.+expand.Goals.{in-Do+in_ok-emit-in-Do, in-Use+in_ok-push-in-Use+in_ok-given-in-Use+in_ok-expand-in-Use}
 use Rattle.ant_asm.proofs.expand.+expand.Goals as goal
 
 pub emit-requires-clause-spot : goal.emit-requires-clause-spot
@@ -114,7 +114,7 @@ loop-place-preserved t c =
             c.loop-place.invariant.0,
         ap (λ (o : Expansion). o.path.items) w.out-is ∙ w.in_ok-emit-in-Do.ensures.path ∙ same,
       )
-      | in-Use+in_ok-given-in-Use+in_ok-push-in-Use+in_ok-expand-in-Use w ↦ (
+      | in-Use+in_ok-push-in-Use+in_ok-given-in-Use+in_ok-expand-in-Use w ↦ (
         underway_use tree numbers path k c.loop-place.out.list.items c.args.out.now.list.items c.loop-place.out.places.items c.args.out.now.places.items
             w.in-Use.handed.items (tree_at c.args.bodies.now w.in-Use.block)
             (item_tree a ∙ ap (λ (i : Item). with_item (trees_of c.args.bodies.now) i (from_place (suc k) tree)) w.in-Use.is) out.list.items out.places.items

@@ -1,4 +1,4 @@
-use Rattle.std.proofs.Common.{ℕ, List, ◌∷◌, ◌++◌, [], get_or, ap, ◌∙◌, refl}
+use Rattle.std.proofs.Common.{ℕ, ◌∷◌, ◌++◌, [], get_or, ap, ◌∙◌, refl}
 use Rattle.ant_asm.specs.declared.action.Label.{Label}
 use Rattle.ant_asm.specs.Inner.Flat.{number_led}
 use Rattle.ant_asm.proofs.MadeLists.{made-all, made-more, made-none}

@@ -1,4 +1,4 @@
-use Rattle.std.proofs.Common.{List, ◌∷◌, ◌++◌, [], get_or, ap, ◌∙◌, refl}
+use Rattle.std.proofs.Common.{◌∷◌, ◌++◌, [], get_or, ap, ◌∙◌, refl}
 use Rattle.ant_asm.specs.declared.action.Label.{Label}
 use Rattle.ant_asm.specs.declared.spelling.Source.{Source}
 use Rattle.ant_asm.specs.Standing.{way_or_next}
