@@ -1,3 +1,4 @@
 pub mod Cups
 pub mod Plans
 pub mod Reading
+pub mod Words

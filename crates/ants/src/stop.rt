@@ -2,6 +2,7 @@
 ghost use Rattle.std.specs.Prelude.{◌≡◌};
 ghost use Rattle.ants.specs.FaultLines.{file_fault_text, brain_fault_text, break_fault_text, labelled_fault_text, world_fault_text, ending_by, plain_ending, reason_of, reason_text, fault_line, status_of, save_fault_text};
 ghost use Rattle.ants.specs.Inner.Reading.{ending_of};
+ghost use Rattle.ants.specs.Inner.Words.{text_of_words};
 
 use crate::status::Status;
 use ant_asm::AsmFault;
@@ -14,7 +15,7 @@ use std::alloc::AllocFailed;
 use world_read::WorldFault;
 
 /// Why a file was refused.
-#[derive(Clone, Copy, Debug, PartialEq, Eq)]
+#[derive(Clone, Copy)]
 pub enum FileFault {
     /// It has more than 4,194,304 bytes.
     TooLong,
@@ -33,7 +34,7 @@ pub enum FileFault {
 }
 
 /// Why a command stopped before its whole text was written.
-#[derive(Clone, Copy, Debug)]
+#[derive(Clone, Copy)]
 pub enum CommandStop<'w> {
     /// The file of this name was not read.
     Read(&'w str),
@@ -48,7 +49,7 @@ pub enum CommandStop<'w> {
 }
 
 /// How a run of the program ended.
-#[derive(Clone, Copy, Debug)]
+#[derive(Clone, Copy)]
 pub enum Ended<'w> {
     /// The whole text was written.
     Done,
@@ -113,153 +114,145 @@ impl From<PlayFault> for CommandStop<'_> {
     }
 }
 
+/// What a file's fault says: words alone, or words with numbers.
 #[derive(Clone, Copy)]
-struct WorldWords(WorldFault);
+pub enum FaultWords {
+    /// These words.
+    Alone(&'static str),
+    /// The number of a line, and these words.
+    AtLine(u32, &'static str),
+    /// The number of a row, and these words.
+    AtRow(u16, &'static str),
+    /// A bad cell in this row and column.
+    BadCell(u16, u16),
+    /// A rim that is open at this place.
+    OpenRim(u16, u16),
+    /// Too many ants, this many.
+    TooManyAnts(u32),
+    /// A line that names a state which isn't there.
+    NoSuchState(u32, u64),
+    /// A save that is at this round already.
+    AlreadyAt(u32),
+}
 
-impl Layout for WorldWords {
-    ghost text = { λ words. world_fault_text words.0 };
+impl Layout for FaultWords {
+    ghost use Rattle.ants.specs.Inner.Words.{text_of_words};
+
+    ghost text = { text_of_words };
 
     fn push_to<K: Sink>(&self, sink: &mut K) -> Result<(), Failed> {
-        match self.0 {
-            WorldFault::BadWidth => "bad width".push_to(sink),
-            WorldFault::BadHeight => "bad height".push_to(sink),
-            WorldFault::MissingRow { row } => layout!("row ", row, ": missing").push_to(sink),
-            WorldFault::BadCell { row, column } => {
+        match *self {
+            FaultWords::Alone(words) => words.push_to(sink),
+            FaultWords::AtLine(line, words) => layout!("line ", line, words).push_to(sink),
+            FaultWords::AtRow(row, words) => layout!("row ", row, words).push_to(sink),
+            FaultWords::BadCell(row, column) => {
                 layout!("row ", row, ": bad cell at column ", column).push_to(sink)
             }
-            WorldFault::ShortRow { row } => layout!("row ", row, ": short").push_to(sink),
-            WorldFault::LongRow { row } => layout!("row ", row, ": long").push_to(sink),
-            WorldFault::ExtraRow => "extra row".push_to(sink),
-            WorldFault::OpenRim { x, y } => layout!("rim open at (", x, ", ", y, ")").push_to(sink),
-            WorldFault::TooManyAnts { count } => layout!("too many ants, ", count).push_to(sink),
-            WorldFault::OutOfMemory => "out of memory".push_to(sink),
-        }
-    }
-}
-
-#[derive(Clone, Copy)]
-struct BrainWords(BrainFault);
-
-impl Layout for BrainWords {
-    ghost text = { λ words. brain_fault_text words.0 };
-
-    fn push_to<K: Sink>(&self, sink: &mut K) -> Result<(), Failed> {
-        match self.0 {
-            BrainFault::BadByte { line } => layout!("line ", line, ": bad byte").push_to(sink),
-            BrainFault::UnknownWord { line } => layout!("line ", line, ": unknown word").push_to(
-                sink,
-            ),
-            BrainFault::MissingToken { line } => layout!("line ", line, ": missing token").push_to(
-                sink,
-            ),
-            BrainFault::BadNumber { line } => layout!("line ", line, ": bad number").push_to(sink),
-            BrainFault::ExtraToken { line } => layout!("line ", line, ": extra token").push_to(
-                sink,
-            ),
-            BrainFault::TooMany { line } => {
-                layout!("line ", line, ": too many instructions").push_to(sink)
-            }
-            BrainFault::Empty => "no instruction".push_to(sink),
-            BrainFault::NoSuchState { line, state } => {
+            FaultWords::OpenRim(x, y) => layout!("rim open at (", x, ", ", y, ")").push_to(sink),
+            FaultWords::TooManyAnts(count) => layout!("too many ants, ", count).push_to(sink),
+            FaultWords::NoSuchState(line, state) => {
                 layout!("line ", line, ": no such state ", state).push_to(sink)
             }
-            BrainFault::OutOfMemory => "out of memory".push_to(sink),
+            FaultWords::AlreadyAt(round) => layout!("already at round ", round).push_to(sink),
         }
     }
 }
 
-#[derive(Clone, Copy)]
-struct BreakWords(BreakFault);
-
-impl Layout for BreakWords {
-    ghost text = { λ words. break_fault_text words.0 };
-
-    fn push_to<K: Sink>(&self, sink: &mut K) -> Result<(), Failed> {
-        match self.0 {
-            BreakFault::UnknownWord { line } => layout!("line ", line, ": unknown word").push_to(
-                sink,
-            ),
-            BreakFault::MissingToken { line } => layout!("line ", line, ": missing token").push_to(
-                sink,
-            ),
-            BreakFault::BadNumber { line } => layout!("line ", line, ": bad number").push_to(sink),
-            BreakFault::ExtraToken { line } => layout!("line ", line, ": extra token").push_to(
-                sink,
-            ),
-            BreakFault::TooMany { line } => {
-                layout!("line ", line, ": too many breaks").push_to(sink)
-            }
-            BreakFault::OutOfMemory => "out of memory".push_to(sink),
-        }
+// What a world's fault says.
+fn world_words(fault: WorldFault) -> FaultWords
+    ensures { text_of_words result ≡ world_fault_text fault }
+{
+    match fault {
+        WorldFault::BadWidth => FaultWords::Alone("bad width"),
+        WorldFault::BadHeight => FaultWords::Alone("bad height"),
+        WorldFault::MissingRow { row } => FaultWords::AtRow(row, ": missing"),
+        WorldFault::BadCell { row, column } => FaultWords::BadCell(row, column),
+        WorldFault::ShortRow { row } => FaultWords::AtRow(row, ": short"),
+        WorldFault::LongRow { row } => FaultWords::AtRow(row, ": long"),
+        WorldFault::ExtraRow => FaultWords::Alone("extra row"),
+        WorldFault::OpenRim { x, y } => FaultWords::OpenRim(x, y),
+        WorldFault::TooManyAnts { count } => FaultWords::TooManyAnts(count),
+        WorldFault::OutOfMemory => FaultWords::Alone("out of memory"),
     }
 }
 
-#[derive(Clone, Copy)]
-struct LabelledWords(AsmFault);
-
-impl Layout for LabelledWords {
-    ghost text = { λ words. labelled_fault_text words.0 };
-
-    fn push_to<K: Sink>(&self, sink: &mut K) -> Result<(), Failed> {
-        match self.0 {
-            AsmFault::BadByte { line } => layout!("line ", line, ": bad byte").push_to(sink),
-            AsmFault::UnknownWord { line } => layout!("line ", line, ": unknown word").push_to(
-                sink,
-            ),
-            AsmFault::MissingToken { line } => layout!("line ", line, ": missing token").push_to(
-                sink,
-            ),
-            AsmFault::BadNumber { line } => layout!("line ", line, ": bad number").push_to(sink),
-            AsmFault::ExtraToken { line } => layout!("line ", line, ": extra token").push_to(sink),
-            AsmFault::BadName { line } => layout!("line ", line, ": bad name").push_to(sink),
-            AsmFault::Misplaced { line } => layout!("line ", line, ": misplaced").push_to(sink),
-            AsmFault::Twice { line } => layout!("line ", line, ": name taken").push_to(sink),
-            AsmFault::NoBlock { line } => layout!("line ", line, ": no such block").push_to(sink),
-            AsmFault::WrongCount { line } => layout!(
-                "line ",
-                line,
-                ": wrong number of labels"
-            ).push_to(sink),
-            AsmFault::TooMany { line } => layout!("line ", line, ": too many").push_to(sink),
-            AsmFault::EmptyBlock { line } => layout!("line ", line, ": empty block").push_to(sink),
-            AsmFault::Empty => "no instruction".push_to(sink),
-            AsmFault::NoLabel { line } => layout!("line ", line, ": no such label").push_to(sink),
-            AsmFault::OutOfMemory => "out of memory".push_to(sink),
-        }
+// What a brain's fault says.
+fn brain_words(fault: BrainFault) -> FaultWords
+    ensures { text_of_words result ≡ brain_fault_text fault }
+{
+    match fault {
+        BrainFault::BadByte { line } => FaultWords::AtLine(line, ": bad byte"),
+        BrainFault::UnknownWord { line } => FaultWords::AtLine(line, ": unknown word"),
+        BrainFault::MissingToken { line } => FaultWords::AtLine(line, ": missing token"),
+        BrainFault::BadNumber { line } => FaultWords::AtLine(line, ": bad number"),
+        BrainFault::ExtraToken { line } => FaultWords::AtLine(line, ": extra token"),
+        BrainFault::TooMany { line } => FaultWords::AtLine(line, ": too many instructions"),
+        BrainFault::Empty => FaultWords::Alone("no instruction"),
+        BrainFault::NoSuchState { line, state } => FaultWords::NoSuchState(line, state),
+        BrainFault::OutOfMemory => FaultWords::Alone("out of memory"),
     }
 }
 
-#[derive(Clone, Copy)]
-struct SaveWords(SaveFault);
-
-impl Layout for SaveWords {
-    ghost text = { λ words. save_fault_text words.0 };
-
-    fn push_to<K: Sink>(&self, sink: &mut K) -> Result<(), Failed> {
-        match self.0 {
-            SaveFault::BadLine { line } => layout!("line ", line, ": not a save").push_to(sink),
-            SaveFault::BadState => "no valid state".push_to(sink),
-            SaveFault::OutOfMemory => "out of memory".push_to(sink),
-        }
+// What the fault of a file of breaks says.
+fn break_words(fault: BreakFault) -> FaultWords
+    ensures { text_of_words result ≡ break_fault_text fault }
+{
+    match fault {
+        BreakFault::UnknownWord { line } => FaultWords::AtLine(line, ": unknown word"),
+        BreakFault::MissingToken { line } => FaultWords::AtLine(line, ": missing token"),
+        BreakFault::BadNumber { line } => FaultWords::AtLine(line, ": bad number"),
+        BreakFault::ExtraToken { line } => FaultWords::AtLine(line, ": extra token"),
+        BreakFault::TooMany { line } => FaultWords::AtLine(line, ": too many breaks"),
+        BreakFault::OutOfMemory => FaultWords::Alone("out of memory"),
     }
 }
 
-#[derive(Clone, Copy)]
-struct FileWords(FileFault);
+// What the fault of a labelled program says.
+fn labelled_words(fault: AsmFault) -> FaultWords
+    ensures { text_of_words result ≡ labelled_fault_text fault }
+{
+    match fault {
+        AsmFault::BadByte { line } => FaultWords::AtLine(line, ": bad byte"),
+        AsmFault::UnknownWord { line } => FaultWords::AtLine(line, ": unknown word"),
+        AsmFault::MissingToken { line } => FaultWords::AtLine(line, ": missing token"),
+        AsmFault::BadNumber { line } => FaultWords::AtLine(line, ": bad number"),
+        AsmFault::ExtraToken { line } => FaultWords::AtLine(line, ": extra token"),
+        AsmFault::BadName { line } => FaultWords::AtLine(line, ": bad name"),
+        AsmFault::Misplaced { line } => FaultWords::AtLine(line, ": misplaced"),
+        AsmFault::Twice { line } => FaultWords::AtLine(line, ": name taken"),
+        AsmFault::NoBlock { line } => FaultWords::AtLine(line, ": no such block"),
+        AsmFault::WrongCount { line } => FaultWords::AtLine(line, ": wrong number of labels"),
+        AsmFault::TooMany { line } => FaultWords::AtLine(line, ": too many"),
+        AsmFault::EmptyBlock { line } => FaultWords::AtLine(line, ": empty block"),
+        AsmFault::Empty => FaultWords::Alone("no instruction"),
+        AsmFault::NoLabel { line } => FaultWords::AtLine(line, ": no such label"),
+        AsmFault::OutOfMemory => FaultWords::Alone("out of memory"),
+    }
+}
 
-impl Layout for FileWords {
-    ghost text = { λ words. file_fault_text words.0 };
+// What a save's fault says.
+fn save_words(fault: SaveFault) -> FaultWords
+    ensures { text_of_words result ≡ save_fault_text fault }
+{
+    match fault {
+        SaveFault::BadLine { line } => FaultWords::AtLine(line, ": not a save"),
+        SaveFault::BadState => FaultWords::Alone("no valid state"),
+        SaveFault::OutOfMemory => FaultWords::Alone("out of memory"),
+    }
+}
 
-    fn push_to<K: Sink>(&self, sink: &mut K) -> Result<(), Failed> {
-        match self.0 {
-            FileFault::TooLong => "too long".push_to(sink),
-            FileFault::World(fault) => WorldWords(fault).push_to(sink),
-            FileFault::Brain(fault) => BrainWords(fault).push_to(sink),
-            FileFault::Breaks(fault) => BreakWords(fault).push_to(sink),
-            FileFault::Labelled(fault) => LabelledWords(fault).push_to(sink),
-            FileFault::Save(fault) => SaveWords(fault).push_to(sink),
-            FileFault::AlreadyAt(round) => layout!("already at round ", round).push_to(sink),
-        }
+// What a file's fault says.
+fn file_words(fault: FileFault) -> FaultWords
+    ensures { text_of_words result ≡ file_fault_text fault }
+{
+    match fault {
+        FileFault::TooLong => FaultWords::Alone("too long"),
+        FileFault::World(fault) => world_words(fault),
+        FileFault::Brain(fault) => brain_words(fault),
+        FileFault::Breaks(fault) => break_words(fault),
+        FileFault::Labelled(fault) => labelled_words(fault),
+        FileFault::Save(fault) => save_words(fault),
+        FileFault::AlreadyAt(round) => FaultWords::AlreadyAt(round),
     }
 }
 
@@ -274,7 +267,7 @@ impl Layout for StopWords<'_> {
         match self.0 {
             CommandStop::Read(name) => layout!(name, ": not read").push_to(sink),
             CommandStop::Write => "output failed".push_to(sink),
-            CommandStop::Input(name, fault) => layout!(name, ": ", FileWords(fault)).push_to(sink),
+            CommandStop::Input(name, fault) => layout!(name, ": ", file_words(fault)).push_to(sink),
             CommandStop::NoRoom(element) => layout!("no room for element ", element).push_to(sink),
             CommandStop::Memory => "out of memory".push_to(sink),
         }
