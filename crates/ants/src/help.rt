@@ -16,7 +16,7 @@ impl Layout for HeadLines {
 
     #[tactic(auto, unfolding(crate::specs::Help::head_lines))]
     fn push_to<K: Sink>(&self, sink: &mut K) -> Result<(), Failed> {
-        layout!(
+        concat!(
             "ants 1.0.0 plays the ant world of the ICFP Programming Contest 2004.\n",
             "\n",
             "usage: ants COMMAND WORD.. [OPTION]..\n",
@@ -38,7 +38,7 @@ impl Layout for GameLines {
 
     #[tactic(auto, unfolding(crate::specs::Help::game_lines))]
     fn push_to<K: Sink>(&self, sink: &mut K) -> Result<(), Failed> {
-        layout!(
+        concat!(
             "  run WORLD RED BLACK --seed N --rounds N [OPTION]..\n",
             "      plays a game between two brains, and prints its score\n",
             "  save WORLD RED BLACK --seed N --rounds N [OPTION]..\n",
@@ -65,7 +65,7 @@ impl Layout for FileLines {
 
     #[tactic(auto, unfolding(crate::specs::Help::file_lines))]
     fn push_to<K: Sink>(&self, sink: &mut K) -> Result<(), Failed> {
-        layout!(
+        concat!(
             "  show WORLD SEED\n",
             "      prints a world as it is at the start of a game\n",
             "  gen SEED [OPTION]..\n",
@@ -95,7 +95,7 @@ impl Layout for GameOptionLines {
 
     #[tactic(auto, unfolding(crate::specs::Help::game_option_lines))]
     fn push_to<K: Sink>(&self, sink: &mut K) -> Result<(), Failed> {
-        layout!(
+        concat!(
             "Options of run, of which view and cup take the first two, save all but --dump,\n",
             "--stats and --far, and resume --rounds, --dump, --workers and --stats:\n",
             "  --seed N      where the random numbers begin, 0 to 4294967295; needed\n",
@@ -123,7 +123,7 @@ impl Layout for WorldOptionLines {
 
     #[tactic(auto, unfolding(crate::specs::Help::world_option_lines))]
     fn push_to<K: Sink>(&self, sink: &mut K) -> Result<(), Failed> {
-        layout!(
+        concat!(
             "Options of gen:\n",
             "  --width N     cells of a row, 3 to 512; 150\n",
             "  --height N    rows, 3 to 512; 150\n",
@@ -144,7 +144,7 @@ impl Layout for StatusLines {
 
     #[tactic(auto, unfolding(crate::specs::Help::status_lines))]
     fn push_to<K: Sink>(&self, sink: &mut K) -> Result<(), Failed> {
-        layout!(
+        concat!(
             "Exit status:\n",
             "  0  all of the output was written\n",
             "  2  the words are no command\n",

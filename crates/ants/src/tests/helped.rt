@@ -31,7 +31,7 @@ const CUTS: [CutRun<'static>; 1] = [CutRun {
         failing_push: 2,
         ..HELP
     },
-    held: "ants 1.0.0 plays the ant world of the ICFP Programming Contest 2004.\n",
+    held: "ants 1.0.0 plays the ant world of the ICFP Programming Contest 2004.\n\nusage: ants COMMAND WORD.. [OPTION]..\n\nWords in capitals are names of files, or numbers where they say so; - is\nstandard input. Options stand behind all other words, in any order.\n\n",
     line: "ants: output failed\n",
 }];
 
