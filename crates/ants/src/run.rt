@@ -12,7 +12,7 @@ ghost use Rattle.ants.specs.Inner.Plans.{CanPlay, IsPlanned, Plans, minds_in, se
 ghost use Rattle.ants.specs.Inner.Reading.{CarriesOut, ReadsFiles, ending_of, outcome_of};
 ghost use Rattle.ants.specs.Outputs.{chosen_rounds, game_files};
 
-use crate::files::{FileText, fetch_file, read_file};
+use crate::files::read_file;
 use crate::stop::CommandStop;
 use ant_base::{Shelf, Sink};
 use ant_turn::{Brains, Sheet};
@@ -114,10 +114,8 @@ pub fn setting_of<'w, S: Shelf>(
         (outcome_of setting_contents result) }
 {
     let world = read_file(alloc, shelf, names.world)?;
-    let red_text = fetch_file(alloc, shelf, names.red)?;
-    let red = Brain::read(alloc, names.red, &red_text)?;
-    let black_text = fetch_file(alloc, shelf, names.black)?;
-    let black = Brain::read(alloc, names.black, &black_text)?;
+    let red = read_file(alloc, shelf, names.red)?;
+    let black = read_file(alloc, shelf, names.black)?;
     Ok(Setting { world, red, black })
 }
 
