@@ -6,5 +6,7 @@ pub mod TotalLemmas
 pub mod LawsLemmas
 pub mod SortedLines
 pub mod StandingLemmas
+-- Names.
+pub mod NamesLemmas
 -- Worked values.
 pub mod Worked

@@ -1,9 +1,10 @@
 -- Pieces of a list of games: where they begin, and what they are together.
 use Rattle.hex_geometry.specs.declared.memory.OutOfMemory.{OutOfMemory}
-use Rattle.std.proofs.Common.{Result, Ok, Err, Vec, IfOk, OnOk, ◌≡◌, ◌≢◌, ℕ, suc, ◌+◌, ◌-◌, ◌<◌, ◌≤◌, Bool, true, false, List, [], ◌∷◌, ◌++◌, length, get_or, take, drop, map, All, refl, sym, ◌∙◌, ap, arith}
+use Rattle.std.proofs.Common.{Result, Ok, Err, Vec, IfOk, OnOk, ◌≡◌, ◌≢◌, ℕ, suc, ◌+◌, ◌-◌, ◌<◌, ◌≤◌, Bool, true, false, List, [], ◌∷◌, ◌++◌, ◌==◌, length, get_or, take, drop, map, All, append-nil, refl, sym, ◌∙◌, ap, arith}
 use Rattle.std.specs.Bool.{OnFalse}
+use Rattle.std.proofs.Math.Dec.{eqb-suc-zero}
 use Rattle.std.proofs.Math.Seq.{take-add}
-use Rattle.std.proofs.lemmas.List.{map-append, take_more, take_at, drop_at, flat_map_more}
+use Rattle.std.proofs.lemmas.List.{append_assoc, map-append, take_more, take_at, drop_at, flat_map_more}
 use Rattle.std.proofs.lemmas.List.Elements.{All-take, All-drop, All-same, All-nil, All-cons, All-weaker}
 use Rattle.cell_world.specs.declared.score.Score.{Score}
 use Rattle.tournament.specs.declared.games.Pairing.{Pairing}
@@ -22,6 +23,22 @@ dealt_more games old new from to le before more =
 -- the games of the pieces and of one more
 pub dealt_push : (pieces : List Piece) (piece : Piece) → dealt_games (pieces ++ piece ∷ []) ≡ dealt_games pieces ++ piece.games.items
 dealt_push pieces piece = sym (flat_map_more (λ p. p.games.items) [] pieces piece)
+
+-- a list with no game behind it
+pub nothing_more : {X : Type 0} (xs games : List X) → (length games == 0) ≡ true → xs ≡ xs ++ games
+nothing_more xs [] none = sym (append-nil xs)
+nothing_more xs (game ∷ games) none = let never = sym none ∙ eqb-suc-zero (length games) in absurd (cc)
+
+-- one game more was played
+pub played_push : (score : ℕ → ℕ → ℕ → Score) (games : List Pairing) (i : ℕ) (d : Pairing) (it : Score) (first old new : List Played) → i < length games
+    → it ≡ score (get_or games i d).world (get_or games i d).red (get_or games i d).black
+    → old ≡ first ++ map (played_by score) (take i games) → new ≡ old ++ (record { game = get_or games i d; score = it }) ∷ []
+    → new ≡ first ++ map (played_by score) (take (i + 1) games)
+played_push score games i d it first old new lt at before more =
+    let front : List Played = map (played_by score) (take i games) in let here : Pairing = get_or games i d in
+    more ∙ ap (λ t. t ++ (record { game = here; score = it }) ∷ []) before ∙ append_assoc first front ((record { game = here; score = it }) ∷ [])
+    ∙ ap (λ s. first ++ (front ++ (record { game = here; score = s }) ∷ [])) at
+    ∙ ap (λ t. first ++ t) (sym (map-append (played_by score) (take i games) (here ∷ [])) ∙ ap (λ t. map (played_by score) t) (sym (take_more games i d lt)))
 
 -- what was played of the first pieces and of one more
 pub played_more : (pieces : List Piece) (i : ℕ) (piece : Piece) → i < length pieces → piece ≡ get_or pieces i piece → played_games (take (i + 1) pieces) ≡ played_games (take i pieces) ++ piece.played.items

@@ -1,9 +1,12 @@
 -- Counts over games, and the order of lines.
-use Rattle.std.proofs.Common.{◌≡◌, ℕ, ◌+◌, ◌<◌, ◌≤◌, ◌==◌, Bool, true, false, nat_lt, List, length, take, map, All, count_by, ◌*◌, take_all, refl, sym, subst, arith}
+use mir.Val.{bool_byte}
+use Rattle.std.proofs.Common.{◌≡◌, ℕ, suc, ◌+◌, ◌<◌, ◌≤◌, ◌==◌, Bool, true, false, nat_lt, List, [], ◌∷◌, ◌++◌, length, get_or, take, map, All, count_by, Fits, w32, ◌^◌, ◌*◌, take_all, refl, sym, ap, ◌∙◌, subst, arith}
 use Rattle.std.specs.Ordering.{nat_cmp, is_lt, ordering_then}
 use Rattle.std.proofs.lemmas.Bool.{ltb-false, le-ltb, eq-eqb}
+use Rattle.std.proofs.lemmas.List.{length-take, map-append}
 use Rattle.std.proofs.lemmas.List.Elements.{All-map, All-weaker}
 use Rattle.std.proofs.lemmas.List.Sorted.{All-permutation}
+use Rattle.std.proofs.lemmas.List.Sums.{count_by-le-length, count_by_more_no, count_by_more_yes}
 use Rattle.tournament.specs.Games.{below}
 use Rattle.tournament.proofs.GamesLemmas.{All-below}
 use Rattle.tournament.specs.declared.games.Played.{Played}
@@ -27,6 +30,34 @@ stands_above x y h = record {
   points = above_points_by x.points y.points y.player x.player (nat_lt x.points y.points) refl h;
   ties = λ e. above_ties_by x.points y.player x.player (nat_lt y.player x.player) refl (subst (λ b. is_lt (ordering_then (nat_cmp x.points b) (nat_cmp y.player x.player)) ≡ false) (sym e) h);
 }
+
+-- the count of the first games and of one more
+pub counted : (p : Played → Bool) (games : List Played) (i : ℕ) (d : Played) (count byte : ℕ) (answer : Bool) → i < length games → count ≡ count_by p (take i games)
+    → answer ≡ p (get_or games i d) → byte ≡ bool_byte answer → count + byte ≡ count_by p (take (i + 1) games)
+counted p games i d count byte true lt before is one = let more = count_by_more_yes p games i d lt (sym is) in omega arith
+counted p games i d count byte false lt before is none = let same = count_by_more_no p games i d lt (sym is) in omega arith
+
+-- a count is no more than the games
+pub few_counted : (p : Played → Bool) (games : List Played) (i count : ℕ) → length games < 2 ^ 30 → count ≡ count_by p (take i games) → count < 2 ^ 30
+few_counted p games i count few is = let within = count_by-le-length p (take i games) in let long = length-take i games in omega arith
+
+-- so there is room for it, for twice it, and for another count on top
+pub count_fits : (count : ℕ) → count < 2 ^ 30 → Fits w32 count
+count_fits count few = omega arith
+
+pub twice_fits : (count : ℕ) → count < 2 ^ 30 → Fits w32 (2 * count)
+twice_fits count few = omega arith
+
+pub points_fit : (won drawn : ℕ) → won < 2 ^ 30 → drawn < 2 ^ 30 → Fits w32 (2 * won + drawn)
+points_fit won drawn few fewer = omega arith
+
+-- one line more
+pub lines_more : (games : List Played) (player : ℕ) (old new : List Line) (line : Line) → old ≡ map (line_of games) (below player) → line ≡ line_of games player → new ≡ old ++ line ∷ []
+    → new ≡ map (line_of games) (below (player + 1))
+lines_more games player old new line before is more =
+    let next : suc player ≡ player + 1 = omega arith in
+    more ∙ ap (λ t. t ++ line ∷ []) before ∙ ap (λ x. map (line_of games) (below player) ++ x ∷ []) is
+    ∙ sym (map-append (line_of games) (below player) (player ∷ [])) ∙ ap (λ n. map (line_of games) (below n)) next
 
 -- the counts after the last game are the line
 pub line_is : (games : List Played) (player i won drawn lost : ℕ) → length games ≤ i → won ≡ count_by (is_won player) (take i games) → drawn ≡ count_by (is_drawn player) (take i games) → lost ≡ count_by (is_lost player) (take i games)
