@@ -41,9 +41,11 @@ counted p games i d count byte false lt before is none = let same = count_by_mor
 pub few_counted : (p : Played → Bool) (games : List Played) (i count : ℕ) → length games < 2 ^ 30 → count ≡ count_by p (take i games) → count < 2 ^ 30
 few_counted p games i count few is = let within = count_by-le-length p (take i games) in let long = length-take i games in omega arith
 
--- so there is room for it, for twice it, and for another count on top
-pub count_fits : (count : ℕ) → count < 2 ^ 30 → Fits w32 count
-count_fits count few = omega arith
+-- so there is room for it with one game more, for twice it, and for another count on top
+pub counted_fits : (p : Played → Bool) (games : List Played) (i : ℕ) (d : Played) (count byte : ℕ) (answer : Bool) → length games < 2 ^ 30 → i < length games → count ≡ count_by p (take i games)
+    → answer ≡ p (get_or games i d) → byte ≡ bool_byte answer → Fits w32 (count + byte)
+counted_fits p games i d count byte answer few lt before is one =
+    let small = few_counted p games (i + 1) (count + byte) few (counted p games i d count byte answer lt before is one) in omega arith
 
 pub twice_fits : (count : ℕ) → count < 2 ^ 30 → Fits w32 (2 * count)
 twice_fits count few = omega arith

@@ -1,6 +1,6 @@
-use Rattle.std.proofs.Common.{◌+◌, refl}
+use Rattle.std.proofs.Common.{refl}
 use Rattle.tournament.specs.Standing.{is_won, is_lost, is_drawn}
-use Rattle.tournament.proofs.StandingLemmas.{count_fits, counted, few_counted, line_is, points_fit, twice_fits}
+use Rattle.tournament.proofs.StandingLemmas.{counted, counted_fits, few_counted, line_is, points_fit, twice_fits}
 use Rattle.tournament.proofs.tally.line_of.Goals as goal
 
 pub loop-game-init : goal.loop-game-init
@@ -8,18 +8,18 @@ loop-game-init c = record { won = refl; drawn = refl; lost = refl }
 
 pub overflow_add-won : goal.overflow_add-won
 overflow_add-won c =
-    count_fits (c.loop-game.won + c.from-won.result) (few_counted (is_won c.args.player) c.args.games.now (c.loop-game.game-index + 1) _ c.requires.few
-    (counted (is_won c.args.player) c.args.games.now c.loop-game.game-index _ c.loop-game.won c.from-won.result c.is_won.result c.loop-game-test.true c.loop-game.invariant.won c.is_won.ensures c.from-won.ensures))
+    counted_fits (is_won c.args.player) c.args.games.now c.loop-game.game-index _ c.loop-game.won c.from-won.result c.is_won.result
+    c.requires.few c.loop-game-test.true c.loop-game.invariant.won c.is_won.ensures c.from-won.ensures
 
 pub overflow_add-drawn : goal.overflow_add-drawn
 overflow_add-drawn c =
-    count_fits (c.loop-game.drawn + c.from-drawn.result) (few_counted (is_drawn c.args.player) c.args.games.now (c.loop-game.game-index + 1) _ c.requires.few
-    (counted (is_drawn c.args.player) c.args.games.now c.loop-game.game-index _ c.loop-game.drawn c.from-drawn.result c.is_drawn.result c.loop-game-test.true c.loop-game.invariant.drawn c.is_drawn.ensures c.from-drawn.ensures))
+    counted_fits (is_drawn c.args.player) c.args.games.now c.loop-game.game-index _ c.loop-game.drawn c.from-drawn.result c.is_drawn.result
+    c.requires.few c.loop-game-test.true c.loop-game.invariant.drawn c.is_drawn.ensures c.from-drawn.ensures
 
 pub overflow_add-lost : goal.overflow_add-lost
 overflow_add-lost c =
-    count_fits (c.loop-game.lost + c.from-lost.result) (few_counted (is_lost c.args.player) c.args.games.now (c.loop-game.game-index + 1) _ c.requires.few
-    (counted (is_lost c.args.player) c.args.games.now c.loop-game.game-index _ c.loop-game.lost c.from-lost.result c.is_lost.result c.loop-game-test.true c.loop-game.invariant.lost c.is_lost.ensures c.from-lost.ensures))
+    counted_fits (is_lost c.args.player) c.args.games.now c.loop-game.game-index _ c.loop-game.lost c.from-lost.result c.is_lost.result
+    c.requires.few c.loop-game-test.true c.loop-game.invariant.lost c.is_lost.ensures c.from-lost.ensures
 
 pub loop-game-preserved : goal.loop-game-preserved
 loop-game-preserved c = record {
