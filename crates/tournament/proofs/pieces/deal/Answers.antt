@@ -66,6 +66,12 @@ offset_bounds-games-from c = start_fits c.border-from.result (length c.args.game
 pub slice_bounds-add_piece-count : goal.slice_bounds-add_piece-count
 slice_bounds-add_piece-count c = from_to c.border-from.result c.border-to.result _ _ c.border-from.ensures.border c.border-to.ensures.border (border_rises c.loop-k.k (length c.args.games.now) c.args.workers c.requires.workers.0)
 
+pub slice_bounds-add_piece-start : goal.slice_bounds-add_piece-start
+slice_bounds-add_piece-start c = slice_bounds-add_piece-count c
+
+pub slice_bounds-add_piece-end : goal.slice_bounds-add_piece-end
+slice_bounds-add_piece-end c = c.border-to.ensures.within
+
 pub returns-in_err-add_piece-clause-games : goal.returns-in_err-add_piece-clause-games
 returns-in_err-add_piece-clause-games c = IfOk-from_err c.from_residual-in_err-add_piece.result _ c.from_residual-in_err-add_piece.ensures.0
 
