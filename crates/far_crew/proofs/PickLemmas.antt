@@ -45,6 +45,14 @@ pub ArePicked-same : (lines : List Line) (own : List LookValue) (picks : List (O
 ArePicked-same lines own picks field from to first last begins ends picked =
     subst (λ i. ArePicked lines own picks (window_of field i last)) (sym begins) (subst (λ i. ArePicked lines own picks (window_of field from i)) (sym ends) picked)
 
+-- and so are those of the same lines, looks and picks
+pub ArePicked-so : (lines lines' : List Line) (own own' : List LookValue) (picks picks' : List (Option Pick)) (window window' : Window) → lines' ≡ lines → own' ≡ own → picks' ≡ picks → window' ≡ window → ArePicked lines own picks window → ArePicked lines' own' picks' window'
+ArePicked-so lines lines' own own' picks picks' window window' same_lines same_own same_picks same_window picked =
+    subst (λ l. ArePicked l own' picks' window') (sym same_lines)
+    (subst (λ l. ArePicked lines l picks' window') (sym same_own)
+    (subst (λ l. ArePicked lines own l window') (sym same_picks)
+    (subst (ArePicked lines own picks) (sym same_window) picked)))
+
 -- a look of one's own is made and picked
 pub ArePicked-own : (lines : List Line) (own new : List LookValue) (look : LookValue) (picks : List (Option Pick)) (window : Window) (turn t at : ℕ) → turn < length picks → at ≡ length own → t ≡ window.from + turn → look ≡ look_for window t → new ≡ own ++ look ∷ [] →
     ArePicked lines own picks window → ArePicked lines new (set picks turn (Some (Own at))) window
