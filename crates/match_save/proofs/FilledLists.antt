@@ -1,6 +1,7 @@
 -- Lists that are filled with what is read, one value after another.
 use Rattle.std.proofs.Common.{◌≡◌, ℕ, suc, ◌+◌, ◌<◌, Bool, true, false, cond, leb, List, [], ◌∷◌, ◌++◌, length, Option, Some, None, Result, Ok, Err, refl, sym, ◌∙◌, ap, append_assoc, append-nil, arith, codes}
 use Rattle.std.specs.Str.{bytes_eq}
+use Rattle.std.proofs.lemmas.Bool.{eq-eqb}
 use Rattle.cell_world.specs.declared.ant.PlacedAnt.{PlacedAnt}
 use Rattle.match_save.specs.declared.fault.SaveFault.{SaveFault}
 use Rattle.match_save.specs.declared.fault.SaveFault.TheVariants.{BadLine, BadState, OutOfMemory}
@@ -47,6 +48,13 @@ module _ {A : Type 0} (value : ℕ → Option A) where
 
   pub row-refused : (front : List A) (byte : ℕ) (line : List ℕ) → value byte ≡ None → row_behind front (all_of value (byte ∷ line)) ≡ None
   row-refused front byte line e = ap (λ o. row_behind front (with_value o (all_of value line))) e
+
+  -- a line of as many bytes as a row has is one, where each byte has a value
+  pub row-wide : (width : ℕ) (line : List ℕ) → length line ≡ width → row_of value width line ≡ all_of value line
+  row-wide width line wide = ap (λ b. cond b (all_of value line) None) (eq-eqb (length line) width wide)
+
+  pub row-ends : (front : List A) → row_behind front (all_of value []) ≡ Some front
+  row-ends front = ap Some (append-nil front)
 
   pub none-behind : (front : List A) (told : Option (List A)) → row_behind front told ≡ None → told ≡ None
   none-behind front None e = refl
