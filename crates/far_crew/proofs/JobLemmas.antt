@@ -1,10 +1,13 @@
 -- The looks of a job.
-use Rattle.std.proofs.Common.{◌≡◌, ℕ, zero, suc, ◌+◌, ◌-◌, ◌<◌, ◌≤◌, List, [], ◌∷◌, ◌++◌, length, slice_index_or, take, drop, refl, sym, subst, ap, ◌∙◌, arith}
+use Rattle.std.proofs.Common.{◌≡◌, ℕ, zero, suc, ◌+◌, ◌-◌, ◌<◌, ◌≤◌, ◌^◌, List, [], ◌∷◌, ◌++◌, length, slice_index_or, take, drop, refl, sym, subst, ap, ◌∙◌, arith}
 use Rattle.std.specs.List.{AllByRecursion}
+use Rattle.std.proofs.lemmas.List.{length-drop, length-take}
 use Rattle.list_lemmas.proofs.AllElements.{AllByRecursion-push}
 use Rattle.cell_world.specs.Grid.{Grid, world_of}
 use Rattle.ant_turn.specs.Minds.{Minds}
 use Rattle.spec_record.specs.Look.{LookValue, look_of}
+use Rattle.far_crew.specs.declared.guesses.GuessedTurns.{GuessedTurns}
+use Rattle.far_crew.specs.Inner.Turns.{CanLookAt}
 use Rattle.far_crew.specs.Jobs.{IsLookOf, JobValue, looks_of}
 
 -- what holds of all of a list holds at each place
@@ -55,3 +58,15 @@ all_drop P (suc n) (x ∷ xs) all = all_drop P n xs all.1
 
 pub all_between : {X : Type 0} (P : X → Type 0) (n k : ℕ) (xs : List X) → AllByRecursion P xs → AllByRecursion P (take n (drop k xs))
 all_between P n k xs all = all_take P n (drop k xs) (all_drop P k xs all)
+
+-- a part of turns that can be looked at can be looked at
+pub part-looks : (base : Grid) (turns part : GuessedTurns) (first last : ℕ) → CanLookAt base turns → first ≤ last → last ≤ turns.to - turns.from
+    → part.from ≡ turns.from + first → part.to ≡ turns.from + last → part.guesses.now ≡ take (last - first) (drop first turns.guesses.now) → CanLookAt base part
+part-looks base turns part first last can forwards within begins ends guesses =
+    let all = turns.guesses.now in let few = length-take (last - first) (drop first all) in let left = length-drop first all in let count = can.count in let ids = can.ids in let long = ap length guesses in
+    record {
+      forwards = omega arith;
+      ids = omega arith;
+      count = omega arith;
+      small = subst (AllByRecursion (λ guess. guess + 1 < 2 ^ 63)) (sym guesses) (all_between (λ guess. guess + 1 < 2 ^ 63) (last - first) first all can.small);
+    }

@@ -1,5 +1,5 @@
 -- Picks: each names the look at its turn.
-use Rattle.std.proofs.Common.{◌≡◌, inl, inr, ℕ, ◌+◌, ◌<◌, ◌≤◌, true, List, [], ◌∷◌, ◌++◌, length, get_or, set, slice_get, Option, Some, None, refl, sym, ◌∙◌, ap, subst, arith}
+use Rattle.std.proofs.Common.{◌≡◌, inl, inr, ℕ, ◌+◌, ◌-◌, ◌<◌, ◌≤◌, true, List, [], ◌∷◌, ◌++◌, length, get_or, set, slice_get, Option, Some, None, refl, sym, ◌∙◌, ap, subst, arith}
 use Rattle.std.specs.Option.{is_some}
 use Rattle.std.proofs.lemmas.Bool.{cases_eq}
 use Rattle.std.proofs.lemmas.List.{get_or-set_other, get_or-set_same}
@@ -73,6 +73,14 @@ AreFilled-set picks n k pick next within filled =
     AreFilled-more (set picks n (Some pick)) n k next
     (λ j early. ap is_some (get_or-set_other picks n j (Some pick) None (λ at. omega arith)) ∙ filled j early)
     (ap is_some (get_or-set_same picks n (Some pick) None within))
+
+-- the turns up to one of a window have picks, where those before it do and it has one
+module _ (picks : List (Option Pick)) (from to id : ℕ) (first : from ≤ id) (last : id < to) (filled : AreFilled picks (id - from)) where
+  pub AreFilled-kept : is_some (get_or picks (id - from) None) ≡ true → AreFilled picks (id + 1 - from)
+  AreFilled-kept has = AreFilled-more picks (id - from) (id + 1 - from) (omega arith) filled has
+
+  pub AreFilled-own : (pick : Pick) → length picks ≡ to - from → AreFilled (set picks (id - from) (Some pick)) (id + 1 - from)
+  AreFilled-own pick count = AreFilled-set picks (id - from) (id + 1 - from) pick (omega arith) (omega arith) filled
 
 -- the looks of a line that has an answer
 pub looks_in_some : (lines : List Line) (i : ℕ) (line : Line) (found : FoundValue) → i < length lines → line ≡ get_or lines i line → line.found ≡ Some found → looks_in lines i ≡ found.looks

@@ -1,4 +1,5 @@
 use Rattle.std.proofs.Common.{◌≡◌, ◌∙◌, ◌+◌, ◌-◌, List, [], Some, slice_get, ap, arith}
+use Rattle.std.proofs.lemmas.List.{length-set}
 use Rattle.round_book.specs.Book.{window_of}
 use Rattle.round_book.specs.Window.{look_for}
 use Rattle.spec_record.specs.Look.{LookValue}
@@ -16,3 +17,36 @@ returns-then-is_look_for-clause-picked c =
     c.is_look_for.ensures c.if-is_look_for.true ∙ look_for_is c.args.field.now c.args.turns.now.from c.args.turns.now.to c.turn-id.result c.guess_of-guess.result c.guess_of-guess.ensures.guess ∙ ap (look_for window) turn in
     ArePicked-set c.args.lines.now [] window c.args.picks.now (c.turn-id.result - c.args.turns.now.from) (Theirs c.args.answer.now.line c.args.at) (omega arith) c.requires.picked
     (ap (λ (l : List LookValue). slice_get l c.args.at) c.requires.answer ∙ c.look-look.ensures.item ∙ ap Some look)
+
+pub returns-then-is_look_for-clause-count : goal.returns-then-is_look_for-clause-count
+returns-then-is_look_for-clause-count c = length-set c.args.picks.now (c.turn-id.result - c.args.turns.now.from) (Some (Theirs c.args.answer.now.line c.args.at)) ∙ c.requires.count
+
+pub returns-then-is_some-clause-count : goal.returns-then-is_some-clause-count
+returns-then-is_some-clause-count c = c.requires.count
+
+pub returns-then-is_some-clause-picked : goal.returns-then-is_some-clause-picked
+returns-then-is_some-clause-picked c = c.requires.picked
+
+pub returns-else-is_look_for-clause-count : goal.returns-else-is_look_for-clause-count
+returns-else-is_look_for-clause-count c = c.requires.count
+
+pub returns-else-is_look_for-clause-picked : goal.returns-else-is_look_for-clause-picked
+returns-else-is_look_for-clause-picked c = c.requires.picked
+
+pub guess_of-guess-requires-clause-turns : goal.guess_of-guess-requires-clause-turns
+guess_of-guess-requires-clause-turns c = c.requires.turns
+
+pub guess_of-guess-requires-clause-first : goal.guess_of-guess-requires-clause-first
+guess_of-guess-requires-clause-first c = c.if-id-turns.false
+
+pub guess_of-guess-requires-clause-last : goal.guess_of-guess-requires-clause-last
+guess_of-guess-requires-clause-last c = c.if-id-turns-2.false
+
+pub is_look_for-requires : goal.is_look_for-requires
+is_look_for-requires c = c.look-look.ensures.is
+
+pub returns-then-id-turns-clause-count : goal.returns-then-id-turns-clause-count
+returns-then-id-turns-clause-count c = c.requires.count
+
+pub returns-then-id-turns-clause-picked : goal.returns-then-id-turns-clause-picked
+returns-then-id-turns-clause-picked c = c.requires.picked

@@ -1,5 +1,5 @@
 use Rattle.std.proofs.Common.{ℕ, ◌-◌, List, Option, sym, subst, ap, ◌∙◌}
-use Rattle.round_book.specs.Book.{BookValue, FieldValue, IsPlayed, lent_for, window_of}
+use Rattle.round_book.specs.Book.{BookValue, FieldValue, IsPlayed, window_of}
 use Rattle.round_book.specs.Counts.{counts_of}
 use Rattle.far_crew.specs.declared.pick.Pick.{Pick}
 use Rattle.far_crew.specs.Inner.Picks.{AreFilled}
