@@ -1,13 +1,17 @@
 -- Lists that are filled with what is read, one value after another.
-use Rattle.std.proofs.Common.{◌≡◌, ℕ, suc, ◌+◌, ◌<◌, Bool, true, false, cond, leb, List, [], ◌∷◌, ◌++◌, length, Option, Some, None, Result, Ok, Err, refl, sym, ◌∙◌, ap, append_assoc, append-nil, arith, codes}
+use Rattle.std.proofs.Common.{◌≡◌, ℕ, suc, ◌+◌, ◌<◌, Bool, true, false, cond, leb, List, [], ◌∷◌, ◌++◌, length, get_or, drop, Option, Some, None, Result, Ok, Err, refl, sym, ◌∙◌, ap, append_assoc, append-nil, arith, codes}
 use Rattle.std.specs.Str.{bytes_eq}
 use Rattle.std.proofs.lemmas.Bool.{eq-eqb}
 use Rattle.cell_world.specs.declared.ant.PlacedAnt.{PlacedAnt}
+use Rattle.cell_world.specs.declared.cell.Cell.{Cell}
 use Rattle.match_save.specs.declared.fault.SaveFault.{SaveFault}
 use Rattle.match_save.specs.declared.fault.SaveFault.TheVariants.{BadLine, BadState, OutOfMemory}
+use Rattle.match_save.specs.declared.soil.Soil.{Soil}
+use Rattle.match_save.specs.State.{ground_cell, ground_cells}
 use Rattle.match_save.specs.Inner.Answered.{FaultTold, behind, row_behind}
 use Rattle.match_save.specs.Inner.Readers.{Left, Reader, followed, go_on, made, many, one, one_of, paired, taken, with_first}
 use Rattle.match_save.specs.Inner.Reading.{all_of, ant_of, ant_onto, ant_or_end, ants_from, food_at, if_rises, joined, next_ant, read_foods, read_rows, row_of, with_value}
+use Rattle.match_save.proofs.PutLemmas.{drop-from}
 
 -- a fault of a part is the fault of the whole
 pub fault-passed : {A B : Type 0} (whole : Result A ℕ) (part : Result B ℕ) (fault : SaveFault) → ((k : ℕ) → part ≡ Err k → whole ≡ Err k) → FaultTold part fault → FaultTold whole fault
@@ -177,3 +181,16 @@ many-more parse old x n at left e = first-more (one parse) (λ y. many parse n) 
 -- a value that is refused
 pub many-refused : {E A : Type 0} (parse : E → Option A) (old : List A) (n k : ℕ) (at : Left E) → one parse at ≡ Err k → behind old (many parse (suc n) at) ≡ Err k
 many-refused parse old n k at e = first-refused (one parse) (λ y. many parse n) old k at e
+
+-- one cell more
+pub ground-more : (soils : List Soil) (reds blacks foods : List ℕ) (i : ℕ) (d : Soil) (front new : List Cell) (cell : Cell) → length reds ≡ length soils → length blacks ≡ length soils → length foods ≡ length soils → i < length soils
+    → cell ≡ ground_cell (get_or soils i d) (get_or reds i 0) (get_or blacks i 0) (get_or foods i 0) → new ≡ front ++ cell ∷ []
+    → new ++ ground_cells (drop (i + 1) soils) (drop (i + 1) reds) (drop (i + 1) blacks) (drop (i + 1) foods) ≡ front ++ ground_cells (drop i soils) (drop i reds) (drop i blacks) (drop i foods)
+ground-more soils reds blacks foods i d front new cell red black food early is grown =
+    let rest : List Cell = ground_cells (drop (i + 1) soils) (drop (i + 1) reds) (drop (i + 1) blacks) (drop (i + 1) foods) in
+    let all : ground_cells (drop i soils) (drop i reds) (drop i blacks) (drop i foods) ≡ ground_cell (get_or soils i d) (get_or reds i 0) (get_or blacks i 0) (get_or foods i 0) ∷ rest =
+    ap (λ (l : List Soil). ground_cells l (drop i reds) (drop i blacks) (drop i foods)) (drop-from soils i d early)
+    ∙ ap (λ (l : List ℕ). ground_cells (get_or soils i d ∷ drop (i + 1) soils) l (drop i blacks) (drop i foods)) (drop-from reds i 0 (omega arith))
+    ∙ ap (λ (l : List ℕ). ground_cells (get_or soils i d ∷ drop (i + 1) soils) (get_or reds i 0 ∷ drop (i + 1) reds) l (drop i foods)) (drop-from blacks i 0 (omega arith))
+    ∙ ap (λ (l : List ℕ). ground_cells (get_or soils i d ∷ drop (i + 1) soils) (get_or reds i 0 ∷ drop (i + 1) reds) (get_or blacks i 0 ∷ drop (i + 1) blacks) l) (drop-from foods i 0 (omega arith)) in
+    ap (λ (l : List Cell). l ++ rest) grown ∙ append_assoc front (cell ∷ []) rest ∙ ap (λ (x : Cell). front ++ x ∷ rest) is ∙ ap (λ (l : List Cell). front ++ l) (sym all)
