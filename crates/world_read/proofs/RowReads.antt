@@ -1,9 +1,11 @@
 -- Rows, read one after another.
-use Rattle.std.proofs.Common.{◌≡◌, ℕ, suc, zero, ◌+◌, ◌-◌, ◌*◌, ◌<◌, ◌≤◌, Bool, true, false, cond, ltb, ok_or, List, [], ◌∷◌, ◌++◌, length, take, drop, map, Option, Some, None, Result, Ok, Err, refl, sym, ◌∙◌, ap, subst, append_assoc, append-nil, length-append, arith}
+use Rattle.std.proofs.Common.{◌≡◌, ℕ, suc, zero, ◌+◌, ◌-◌, ◌*◌, ◌<◌, ◌≤◌, Bool, true, false, cond, ltb, ok_or, List, [], ◌∷◌, ◌++◌, length, take, drop, map, get_or, not, add-one, Option, Some, None, Result, Ok, Err, refl, sym, ◌∙◌, ap, subst, append_assoc, append-nil, length-append, arith}
 use Rattle.std.proofs.lemmas.Bool.{lt-ltb, le-ltb, ltb-true, ltb-false, cond-true, cond-false}
 use Rattle.std.proofs.lemmas.List.{drop_at, take_at}
 use Rattle.std.proofs.lemmas.List.Elements.{All-append, All-cons, All-drop, All-head, All-nil, All-same, All-tail, All-take}
+use Rattle.std.proofs.Math.Seq.{drop-cons}
 use Rattle.std.specs.List.{All}
+use Rattle.ant_base.specs.Lines.{is_separator}
 use Rattle.cell_world.specs.declared.kind.Kind.{Kind}
 use Rattle.cell_world.specs.Opening.{IsFed}
 use Rattle.world_read.specs.declared.fault.WorldFault.{WorldFault}
@@ -58,6 +60,29 @@ onto_row-none (Ok kinds) = refl
 onto_row-onto : (kind : Kind) (cells : List Kind) (row : Result (List Kind) WorldFault) → onto_row (kind ∷ []) (onto_row cells row) ≡ onto_row (kind ∷ cells) row
 onto_row-onto kind cells (Err fault) = refl
 onto_row-onto kind cells (Ok kinds) = refl
+
+-- a cell behind others
+pub onto_row-more : (kinds : List Kind) (kind : Kind) (row : Result (List Kind) WorldFault) → onto_row kinds (with_cell (Ok kind) row) ≡ onto_row (kinds ++ kind ∷ []) row
+onto_row-more kinds kind (Err fault) = refl
+onto_row-more kinds kind (Ok row) = ap Ok (sym (append_assoc kinds (kind ∷ []) row))
+
+-- a separator changes nothing
+pub row_from-apart : (width y column i : ℕ) (line : List ℕ) → i < length line → is_separator (get_or line i 0) ≡ true → row_from width y column (spelled (drop i line)) ≡ row_from width y column (spelled (drop (i + 1) line))
+row_from-apart width y column i line below apart =
+    let byte = get_or line i 0 in
+    let after = drop (suc i) line in
+    ap (λ bytes. row_from width y column (spelled bytes)) (drop-cons line i 0 below)
+    ∙ ap (row_from width y column) (cond-false (not (is_separator byte)) (byte ∷ spelled after) (spelled after) (ap not apart))
+    ∙ ap (λ n. row_from width y column (spelled (drop n line))) (sym (add-one i))
+
+-- each other byte stands for the next cell
+pub row_from-next : (width y column i : ℕ) (line : List ℕ) → i < length line → is_separator (get_or line i 0) ≡ false → row_from width y column (spelled (drop i line)) ≡ with_cell (cell_of width y column (get_or line i 0)) (row_from width y (column + 1) (spelled (drop (i + 1) line)))
+row_from-next width y column i line below apart =
+    let byte = get_or line i 0 in
+    let after = drop (suc i) line in
+    ap (λ bytes. row_from width y column (spelled bytes)) (drop-cons line i 0 below)
+    ∙ ap (row_from width y column) (cond-true (not (is_separator byte)) (byte ∷ spelled after) (spelled after) (ap not apart))
+    ∙ ap (λ n. with_cell (cell_of width y column byte) (row_from width y (column + 1) (spelled (drop n line)))) (sym (add-one i))
 
 -- the bytes of a row from this column on are those of its kinds
 pub record IsRow (width column : ℕ) (bytes : List ℕ) (kinds : List Kind) : Type 0 where
