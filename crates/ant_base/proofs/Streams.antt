@@ -1,5 +1,5 @@
 -- What writers took and readers gave.
-use Rattle.std.proofs.Common.{◌≡◌, ℕ, zero, suc, Result, Ok, Err, is_ok, if◌then◌else◌, ◌<◌, ◌≤◌, ◌^◌, ◌+◌, ◌-◌, List, [], ◌∷◌, ◌++◌, length, take, drop, Option, Some, None, IfSome, inl, inr, refl, sym, ◌∙◌, ap, subst, append_assoc, append-nil, take-append-drop, arith}
+use Rattle.std.proofs.Common.{◌≡◌, ℕ, Bool, min, zero, suc, Result, Ok, Err, is_ok, if◌then◌else◌, ◌<◌, ◌≤◌, ◌^◌, ◌+◌, ◌-◌, List, [], ◌∷◌, ◌++◌, length, take, drop, Option, Some, None, IfSome, inl, inr, refl, sym, ◌∙◌, ap, subst, append_assoc, append-nil, take-append-drop, arith}
 use Rattle.std.proofs.lemmas.List.{length-append, length-take}
 use Rattle.std.specs.Io.KnownBytes.{Appends, Consumes, IsAtEnd, Keeps, WriteAppends}
 use Rattle.std.specs.Counts.{IsPrefixLen}
@@ -9,12 +9,13 @@ use Rattle.std.specs.declared.io.Error.{Error}
 use Rattle.std.specs.declared.io.ErrorKind.{ErrorKind}
 use Rattle.std.specs.declared.io.ErrorKind.TheVariants.{Interrupted}
 use Rattle.ant_base.specs.declared.shelf.FetchFault.{FetchFault}
+use Rattle.ant_base.specs.declared.shelf.FetchFault.TheVariants.{Failed as ReadFailed, TooLong, OutOfMemory}
 use Rattle.ant_base.specs.declared.sink.Failed.{Failed}
 use Rattle.ant_base.specs.Faults.{one_more}
 use Rattle.ant_base.specs.Lines.{ends_in_lf}
-use Rattle.ant_base.specs.Inner.Answered.{given_at, given_of, taken_at, taken_of}
+use Rattle.ant_base.specs.Inner.Answered.{ReadsOn, given_at, given_of, taken_at, taken_of}
 use Rattle.ant_base.specs.Shelf.{longest}
-use Rattle.ant_base.specs.System.{TakesAtMost}
+use Rattle.ant_base.specs.System.{IsReadFrom, TakesAtMost}
 use Rattle.ant_base.specs.Sink.{Pushed}
 use Rattle.list_lemmas.proofs.Elements.{append-empty}
 use Rattle.ant_base.proofs.Pushes.{ends_in_lf-append}
@@ -61,6 +62,29 @@ pub read_whole : (known now : Option (List ℕ)) (content : List ℕ) → Consum
 read_whole None now content consumes end = tt
 read_whole (Some bytes) None content consumes end = absurd consumes
 read_whole (Some bytes) (Some rest) content consumes end = sym (consumes ∙ ap (λ xs. content ++ xs) end ∙ append-nil content)
+
+-- before the first turn a reader gave no byte
+pub read_first : (most sure len : ℕ) → len ≡ 0 → (len ≤ most) × (most ≤ sure → (most ≤ sure + len) × (0 ≤ len))
+read_first most sure len none = (omega arith, λ enough. (omega arith, omega arith))
+
+-- a reader that is sure gives a byte each turn
+pub read_next : (most sure left len longer turn : ℕ) → (most ≤ sure + len) × (turn ≤ len) → (len < longer) × (sure + len ≤ left + longer) → (most ≤ left + longer) × (turn + 1 ≤ longer)
+read_next most sure left len longer turn before now = (omega arith, omega arith)
+
+-- it is sure of as much as it is asked for
+pub read_asks : (most sure len size n at : ℕ) (chunk : List ℕ) → n ≡ min size (most - at) → at ≡ len → most ≤ sure + len → length (take n chunk) ≤ sure
+read_asks most sure len size n at chunk asks is enough = omega (arith, length-take n chunk)
+
+-- so the turns don't end before its bytes do
+pub read_turns : (most turns turn len : ℕ) → len ≤ most → turn ≤ len → turns ≤ turn → most < turns → ⊥
+read_turns most turns turn len few on end many = omega arith
+
+-- what is read where a read failed
+pub read_failed : {A : Type 0} (begun sure left len longer : ℕ) (remaining : Option (List ℕ)) (fault : FetchFault) → (◌≡◌ {A = Result Bool FetchFault} (Err fault) (Err TooLong) → ⊥) → (longest + 1 ≤ begun → ReadsOn sure left len longer (Err fault))
+    → IsReadFrom {A = A} begun remaining (Err fault)
+read_failed begun sure left len longer remaining ReadFailed other on = record { read = tt; failed = λ enough. absurd (on enough) }
+read_failed begun sure left len longer remaining TooLong other on = absurd (other refl)
+read_failed begun sure left len longer remaining OutOfMemory other on = record { read = tt; failed = λ _. refl }
 
 appends_nothing : (held : Option (List ℕ)) → Appends held held []
 appends_nothing None = tt
