@@ -1,6 +1,7 @@
 -- Positions that are marked, or whose marks are taken off, one after another.
-use Rattle.std.proofs.Common.{◌≡◌, ◌⊎◌, inl, inr, ⊎_elim, ◌↔◌, ℕ, zero, suc, ◌+◌, ◌*◌, ◌<◌, ◌≤◌, Bool, true, false, List, [], ◌∷◌, length, drop, slice_index_or, slice_set, sym, ◌∙◌, ap, subst, arith, Some, None}
+use Rattle.std.proofs.Common.{◌≡◌, ◌⊎◌, inl, inr, ⊎_elim, ◌↔◌, ℕ, zero, suc, ◌+◌, ◌*◌, ◌<◌, ◌≤◌, Bool, true, false, List, [], ◌∷◌, length, drop, slice_index_or, slice_set, sym, ◌∙◌, ap, subst, arith, Option, Some, None}
 use Rattle.std.specs.List.{AllByRecursion, Contains}
+use Rattle.std.specs.Option.{is_some}
 use Rattle.std.proofs.lemmas.Bool.{cases_Bool, cases_eq, false≢true}
 use Rattle.std.proofs.lemmas.List.{at_drop_all, drop_more, get_or-set_other, get_or-set_same, length-set}
 use Rattle.std.proofs.lemmas.List.Elements.{Contains-get_or}
@@ -137,6 +138,15 @@ Changes-among reads cells i d (cause.Part at k) early change = record {
   differs = change.differs;
 }
 Changes-among reads cells i d (cause.Place guessed actual) early change = change
+
+-- what comparing one read answers: a change of all reads, or none at that read
+pub Changes-found : (reads : List Sighting) (cells : Cells) (i : ℕ) (d : Sighting) (answer : Option Cause) → i < length reads → is_some answer ≡ true → Changes (slice_index_or reads i d ∷ []) cells answer → Changes reads cells answer
+Changes-found reads cells i d None early is change = absurd (false≢true is)
+Changes-found reads cells i d (Some found) early is change = Changes-among reads cells i d found early change
+
+pub Changes-not_found : (read : Sighting) (cells : Cells) (answer : Option Cause) → is_some answer ≡ false → Changes (read ∷ []) cells answer → Agree (seen_parts read) (seen_cell read) (cells (seen_place read))
+Changes-not_found read cells None is change = change.0
+Changes-not_found read cells (Some found) is change = absurd (false≢true (sym is))
 
 -- what was read is there still where nothing of it was written
 pub unwritten-agree : (written : List Pos) (cells : Cells) (reads : List Sighting) → AllByRecursion (AgreesIfUnwritten written cells) reads → AllByRecursion (IsUnwritten written) reads → Changes reads cells None

@@ -12,6 +12,8 @@ use Rattle.cell_world.specs.Grid.{Grid, world_of}
 use Rattle.hex_geometry.proofs.RowLemmas.{index_of-early, index_of-inside, index_of-same}
 use Rattle.hex_geometry.specs.RowOrder.{index_of}
 use Rattle.cell_world.specs.World.{Cells, World, with_cells}
+use Rattle.round_book.specs.declared.workspace.Workspace.{Workspace}
+use Rattle.round_book.specs.Inner.Kept.{IsWorkspaceReady}
 use Rattle.round_book.specs.Inner.Workspace.{AreMarked, marks_in}
 
 -- a list with one more at its end has what it had, and that one
@@ -107,3 +109,21 @@ AreMarked-same grid new marked written cells same before = record {
 
   height : new.height ≡ grid.height
   height = ap (λ (w : World). w.height) same
+
+-- a workspace that is ready stays so when it gets more room
+pub ready-reserved : (world : Grid) (old new : Workspace) → IsWorkspaceReady world old → new.world ≡ old.world → new.marked.items ≡ old.marked.items → new.written.items ≡ old.written.items → new.verdicts.items ≡ old.verdicts.items → IsWorkspaceReady world new
+ready-reserved world old new ready same marked written verdicts = record {
+  same = same ∙ ready.same;
+  marks = subst (λ (marks : List Bool). AreMarked world marks []) (sym marked) ready.marks;
+  none_written = written ∙ ready.none_written;
+  no_verdicts = verdicts ∙ ready.no_verdicts;
+}
+
+-- and is ready for the world that it has itself
+pub ready-own : (world : Grid) (work : Workspace) → IsWorkspaceReady world work → IsWorkspaceReady work.world work
+ready-own world work ready = record {
+  same = refl;
+  marks = subst (λ (grid : Grid). AreMarked grid work.marked.items []) (sym ready.same) ready.marks;
+  none_written = ready.none_written;
+  no_verdicts = ready.no_verdicts;
+}
