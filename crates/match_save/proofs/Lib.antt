@@ -31,7 +31,8 @@ pub mod SavedBrains
 -- What is written, and how a game goes on.
 pub mod Drafted
 pub mod WrittenTexts
-pub mod WholeTexts
+pub mod WholeLines
+mod WholeTexts
 pub mod ResumedGames
 -- A game that is saved.
 pub mod BrainForms

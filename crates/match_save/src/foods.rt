@@ -24,10 +24,18 @@ fn food_of(line: &[u8], x: usize, y: usize) -> Option<u32>
     ensures { result ≡ food_of x y line.now }
 {
     let mut fields = Fields::new(line);
-    fields.word("food").ok()?;
-    let _column = fields.number(x as u64, x as u64).ok()?;
-    let _row = fields.number(y as u64, y as u64).ok()?;
-    let food = fields.number(LEAST_LISTED, MOST_FOOD).ok()?;
+    let Ok(()) = fields.word("food") else {
+        return None;
+    };
+    let Ok(_column) = fields.number(x as u64, x as u64) else {
+        return None;
+    };
+    let Ok(_row) = fields.number(y as u64, y as u64) else {
+        return None;
+    };
+    let Ok(food) = fields.number(LEAST_LISTED, MOST_FOOD) else {
+        return None;
+    };
     if fields.is_done() {
         Some(food as u32)
     } else {

@@ -91,10 +91,18 @@ fn sheet_of(line: &[u8]) -> Option<(u64, (u64, u64))>
     ensures bounds { IfSome result (λ z. (z.0 ≤ 6) × ((z.1.0 ≤ 9) × (z.1.1 ≤ 255))) }
 {
     let mut fields = Fields::new(line);
-    fields.word("sheet").ok()?;
-    let surround = fields.number(4, 6).ok()?;
-    let corpse = fields.number(0, 9).ok()?;
-    let rest = fields.number(0, 255).ok()?;
+    let Ok(()) = fields.word("sheet") else {
+        return None;
+    };
+    let Ok(surround) = fields.number(4, 6) else {
+        return None;
+    };
+    let Ok(corpse) = fields.number(0, 9) else {
+        return None;
+    };
+    let Ok(rest) = fields.number(0, 255) else {
+        return None;
+    };
     if fields.is_done() {
         Some((surround, (corpse, rest)))
     } else {
@@ -122,9 +130,15 @@ fn size_of(line: &[u8]) -> Option<(u64, u64)>
     ensures bounds { IfSome result (λ z. ((3 ≤ z.0) × (z.0 ≤ 512)) × ((3 ≤ z.1) × (z.1 ≤ 512))) }
 {
     let mut fields = Fields::new(line);
-    fields.word("size").ok()?;
-    let width = fields.number(3, 512).ok()?;
-    let height = fields.number(3, 512).ok()?;
+    let Ok(()) = fields.word("size") else {
+        return None;
+    };
+    let Ok(width) = fields.number(3, 512) else {
+        return None;
+    };
+    let Ok(height) = fields.number(3, 512) else {
+        return None;
+    };
     if fields.is_done() {
         Some((width, height))
     } else {
