@@ -20,9 +20,12 @@ use Rattle.cell_world.proofs.Sets.{IsWorld-set}
 use Rattle.brain_read.specs.declared.instr.Instr.{Instr}
 use Rattle.brain_read.specs.Grammar.{StatesBelow, states_of}
 use Rattle.match_save.specs.declared.soil.Soil.{Soil}
+use Rattle.match_save.specs.declared.fault.SaveFault.{SaveFault}
+use Rattle.match_save.specs.declared.fault.SaveFault.TheVariants.{BadLine, BadState, OutOfMemory}
 use Rattle.match_save.specs.Draft.{Draft, IdsRise, IsAnt, IsInForm}
 use Rattle.match_save.specs.State.{IsState, grid_of_draft, ground_cells, hill_count, program_of, turns_of}
 use Rattle.match_save.specs.Inner.Floor.{are_sound_cells, floor_of}
+use Rattle.match_save.specs.Inner.Judged.{Refutes}
 use Rattle.match_save.specs.Inner.Made.{made_saved}
 use Rattle.match_save.specs.Saved.{saved_of}
 use Rattle.match_save.specs.Inner.State.{HasRest, HasWorld}
@@ -179,3 +182,9 @@ made-is d red black world is_red is_black is_world =
     ap (λ (l : List Instr). made_saved d.head l black world) is_red
     ∙ ap (λ (l : List Instr). made_saved d.head d.red l world) is_black
     ∙ ap (λ (g : Grid). made_saved d.head d.red d.black g) is_world
+
+-- what rules out a fact rules out all that need it
+pub refutes-sooner : {P Q : Type 0} → (P → Q) → (fault : SaveFault) → Refutes Q fault → Refutes P fault
+refutes-sooner need (BadLine line) wrong = wrong
+refutes-sooner need BadState wrong = λ has. wrong (need has)
+refutes-sooner need OutOfMemory free = tt

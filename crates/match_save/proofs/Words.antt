@@ -1,8 +1,9 @@
 -- A word at the front, and what is read behind it.
 use Rattle.std.proofs.Common.{◌≡◌, ℕ, ◌+◌, Bool, true, false, cond, List, [], ◌∷◌, Option, Some, Result, Ok, Err, refl, sym, ◌∙◌, ap, codes}
 use Rattle.std.specs.Str.{bytes_eq}
+use Rattle.match_save.specs.Draft.{most_counted}
 use Rattle.match_save.specs.Inner.Readers.{Left, Reader, followed, go_on, led, made, next_element, next_of, nothing, one, one_of, paired, taken}
-use Rattle.match_save.specs.Inner.Reading.{first_line, head_of, led_by, line_of, named_number_of, read_head, sheet_tokens, standing_parts, word}
+use Rattle.match_save.specs.Inner.Reading.{first_line, head_of, led_by, line_of, named_number_of, read_head, sheet_tokens, size_tokens, counts_tokens, standing_parts, word}
 
 module _ {A : Type 0} (text : List ℕ) (r : Reader (List ℕ) A) where
   -- behind a word that was passed, what follows is read
@@ -71,3 +72,69 @@ head-read at a b c e u seed sheet standing first second third fourth =
     word_passed (codes "ants save 1") (followed (one (named_number_of (codes "seed") 0 4294967295)) (λ (n : ℕ). followed (line_of sheet_tokens) (λ (z : ℕ × (ℕ × ℕ)). standing_parts))) at a u first
     ∙ ap (go_on (λ (n : ℕ). followed (line_of sheet_tokens) (λ (z : ℕ × (ℕ × ℕ)). standing_parts))) second
     ∙ ap (paired seed) (ap (go_on (λ (z : ℕ × (ℕ × ℕ)). standing_parts)) third ∙ ap (paired sheet) fourth))
+
+-- what is read behind the seed, and behind the sheet
+abbrev behind_seed : ℕ → Reader (List ℕ) ((ℕ × (ℕ × ℕ)) × (ℕ × (ℕ × (ℕ × ((ℕ × ℕ) × (ℕ × ℕ))))))
+behind_seed seed = followed (line_of sheet_tokens) (λ sheet. standing_parts)
+
+-- where one of the first lines is refused, all are
+pub head-first : (at : Left (List ℕ)) (k : ℕ) → first_line at ≡ Err k → read_head at ≡ Err k
+head-first at k first = ap (made head_of) (word_refused (codes "ants save 1") (followed (one (named_number_of (codes "seed") 0 4294967295)) behind_seed) at k first)
+
+module _ (at a : Left (List ℕ)) (u : Unit {0}) (first : first_line at ≡ Ok (u, a)) where
+  pub head-seed : (k : ℕ) → one (named_number_of (codes "seed") 0 4294967295) a ≡ Err k → read_head at ≡ Err k
+  head-seed k second =
+      ap (made head_of) (word_passed (codes "ants save 1") (followed (one (named_number_of (codes "seed") 0 4294967295)) behind_seed) at a u first ∙ ap (go_on behind_seed) second)
+
+  module _ (b : Left (List ℕ)) (seed : ℕ) (second : one (named_number_of (codes "seed") 0 4294967295) a ≡ Ok (seed, b)) where
+    pub head-later : (k : ℕ) → behind_seed seed b ≡ Err k → read_head at ≡ Err k
+    head-later k later =
+        ap (made head_of) (word_passed (codes "ants save 1") (followed (one (named_number_of (codes "seed") 0 4294967295)) behind_seed) at a u first ∙ ap (go_on behind_seed) second ∙ ap (paired seed) later)
+
+    pub head-sheet : (k : ℕ) → line_of sheet_tokens b ≡ Err k → read_head at ≡ Err k
+    head-sheet k third = head-later k (ap (go_on (λ (z : ℕ × (ℕ × ℕ)). standing_parts)) third)
+
+    pub head-standing : (c : Left (List ℕ)) (sheet : ℕ × (ℕ × ℕ)) (k : ℕ) → line_of sheet_tokens b ≡ Ok (sheet, c) → standing_parts c ≡ Err k → read_head at ≡ Err k
+    head-standing c sheet k third fourth = head-later k (ap (go_on (λ (z : ℕ × (ℕ × ℕ)). standing_parts)) third ∙ ap (paired sheet) fourth)
+
+-- what is read behind the counts, the place, the round and the window
+abbrev behind_counts : ℕ × ℕ → Reader (List ℕ) (ℕ × ℕ)
+behind_counts counts = line_of size_tokens
+
+abbrev behind_place : ℕ → Reader (List ℕ) ((ℕ × ℕ) × (ℕ × ℕ))
+behind_place place = followed (line_of counts_tokens) behind_counts
+
+abbrev behind_round : ℕ → Reader (List ℕ) (ℕ × ((ℕ × ℕ) × (ℕ × ℕ)))
+behind_round round = followed (one (named_number_of (codes "place") 0 most_counted)) behind_place
+
+abbrev behind_window : ℕ → Reader (List ℕ) (ℕ × (ℕ × ((ℕ × ℕ) × (ℕ × ℕ))))
+behind_window window = followed (one (named_number_of (codes "round") 0 1000000)) behind_round
+
+-- the lines of the standing are read one after another, and the first that is refused refuses all
+pub standing-first : (at : Left (List ℕ)) (k : ℕ) → one (named_number_of (codes "window") 1 16384) at ≡ Err k → standing_parts at ≡ Err k
+standing-first at k first = ap (go_on behind_window) first
+
+module _ (at a : Left (List ℕ)) (window : ℕ) (first : one (named_number_of (codes "window") 1 16384) at ≡ Ok (window, a)) where
+  pub standing-second : (k : ℕ) → one (named_number_of (codes "round") 0 1000000) a ≡ Err k → standing_parts at ≡ Err k
+  standing-second k second = ap (go_on behind_window) first ∙ ap (paired window) (ap (go_on behind_round) second)
+
+  module _ (b : Left (List ℕ)) (round : ℕ) (second : one (named_number_of (codes "round") 0 1000000) a ≡ Ok (round, b)) where
+    pub standing-third : (k : ℕ) → one (named_number_of (codes "place") 0 most_counted) b ≡ Err k → standing_parts at ≡ Err k
+    standing-third k third = ap (go_on behind_window) first ∙ ap (paired window) (ap (go_on behind_round) second ∙ ap (paired round) (ap (go_on behind_place) third))
+
+    module _ (c : Left (List ℕ)) (place : ℕ) (third : one (named_number_of (codes "place") 0 most_counted) b ≡ Ok (place, c)) where
+      pub standing-fourth : (k : ℕ) → line_of counts_tokens c ≡ Err k → standing_parts at ≡ Err k
+      standing-fourth k fourth =
+          ap (go_on behind_window) first
+          ∙ ap (paired window) (ap (go_on behind_round) second ∙ ap (paired round) (ap (go_on behind_place) third ∙ ap (paired place) (ap (go_on behind_counts) fourth)))
+
+      module _ (e : Left (List ℕ)) (counts : ℕ × ℕ) (fourth : line_of counts_tokens c ≡ Ok (counts, e)) where
+        pub standing-fifth : (k : ℕ) → line_of size_tokens e ≡ Err k → standing_parts at ≡ Err k
+        standing-fifth k fifth =
+            ap (go_on behind_window) first
+            ∙ ap (paired window) (ap (go_on behind_round) second ∙ ap (paired round) (ap (go_on behind_place) third ∙ ap (paired place) (ap (go_on behind_counts) fourth ∙ ap (paired counts) fifth)))
+
+        pub standing-read : (left : Left (List ℕ)) (sizes : ℕ × ℕ) → line_of size_tokens e ≡ Ok (sizes, left) → standing_parts at ≡ Ok ((window, (round, (place, (counts, sizes)))), left)
+        standing-read left sizes fifth =
+            ap (go_on behind_window) first
+            ∙ ap (paired window) (ap (go_on behind_round) second ∙ ap (paired round) (ap (go_on behind_place) third ∙ ap (paired place) (ap (go_on behind_counts) fourth ∙ ap (paired counts) fifth)))

@@ -113,7 +113,9 @@ fn ant_of(line: &[u8], width: u16, height: u16) -> Option<PlacedAnt>
     ensures known { IfSome result (λ it. it.ant.id < 16384) }
 {
     let mut fields = Fields::new(line);
-    let it = next_placed_ant(&mut fields, width, height).ok()?;
+    let Ok(it) = next_placed_ant(&mut fields, width, height) else {
+        return None;
+    };
     if fields.is_done() { Some(it) } else { None }
 }
 

@@ -66,7 +66,9 @@ fn named_number_of(line: &[u8], name: &str, least: u64, most: u64) -> Option<u64
     ensures bounds { IfSome result (λ n. (least ≤ n) × (n ≤ most)) }
 {
     let mut fields = Fields::new(line);
-    let number = fields.named_number(name, least, most).ok()?;
+    let Ok(number) = fields.named_number(name, least, most) else {
+        return None;
+    };
     if fields.is_done() { Some(number) } else { None }
 }
 
@@ -115,8 +117,12 @@ fn counts_of(line: &[u8]) -> Option<(u64, u64)>
     ensures { result ≡ whole counts_tokens (pieces line.now) }
 {
     let mut fields = Fields::new(line);
-    let taken = fields.named_number("taken", 0, MOST_COUNTED).ok()?;
-    let redone = fields.named_number("redone", 0, MOST_COUNTED).ok()?;
+    let Ok(taken) = fields.named_number("taken", 0, MOST_COUNTED) else {
+        return None;
+    };
+    let Ok(redone) = fields.named_number("redone", 0, MOST_COUNTED) else {
+        return None;
+    };
     if fields.is_done() {
         Some((taken, redone))
     } else {

@@ -1,4 +1,5 @@
 use Rattle.std.proofs.Common.{◌≡◌, ℕ, true, false, List, length, map, sym, ◌∙◌, ap, subst, arith}
+use Rattle.std.proofs.lemmas.Result.{err_from_is_err_and}
 use Rattle.brain_read.specs.declared.instr.Instr.{Instr}
 use Rattle.brain_read.specs.Drafts.{drafted}
 use Rattle.brain_read.specs.Grammar.{StatesBelow}
@@ -7,7 +8,7 @@ use Rattle.match_save.specs.Saved.{IsSaved}
 use Rattle.match_save.specs.State.{IsState, hill_count}
 use Rattle.match_save.specs.Inner.Fit.{are_fit, has_turns}
 use Rattle.match_save.specs.Inner.Said.{said}
-use Rattle.match_save.proofs.Judgement.{has-state, made-is, state-world}
+use Rattle.match_save.proofs.Judgement.{has-state, made-is, refutes-sooner, state-world}
 use Rattle.match_save.proofs.SavedLaws.{saved-is}
 use Rattle.match_save.proofs.SavedBrains.{fit-holds, fit-true, turns-hold, turns-true}
 use Rattle.match_save.proofs.judge.judge.Goals as goal
@@ -70,3 +71,20 @@ returns c =
       state-of (goal.at.returns c).In_ok-world,
       c.of.ensures ∙ made-is d c.in_ok-red.red c.in_ok-black.black c.in_ok-world.world (c.in_ok-red.ensures.0 ∙ ap (map drafted) c.deref-2.ensures.value) (c.in_ok-black.ensures.0 ∙ ap (map drafted) c.deref-3.ensures.value) c.in_ok-world.ensures.1,
     )
+
+pub returns-in_err-red : goal.returns-in_err-red
+returns-in_err-red c =
+    let is_red = ap (map drafted) c.deref-2.ensures.value in
+    let p = err_from_is_err_and c.from_residual.result c.from_residual.ensures.1 in
+    rw (p.1, p.2) (refutes-sooner (λ (state : IsState (said c.args.draft.now)). subst (λ (l : List Instr). StatesBelow (length l) l) (sym is_red) state.red) _ c.in_err-red.ensures)
+
+pub returns-in_err-black : goal.returns-in_err-black
+returns-in_err-black c =
+    let is_black = ap (map drafted) c.deref-3.ensures.value in
+    let p = err_from_is_err_and c.from_residual-in_err-black.result c.from_residual-in_err-black.ensures.1 in
+    rw (p.1, p.2) (refutes-sooner (λ (state : IsState (said c.args.draft.now)). subst (λ (l : List Instr). StatesBelow (length l) l) (sym is_black) state.black) _ c.in_err-black.ensures)
+
+pub returns-in_err-world : goal.returns-in_err-world
+returns-in_err-world c =
+    let p = err_from_is_err_and c.from_residual-in_err-world.result c.from_residual-in_err-world.ensures.1 in
+    rw (p.1, p.2) c.in_err-world.ensures

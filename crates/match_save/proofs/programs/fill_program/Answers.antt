@@ -26,3 +26,8 @@ loop-state-preserved c =
     c.loop-state.invariant ∙ ap (λ m. behind (map drafted c.loop-state.list.items) (many instruction_of m c.loop-state.lines)) left
     ∙ many-more instruction_of (map drafted c.loop-state.list.items) (drafted c.in_ok-draft.draft) n c.loop-state.lines c.next_instruction.new.lines c.in_ok-draft.ensures
     ∙ ap (λ (l : List Instr). behind l (many instruction_of n c.next_instruction.new.lines)) (sym (map-more c.push.new.self.items c.loop-state.list.items c.in_ok-draft.draft c.in_ok-push.ensures.items))
+
+pub returns-in_err-push : goal.returns-in_err-push
+returns-in_err-push c =
+    let p = err_from_is_err_and c.from_residual-in_err-push.result c.from_residual-in_err-push.ensures.1 in
+    rw (p.1, p.2) tt

@@ -1,5 +1,5 @@
 use Rattle.std.proofs.Common.{List, ℕ, subst}
-use Rattle.std.proofs.lemmas.Result.{err_from_is_err_and}
+use Rattle.std.proofs.lemmas.Result.{IfOk-from_err, err_from_is_err_and}
 use Rattle.match_run.specs.Dumps.{chooses}
 use Rattle.match_run.specs.Play.{PushedBy}
 use Rattle.match_run.proofs.PlayLemmas.{prefix_of_nothing}
@@ -15,3 +15,9 @@ pub returns-clause-text : goal.returns-clause-text
 returns-clause-text g c =
     subst (λ (text : List ℕ). PushedBy (g.K.Sink.state c.args.sink.now) (g.K.Sink.state c.play_rest.new.sink) text c.play_rest.result)
     (rest-is c.args.saved.now c.in_ok-game.game c.args.rounds (chooses c.args.dumps.now) c.args.stats c.in_ok-game.ensures) c.play_rest.ensures.text
+
+pub returns-in_err-game-clause-score : goal.returns-in_err-game-clause-score
+returns-in_err-game-clause-score g c = IfOk-from_err c.from_residual.result _ c.from_residual.ensures.0
+
+pub returns-in_err-game-clause-turns : goal.returns-in_err-game-clause-turns
+returns-in_err-game-clause-turns g c = IfOk-from_err c.from_residual.result _ c.from_residual.ensures.0
