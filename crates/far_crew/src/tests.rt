@@ -1,7 +1,11 @@
 // Looks of a game's first window against fields that are the same and others; a crew whose answers are dropped, repeated, swapped or of
 // another window; and what takes memory, with it.
-ghost use Rattle.std.specs.Prelude.{◌≡◌, ◌≤◌, true, IfOk, length};
+ghost use Rattle.std.specs.Prelude.{◌≡◌, ◌+◌, ◌-◌, ◌<◌, ◌≤◌, ◌^◌, true, IfOk, length};
+ghost use Rattle.std.specs.Arc.{arc_value};
+ghost use Rattle.std.specs.List.{AllByRecursion};
 ghost use Rattle.ant_base.specs.Shelf.{longest};
+ghost use Rattle.far_crew.specs.Inner.Copies.{AreCopiesOf};
+ghost use Rattle.far_crew.specs.Inner.Turns.{CanLookAt};
 
 use crate::crew::FarCrew;
 use crate::deal::{Piece, job_of};
@@ -12,9 +16,10 @@ use crate::{Errand, Found, Job, OwnBrains, agrees, with_far};
 use ant_base::{LONGEST, NoGate};
 use ant_turn::{Brains, Sheet};
 use brain_read::{Brain, read_brain};
+use cell_world::World;
 use crossbeam_channel::{Receiver, Sender, bounded};
 use hex_geometry::Pos;
-use round_book::{Crew, Field, play_window};
+use round_book::{Counts, Crew, Field, play_window};
 use std::alloc::Global;
 use std::process::Abort;
 use std::sync::{Arc, Wait};
@@ -132,6 +137,40 @@ fn field_of<'b, R: Abort>(
     field_on(alloc, bytes, brains, seed)
 }
 
+// Copies of a field's brains.
+fn minds_of(alloc: Global, field: &Field<'_>) -> Result<Arc<OwnBrains>, Fail>
+    ensures { IfOk result (λ minds. arc_value minds ≡ field.now.minds) }
+{
+    Ok(Arc::new(alloc, OwnBrains::of(alloc, field.brains())?)?)
+}
+
+// A copy of its world.
+fn base_of(alloc: Global, field: &Field<'_>) -> Result<Arc<World>, Fail>
+    ensures { IfOk result (λ base. arc_value base ≡ field.now.world) }
+{
+    Ok(Arc::new(alloc, field.world().copy(alloc)?)?)
+}
+
+// Copies of both.
+fn copies_of(alloc: Global, field: &Field<'_>) -> Result<Copies, Fail>
+    ensures { IfOk result (λ copies. AreCopiesOf field.now copies) }
+{
+    let minds = minds_of(alloc, field)?;
+    let base = base_of(alloc, field)?;
+    Ok(Copies { minds, base })
+}
+
+// The looks at the turns of a field's first ids, each at its guess.
+fn found_at(alloc: Global, field: &Field<'_>, to: u32, guesses: &[u64]) -> Result<Found, Fail>
+    requires ids { to ≤ field.now.world.ids }
+    requires count { length guesses.now ≡ to }
+    requires small { AllByRecursion (λ guess. guess + 1 < 2 ^ 63) guesses.now }
+{
+    let Copies { minds, base } = copies_of(alloc, field)?;
+    let job = Job::of(alloc, field, minds, base, 0, to, guesses)?;
+    Ok(job.work(&NoGate, 0))
+}
+
 // The looks at all turns of a field's first window.
 #[tactic(auto, using(crate::proofs::WindowLemmas::guesses_count, crate::proofs::WindowLemmas::guesses_small))]
 fn found_on<R: Abort>(rt: &R, alloc: Global, field: &Field<'_>) -> Result<Found, Fail>
@@ -140,13 +179,26 @@ fn found_on<R: Abort>(rt: &R, alloc: Global, field: &Field<'_>) -> Result<Found,
     let ids = field.world().ant_count();
     assert!(rt; field.place() < 1000);
     let guesses = guesses_in(alloc, field, 0, ids)?;
-    let minds = Arc::new(alloc, OwnBrains::of(alloc, field.brains())?)?;
-    let base = Arc::new(alloc, field.world().copy(alloc)?)?;
-    let job = Job::of(alloc, field, minds, base, 0, ids, &guesses)?;
+    found_at(alloc, field, ids, &guesses)
+}
+
+// The looks at the turns of a piece.
+fn piece_at(
+    alloc: Global,
+    field: &Field<'_>,
+    turns: &GuessedTurns<'_>,
+    piece: Piece,
+) -> Result<Found, Fail>
+    requires turns { CanLookAt field.now.world turns.now }
+    requires forwards { piece.first ≤ piece.last }
+    requires within { piece.last ≤ turns.now.to - turns.now.from }
+{
+    let copies = copies_of(alloc, field)?;
+    let job = job_of(alloc, field, &copies, turns, piece, Vec::new(alloc))?;
     Ok(job.work(&NoGate, 0))
 }
 
-// The looks at these turns of it.
+// The looks at these turns of a field's first window.
 #[tactic(auto, using(crate::proofs::WindowLemmas::guesses_count, crate::proofs::WindowLemmas::guesses_small))]
 fn piece_of<R: Abort>(
     rt: &R,
@@ -161,17 +213,12 @@ fn piece_of<R: Abort>(
     assert!(rt; field.place() < 1000);
     let guesses = guesses_in(alloc, field, 0, ids)?;
     assert!(rt; first <= last && last <= guesses.len());
-    let minds = Arc::new(alloc, OwnBrains::of(alloc, field.brains())?)?;
-    let base = Arc::new(alloc, field.world().copy(alloc)?)?;
-    let copies = Copies { minds, base };
     let turns = GuessedTurns {
         from: 0,
         to: ids,
         guesses: &guesses,
     };
-    let piece = Piece { first, last };
-    let job = job_of(alloc, field, &copies, &turns, piece, Vec::new(alloc))?;
-    Ok(job.work(&NoGate, 0))
+    piece_at(alloc, field, &turns, Piece { first, last })
 }
 
 // Asserts of each row whether the look at its turn agrees with a field at its guess.
@@ -182,7 +229,26 @@ fn check_rows<R: Abort>(rt: &R, field: &Field<'_>, found: &Found, rows: &[(u32, 
     }
 }
 
-// Asserts the same of the looks of the game's first round, with a field of other rules, another seed and another black brain.
+// The looks of the game's first round.
+fn first_looks<R: Abort>(rt: &R, alloc: Global) -> Result<Found, Fail> {
+    let players = make_players(rt, alloc, MOVES)?;
+    let field = field_of(rt, alloc, &players, Sheet::contest(), SEED)?;
+    found_on(rt, alloc, &field)
+}
+
+// Asserts the same of the looks of the game's first round.
+fn check_first<R: Abort>(
+    rt: &R,
+    alloc: Global,
+    field: &Field<'_>,
+    rows: &[(u32, u64, bool)],
+) -> Result<(), Fail> {
+    let found = first_looks(rt, alloc)?;
+    check_rows(rt, field, &found, rows);
+    Ok(())
+}
+
+// Asserts the same of them with a field of other rules, another seed and another black brain.
 fn check_field<R: Abort>(
     rt: &R,
     alloc: Global,
@@ -191,13 +257,9 @@ fn check_field<R: Abort>(
     seed: u32,
     rows: &[(u32, u64, bool)],
 ) -> Result<(), Fail> {
-    let own = make_players(rt, alloc, MOVES)?;
-    let field = field_of(rt, alloc, &own, Sheet::contest(), SEED)?;
-    let found = found_on(rt, alloc, &field)?;
-    let others = make_players(rt, alloc, black)?;
-    let other = field_of(rt, alloc, &others, sheet, seed)?;
-    check_rows(rt, &other, &found, rows);
-    Ok(())
+    let players = make_players(rt, alloc, black)?;
+    let field = field_of(rt, alloc, &players, sheet, seed)?;
+    check_first(rt, alloc, &field, rows)
 }
 
 #[test]
@@ -212,15 +274,26 @@ fn looks_of_another_game_dont_agree(rt: HostRuntime) -> Result<(), Fail> {
     check_field(&rt, rt.alloc(), FLIPS, Sheet::contest(), SEED, &REDS)
 }
 
+// The field after the round.
+fn later_field<'b, R: Abort>(rt: &R, alloc: Global, players: &'b Players) -> Result<Field<'b>, Fail>
+    ensures { IfOk result (λ field. field.whole ≡ true) }
+{
+    let mut field = field_of(rt, alloc, players, Sheet::contest(), SEED)?;
+    let ids = field.world().ant_count();
+    play_window(&NoGate, alloc, &mut field, 0, ids)?;
+    Ok(field)
+}
+
+// Asserts of the rows with the field after the round whether the looks of the round agree with it.
+fn check_later<R: Abort>(rt: &R, alloc: Global, players: &Players) -> Result<(), Fail> {
+    let field = later_field(rt, alloc, players)?;
+    check_first(rt, alloc, &field, &LATER)
+}
+
 #[test]
 fn looks_agree_with_a_later_field_where_it_is_the_same(rt: HostRuntime) -> Result<(), Fail> {
     let players = make_players(&rt, rt.alloc(), MOVES)?;
-    let mut field = field_of(&rt, rt.alloc(), &players, Sheet::contest(), SEED)?;
-    let found = found_on(&rt, rt.alloc(), &field)?;
-    let ids = field.world().ant_count();
-    play_window(&NoGate, rt.alloc(), &mut field, 0, ids)?;
-    check_rows(&rt, &field, &found, &LATER);
-    Ok(())
+    check_later(&rt, rt.alloc(), &players)
 }
 
 // What comes on the answer channel of a worker: nothing, since it is closed; or looks at these turns, of the field or of the one after the
@@ -258,14 +331,28 @@ const ANSWERS: [(Sent, Sent); 7] = [
     ),
 ];
 
-// The field after the round.
-fn later_field<'b, R: Abort>(rt: &R, alloc: Global, players: &'b Players) -> Result<Field<'b>, Fail>
-    ensures { IfOk result (λ field. field.whole ≡ true) }
-{
-    let mut field = field_of(rt, alloc, players, Sheet::contest(), SEED)?;
-    let ids = field.world().ant_count();
-    play_window(&NoGate, alloc, &mut field, 0, ids)?;
-    Ok(field)
+// The looks at these turns of the field.
+fn first_piece<R: Abort>(
+    rt: &R,
+    alloc: Global,
+    players: &Players,
+    from: usize,
+    to: usize,
+) -> Result<Found, Fail> {
+    let field = field_of(rt, alloc, players, Sheet::contest(), SEED)?;
+    piece_of(rt, alloc, &field, from, to)
+}
+
+// The looks at these turns of the field after the round.
+fn later_piece<R: Abort>(
+    rt: &R,
+    alloc: Global,
+    players: &Players,
+    from: usize,
+    to: usize,
+) -> Result<Found, Fail> {
+    let field = later_field(rt, alloc, players)?;
+    piece_of(rt, alloc, &field, from, to)
 }
 
 // The looks that are sent, if any.
@@ -277,14 +364,8 @@ fn answer<R: Abort>(
 ) -> Result<Option<Found>, Fail> {
     match sent {
         Sent::Nothing => Ok(None),
-        Sent::Looks { from, to } => {
-            let field = field_of(rt, alloc, players, Sheet::contest(), SEED)?;
-            Ok(Some(piece_of(rt, alloc, &field, from, to)?))
-        }
-        Sent::Later { from, to } => {
-            let field = later_field(rt, alloc, players)?;
-            Ok(Some(piece_of(rt, alloc, &field, from, to)?))
-        }
+        Sent::Looks { from, to } => Ok(Some(first_piece(rt, alloc, players, from, to)?)),
+        Sent::Later { from, to } => Ok(Some(later_piece(rt, alloc, players, from, to)?)),
     }
 }
 
@@ -307,7 +388,28 @@ fn line_of<R: Wait + Abort>(
     Ok((Line::of(jobs, taken), sent))
 }
 
-// Asserts what comes of the round with a crew of these two lines.
+// Asserts how many looks were taken and turns done anew in the round, and where the field stands after it.
+fn check_after<R: Abort>(rt: &R, field: &Field<'_>, counts: &Counts) {
+    assert_eq!(rt; (counts.taken(), counts.redone(), field.place()), (5, 2, 1));
+    assert_eq!(rt; field.world().ant_place(1), Some(Pos { x: 2, y: 3 }));
+    assert_eq!(rt; field.world().ant_place(2), None);
+}
+
+// Asserts what comes of the round with a crew.
+fn check_crew<R: Wait + Abort>(
+    rt: &R,
+    alloc: Global,
+    crew: &mut FarCrew<'_, R, NoGate>,
+    players: &Players,
+) -> Result<(), Fail> {
+    let mut field = field_of(rt, alloc, players, Sheet::contest(), SEED)?;
+    let ids = field.world().ant_count();
+    let counts = crew.window(alloc, &mut field, 0, ids)?;
+    check_after(rt, &field, &counts);
+    Ok(())
+}
+
+// Asserts what comes of it with a crew of these two lines.
 fn check_round<R: Wait + Abort>(
     rt: &R,
     alloc: Global,
@@ -315,13 +417,43 @@ fn check_round<R: Wait + Abort>(
     lines: Vec<Line>,
 ) -> Result<(), Fail> {
     let mut crew = FarCrew::of(rt, alloc, &NoGate, 2, lines);
-    let mut field = field_of(rt, alloc, players, Sheet::contest(), SEED)?;
-    let ids = field.world().ant_count();
-    let counts = crew.window(alloc, &mut field, 0, ids)?;
-    assert_eq!(rt; (counts.taken(), counts.redone(), field.place()), (5, 2, 1));
-    assert_eq!(rt; field.world().ant_place(1), Some(Pos { x: 2, y: 3 }));
-    assert_eq!(rt; field.world().ant_place(2), None);
-    Ok(())
+    check_crew(rt, alloc, &mut crew, players)
+}
+
+// The line of a worker that sends this, and the end at which its jobs come.
+fn sent_line<R: Wait + Abort>(
+    rt: &R,
+    alloc: Global,
+    players: &Players,
+    sent: Sent,
+) -> Result<(Line, Receiver<Job>), Fail> {
+    let found = answer(rt, alloc, players, sent)?;
+    line_of(rt, alloc, found)
+}
+
+// Asserts what comes of the round with a crew of these two lines.
+fn check_lines<R: Wait + Abort>(
+    rt: &R,
+    alloc: Global,
+    players: &Players,
+    one: Line,
+    two: Line,
+) -> Result<(), Fail> {
+    let lines = vec![in alloc; one, two]?;
+    check_round(rt, alloc, players, lines)
+}
+
+// Asserts what comes of it with two workers that send these to a crew of such players.
+fn check_sent<R: Wait + Abort>(
+    rt: &R,
+    alloc: Global,
+    players: &Players,
+    first: Sent,
+    second: Sent,
+) -> Result<(), Fail> {
+    let (one, _jobs_of_one) = sent_line(rt, alloc, players, first)?;
+    let (two, _jobs_of_two) = sent_line(rt, alloc, players, second)?;
+    check_lines(rt, alloc, players, one, two)
 }
 
 // Asserts what comes of it with two workers of which these answers come.
@@ -332,12 +464,7 @@ fn check_answers<R: Wait + Abort>(
     second: Sent,
 ) -> Result<(), Fail> {
     let players = make_players(rt, alloc, MOVES)?;
-    let one = answer(rt, alloc, &players, first)?;
-    let two = answer(rt, alloc, &players, second)?;
-    let (one, _jobs_of_one) = line_of(rt, alloc, one)?;
-    let (two, _jobs_of_two) = line_of(rt, alloc, two)?;
-    let lines = vec![in alloc; one, two]?;
-    check_round(rt, alloc, &players, lines)
+    check_sent(rt, alloc, &players, first, second)
 }
 
 // Asserts the same of the answers of each row.
