@@ -70,3 +70,9 @@ part-looks base turns part first last can forwards within begins ends guesses =
       count = omega arith;
       small = subst (AllByRecursion (λ guess. guess + 1 < 2 ^ 63)) (sym guesses) (all_between (λ guess. guess + 1 < 2 ^ 63) (last - first) first all can.small);
     }
+
+-- at each guess of such turns a number can be drawn
+pub guess_small : (base : Grid) (turns : GuessedTurns) (id : ℕ) → CanLookAt base turns → turns.from ≤ id → id < turns.to → slice_index_or turns.guesses.now (id - turns.from) 0 + 1 < 2 ^ 63
+guess_small base turns id can first last =
+    let count = can.count in
+    all_at (λ guess. guess + 1 < 2 ^ 63) turns.guesses.now (id - turns.from) 0 can.small (omega (arith, count, first, last))
