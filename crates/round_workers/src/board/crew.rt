@@ -228,7 +228,10 @@ fn list(alloc: Global, idle: &mut Vec<Vec<u32>>, turns: usize) -> Result<Vec<u32
     ensures fewer { vec_len idle.new ≤ vec_len idle.old }
     ensures capacity { vec_capacity idle.new ≡ vec_capacity idle.old }
 {
-    let mut made = idle.pop().unwrap_or_else(|| Vec::new(alloc));
+    let mut made = match idle.pop() {
+        Some(kept) => kept,
+        None => Vec::new(alloc),
+    };
     made.clear();
     made.reserve(turns)?;
     Ok(made)

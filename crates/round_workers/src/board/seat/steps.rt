@@ -315,7 +315,7 @@ impl Board {
 }
 
 // The table of a board for these turns of a field, with words and rooms that were kept, and what is wanted besides, and the hand of its
-// first seat. Where memory is wanting, the rooms of looks that are there by then are kept.
+// first seat. When out of memory, the rooms of looks that are there by then are kept.
 fn lay(
     alloc: Global,
     field: &Field<'_>,
@@ -340,7 +340,7 @@ fn lay(
     }
 }
 
-// The table with these words and slots, and the hand of its first seat; or the slots, where memory is wanting.
+// The table with these words and slots, and the hand of its first seat; or the slots, when out of memory.
 fn table_of(
     alloc: Global,
     field: &Field<'_>,
@@ -382,8 +382,8 @@ fn basis(field: &Field<'_>, from: u32, to: u32) -> Basis
     }
 }
 
-// The slots with which a board of so many turns begins, with the rooms that were kept, and such as are wanted besides. Where memory is
-// wanting, those of looks that are there by then are kept.
+// The slots with which a board of so many turns begins, with the rooms that were kept, and such as are wanted besides. When out of
+// memory, those of looks that are there by then are kept.
 fn bare(
     alloc: Global,
     turns: usize,

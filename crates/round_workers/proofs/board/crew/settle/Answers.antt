@@ -96,3 +96,27 @@ settle_left-requires-clause-guesses g c = c.deref-2.ensures.value ∙ c.requires
 
 pub settle_left-requires-clause-room : goal.settle_left-requires-clause-room
 settle_left-requires-clause-room g c = c.requires.stocked.rooms
+
+pub open_book-requires-clause-board : goal.open_book-requires-clause-board
+open_book-requires-clause-board g c = c.requires.laid.seat
+
+pub hire-requires-clause-counted : goal.hire-requires-clause-counted
+hire-requires-clause-counted g c = let none = ap length c.requires.stocked.bare in omega arith
+
+pub hire-requires-clause-wide : goal.hire-requires-clause-wide
+hire-requires-clause-wide g c = let none = ap length c.requires.stocked.bare in let wide = c.requires.stocked.wide in omega arith
+
+pub work_all-requires-clause-workers : goal.work_all-requires-clause-workers
+work_all-requires-clause-workers g c κs within = c.requires.workers
+
+pub work_all-requires-clause-hired : goal.work_all-requires-clause-hired
+work_all-requires-clause-hired g c κs within = subst (All (IsHired c.args.laid.board)) (sym c.deref_mut.ensures.value) c.hire.ensures.hired
+
+pub settle_left-requires-clause-all : goal.settle_left-requires-clause-all
+settle_left-requires-clause-all g c = let long = c.take_apart-ended.result.places.ok.0 in let turns = c.take_apart-ended.ensures.turns in let window = ap turns_in c.requires.laid.window in omega arith
+
+pub returns-clause-book : goal.returns-clause-book
+returns-clause-book g c = c.settle_left.ensures.book
+
+pub returns-clause-next : goal.returns-clause-next
+returns-clause-next g c = c.settle_left.ensures.next

@@ -1,4 +1,4 @@
-use Rattle.std.proofs.Common.{◌≡◌, ℕ, ◌+◌, ◌-◌, ◌<◌, ◌≤◌, List, length, slice_index_or, arith, sym, ap, ◌∙◌, subst}
+use Rattle.std.proofs.Common.{◌≡◌, ℕ, ◌+◌, ◌-◌, ◌<◌, ◌≤◌, List, length, slice_index_or, arith, sym, ap, ◌∙◌, subst, refl}
 use Rattle.round_book.specs.Machine.{times}
 use Rattle.round_book.specs.Window.{guess_for}
 use Rattle.round_book.proofs.SoloLemmas.{guess_for-le}
@@ -81,3 +81,39 @@ returns-clause-served g c =
 
 pub returns-clause-seed : goal.returns-clause-seed
 returns-clause-seed g c = c.look_and_put.ensures.seed ∙ c.reach.ensures.seed
+
+pub draw-ticket-requires-clause-board : goal.draw-ticket-requires-clause-board
+draw-ticket-requires-clause-board g c = c.requires.board
+
+pub draw-ticket-requires-clause-early : goal.draw-ticket-requires-clause-early
+draw-ticket-requires-clause-early g c = c.requires.early
+
+pub returns-then-ticket-turns-clause-board : goal.returns-then-ticket-turns-clause-board
+returns-then-ticket-turns-clause-board g c = c.draw-ticket.ensures.board
+
+pub returns-then-ticket-turns-clause-seed : goal.returns-then-ticket-turns-clause-seed
+returns-then-ticket-turns-clause-seed g c = refl
+
+pub returns-then-ticket-turns-clause-room : goal.returns-then-ticket-turns-clause-room
+returns-then-ticket-turns-clause-room g c = refl
+
+pub turn_of-turn-requires : goal.turn_of-turn-requires
+turn_of-turn-requires g c = let l = c.if-ticket-turns.false in let b = c.turns.ensures in omega arith
+
+pub look_and_put-requires-clause-board : goal.look_and_put-requires-clause-board
+look_and_put-requires-clause-board g c = c.draw-ticket.ensures.board
+
+pub look_and_put-requires-clause-field : goal.look_and_put-requires-clause-field
+look_and_put-requires-clause-field g c = c.requires.field
+
+pub settle_with_book-requires-clause-board : goal.settle_with_book-requires-clause-board
+settle_with_book-requires-clause-board g c = c.look_and_put.ensures.board
+
+pub settle_with_book-requires-clause-field : goal.settle_with_book-requires-clause-field
+settle_with_book-requires-clause-field g c = c.requires.field
+
+pub returns-clause-board : goal.returns-clause-board
+returns-clause-board g c = c.settle_with_book.ensures.board
+
+pub returns-clause-room : goal.returns-clause-room
+returns-clause-room g c = c.push_reserved.ensures.capacity

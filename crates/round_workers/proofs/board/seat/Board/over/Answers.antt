@@ -1,6 +1,7 @@
 use Rattle.std.proofs.Common.{◌+◌, ◌-◌, ◌≤◌, arith, sym, subst, ap, ◌∙◌}
 use Rattle.std.specs.Vec.{vec_capacity, vec_len}
 use Rattle.round_workers.specs.BoardPlays.{At}
+use Rattle.std.proofs.lemmas.Result.{IfOk-from_err}
 use Rattle.round_workers.proofs.board.seat.Board.over.Goals as goal
 
 pub invariant_of-board : goal.invariant_of-board
@@ -27,3 +28,27 @@ returns-clause-room c = subst (λ rooms. vec_len rooms + (c.args.turns.to - c.ar
 
 pub returns-clause-board : goal.returns-clause-board
 returns-clause-board c = let laid = c.in_ok-table.ensures.laid in record { table = laid.table; knows = ap (λ (m : At). m.0.about) laid.me }
+
+pub returns-in_err-fill-clause-window : goal.returns-in_err-fill-clause-window
+returns-in_err-fill-clause-window c = IfOk-from_err c.from_residual.result _ c.from_residual.ensures.0
+
+pub returns-in_err-fill-clause-board : goal.returns-in_err-fill-clause-board
+returns-in_err-fill-clause-board c = IfOk-from_err c.from_residual.result _ c.from_residual.ensures.0
+
+pub returns-in_err-fill-clause-first : goal.returns-in_err-fill-clause-first
+returns-in_err-fill-clause-first c = IfOk-from_err c.from_residual.result _ c.from_residual.ensures.0
+
+pub returns-in_err-fill-clause-room : goal.returns-in_err-fill-clause-room
+returns-in_err-fill-clause-room c = IfOk-from_err c.from_residual.result _ c.from_residual.ensures.0
+
+pub returns-in_err-table-clause-window : goal.returns-in_err-table-clause-window
+returns-in_err-table-clause-window c = IfOk-from_err c.from_residual-in_err-table.result _ c.from_residual-in_err-table.ensures.0
+
+pub returns-in_err-table-clause-board : goal.returns-in_err-table-clause-board
+returns-in_err-table-clause-board c = IfOk-from_err c.from_residual-in_err-table.result _ c.from_residual-in_err-table.ensures.0
+
+pub returns-in_err-table-clause-first : goal.returns-in_err-table-clause-first
+returns-in_err-table-clause-first c = IfOk-from_err c.from_residual-in_err-table.result _ c.from_residual-in_err-table.ensures.0
+
+pub returns-in_err-table-clause-room : goal.returns-in_err-table-clause-room
+returns-in_err-table-clause-room c = IfOk-from_err c.from_residual-in_err-table.result _ c.from_residual-in_err-table.ensures.0

@@ -46,3 +46,29 @@ returns-clause-out c = let ticket : ℕ = c.next.result - c.args.self.now.from i
 
 pub returns-clause-stands : goal.returns-clause-stands
 returns-clause-stands c = for-on c.args.field.now (board_window c.args.self.now) c.requires.can.lent c.args.book.now c.settle_by.new.book c.requires.stands c.settle_by.ensures.same c.settle_by.ensures.stands
+
+pub begin_take-requires-clause-hand : goal.begin_take-requires-clause-hand
+begin_take-requires-clause-hand c = c.requires.can.seated
+
+pub begin_take-requires-clause-rests : goal.begin_take-requires-clause-rests
+begin_take-requires-clause-rests c = c.requires.can.rests
+
+pub returns-in_default-clause-table : goal.returns-in_default-clause-table
+returns-in_default-clause-table c = c.begin_take.ensures.table
+
+pub returns-in_default-clause-out : goal.returns-in_default-clause-out
+returns-in_default-clause-out c = c.in_default.ensures.nothing
+
+pub returns-in_default-clause-stands : goal.returns-in_default-clause-stands
+returns-in_default-clause-stands c = c.requires.stands
+
+pub end_take-requires-clause-ticket : goal.end_take-requires-clause-ticket
+end_take-requires-clause-ticket c =
+    let board = c.args.self.now in let begins : c.args.book.now.from ≡ (basis_of board).from = c.requires.stands.stands.from in
+    let a = board.first in let b = board.last in let left = c.requires.left in let begun = c.requires.stands.begun in let next = c.next.ensures.next in omega arith
+
+pub returns-clause-table : goal.returns-clause-table
+returns-clause-table c = c.end_take.ensures.table ∙ c.begin_take.ensures.table
+
+pub returns-clause-next : goal.returns-clause-next
+returns-clause-next c = λ was_there. c.settle_by.ensures.next
