@@ -49,6 +49,14 @@ struct Laid {
     b: Seat,
 }
 
+// The worked tables.
+#[derive(Clone, Copy)]
+enum Table {
+    First,
+    Second,
+    Third,
+}
+
 // The brain of a text.
 fn brain_of(alloc: Global, text: &str) -> Option<Brain> {
     let bytes = text.as_bytes();
@@ -395,11 +403,12 @@ fn settle_next<R: Print>(rt: &R, field: &Field<'_>, book: &mut Book) -> Option<(
 }
 
 // Plays the first table, after the guess of each turn.
-fn play_first<R: Print>(rt: &R, alloc: Global, brains: Brains<'_>) -> Option<()> {
-    let mut field = field_of(alloc, brains)?;
-    tell_guesses(rt, alloc, &field)?;
+fn play_first<R: Print>(rt: &R, alloc: Global, field: &mut Field<'_>) -> Option<()>
+    requires { CanBegin field.old 0 7 }
+{
+    tell_guesses(rt, alloc, field)?;
     say(rt, "first table")?;
-    play_window(rt, alloc, &mut field)
+    play_window(rt, alloc, field)
 }
 
 // Plays the window of the first table to its end.
@@ -447,10 +456,11 @@ fn step_first<R: Print>(
 }
 
 // Plays the second table.
-fn play_second<R: Print>(rt: &R, alloc: Global, brains: Brains<'_>) -> Option<()> {
+fn play_second<R: Print>(rt: &R, alloc: Global, field: &mut Field<'_>) -> Option<()>
+    requires { CanBegin field.old 0 7 }
+{
     say(rt, "second table")?;
-    let mut field = field_of(alloc, brains)?;
-    leave_one(rt, alloc, &mut field)
+    leave_one(rt, alloc, field)
 }
 
 // Leaves the look of turn 1 on a board, and closes it.
@@ -485,33 +495,55 @@ fn worker_with(alloc: Global, board: &Board, b: Seat) -> Option<Worker>
 // Has the worker work, and closes the board.
 fn work_alone<R: Print>(
     rt: &R,
+    alloc: Global,
     board: Board,
     field: &Field<'_>,
-    guesses: &[u64],
     a: Seat,
     mut worker: Worker,
 ) -> Option<Closed>
     requires field { IsFor field.now board }
-    requires guesses { guesses.now ≡ guesses_for (window_of field.now 0 7) }
     requires a { Shows board (first_at (basis_of board)) a }
     requires worker { CanWork board worker }
     ensures { IfSome result (λ closed. StandsFor (seats.board_window board) closed.book) }
 {
-    worker.work(&board, field, guesses, &NoGate);
+    work_by_guesses(rt, alloc, &board, field, &mut worker)?;
     let Worker {
         number: _,
         seat,
-        made,
+        made: _,
     } = worker;
-    println!(rt; "b works alone: {made:?}").ok()?;
     close(rt, board, a, seat)
 }
 
+// Has the worker work by the guess of each turn, and says whose looks it made.
+fn work_by_guesses<R: Print>(
+    rt: &R,
+    alloc: Global,
+    board: &Board,
+    field: &Field<'_>,
+    worker: &mut Worker,
+) -> Option<()>
+    requires field { IsFor field.now board.now }
+    requires worker { CanWork board.now worker.old }
+    ensures seat { OnSome result (IsSeatOf board.now worker.new.seat) }
+    ensures number { OnSome result ((known worker.new.seat).number ≡ 1) }
+{
+    let guesses = guesses_of(alloc, field)?;
+    worker.work(board, field, &guesses, &NoGate);
+    say_made(rt, &worker.made)
+}
+
+// Says whose looks the worker made.
+fn say_made<R: Print>(rt: &R, made: &[u32]) -> Option<()> {
+    println!(rt; "b works alone: {made:?}").ok()
+}
+
 // Plays the third table.
-fn play_third<R: Print>(rt: &R, alloc: Global, brains: Brains<'_>) -> Option<()> {
+fn play_third<R: Print>(rt: &R, alloc: Global, field: &mut Field<'_>) -> Option<()>
+    requires { CanBegin field.old 0 7 }
+{
     say(rt, "third table")?;
-    let mut field = field_of(alloc, brains)?;
-    play_alone(rt, alloc, &mut field)
+    play_alone(rt, alloc, field)
 }
 
 // Plays a window by one worker alone.
@@ -519,9 +551,8 @@ fn play_alone<R: Print>(rt: &R, alloc: Global, field: &mut Field<'_>) -> Option<
     requires { CanBegin field.old 0 7 }
 {
     let Laid { board, a, b } = lay(alloc, field)?;
-    let guesses = guesses_of(alloc, field)?;
     let worker = worker_with(alloc, &board, b)?;
-    let _closed = work_alone(rt, board, field, &guesses, a, worker)?;
+    let _closed = work_alone(rt, alloc, board, field, a, worker)?;
     Some(())
 }
 
@@ -566,9 +597,26 @@ fn play<R: Print>(rt: &R, alloc: Global) -> Option<()> {
 
 // Plays the tables with these brains.
 fn play_tables<R: Print>(rt: &R, alloc: Global, brains: Brains<'_>) -> Option<()> {
-    play_first(rt, alloc, brains)?;
-    play_second(rt, alloc, brains)?;
-    play_third(rt, alloc, brains)
+    play_table(rt, alloc, brains, Table::First)?;
+    play_table(rt, alloc, brains, Table::Second)?;
+    play_table(rt, alloc, brains, Table::Third)
+}
+
+// Plays a table on a field of its own.
+fn play_table<R: Print>(rt: &R, alloc: Global, brains: Brains<'_>, table: Table) -> Option<()> {
+    let mut field = field_of(alloc, brains)?;
+    play_on(rt, alloc, &mut field, table)
+}
+
+// Plays a table on a field.
+fn play_on<R: Print>(rt: &R, alloc: Global, field: &mut Field<'_>, table: Table) -> Option<()>
+    requires { CanBegin field.old 0 7 }
+{
+    match table {
+        Table::First => play_first(rt, alloc, field),
+        Table::Second => play_second(rt, alloc, field),
+        Table::Third => play_third(rt, alloc, field),
+    }
 }
 
 fn main(rt: HostRuntime) -> ExitCode {
