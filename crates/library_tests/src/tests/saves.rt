@@ -1,7 +1,7 @@
 // Texts of saves with what they are read as, written out.
 use ant_base::{Calls, LONGEST, MemSink};
 use match_run::{Dumps, MOST_ROUNDS, Rounds};
-use match_save::{SaveFault, read_saved, resume, write_saved};
+use match_save::{SaveFault, Saved, read_saved, resume, write_saved};
 use round_book::SoloCrew;
 use std::alloc::Global;
 use std::process::Abort;
@@ -152,135 +152,244 @@ const ZEROS: [(usize, usize, Option<SaveFault>); 69] = [
     (199, 202, Some(SaveFault::BadLine { line: 26 })),
 ];
 
-// Texts, and what they are read as.
-const TEXTS: [(&str, Option<SaveFault>); 60] = [
+// The front of a save of one red ant's game, up to its kinds of cells.
+const FRONT: &str =
+    "ants save 1\nseed 12345\nsheet 5 3 14\nwindow 16384\nround 1\nplace 0\ntaken 1 redone 0\nsize 3 3\nred 1\nTurn Left 0\nblack 1\nTurn Left 0\n###\n#+#\n###\n";
+
+// What follows its brains: its kinds of cells, no food marks, and the ant.
+const BACK: &str =
+    "###\n#+#\n###\n000\n000\n000\n000\n000\n000\n000\n000\n000\nant 0 red 1 1 5 0 0 0\nend\n";
+
+// What may follow the front, and what the text is read as then.
+const RESTS: [(&str, Option<SaveFault>); 31] = [
     (
-        "ants save 1\nseed 12345\nsheet 5 3 14\nwindow 16384\nround 1\nplace 0\ntaken 1 redone 0\nsize 3 3\nred 1\nTurn Left 0\nblack 1\nTurn Left 0\n###\n#+#\n###\n000\n000\n000\n000\n000\n000\n000\n0n0\n000\nant 0 red 1 1 5 0 0 0\nend\n",
+        "000\n000\n000\n000\n000\n000\n000\n0n0\n000\nant 0 red 1 1 5 0 0 0\nend\n",
         None,
     ),
     (
-        "ants save 1\nseed 12345\nsheet 5 3 14\nwindow 16384\nround 1\nplace 0\ntaken 1 redone 0\nsize 3 3\nred 1\nTurn Left 0\nblack 1\nTurn Left 0\n###\n#+#\n###\n000\n000\n000\n000\n000\n000\n000\n0o0\n000\nfood 1 1 63\nant 0 red 1 1 5 0 0 0\nend\n",
+        "000\n000\n000\n000\n000\n000\n000\n0o0\n000\nfood 1 1 63\nant 0 red 1 1 5 0 0 0\nend\n",
         None,
     ),
     (
-        "ants save 1\nseed 12345\nsheet 5 3 14\nwindow 16384\nround 1\nplace 0\ntaken 1 redone 0\nsize 3 3\nred 1\nTurn Left 0\nblack 1\nTurn Left 0\n###\n#+#\n###\n000\n000\n000\n000\n000\n000\n000\n0o0\n000\nfood 1 1 62\nant 0 red 1 1 5 0 0 0\nend\n",
+        "000\n000\n000\n000\n000\n000\n000\n0o0\n000\nfood 1 1 62\nant 0 red 1 1 5 0 0 0\nend\n",
         Some(SaveFault::BadLine { line: 25 }),
     ),
     (
-        "ants save 1\nseed 12345\nsheet 5 3 14\nwindow 16384\nround 1\nplace 0\ntaken 1 redone 0\nsize 3 3\nred 1\nTurn Left 0\nblack 1\nTurn Left 0\n###\n#+#\n###\n000\n000\n000\n000\n000\n000\n000\n0o0\n000\nfood 1 1 2340891\nant 0 red 1 1 5 0 0 0\nend\n",
+        "000\n000\n000\n000\n000\n000\n000\n0o0\n000\nfood 1 1 2340891\nant 0 red 1 1 5 0 0 0\nend\n",
         None,
     ),
     (
-        "ants save 1\nseed 12345\nsheet 5 3 14\nwindow 16384\nround 1\nplace 0\ntaken 1 redone 0\nsize 3 3\nred 1\nTurn Left 0\nblack 1\nTurn Left 0\n###\n#+#\n###\n000\n000\n000\n000\n000\n000\n000\n0o0\n000\nfood 1 1 2340892\nant 0 red 1 1 5 0 0 0\nend\n",
+        "000\n000\n000\n000\n000\n000\n000\n0o0\n000\nfood 1 1 2340892\nant 0 red 1 1 5 0 0 0\nend\n",
         Some(SaveFault::BadState),
     ),
     (
-        "ants save 1\nseed 12345\nsheet 5 3 14\nwindow 16384\nround 1\nplace 0\ntaken 1 redone 0\nsize 3 3\nred 1\nTurn Left 0\nblack 1\nTurn Left 0\n###\n#+#\n###\n000\n000\n000\n000\n000\n000\n000\n0o0\n000\nfood 1 1 2340900\nend\n",
+        "000\n000\n000\n000\n000\n000\n000\n0o0\n000\nfood 1 1 2340900\nend\n",
         None,
     ),
     (
-        "ants save 1\nseed 12345\nsheet 5 3 14\nwindow 16384\nround 1\nplace 0\ntaken 1 redone 0\nsize 3 3\nred 1\nTurn Left 0\nblack 1\nTurn Left 0\n###\n#+#\n###\n000\n000\n000\n000\n000\n000\n000\n0o0\n000\nfood 1 1 2340901\nend\n",
+        "000\n000\n000\n000\n000\n000\n000\n0o0\n000\nfood 1 1 2340901\nend\n",
         Some(SaveFault::BadLine { line: 25 }),
     ),
     (
-        "ants save 1\nseed 12345\nsheet 5 3 14\nwindow 16384\nround 1\nplace 0\ntaken 1 redone 0\nsize 3 3\nred 1\nTurn Left 0\nblack 1\nTurn Left 0\n###\n#+#\n###\n000\n000\n000\n000\n000\n000\n000\n0o0\n000\nfood 0 1 63\nant 0 red 1 1 5 0 0 0\nend\n",
+        "000\n000\n000\n000\n000\n000\n000\n0o0\n000\nfood 0 1 63\nant 0 red 1 1 5 0 0 0\nend\n",
         Some(SaveFault::BadLine { line: 25 }),
     ),
     (
-        "ants save 1\nseed 12345\nsheet 5 3 14\nwindow 16384\nround 1\nplace 0\ntaken 1 redone 0\nsize 3 3\nred 1\nTurn Left 0\nblack 1\nTurn Left 0\n###\n#+#\n###\n000\n000\n000\n000\n000\n000\n000\n0o0\n000\nant 0 red 1 1 5 0 0 0\nend\n",
+        "000\n000\n000\n000\n000\n000\n000\n0o0\n000\nant 0 red 1 1 5 0 0 0\nend\n",
         Some(SaveFault::BadLine { line: 25 }),
     ),
     (
-        "ants save 1\nseed 12345\nsheet 5 3 14\nwindow 16384\nround 1\nplace 0\ntaken 1 redone 0\nsize 3 3\nred 1\nTurn Left 0\nblack 1\nTurn Left 0\n###\n#+#\n###\n000\n000\n000\n000\n000\n000\n000\n000\n000\nfood 1 1 63\nant 0 red 1 1 5 0 0 0\nend\n",
+        "000\n000\n000\n000\n000\n000\n000\n000\n000\nfood 1 1 63\nant 0 red 1 1 5 0 0 0\nend\n",
         Some(SaveFault::BadLine { line: 25 }),
     ),
     (
-        "ants save 1\nseed 12345\nsheet 5 3 14\nwindow 16384\nround 1\nplace 0\ntaken 1 redone 0\nsize 3 3\nred 1\nTurn Left 0\nblack 1\nTurn Left 0\n###\n#+#\n###\n000\n000\n000\n000\n000\n000\n000\n0p0\n000\nant 0 red 1 1 5 0 0 0\nend\n",
+        "000\n000\n000\n000\n000\n000\n000\n0p0\n000\nant 0 red 1 1 5 0 0 0\nend\n",
         Some(SaveFault::BadLine { line: 23 }),
     ),
+    ("000\n000\n000\n000\n000\n000\n000\n000\n000\nend\n", None),
     (
-        "ants save 1\nseed 12345\nsheet 5 3 14\nwindow 16384\nround 1\nplace 0\ntaken 1 redone 0\nsize 3 3\nred 1\nTurn Left 0\nblack 1\nTurn Left 0\n###\n#+#\n###\n000\n000\n000\n000\n000\n000\n000\n000\n000\nend\n",
-        None,
-    ),
-    (
-        "ants save 1\nseed 12345\nsheet 5 3 14\nwindow 16384\nround 1\nplace 0\ntaken 1 redone 0\nsize 3 3\nred 1\nTurn Left 0\nblack 1\nTurn Left 0\n###\n#+#\n###\n000\n000\n000\n000\n000\n000\n000\n000\n000\nant 0 red 1 1 5 0 0 0\nend",
+        "000\n000\n000\n000\n000\n000\n000\n000\n000\nant 0 red 1 1 5 0 0 0\nend",
         Some(SaveFault::BadLine { line: 26 }),
     ),
     (
-        "ants save 1\nseed 12345\nsheet 5 3 14\nwindow 16384\nround 1\nplace 0\ntaken 1 redone 0\nsize 3 3\nred 1\nTurn Left 0\nblack 1\nTurn Left 0\n###\n#+#\n###\n000\n000\n000\n000\n000\n000\n000\n000\n000\nant 0 red 1 1 5 0 0 0\nend\n\n",
+        "000\n000\n000\n000\n000\n000\n000\n000\n000\nant 0 red 1 1 5 0 0 0\nend\n\n",
         Some(SaveFault::BadLine { line: 27 }),
     ),
     (
-        "ants save 1\nseed 12345\nsheet 5 3 14\nwindow 16384\nround 1\nplace 0\ntaken 1 redone 0\nsize 3 3\nred 1\nTurn Left 0\nblack 1\nTurn Left 0\n###\n#+#\n###\n000\n000\n000\n000\n000\n000\n000\n000\n000\nant 0 red 1 1 5 0 0 0\nend\nend\n",
+        "000\n000\n000\n000\n000\n000\n000\n000\n000\nant 0 red 1 1 5 0 0 0\nend\nend\n",
         Some(SaveFault::BadLine { line: 27 }),
     ),
     (
-        "ants save 1\nseed 12345\nsheet 5 3 14\nwindow 16384\nround 1\nplace 0\ntaken 1 redone 0\nsize 3 3\nred 1\nTurn Left 0\nblack 1\nTurn Left 0\n###\n#+#\n###\n000\n0o0\n000\n000\n000\n000\n000\n000\n000\nant 0 red 1 1 5 0 0 0\nend\n",
+        "000\n0o0\n000\n000\n000\n000\n000\n000\n000\nant 0 red 1 1 5 0 0 0\nend\n",
         None,
     ),
     (
-        "ants save 1\nseed 12345\nsheet 5 3 14\nwindow 16384\nround 1\nplace 0\ntaken 1 redone 0\nsize 3 3\nred 1\nTurn Left 0\nblack 1\nTurn Left 0\n###\n#+#\n###\n000\n0p0\n000\n000\n000\n000\n000\n000\n000\nant 0 red 1 1 5 0 0 0\nend\n",
+        "000\n0p0\n000\n000\n000\n000\n000\n000\n000\nant 0 red 1 1 5 0 0 0\nend\n",
         Some(SaveFault::BadLine { line: 17 }),
     ),
     (
-        "ants save 1\nseed 12345\nsheet 5 3 14\nwindow 16384\nround 1\nplace 0\ntaken 1 redone 0\nsize 3 3\nred 1\nTurn Left 0\nblack 1\nTurn Left 0\n###\n#+#\n###\n100\n000\n000\n000\n000\n000\n000\n000\n000\nant 0 red 1 1 5 0 0 0\nend\n",
+        "100\n000\n000\n000\n000\n000\n000\n000\n000\nant 0 red 1 1 5 0 0 0\nend\n",
         Some(SaveFault::BadState),
     ),
     (
-        "ants save 1\nseed 12345\nsheet 5 3 14\nwindow 16384\nround 1\nplace 0\ntaken 1 redone 0\nsize 3 3\nred 1\nTurn Left 0\nblack 1\nTurn Left 0\n###\n#+#\n###\n000\n000\n000\n100\n000\n000\n000\n000\n000\nant 0 red 1 1 5 0 0 0\nend\n",
+        "000\n000\n000\n100\n000\n000\n000\n000\n000\nant 0 red 1 1 5 0 0 0\nend\n",
         Some(SaveFault::BadState),
     ),
     (
-        "ants save 1\nseed 12345\nsheet 5 3 14\nwindow 16384\nround 1\nplace 0\ntaken 1 redone 0\nsize 3 3\nred 1\nTurn Left 0\nblack 1\nTurn Left 0\n###\n#+#\n###\n000\n000\n000\n000\n000\n000\n100\n000\n000\nant 0 red 1 1 5 0 0 0\nend\n",
+        "000\n000\n000\n000\n000\n000\n100\n000\n000\nant 0 red 1 1 5 0 0 0\nend\n",
         Some(SaveFault::BadState),
     ),
     (
-        "ants save 1\nseed 12345\nsheet 5 3 14\nwindow 16384\nround 1\nplace 0\ntaken 1 redone 0\nsize 3 3\nred 1\nTurn Left 0\nblack 1\nTurn Left 0\n###\n#+.\n###\n000\n000\n000\n000\n000\n000\n000\n000\n000\nant 0 red 1 1 5 0 0 0\nend\n",
+        "000\n000\n000\n000\n000\n000\n000\n000\n000\nant 0 red 0 1 5 0 0 0\nend\n",
         Some(SaveFault::BadState),
     ),
     (
-        "ants save 1\nseed 12345\nsheet 5 3 14\nwindow 16384\nround 1\nplace 0\ntaken 1 redone 0\nsize 3 3\nred 1\nTurn Left 0\nblack 1\nTurn Left 0\n###\n#+#\n###\n000\n000\n000\n000\n000\n000\n000\n000\n000\nant 0 red 0 1 5 0 0 0\nend\n",
+        "000\n000\n000\n000\n000\n000\n000\n000\n000\nant 1 red 1 1 5 0 0 0\nend\n",
         Some(SaveFault::BadState),
     ),
     (
-        "ants save 1\nseed 12345\nsheet 5 3 14\nwindow 16384\nround 1\nplace 0\ntaken 1 redone 0\nsize 3 3\nred 1\nTurn Left 0\nblack 1\nTurn Left 0\n###\n#+#\n###\n000\n000\n000\n000\n000\n000\n000\n000\n000\nant 1 red 1 1 5 0 0 0\nend\n",
-        Some(SaveFault::BadState),
-    ),
-    (
-        "ants save 1\nseed 12345\nsheet 5 3 14\nwindow 16384\nround 1\nplace 0\ntaken 1 redone 0\nsize 3 3\nred 1\nTurn Left 0\nblack 1\nTurn Left 0\n###\n#+#\n###\n000\n000\n000\n000\n000\n000\n000\n000\n000\nant 0 black 1 1 5 0 0 0\nend\n",
+        "000\n000\n000\n000\n000\n000\n000\n000\n000\nant 0 black 1 1 5 0 0 0\nend\n",
         None,
     ),
     (
-        "ants save 1\nseed 12345\nsheet 5 3 14\nwindow 16384\nround 1\nplace 0\ntaken 1 redone 0\nsize 3 3\nred 1\nTurn Left 0\nblack 1\nTurn Left 0\n###\n#+#\n###\n000\n000\n000\n000\n000\n000\n000\n000\n000\nant 0 red 1 1 5 0 1 0\nend\n",
+        "000\n000\n000\n000\n000\n000\n000\n000\n000\nant 0 red 1 1 5 0 1 0\nend\n",
         Some(SaveFault::BadState),
     ),
     (
-        "ants save 1\nseed 12345\nsheet 5 3 14\nwindow 16384\nround 1\nplace 0\ntaken 1 redone 0\nsize 3 3\nred 1\nTurn Left 0\nblack 1\nTurn Left 0\n###\n#+#\n###\n000\n000\n000\n000\n000\n000\n000\n000\n000\nant 0 red 1 1 5 0 10000 0\nend\n",
+        "000\n000\n000\n000\n000\n000\n000\n000\n000\nant 0 red 1 1 5 0 10000 0\nend\n",
         Some(SaveFault::BadLine { line: 25 }),
     ),
     (
-        "ants save 1\nseed 12345\nsheet 5 3 14\nwindow 16384\nround 1\nplace 0\ntaken 1 redone 0\nsize 3 3\nred 1\nTurn Left 0\nblack 1\nTurn Left 0\n###\n#+#\n###\n000\n000\n000\n000\n000\n000\n000\n000\n000\nant 0 red 3 1 5 0 0 0\nend\n",
+        "000\n000\n000\n000\n000\n000\n000\n000\n000\nant 0 red 3 1 5 0 0 0\nend\n",
         Some(SaveFault::BadLine { line: 25 }),
     ),
     (
-        "ants save 1\nseed 12345\nsheet 5 3 14\nwindow 16384\nround 1\nplace 0\ntaken 1 redone 0\nsize 3 3\nred 1\nTurn Left 0\nblack 1\nTurn Left 0\n###\n#+#\n###\n000\n000\n000\n000\n000\n000\n000\n000\n000\nant 16384 red 1 1 5 0 0 0\nend\n",
+        "000\n000\n000\n000\n000\n000\n000\n000\n000\nant 16384 red 1 1 5 0 0 0\nend\n",
         Some(SaveFault::BadLine { line: 25 }),
     ),
     (
-        "ants save 1\nseed 12345\nsheet 5 3 14\nwindow 16384\nround 1\nplace 0\ntaken 1 redone 0\nsize 3 3\nred 1\nTurn Left 0\nblack 1\nTurn Left 0\n###\n#+#\n###\n000\n000\n000\n000\n000\n000\n000\n000\n000\nant 0 red 1 1 6 0 0 0\nend\n",
+        "000\n000\n000\n000\n000\n000\n000\n000\n000\nant 0 red 1 1 6 0 0 0\nend\n",
         Some(SaveFault::BadLine { line: 25 }),
     ),
     (
-        "ants save 1\nseed 12345\nsheet 5 3 14\nwindow 16384\nround 1\nplace 0\ntaken 1 redone 0\nsize 3 3\nred 1\nTurn Left 0\nblack 1\nTurn Left 0\n###\n#+#\n###\n000\n000\n000\n000\n000\n000\n000\n000\n000\nant 0 red 1 1 5 2 0 0\nend\n",
+        "000\n000\n000\n000\n000\n000\n000\n000\n000\nant 0 red 1 1 5 2 0 0\nend\n",
         Some(SaveFault::BadLine { line: 25 }),
     ),
     (
-        "ants save 1\nseed 12345\nsheet 5 3 14\nwindow 16384\nround 1\nplace 0\ntaken 1 redone 0\nsize 3 3\nred 1\nTurn Left 0\nblack 1\nTurn Left 0\n###\n#+#\n###\n000\n000\n000\n000\n000\n000\n000\n000\n000\nant 0 red 1 1 5 0 0 256\nend\n",
+        "000\n000\n000\n000\n000\n000\n000\n000\n000\nant 0 red 1 1 5 0 0 256\nend\n",
         Some(SaveFault::BadLine { line: 25 }),
     ),
     (
-        "ants save 1\nseed 12345\nsheet 5 3 14\nwindow 16384\nround 1\nplace 0\ntaken 1 redone 0\nsize 3 3\nred 1\nTurn Left 0\nblack 1\nTurn Left 0\n###\n#+#\n###\n000\n000\n000\n000\n000\n000\n000\n000\n000\nant 0 red 1 1 5 0 0 0\nant 0 red 1 1 5 0 0 0\nend\n",
+        "000\n000\n000\n000\n000\n000\n000\n000\n000\nant 0 red 1 1 5 0 0 0\nant 0 red 1 1 5 0 0 0\nend\n",
         Some(SaveFault::BadLine { line: 26 }),
+    ),
+];
+
+// What may stand before the back, likewise.
+const FRONTS: [(&str, Option<SaveFault>); 24] = [
+    (
+        "ants save 1\nseed 12345\nsheet 5 3 14\nwindow 16384\nround 1\nplace 0\ntaken 2 redone 0\nsize 3 3\nred 1\nTurn Left 0\nblack 1\nTurn Left 0\n",
+        Some(SaveFault::BadState),
+    ),
+    (
+        "ants save 1\nseed 12345\nsheet 5 3 14\nwindow 16384\nround 1\nplace 0\ntaken 0 redone 1\nsize 3 3\nred 1\nTurn Left 0\nblack 1\nTurn Left 0\n",
+        None,
+    ),
+    (
+        "ants save 1\nseed 12345\nsheet 5 3 14\nwindow 16384\nround 1\nplace 1\ntaken 1 redone 0\nsize 3 3\nred 1\nTurn Left 0\nblack 1\nTurn Left 0\n",
+        None,
+    ),
+    (
+        "ants save 1\nseed 12345\nsheet 5 3 14\nwindow 16384\nround 1\nplace 2\ntaken 1 redone 0\nsize 3 3\nred 1\nTurn Left 0\nblack 1\nTurn Left 0\n",
+        Some(SaveFault::BadState),
+    ),
+    (
+        "ants save 1\nseed 12345\nsheet 5 3 14\nwindow 16384\nround 1\nplace 99999999999\ntaken 1 redone 0\nsize 3 3\nred 1\nTurn Left 0\nblack 1\nTurn Left 0\n",
+        Some(SaveFault::BadState),
+    ),
+    (
+        "ants save 1\nseed 12345\nsheet 5 3 14\nwindow 16384\nround 1\nplace 100000000000\ntaken 1 redone 0\nsize 3 3\nred 1\nTurn Left 0\nblack 1\nTurn Left 0\n",
+        Some(SaveFault::BadLine { line: 6 }),
+    ),
+    (
+        "ants save 1\nseed 012345\nsheet 5 3 14\nwindow 16384\nround 1\nplace 0\ntaken 1 redone 0\nsize 3 3\nred 1\nTurn Left 0\nblack 1\nTurn Left 0\n",
+        Some(SaveFault::BadLine { line: 2 }),
+    ),
+    (
+        "ants save 1\nseed 4294967296\nsheet 5 3 14\nwindow 16384\nround 1\nplace 0\ntaken 1 redone 0\nsize 3 3\nred 1\nTurn Left 0\nblack 1\nTurn Left 0\n",
+        Some(SaveFault::BadLine { line: 2 }),
+    ),
+    (
+        "ants save 1\nseed 12345\nsheet 3 3 14\nwindow 16384\nround 1\nplace 0\ntaken 1 redone 0\nsize 3 3\nred 1\nTurn Left 0\nblack 1\nTurn Left 0\n",
+        Some(SaveFault::BadLine { line: 3 }),
+    ),
+    (
+        "ants save 1\nseed 12345\nsheet 5 3 14\nwindow 0\nround 1\nplace 0\ntaken 1 redone 0\nsize 3 3\nred 1\nTurn Left 0\nblack 1\nTurn Left 0\n",
+        Some(SaveFault::BadLine { line: 4 }),
+    ),
+    (
+        "ants save 1\nseed 12345\nsheet 5 3 14\nwindow 16385\nround 1\nplace 0\ntaken 1 redone 0\nsize 3 3\nred 1\nTurn Left 0\nblack 1\nTurn Left 0\n",
+        Some(SaveFault::BadLine { line: 4 }),
+    ),
+    (
+        "ants save 1\nseed 12345\nsheet 5 3 14\nwindow 16384\nround 1000001\nplace 0\ntaken 1 redone 0\nsize 3 3\nred 1\nTurn Left 0\nblack 1\nTurn Left 0\n",
+        Some(SaveFault::BadLine { line: 5 }),
+    ),
+    (
+        "ants save 1\nseed 12345\nsheet 5 3 14\nwindow 16384\nround 1\nplace 0\ntaken 1 redone 0\nsize 2 3\nred 1\nTurn Left 0\nblack 1\nTurn Left 0\n",
+        Some(SaveFault::BadLine { line: 8 }),
+    ),
+    (
+        "ants save 1\nseed 12345\nsheet 5 3 14\nwindow 16384\nround 1\nplace 0\ntaken 1 redone 0\nsize 3 3\nred 0\nTurn Left 0\nblack 1\nTurn Left 0\n",
+        Some(SaveFault::BadLine { line: 9 }),
+    ),
+    (
+        "ants save 1\nseed 12345\nsheet 5 3 14\nwindow 16384\nround 1\nplace 0\ntaken 1 redone 0\nsize 3 3\nred 10001\nTurn Left 0\nblack 1\nTurn Left 0\n",
+        Some(SaveFault::BadLine { line: 9 }),
+    ),
+    (
+        "ants save 1\nseed 12345\nsheet 5 3 14\nwindow 16384\nround 1\nplace 0\ntaken 1 redone 0\nsize 3 3\nred 1\nTurn Left 0\nblack 1\nturn Left 0\n",
+        Some(SaveFault::BadLine { line: 12 }),
+    ),
+    (
+        "ants save 1\nseed 12345\nsheet 5 3 14\nwindow 16384\nround 1\nplace 0\ntaken 1 redone 0\nsize 3 3\nred 1\nTurn Left 0\nblack 1\nTurn Left 0 \n",
+        Some(SaveFault::BadLine { line: 12 }),
+    ),
+    (
+        "ants save 1\nseed 12345\nsheet 5 3 14\nwindow 16384\nround 1\nplace 0\ntaken 1 redone 0\nsize 3 3\nred 1\nTurn Left 0\nblack 1\nTurn Left 0\r\n",
+        Some(SaveFault::BadLine { line: 12 }),
+    ),
+    (
+        "ants save 1\nseed 12345\nsheet 5 3 14\nwindow 16384\nround 1\nplace 0\ntaken 1 redone 0\nsize 3 3\nred 1\nTurn Left 0\nblack 1\nTurn Left 00\n",
+        Some(SaveFault::BadLine { line: 12 }),
+    ),
+    (
+        "ants save 1\nseed 12345\nsheet 5 3 14\nwindow 16384\nround 1\nplace 0\ntaken 1 redone 0\nsize 3 3\nred 1\nTurn Left 0\nblack 1\nTurn Left 1\n",
+        Some(SaveFault::BadState),
+    ),
+    (
+        "ants save 1\nseed 12345\nsheet 5 3 14\nwindow 16384\nround 1\nplace 0\ntaken 1 redone 0\nsize 3 3\nred 1\nTurn Left 0\nblack 1\nTurn Left 9999999999\n",
+        Some(SaveFault::BadState),
+    ),
+    (
+        "ants save 1\nseed 12345\nsheet 5 3 14\nwindow 16384\nround 1\nplace 0\ntaken 1 redone 0\nsize 3 3\nred 1\nTurn Left 0\nblack 1\nTurn Left 10000000000\n",
+        Some(SaveFault::BadLine { line: 12 }),
+    ),
+    (
+        "ants save 1\nseed 12345\nsheet 5 3 14\nwindow 16384\nround 1\nplace 0\ntaken 1 redone 0\nsize 3 3\nred 1\nTurn Left 0\nblack 1\nMark 6 0\n",
+        Some(SaveFault::BadLine { line: 12 }),
+    ),
+    (
+        "ants save 1\nseed 12345\nsheet 5 3 14\nwindow 16384\nround 1\nplace 0\ntaken 1 redone 0\nsize 3 3\nred 1\nTurn Left 0\nblack 1\nSense Here 0 0 Marker 5\n",
+        None,
+    ),
+];
+
+// Whole texts, likewise.
+const WHOLE: [(&str, Option<SaveFault>); 5] = [
+    (
+        "ants save 1\nseed 12345\nsheet 5 3 14\nwindow 16384\nround 1\nplace 0\ntaken 1 redone 0\nsize 3 3\nred 1\nTurn Left 0\nblack 1\nTurn Left 0\n###\n#+.\n###\n000\n000\n000\n000\n000\n000\n000\n000\n000\nant 0 red 1 1 5 0 0 0\nend\n",
+        Some(SaveFault::BadState),
     ),
     (
         "ants save 1\nseed 12345\nsheet 5 3 14\nwindow 16384\nround 1\nplace 0\ntaken 2 redone 0\nsize 4 3\nred 1\nTurn Left 0\nblack 1\nTurn Left 0\n####\n#+-#\n####\n0000\n0000\n0000\n0000\n0000\n0000\n0000\n0000\n0000\nant 0 red 1 1 5 0 0 0\nant 1 black 2 1 5 0 0 0\nend\n",
@@ -298,103 +407,39 @@ const TEXTS: [(&str, Option<SaveFault>); 60] = [
         "ants save 1\nseed 12345\nsheet 5 3 14\nwindow 16384\nround 1\nplace 0\ntaken 2 redone 0\nsize 4 3\nred 1\nTurn Left 0\nblack 1\nTurn Left 0\n####\n#+-#\n####\n0000\n0000\n0000\n0000\n0000\n0000\n0000\n0000\n0000\nant 1 black 2 1 5 0 0 0\nend\n",
         None,
     ),
-    (
-        "ants save 1\nseed 12345\nsheet 5 3 14\nwindow 16384\nround 1\nplace 0\ntaken 2 redone 0\nsize 3 3\nred 1\nTurn Left 0\nblack 1\nTurn Left 0\n###\n#+#\n###\n000\n000\n000\n000\n000\n000\n000\n000\n000\nant 0 red 1 1 5 0 0 0\nend\n",
-        Some(SaveFault::BadState),
-    ),
-    (
-        "ants save 1\nseed 12345\nsheet 5 3 14\nwindow 16384\nround 1\nplace 0\ntaken 0 redone 1\nsize 3 3\nred 1\nTurn Left 0\nblack 1\nTurn Left 0\n###\n#+#\n###\n000\n000\n000\n000\n000\n000\n000\n000\n000\nant 0 red 1 1 5 0 0 0\nend\n",
-        None,
-    ),
-    (
-        "ants save 1\nseed 12345\nsheet 5 3 14\nwindow 16384\nround 1\nplace 1\ntaken 1 redone 0\nsize 3 3\nred 1\nTurn Left 0\nblack 1\nTurn Left 0\n###\n#+#\n###\n000\n000\n000\n000\n000\n000\n000\n000\n000\nant 0 red 1 1 5 0 0 0\nend\n",
-        None,
-    ),
-    (
-        "ants save 1\nseed 12345\nsheet 5 3 14\nwindow 16384\nround 1\nplace 2\ntaken 1 redone 0\nsize 3 3\nred 1\nTurn Left 0\nblack 1\nTurn Left 0\n###\n#+#\n###\n000\n000\n000\n000\n000\n000\n000\n000\n000\nant 0 red 1 1 5 0 0 0\nend\n",
-        Some(SaveFault::BadState),
-    ),
-    (
-        "ants save 1\nseed 12345\nsheet 5 3 14\nwindow 16384\nround 1\nplace 99999999999\ntaken 1 redone 0\nsize 3 3\nred 1\nTurn Left 0\nblack 1\nTurn Left 0\n###\n#+#\n###\n000\n000\n000\n000\n000\n000\n000\n000\n000\nant 0 red 1 1 5 0 0 0\nend\n",
-        Some(SaveFault::BadState),
-    ),
-    (
-        "ants save 1\nseed 12345\nsheet 5 3 14\nwindow 16384\nround 1\nplace 100000000000\ntaken 1 redone 0\nsize 3 3\nred 1\nTurn Left 0\nblack 1\nTurn Left 0\n###\n#+#\n###\n000\n000\n000\n000\n000\n000\n000\n000\n000\nant 0 red 1 1 5 0 0 0\nend\n",
-        Some(SaveFault::BadLine { line: 6 }),
-    ),
-    (
-        "ants save 1\nseed 012345\nsheet 5 3 14\nwindow 16384\nround 1\nplace 0\ntaken 1 redone 0\nsize 3 3\nred 1\nTurn Left 0\nblack 1\nTurn Left 0\n###\n#+#\n###\n000\n000\n000\n000\n000\n000\n000\n000\n000\nant 0 red 1 1 5 0 0 0\nend\n",
-        Some(SaveFault::BadLine { line: 2 }),
-    ),
-    (
-        "ants save 1\nseed 4294967296\nsheet 5 3 14\nwindow 16384\nround 1\nplace 0\ntaken 1 redone 0\nsize 3 3\nred 1\nTurn Left 0\nblack 1\nTurn Left 0\n###\n#+#\n###\n000\n000\n000\n000\n000\n000\n000\n000\n000\nant 0 red 1 1 5 0 0 0\nend\n",
-        Some(SaveFault::BadLine { line: 2 }),
-    ),
-    (
-        "ants save 1\nseed 12345\nsheet 3 3 14\nwindow 16384\nround 1\nplace 0\ntaken 1 redone 0\nsize 3 3\nred 1\nTurn Left 0\nblack 1\nTurn Left 0\n###\n#+#\n###\n000\n000\n000\n000\n000\n000\n000\n000\n000\nant 0 red 1 1 5 0 0 0\nend\n",
-        Some(SaveFault::BadLine { line: 3 }),
-    ),
-    (
-        "ants save 1\nseed 12345\nsheet 5 3 14\nwindow 0\nround 1\nplace 0\ntaken 1 redone 0\nsize 3 3\nred 1\nTurn Left 0\nblack 1\nTurn Left 0\n###\n#+#\n###\n000\n000\n000\n000\n000\n000\n000\n000\n000\nant 0 red 1 1 5 0 0 0\nend\n",
-        Some(SaveFault::BadLine { line: 4 }),
-    ),
-    (
-        "ants save 1\nseed 12345\nsheet 5 3 14\nwindow 16385\nround 1\nplace 0\ntaken 1 redone 0\nsize 3 3\nred 1\nTurn Left 0\nblack 1\nTurn Left 0\n###\n#+#\n###\n000\n000\n000\n000\n000\n000\n000\n000\n000\nant 0 red 1 1 5 0 0 0\nend\n",
-        Some(SaveFault::BadLine { line: 4 }),
-    ),
-    (
-        "ants save 1\nseed 12345\nsheet 5 3 14\nwindow 16384\nround 1000001\nplace 0\ntaken 1 redone 0\nsize 3 3\nred 1\nTurn Left 0\nblack 1\nTurn Left 0\n###\n#+#\n###\n000\n000\n000\n000\n000\n000\n000\n000\n000\nant 0 red 1 1 5 0 0 0\nend\n",
-        Some(SaveFault::BadLine { line: 5 }),
-    ),
-    (
-        "ants save 1\nseed 12345\nsheet 5 3 14\nwindow 16384\nround 1\nplace 0\ntaken 1 redone 0\nsize 2 3\nred 1\nTurn Left 0\nblack 1\nTurn Left 0\n###\n#+#\n###\n000\n000\n000\n000\n000\n000\n000\n000\n000\nant 0 red 1 1 5 0 0 0\nend\n",
-        Some(SaveFault::BadLine { line: 8 }),
-    ),
-    (
-        "ants save 1\nseed 12345\nsheet 5 3 14\nwindow 16384\nround 1\nplace 0\ntaken 1 redone 0\nsize 3 3\nred 0\nTurn Left 0\nblack 1\nTurn Left 0\n###\n#+#\n###\n000\n000\n000\n000\n000\n000\n000\n000\n000\nant 0 red 1 1 5 0 0 0\nend\n",
-        Some(SaveFault::BadLine { line: 9 }),
-    ),
-    (
-        "ants save 1\nseed 12345\nsheet 5 3 14\nwindow 16384\nround 1\nplace 0\ntaken 1 redone 0\nsize 3 3\nred 10001\nTurn Left 0\nblack 1\nTurn Left 0\n###\n#+#\n###\n000\n000\n000\n000\n000\n000\n000\n000\n000\nant 0 red 1 1 5 0 0 0\nend\n",
-        Some(SaveFault::BadLine { line: 9 }),
-    ),
-    (
-        "ants save 1\nseed 12345\nsheet 5 3 14\nwindow 16384\nround 1\nplace 0\ntaken 1 redone 0\nsize 3 3\nred 1\nTurn Left 0\nblack 1\nturn Left 0\n###\n#+#\n###\n000\n000\n000\n000\n000\n000\n000\n000\n000\nant 0 red 1 1 5 0 0 0\nend\n",
-        Some(SaveFault::BadLine { line: 12 }),
-    ),
-    (
-        "ants save 1\nseed 12345\nsheet 5 3 14\nwindow 16384\nround 1\nplace 0\ntaken 1 redone 0\nsize 3 3\nred 1\nTurn Left 0\nblack 1\nTurn Left 0 \n###\n#+#\n###\n000\n000\n000\n000\n000\n000\n000\n000\n000\nant 0 red 1 1 5 0 0 0\nend\n",
-        Some(SaveFault::BadLine { line: 12 }),
-    ),
-    (
-        "ants save 1\nseed 12345\nsheet 5 3 14\nwindow 16384\nround 1\nplace 0\ntaken 1 redone 0\nsize 3 3\nred 1\nTurn Left 0\nblack 1\nTurn Left 0\r\n###\n#+#\n###\n000\n000\n000\n000\n000\n000\n000\n000\n000\nant 0 red 1 1 5 0 0 0\nend\n",
-        Some(SaveFault::BadLine { line: 12 }),
-    ),
-    (
-        "ants save 1\nseed 12345\nsheet 5 3 14\nwindow 16384\nround 1\nplace 0\ntaken 1 redone 0\nsize 3 3\nred 1\nTurn Left 0\nblack 1\nTurn Left 00\n###\n#+#\n###\n000\n000\n000\n000\n000\n000\n000\n000\n000\nant 0 red 1 1 5 0 0 0\nend\n",
-        Some(SaveFault::BadLine { line: 12 }),
-    ),
-    (
-        "ants save 1\nseed 12345\nsheet 5 3 14\nwindow 16384\nround 1\nplace 0\ntaken 1 redone 0\nsize 3 3\nred 1\nTurn Left 0\nblack 1\nTurn Left 1\n###\n#+#\n###\n000\n000\n000\n000\n000\n000\n000\n000\n000\nant 0 red 1 1 5 0 0 0\nend\n",
-        Some(SaveFault::BadState),
-    ),
-    (
-        "ants save 1\nseed 12345\nsheet 5 3 14\nwindow 16384\nround 1\nplace 0\ntaken 1 redone 0\nsize 3 3\nred 1\nTurn Left 0\nblack 1\nTurn Left 9999999999\n###\n#+#\n###\n000\n000\n000\n000\n000\n000\n000\n000\n000\nant 0 red 1 1 5 0 0 0\nend\n",
-        Some(SaveFault::BadState),
-    ),
-    (
-        "ants save 1\nseed 12345\nsheet 5 3 14\nwindow 16384\nround 1\nplace 0\ntaken 1 redone 0\nsize 3 3\nred 1\nTurn Left 0\nblack 1\nTurn Left 10000000000\n###\n#+#\n###\n000\n000\n000\n000\n000\n000\n000\n000\n000\nant 0 red 1 1 5 0 0 0\nend\n",
-        Some(SaveFault::BadLine { line: 12 }),
-    ),
-    (
-        "ants save 1\nseed 12345\nsheet 5 3 14\nwindow 16384\nround 1\nplace 0\ntaken 1 redone 0\nsize 3 3\nred 1\nTurn Left 0\nblack 1\nMark 6 0\n###\n#+#\n###\n000\n000\n000\n000\n000\n000\n000\n000\n000\nant 0 red 1 1 5 0 0 0\nend\n",
-        Some(SaveFault::BadLine { line: 12 }),
-    ),
-    (
-        "ants save 1\nseed 12345\nsheet 5 3 14\nwindow 16384\nround 1\nplace 0\ntaken 1 redone 0\nsize 3 3\nred 1\nTurn Left 0\nblack 1\nSense Here 0 0 Marker 5\n###\n#+#\n###\n000\n000\n000\n000\n000\n000\n000\n000\n000\nant 0 red 1 1 5 0 0 0\nend\n",
-        None,
-    ),
 ];
+
+// Texts, by what they have between a front and a back, and what they are read as.
+#[derive(Clone, Copy)]
+struct Texts {
+    front: &'static str,
+    rows: &'static [(&'static str, Option<SaveFault>)],
+    back: &'static str,
+}
+
+fn rests() -> Texts {
+    Texts {
+        front: FRONT,
+        rows: &RESTS,
+        back: "",
+    }
+}
+
+fn fronts() -> Texts {
+    Texts {
+        front: "",
+        rows: &FRONTS,
+        back: BACK,
+    }
+}
+
+fn whole() -> Texts {
+    Texts {
+        front: "",
+        rows: &WHOLE,
+        back: "",
+    }
+}
 
 // The fault of these bytes, if they are no save.
 fn fault_of<R: Abort>(rt: &R, alloc: Global, text: &[u8]) -> Option<SaveFault> {
@@ -435,11 +480,19 @@ fn check_bytes<R: Abort>(
     Ok(())
 }
 
+// Asserts what a text is read as.
+fn check_text<R: Abort>(rt: &R, alloc: Global, text: &str, fault: Option<SaveFault>) {
+    assert_eq!(rt; fault_of(rt, alloc, text.as_bytes()), fault, "at {text:?}");
+}
+
 // Asserts what texts are read as.
-fn check_texts<R: Abort>(rt: &R, alloc: Global, table: &[(&str, Option<SaveFault>)]) {
-    for (text, fault) in table {
-        assert_eq!(rt; fault_of(rt, alloc, text.as_bytes()), *fault, "at {text:?}");
+fn check_texts<R: Abort>(rt: &R, alloc: Global, texts: Texts) -> Result<(), Fail> {
+    let Texts { front, rows, back } = texts;
+    for (row, fault) in rows {
+        let text = format!(in alloc; "{front}{row}{back}")?;
+        check_text(rt, alloc, &text, *fault);
     }
+    Ok(())
 }
 
 #[test]
@@ -458,25 +511,35 @@ fn a_zero_anywhere_makes_another_save_or_a_fault(rt: HostRuntime) -> Result<(), 
 }
 
 #[test]
-fn texts_are_judged_by_their_lines_and_their_state(rt: HostRuntime) {
-    check_texts(&rt, rt.alloc(), &TEXTS);
+fn texts_are_judged_by_their_lines_and_their_state(rt: HostRuntime) -> Result<(), Fail> {
+    check_texts(&rt, rt.alloc(), rests())?;
+    check_texts(&rt, rt.alloc(), fronts())?;
+    check_texts(&rt, rt.alloc(), whole())
 }
 
-// Asserts that each text of a save is written again as it stands.
-fn check_again<R: Abort>(
-    rt: &R,
-    alloc: Global,
-    table: &[(&str, Option<SaveFault>)],
-) -> Result<(), Fail> {
-    for (text, fault) in table {
+// Asserts that a save is written as this text, from which it was read.
+fn check_written<R: Abort>(rt: &R, alloc: Global, saved: &Saved, text: &str) -> Result<(), Fail> {
+    let mut sink = MemSink::with_room(alloc, 4000, Calls::new(alloc))?;
+    assert!(rt; write_saved(saved, &mut sink).is_ok());
+    assert_eq!(rt; sink.held(), text.as_bytes(), "of {text:?}");
+    Ok(())
+}
+
+// Asserts that the text of a save is written again as it stands.
+fn check_again<R: Abort>(rt: &R, alloc: Global, text: &str) -> Result<(), Fail> {
+    let bytes = text.as_bytes();
+    assert!(rt; bytes.len() <= LONGEST);
+    let saved = read_saved(alloc, bytes).expect(rt, "it is a save");
+    check_written(rt, alloc, &saved, text)
+}
+
+// The same of each of these texts that is a save.
+fn check_saves<R: Abort>(rt: &R, alloc: Global, texts: Texts) -> Result<(), Fail> {
+    let Texts { front, rows, back } = texts;
+    for (row, fault) in rows {
         if fault.is_none() {
-            let bytes = text.as_bytes();
-            assert!(rt; bytes.len() <= LONGEST);
-            let saved = read_saved(alloc, bytes).expect(rt, "it is a save");
-            let mut sink = MemSink::with_room(alloc, 4000, Calls::new(alloc))?;
-            let pushed = write_saved(&saved, &mut sink);
-            assert!(rt; pushed.is_ok());
-            assert_eq!(rt; sink.held(), bytes, "of {text:?}");
+            let text = format!(in alloc; "{front}{row}{back}")?;
+            check_again(rt, alloc, &text)?;
         }
     }
     Ok(())
@@ -484,8 +547,10 @@ fn check_again<R: Abort>(
 
 #[test]
 fn a_save_that_is_read_is_written_as_it_stood(rt: HostRuntime) -> Result<(), Fail> {
-    check_again(&rt, rt.alloc(), &[(ROW, None)])?;
-    check_again(&rt, rt.alloc(), &TEXTS)
+    check_again(&rt, rt.alloc(), ROW)?;
+    check_saves(&rt, rt.alloc(), rests())?;
+    check_saves(&rt, rt.alloc(), fronts())?;
+    check_saves(&rt, rt.alloc(), whole())
 }
 
 #[test]

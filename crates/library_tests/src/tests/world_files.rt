@@ -6,6 +6,7 @@ use ant_base::{Calls, LONGEST, MemSink};
 use cell_world::World;
 use hex_geometry::Pos;
 use std::alloc::Global;
+use std::process::Abort;
 use std::test::Fail;
 use world_read::{WorldFault, read_world, write_world};
 
@@ -34,67 +35,70 @@ fn a_text_cut_anywhere_has_the_fault_of_what_is_left(rt: HostRuntime) {
     }
 }
 
+// Texts, and the fault of each that is no world.
+const JUDGED: [(&str, Option<WorldFault>); 24] = [
+    ("513\n3\n", Some(WorldFault::BadWidth)),
+    ("2\n3\n", Some(WorldFault::BadWidth)),
+    ("3 3\n###\n", Some(WorldFault::BadWidth)),
+    ("\n3\n", Some(WorldFault::BadWidth)),
+    ("3\n2\n", Some(WorldFault::BadHeight)),
+    ("3\n513\n", Some(WorldFault::BadHeight)),
+    ("3\n3 3\n", Some(WorldFault::BadHeight)),
+    ("4\n4\n# # # #\n", Some(WorldFault::MissingRow { row: 1 })),
+    (
+        "3\n3\n##x#\n#+#\n###\n",
+        Some(WorldFault::BadCell { row: 0, column: 2 }),
+    ),
+    (
+        "3\n3\n###\n#0#\n###\n",
+        Some(WorldFault::BadCell { row: 1, column: 1 }),
+    ),
+    (
+        "3\n3\n#x#\n#\n###\n",
+        Some(WorldFault::BadCell { row: 0, column: 1 }),
+    ),
+    (
+        "4\n4\n# # # #\n # . . #\n# .",
+        Some(WorldFault::ShortRow { row: 2 }),
+    ),
+    ("3\n3\n###\n\n###\n", Some(WorldFault::ShortRow { row: 1 })),
+    (
+        "3\n3\n###x\n#+#\n###\n",
+        Some(WorldFault::LongRow { row: 0 }),
+    ),
+    (
+        "3\n3\n###\n#+##\n###\n",
+        Some(WorldFault::LongRow { row: 1 }),
+    ),
+    ("3\n3\n###\n#+#\n###\n#\n", Some(WorldFault::ExtraRow)),
+    ("3\n3\n.##\n#+#\n###\n#\n", Some(WorldFault::ExtraRow)),
+    (
+        "4\n3\n.###\n#+.#\n####\n",
+        Some(WorldFault::OpenRim { x: 0, y: 0 }),
+    ),
+    (
+        "3\n3\n##.\n.+#\n###\n",
+        Some(WorldFault::OpenRim { x: 2, y: 0 }),
+    ),
+    (
+        "3\n3\n###\n#+.\n###\n",
+        Some(WorldFault::OpenRim { x: 2, y: 1 }),
+    ),
+    ("0003\n03\n# # #\n # + #\n# # #\n", None),
+    ("3\n3\n###\n#+#\n###", None),
+    (
+        " 3\t\r\n\t3 \r\n # ##\r\n#+ #\t\r\n###\r\n\r\n \t\n\n",
+        None,
+    ),
+    ("3\n3\n###\n#9#\n###\n", None),
+];
+
 #[test]
 fn each_text_has_its_world_or_its_first_fault(rt: HostRuntime) {
-    for (text, fault) in [
-        ("513\n3\n", Some(WorldFault::BadWidth)),
-        ("2\n3\n", Some(WorldFault::BadWidth)),
-        ("3 3\n###\n", Some(WorldFault::BadWidth)),
-        ("\n3\n", Some(WorldFault::BadWidth)),
-        ("3\n2\n", Some(WorldFault::BadHeight)),
-        ("3\n513\n", Some(WorldFault::BadHeight)),
-        ("3\n3 3\n", Some(WorldFault::BadHeight)),
-        ("4\n4\n# # # #\n", Some(WorldFault::MissingRow { row: 1 })),
-        (
-            "3\n3\n##x#\n#+#\n###\n",
-            Some(WorldFault::BadCell { row: 0, column: 2 }),
-        ),
-        (
-            "3\n3\n###\n#0#\n###\n",
-            Some(WorldFault::BadCell { row: 1, column: 1 }),
-        ),
-        (
-            "3\n3\n#x#\n#\n###\n",
-            Some(WorldFault::BadCell { row: 0, column: 1 }),
-        ),
-        (
-            "4\n4\n# # # #\n # . . #\n# .",
-            Some(WorldFault::ShortRow { row: 2 }),
-        ),
-        ("3\n3\n###\n\n###\n", Some(WorldFault::ShortRow { row: 1 })),
-        (
-            "3\n3\n###x\n#+#\n###\n",
-            Some(WorldFault::LongRow { row: 0 }),
-        ),
-        (
-            "3\n3\n###\n#+##\n###\n",
-            Some(WorldFault::LongRow { row: 1 }),
-        ),
-        ("3\n3\n###\n#+#\n###\n#\n", Some(WorldFault::ExtraRow)),
-        ("3\n3\n.##\n#+#\n###\n#\n", Some(WorldFault::ExtraRow)),
-        (
-            "4\n3\n.###\n#+.#\n####\n",
-            Some(WorldFault::OpenRim { x: 0, y: 0 }),
-        ),
-        (
-            "3\n3\n##.\n.+#\n###\n",
-            Some(WorldFault::OpenRim { x: 2, y: 0 }),
-        ),
-        (
-            "3\n3\n###\n#+.\n###\n",
-            Some(WorldFault::OpenRim { x: 2, y: 1 }),
-        ),
-        ("0003\n03\n# # #\n # + #\n# # #\n", None),
-        ("3\n3\n###\n#+#\n###", None),
-        (
-            " 3\t\r\n\t3 \r\n # ##\r\n#+ #\t\r\n###\r\n\r\n \t\n\n",
-            None,
-        ),
-        ("3\n3\n###\n#9#\n###\n", None),
-    ] {
+    for (text, fault) in &JUDGED {
         let bytes = text.as_bytes();
         assert!(rt; bytes.len() <= LONGEST);
-        assert_eq!(rt; read_world(rt.alloc(), bytes).err(), fault, "at {text:?}");
+        assert_eq!(rt; read_world(rt.alloc(), bytes).err(), *fault, "at {text:?}");
     }
 }
 
@@ -118,30 +122,49 @@ fn are_equal(a: &World, b: &World) -> bool {
     true
 }
 
+// Texts that are spelled as a world is written.
+const CANONICAL: [&str; 8] = [
+    "3\n3\n# # #\n # + #\n# # #\n",
+    "4\n3\n# # # #\n # + . #\n# # # #\n",
+    "4\n3\n# # # #\n # + 1 #\n# # # #\n",
+    "5\n3\n# # # # #\n # + + - #\n# # # # #\n",
+    "5\n5\n# # # # #\n # - - . #\n# - + - #\n # - - . #\n# # # # #\n",
+    "7\n6\n# # # # # # #\n # . . . . . #\n# . . - # . #\n # - . + - # #\n# + . - - # #\n # # # # # # #\n",
+    "6\n6\n# # # # # #\n # . + + # #\n# + . - + #\n # - + - . #\n# . - - . #\n # # # # # #\n",
+    "4\n4\n# # # #\n # . . #\n# . . #\n # # # #\n",
+];
+
+// Asserts that what was written of a world is the text from which it was read, and is read as an equal world.
+fn check_bytes<R: Abort>(
+    rt: &R,
+    alloc: Global,
+    world: &World,
+    written: &[u8],
+    text: &str,
+) -> Result<(), Fail> {
+    assert_eq!(rt; written, text.as_bytes(), "at {text:?}");
+    assert!(rt; written.len() <= LONGEST);
+    let again = read_world(alloc, written)?;
+    assert!(rt; are_equal(world, &again), "at {text:?}");
+    Ok(())
+}
+
+// Asserts that the world of this text is written as it.
+fn check_written<R: Abort>(rt: &R, alloc: Global, text: &str) -> Result<(), Fail> {
+    let bytes = text.as_bytes();
+    assert!(rt; bytes.len() <= LONGEST);
+    let world = read_world(alloc, bytes)?;
+    let mut sink = MemSink::with_room(alloc, 100, Calls::new(alloc))?;
+    write_world(&world, &mut sink)?;
+    check_bytes(rt, alloc, &world, sink.held(), text)
+}
+
 #[test]
 fn what_is_written_is_the_canonical_text_and_is_read_as_an_equal_world(
     rt: HostRuntime,
 ) -> Result<(), Fail> {
-    for text in [
-        "3\n3\n# # #\n # + #\n# # #\n",
-        "4\n3\n# # # #\n # + . #\n# # # #\n",
-        "4\n3\n# # # #\n # + 1 #\n# # # #\n",
-        "5\n3\n# # # # #\n # + + - #\n# # # # #\n",
-        "5\n5\n# # # # #\n # - - . #\n# - + - #\n # - - . #\n# # # # #\n",
-        "7\n6\n# # # # # # #\n # . . . . . #\n# . . - # . #\n # - . + - # #\n# + . - - # #\n # # # # # # #\n",
-        "6\n6\n# # # # # #\n # . + + # #\n# + . - + #\n # - + - . #\n# . - - . #\n # # # # # #\n",
-        "4\n4\n# # # #\n # . . #\n# . . #\n # # # #\n",
-    ] {
-        let bytes = text.as_bytes();
-        assert!(rt; bytes.len() <= LONGEST);
-        let world = read_world(rt.alloc(), bytes)?;
-        let mut sink = MemSink::with_room(rt.alloc(), 100, Calls::new(rt.alloc()))?;
-        write_world(&world, &mut sink)?;
-        assert_eq!(rt; sink.held(), bytes, "at {text:?}");
-        let written = sink.held();
-        assert!(rt; written.len() <= LONGEST);
-        let again = read_world(rt.alloc(), written)?;
-        assert!(rt; are_equal(&world, &again), "at {text:?}");
+    for text in &CANONICAL {
+        check_written(&rt, rt.alloc(), text)?;
     }
     Ok(())
 }
