@@ -36,8 +36,7 @@ fn six_foes_kill_no_ant_before_a_check(rt: HostRuntime) {
     assert_eq!(rt; world.ant_place(3), Some(p));
     let killed = check_around(&mut world, Sheet::contest(), p);
     assert_eq!(rt; killed.as_slice(), [3].as_slice());
-    assert_eq!(rt; world.ant_place(3), None);
-    assert_eq!(rt; world.cell_at(p).food, 3);
+    assert_eq!(rt; (world.ant_place(3), world.cell_at(p).food), (None, 3));
 }
 
 #[test]
@@ -52,9 +51,9 @@ fn an_ant_that_steps_up_kills(rt: HostRuntime) {
     assert!(rt; is_inner(&world, p));
     let killed = check_around(&mut world, Sheet::contest(), p);
     assert_eq!(rt; killed.as_slice(), [2].as_slice());
-    assert_eq!(rt; world.cell_at(Pos { x: 3, y: 3 }).food, 3);
-    assert_eq!(rt; world.alive(Colour::Red), 1);
-    assert_eq!(rt; world.alive(Colour::Black), 5);
+    let food = world.cell_at(Pos { x: 3, y: 3 }).food;
+    let alive = (world.alive(Colour::Red), world.alive(Colour::Black));
+    assert_eq!(rt; (food, alive), (3, (1, 5)));
 }
 
 #[test]

@@ -15,8 +15,12 @@ fn first_ten_numbers_are_those_of_the_task(rt: HostRuntime) {
         let mut jumped = Stream::at_place_uncounted(12345, place as u64);
         assert!(rt; stream.place() < 10);
         assert_eq!(rt; stream.place(), jumped.place());
-        assert_eq!(rt; stream.draw(16384), *number, "drawn at {place}");
-        assert_eq!(rt; jumped.draw(16384), *number, "after a jump to {place}");
+        let drawn = (stream.draw(16384), jumped.draw(16384));
+        assert_eq!(rt;
+            drawn,
+            (*number, *number),
+            "drawn, and after a jump, at {place}"
+        );
     }
     assert_eq!(rt; stream.place(), 10);
 }

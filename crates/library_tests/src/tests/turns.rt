@@ -43,12 +43,12 @@ fn each_of_seven_ants_takes_its_turn(rt: HostRuntime) {
         assert!(rt; id < world.ant_count());
         assert!(rt; stream.place() < 7);
         let deed = take_turn(&mut world, brains, &mut stream, id);
-        assert_eq!(rt; deed.drew, id == 4, "id {id}");
-        assert_eq!(rt; deed.killed.len(), usize::from(id == 1), "id {id}");
+        let told = (deed.drew, deed.killed.len());
+        assert_eq!(rt; told, (id == 4, usize::from(id == 1)), "id {id}");
     }
     assert_eq!(rt; stream.place(), 1);
-    assert_eq!(rt; world.ant_place(1), Some(Pos { x: 2, y: 3 }));
-    assert_eq!(rt; world.ant_place(2), None);
+    let places = (world.ant_place(1), world.ant_place(2));
+    assert_eq!(rt; places, (Some(Pos { x: 2, y: 3 }), None));
     assert_eq!(rt; world.score(), Score { red: 3, black: 0 });
 }
 

@@ -29,9 +29,10 @@ const FIRST_ANT: Ant = Ant {
 fn hill_cells_are_manned_in_row_order(rt: HostRuntime) {
     let world = World::build(rt.alloc(), 5, 3, &THREE_HILLS).expect(&rt, "there is memory");
     assert_eq!(rt; world.ant_count(), 3);
-    assert_eq!(rt; world.ant_place(0), Some(Pos { x: 1, y: 1 }));
-    assert_eq!(rt; world.ant_place(2), Some(Pos { x: 3, y: 1 }));
-    assert_eq!(rt; world.cell(Pos { x: 1, y: 1 }).ant, Some(FIRST_ANT));
+    let places = (world.ant_place(0), world.ant_place(2));
+    let first = Pos { x: 1, y: 1 };
+    assert_eq!(rt; places, (Some(first), Some(Pos { x: 3, y: 1 })));
+    assert_eq!(rt; world.cell(first).ant, Some(FIRST_ANT));
 }
 
 #[test]
@@ -55,8 +56,8 @@ fn cells_without_ants_are_a_world(rt: HostRuntime) {
     ];
     let world = World::of_ground(rt.alloc(), 5, 3, 2, &cells).expect(&rt, "there is memory");
     assert_eq!(rt; world.ant_count(), 2);
-    assert_eq!(rt; world.ant_place(1), None);
-    assert_eq!(rt; world.cell(Pos { x: 1, y: 1 }).food, 4);
+    let food = world.cell(Pos { x: 1, y: 1 }).food;
+    assert_eq!(rt; (world.ant_place(1), food), (None, 4));
 }
 
 #[test]
@@ -72,10 +73,9 @@ fn worlds_cells_ants_and_scores_may_go_to_threads(rt: HostRuntime) {
 fn a_copy_is_an_equal_world(rt: HostRuntime) {
     let world = World::build(rt.alloc(), 3, 3, &ONE_HILL).expect(&rt, "there is memory");
     let copy = world.copy(rt.alloc()).expect(&rt, "there is memory");
-    assert_eq!(rt; copy.width(), 3);
     assert_eq!(rt; copy.ant_count(), 1);
-    assert_eq!(rt; copy.ant_place(0), Some(Pos { x: 1, y: 1 }));
-    assert_eq!(rt; copy.alive(Colour::Red), 1);
+    let ants = (copy.ant_place(0), copy.alive(Colour::Red));
+    assert_eq!(rt; (copy.width(), ants), (3, (Some(Pos { x: 1, y: 1 }), 1)));
 }
 
 // The ant at `p`, which is a clear cell with an ant, dies there and leaves three food particles.
@@ -100,10 +100,10 @@ fn fall<G: Ground>(ground: &mut G, p: Pos)
 fn a_dead_ant_is_counted_no_more_and_its_food_is(rt: HostRuntime) {
     let mut world = World::build(rt.alloc(), 5, 3, &THREE_HILLS).expect(&rt, "there is memory");
     fall(&mut world, Pos { x: 2, y: 1 });
-    assert_eq!(rt; world.place_of(0), Some(Pos { x: 1, y: 1 }));
-    assert_eq!(rt; world.place_of(1), None);
-    assert_eq!(rt; world.cell_at(Pos { x: 2, y: 1 }).food, 3);
-    assert_eq!(rt; world.alive(Colour::Red), 1);
-    assert_eq!(rt; world.alive(Colour::Black), 1);
+    let places = (world.place_of(0), world.place_of(1));
+    assert_eq!(rt; places, (Some(Pos { x: 1, y: 1 }), None));
+    let food = world.cell_at(Pos { x: 2, y: 1 }).food;
+    let alive = (world.alive(Colour::Red), world.alive(Colour::Black));
+    assert_eq!(rt; (food, alive), (3, (1, 1)));
     assert_eq!(rt; world.score(), Score { red: 3, black: 0 });
 }
