@@ -1,4 +1,6 @@
-// What no clause says: that commands succeed, and the exact bytes that they write. Each file has tables of cases, and a loop for each.
+// What no clause says: that commands succeed, and the exact bytes that they write. Each file has tables of cases, and a loop for each. A table
+// with commands in it is a `static`, and so is a command that a function varies: where they are constants, a function builds them piece by
+// piece.
 mod assembled;
 mod brains;
 mod counts;
@@ -65,6 +67,18 @@ const NO_JOB: Job<'static> = Job {
     err_room: ROOM,
 };
 
+static EMPTY_JOB: Job<'static> = NO_JOB;
+
+// The command of these words, over a world and two brains.
+fn game_of<'t>(line: &'t str, world: &'t str, red: &'t str, black: &'t str) -> Job<'t> {
+    let mut job = EMPTY_JOB;
+    job.line = line;
+    job.world = world;
+    job.red = red;
+    job.black = black;
+    job
+}
+
 // What came of a command.
 #[derive(Drop)]
 struct Outcome {
@@ -76,10 +90,16 @@ struct Outcome {
 // The words of a line, which has one space between them.
 fn split(alloc: Global, line: &str) -> Result<Vec<String>, Fail> {
     let mut words = Vec::new(alloc);
+    push_words(alloc, line, &mut words)?;
+    Ok(words)
+}
+
+// Appends the words of a line to others.
+fn push_words(alloc: Global, line: &str, words: &mut Vec<String>) -> Result<(), Fail> {
     for word in line.split_terminator(' ') {
         words.push(String::from_str(alloc, word)?)?;
     }
-    Ok(words)
+    Ok(())
 }
 
 // A list of one call number.
@@ -89,22 +109,29 @@ fn only(alloc: Global, number: u64) -> Result<Calls, Fail> {
     Ok(calls)
 }
 
-// These files and one more.
-fn with_file(mut files: Files, name: &str, text: &str) -> Result<Files, Fail> {
+// Adds a file.
+fn add_file(files: &mut Files, name: &str, text: &str) -> Result<(), Fail> {
     files.add(name, text.as_bytes())?;
-    Ok(files)
+    Ok(())
+}
+
+// Adds the files of a command.
+fn add_files(files: &mut Files, job: &Job<'_>) -> Result<(), Fail> {
+    add_file(files, "w", job.world)?;
+    add_file(files, "-", job.world)?;
+    add_file(files, "r", job.red)?;
+    add_file(files, "b", job.black)?;
+    add_file(files, "k", job.breaks)?;
+    for (name, text) in job.more {
+        add_file(files, name, text)?;
+    }
+    Ok(())
 }
 
 // The files of a command.
 fn files_of(alloc: Global, job: &Job<'_>) -> Result<Files, Fail> {
-    let world = with_file(Files::new(alloc), "w", job.world)?;
-    let both = with_file(world, "-", job.world)?;
-    let red = with_file(both, "r", job.red)?;
-    let black = with_file(red, "b", job.black)?;
-    let mut files = with_file(black, "k", job.breaks)?;
-    for (name, text) in job.more {
-        files.add(name, text.as_bytes())?;
-    }
+    let mut files = Files::new(alloc);
+    add_files(&mut files, job)?;
     Ok(files)
 }
 
@@ -121,11 +148,23 @@ fn answer_over<R: Threads + Wait + Sync, G: Gate>(
     files: Files,
     gate: &G,
 ) -> Result<Outcome, Fail> {
-    let words = split(alloc, job.line)?;
     let mut shelf = MemShelf::new(files, only(alloc, job.failing_fetch)?);
+    let words = split(alloc, job.line)?;
+    answer_from(rt, alloc, job, &words, &mut shelf, gate)
+}
+
+// Carries out the command of these words over the files of a shelf.
+fn answer_from<R: Threads + Wait + Sync, G: Gate>(
+    rt: &R,
+    alloc: Global,
+    job: &Job<'_>,
+    words: &[String],
+    shelf: &mut MemShelf,
+    gate: &G,
+) -> Result<Outcome, Fail> {
     let mut out = MemSink::with_room(alloc, job.room, only(alloc, job.failing_push)?)?;
     let mut err = MemSink::with_room(alloc, job.err_room, Calls::new(alloc))?;
-    let status = run_ants(rt, alloc, &words, &mut shelf, &mut out, &mut err, gate);
+    let status = run_ants(rt, alloc, words, shelf, &mut out, &mut err, gate);
     Ok(Outcome { status, out, err })
 }
 
@@ -188,7 +227,18 @@ fn check<R: Threads + Wait + Sync + Abort>(
     job: &Job<'_>,
     wanted: Ending<'_>,
 ) -> Result<(), Fail> {
-    check_over(rt, alloc, job, files_of(alloc, job)?, &NoGate, wanted)
+    check_by(rt, alloc, job, &NoGate, wanted)
+}
+
+// Asserts what comes of a command whose workers call this gate.
+fn check_by<R: Threads + Wait + Sync + Abort, G: Gate>(
+    rt: &R,
+    alloc: Global,
+    job: &Job<'_>,
+    gate: &G,
+    wanted: Ending<'_>,
+) -> Result<(), Fail> {
+    check_over(rt, alloc, job, files_of(alloc, job)?, gate, wanted)
 }
 
 // Asserts what comes of a command over these files, whose workers call this gate.
@@ -201,8 +251,13 @@ fn check_over<R: Threads + Wait + Sync + Abort, G: Gate>(
     wanted: Ending<'_>,
 ) -> Result<(), Fail> {
     let outcome = answer_over(rt, alloc, job, files, gate)?;
-    assert_eq!(rt; ending_of(&outcome)?, wanted, "at {job:?}");
+    check_ending(rt, job, ending_of(&outcome)?, wanted);
     Ok(())
+}
+
+// Asserts how a command ended.
+fn check_ending<R: Abort>(rt: &R, job: &Job<'_>, ending: Ending<'_>, wanted: Ending<'_>) {
+    assert_eq!(rt; ending, wanted, "at {job:?}");
 }
 
 // How a text begins, some of its lines in their order, others between them, and how it ends.
@@ -240,13 +295,17 @@ fn check_text<R: Threads + Wait + Sync + Abort>(
     rt: &R,
     alloc: Global,
     job: &Job<'_>,
-    told: Told<'_>,
+    told: &Told<'_>,
 ) -> Result<(), Fail> {
     let outcome = answer(rt, alloc, job)?;
-    let ending = ending_of(&outcome)?;
-    assert_eq!(rt; ending, done(ending.out), "at {job:?}");
-    assert!(rt; is_told(ending.out, &told), "{told:?} of {job:?}");
+    check_told(rt, job, ending_of(&outcome)?, told);
     Ok(())
+}
+
+// Asserts that a command that ended so is done, and how its text is told.
+fn check_told<R: Abort>(rt: &R, job: &Job<'_>, ending: Ending<'_>, told: &Told<'_>) {
+    check_ending(rt, job, ending, done(ending.out));
+    assert!(rt; is_told(ending.out, told), "{told:?} of {job:?}");
 }
 
 // What the rows of a table vary of a command.
@@ -261,53 +320,51 @@ enum Given {
 
 impl<'t> Job<'t> {
     // The command with this text in one of its places.
-    fn with(self, given: Given, text: &'t str) -> Job<'t> {
+    fn with(&self, given: Given, text: &'t str) -> Job<'t> {
+        let mut job = *self;
         match given {
-            Given::Line => Job { line: text, ..self },
-            Given::World => Job {
-                world: text,
-                ..self
-            },
-            Given::Red => Job { red: text, ..self },
-            Given::Black => Job {
-                black: text,
-                ..self
-            },
-            Given::Breaks => Job {
-                breaks: text,
-                ..self
-            },
+            Given::Line => job.line = text,
+            Given::World => job.world = text,
+            Given::Red => job.red = text,
+            Given::Black => job.black = text,
+            Given::Breaks => job.breaks = text,
         }
+        job
     }
 }
 
-// Asserts of each row what comes of the command with its first text: the second is what the output gets at Done, and else the errors.
-fn check_rows<R: Threads + Wait + Sync + Abort>(
+// Asserts what comes of a command with this text in one of its places.
+fn check_with<R: Threads + Wait + Sync + Abort>(
     rt: &R,
     alloc: Global,
-    job: Job<'_>,
+    job: &Job<'_>,
     given: Given,
-    status: Status,
-    rows: &[(&str, &str)],
+    text: &str,
+    wanted: Ending<'_>,
 ) -> Result<(), Fail> {
-    for (text, wanted) in rows {
-        check(
-            rt,
-            alloc,
-            &job.with(given, text),
-            ending_with(status, wanted),
-        )?;
-    }
-    Ok(())
+    check(rt, alloc, &job.with(given, text), wanted)
 }
 
-// A table of rows: what `check_rows` asserts of them.
+// A table of rows: each has a text in one of the places of a command, and what the output gets at Done, and else the errors.
 #[derive(Clone, Copy)]
 struct Table<'t> {
     job: Job<'t>,
     given: Given,
     status: Status,
     rows: &'t [(&'t str, &'t str)],
+}
+
+// Asserts of each row of a table what comes of its command.
+fn check_rows<R: Threads + Wait + Sync + Abort>(
+    rt: &R,
+    alloc: Global,
+    table: &Table<'_>,
+) -> Result<(), Fail> {
+    for (text, wanted) in table.rows {
+        let ending = ending_with(table.status, wanted);
+        check_with(rt, alloc, &table.job, table.given, text, ending)?;
+    }
+    Ok(())
 }
 
 // Asserts of each row of each table what comes of its command.
@@ -317,7 +374,7 @@ fn check_tables<R: Threads + Wait + Sync + Abort>(
     tables: &[Table<'_>],
 ) -> Result<(), Fail> {
     for table in tables {
-        check_rows(rt, alloc, table.job, table.given, table.status, table.rows)?;
+        check_rows(rt, alloc, table)?;
     }
     Ok(())
 }
@@ -328,6 +385,27 @@ struct CutRun<'t> {
     job: Job<'t>,
     held: &'t str,
     line: &'t str,
+}
+
+// The text of a world whose cells are all of one kind but for the rim: so many in each of so many rows.
+fn walled(alloc: Global, cell: &str, cells: u16, height: u16) -> Result<String, Fail> {
+    let rows = rows_of(alloc, cell, cells, height)?;
+    let width = usize::from(cells) + 2;
+    let whole_height = usize::from(height) + 2;
+    let rim = "#".repeat(alloc, width)?;
+    Ok(format!(in alloc; "{width}\n{whole_height}\n{rim}\n{rows}{rim}")?)
+}
+
+// So many rows of so many cells of one kind, each between two rocks.
+fn rows_of(alloc: Global, cell: &str, cells: u16, height: u16) -> Result<String, Fail> {
+    let row = row_of(alloc, cell, cells)?;
+    Ok(row.repeat(alloc, usize::from(height))?)
+}
+
+// A row of so many cells of one kind between two rocks.
+fn row_of(alloc: Global, cell: &str, cells: u16) -> Result<String, Fail> {
+    let inner = cell.repeat(alloc, usize::from(cells))?;
+    Ok(format!(in alloc; "#{inner}#\n")?)
 }
 
 // Asserts of each command that its output fails so.

@@ -74,7 +74,7 @@ const ASSEMBLE: Job<'static> = Job {
 };
 
 // Labelled programs that are assembled, and such as are refused.
-const PROGRAMS: [Table<'static>; 2] = [
+static PROGRAMS: [Table<'static>; 2] = [
     Table {
         job: ASSEMBLE,
         given: Given::Red,
@@ -95,7 +95,7 @@ fn a_labelled_program_becomes_a_brain_or_its_fault_is_told(rt: HostRuntime) -> R
 }
 
 // An assembled brain for whose second line the output has no room.
-const NO_ROOM: [CutRun<'static>; 1] = [CutRun {
+static NO_ROOM: [CutRun<'static>; 1] = [CutRun {
     job: Job {
         red: BACK,
         room: 9,

@@ -1,7 +1,8 @@
 // The command `brain`.
 use crate::status::Status;
 use crate::tests::{
-    Ending, Given, Job, NO_JOB, Table, check, check_over, check_tables, done, ending_with, stopped,
+    Ending, Given, Job, NO_JOB, Table, check_over, check_tables, check_with, done, ending_with,
+    stopped,
 };
 use ant_base::{Files, NoGate};
 use std::alloc::Global;
@@ -119,6 +120,8 @@ const PRINT: Job<'static> = Job {
     ..NO_JOB
 };
 
+static PRINTING: Job<'static> = PRINT;
+
 // How many instructions a brain has, and the line with which it is refused; none where it is printed as it is.
 const LENGTHS: [(usize, &str); 2] = [
     (10000, ""),
@@ -144,11 +147,23 @@ fn check_length<R: Threads + Wait + Sync + Abort>(
     line: &str,
 ) -> Result<(), Fail> {
     let brain = "Drop 9999\n".repeat(alloc, count)?;
-    let job = PRINT.with(Given::Black, &brain);
+    let wanted = print_of(&brain, line);
+    check_with(rt, alloc, &PRINTING, Given::Black, &brain, wanted)
+}
+
+// How the print of a brain ends: by this line, or by the brain itself where there is none.
+fn print_of<'t>(brain: &'t str, line: &'t str) -> Ending<'t> {
     if line.is_empty() {
-        return check(rt, alloc, &job, done(&brain));
+        done(brain)
+    } else {
+        stopped(Status::Input, line)
     }
-    check(rt, alloc, &job, stopped(Status::Input, line))
+}
+
+// A brain of one instruction and so many spaces.
+fn blank(alloc: Global, spaces: usize) -> Result<String, Fail> {
+    let blank = " ".repeat(alloc, spaces)?;
+    Ok(format!(in alloc; "Drop 0{blank}")?)
 }
 
 // Asserts what comes of a brain of one instruction and so many spaces.
@@ -158,9 +173,8 @@ fn check_blank<R: Threads + Wait + Sync + Abort>(
     spaces: usize,
     wanted: Ending<'_>,
 ) -> Result<(), Fail> {
-    let blank = " ".repeat(alloc, spaces)?;
-    let brain = format!(in alloc; "Drop 0{blank}")?;
-    check(rt, alloc, &PRINT.with(Given::Black, &brain), wanted)
+    let brain = blank(alloc, spaces)?;
+    check_with(rt, alloc, &PRINTING, Given::Black, &brain, wanted)
 }
 
 #[test]
@@ -198,6 +212,13 @@ const NO_TEXT: [(&[u8], &str); 3] = [
     (b"Drop x \x80", "ants: b: line 1: bad number\n"),
 ];
 
+// The files of the command where the brain has these bytes.
+fn files_with(alloc: Global, bytes: &[u8]) -> Result<Files, Fail> {
+    let mut files = Files::new(alloc);
+    files.add("b", bytes)?;
+    Ok(files)
+}
+
 // Asserts with which line each brain of these bytes is refused.
 fn check_bytes<R: Threads + Wait + Sync + Abort>(
     rt: &R,
@@ -205,10 +226,9 @@ fn check_bytes<R: Threads + Wait + Sync + Abort>(
     rows: &[(&[u8], &str)],
 ) -> Result<(), Fail> {
     for (bytes, line) in rows {
-        let mut files = Files::new(alloc);
-        files.add("b", bytes)?;
         let wanted = stopped(Status::Input, line);
-        check_over(rt, alloc, &PRINT, files, &NoGate, wanted)?;
+        let files = files_with(alloc, bytes)?;
+        check_over(rt, alloc, &PRINTING, files, &NoGate, wanted)?;
     }
     Ok(())
 }
@@ -249,7 +269,7 @@ const MINIMISE: Job<'static> = Job {
 };
 
 // Brains that are printed or minimised, and such as are refused.
-const TOLD: [Table<'static>; 4] = [
+static TOLD: [Table<'static>; 4] = [
     Table {
         job: PRINT,
         given: Given::Black,

@@ -1,6 +1,6 @@
 // The counts of `run`.
 use crate::tests::runs::{EMPTY, KILLED, NEIGHBOURS};
-use crate::tests::{CLOSING, Job, NO_JOB, check, done};
+use crate::tests::{CLOSING, check, done, game_of};
 use std::alloc::Global;
 use std::process::Abort;
 use std::sync::Wait;
@@ -133,6 +133,17 @@ const COUNTED: [Counted<'static>; 13] = [
     },
 ];
 
+// Asserts that a game ends with its counts.
+fn check_count<R: Threads + Wait + Sync + Abort>(
+    rt: &R,
+    alloc: Global,
+    game: &Counted<'_>,
+) -> Result<(), Fail> {
+    let job = game_of(game.line, game.world, game.red, game.black);
+    let whole = format!(in alloc; "{}{}", game.text, game.counts)?;
+    check(rt, alloc, &job, done(&whole))
+}
+
 // Asserts that each game ends with its counts.
 fn check_counts<R: Threads + Wait + Sync + Abort>(
     rt: &R,
@@ -140,15 +151,7 @@ fn check_counts<R: Threads + Wait + Sync + Abort>(
     games: &[Counted<'_>],
 ) -> Result<(), Fail> {
     for game in games {
-        let job = Job {
-            line: game.line,
-            world: game.world,
-            red: game.red,
-            black: game.black,
-            ..NO_JOB
-        };
-        let whole = format!(in alloc; "{}{}", game.text, game.counts)?;
-        check(rt, alloc, &job, done(&whole))?;
+        check_count(rt, alloc, game)?;
     }
     Ok(())
 }

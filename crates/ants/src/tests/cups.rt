@@ -127,7 +127,7 @@ const UNREAD: [(&str, &str); 1] = [(
 )];
 
 // Cups that are played, and such as are refused.
-const CUPS: [Table<'static>; 4] = [
+static CUPS: [Table<'static>; 4] = [
     Table {
         job: CUP,
         given: Given::Line,

@@ -3,7 +3,7 @@ ghost use Rattle.std.specs.Prelude.{◌≡◌, ◌≤◌, true, IfOk, length};
 ghost use Rattle.ant_base.specs.Shelf.{longest};
 
 use crate::tests::ROOM;
-use crate::tests::runs::{KILLED, KILLING};
+use crate::tests::runs::{KILLED, KILLING_ROUND};
 use ant_base::{Calls, LONGEST, MemSink};
 use ant_turn::{Brains, Sheet};
 use brain_read::{Brain, read_brain};
@@ -67,8 +67,8 @@ fn brain_of<R: Abort>(rt: &R, alloc: Global, text: &str) -> Result<Brain, Fail> 
 
 // The brains of the game in which a surrounded ant dies.
 pub fn killing_players<R: Abort>(rt: &R, alloc: Global) -> Result<Players, Fail> {
-    let red = brain_of(rt, alloc, KILLING.red)?;
-    let black = brain_of(rt, alloc, KILLING.black)?;
+    let red = brain_of(rt, alloc, KILLING_ROUND.red)?;
+    let black = brain_of(rt, alloc, KILLING_ROUND.black)?;
     Ok(Players { red, black })
 }
 
@@ -96,7 +96,7 @@ pub fn killing_field<'b, R: Abort>(
 ) -> Result<Field<'b>, Fail>
     ensures { IfOk result (λ field. (field.whole ≡ true) × (field.place ≡ 0)) }
 {
-    let bytes = KILLING.world.as_bytes();
+    let bytes = KILLING_ROUND.world.as_bytes();
     assert!(rt; bytes.len() <= LONGEST);
     let brains = Brains {
         red: &players.red,
@@ -192,13 +192,34 @@ fn check_dead<R: Abort>(rt: &R, game: &Game<'_>) {
     assert_eq!(rt; game.world().ant_place(2), None);
 }
 
-// Asserts that the world of a game is that of the dump after the round in which the red ant dies.
-fn check_killed<R: Abort>(rt: &R, alloc: Global, game: &Game<'_>) -> Result<(), Fail> {
+// The dump of the world of a game.
+fn dump_of(alloc: Global, game: &Game<'_>) -> Result<MemSink, Fail> {
     let mut sink = MemSink::with_room(alloc, ROOM, Calls::new(alloc))?;
     push_dump(game.world(), 1, &mut sink)?;
-    let dump = str::from_utf8(sink.held())?;
-    let whole = format!(in alloc; "random seed: {SEED}\n{dump}\nscore: red 3 black 0\n")?;
-    assert_eq!(rt; whole.as_str(), KILLED);
+    Ok(sink)
+}
+
+// The text of a run with this dump.
+fn text_with(alloc: Global, dump: &[u8]) -> Result<String, Fail> {
+    let dump = str::from_utf8(dump)?;
+    Ok(format!(in alloc; "random seed: {SEED}\n{dump}\nscore: red 3 black 0\n")?)
+}
+
+// The text of a run whose one dump is that of the world of a game.
+fn text_of(alloc: Global, game: &Game<'_>) -> Result<String, Fail> {
+    let dump = dump_of(alloc, game)?;
+    text_with(alloc, dump.held())
+}
+
+// Asserts that a text is the one that is wanted.
+fn check_same<R: Abort>(rt: &R, text: &str, wanted: &str) {
+    assert_eq!(rt; text, wanted);
+}
+
+// Asserts that the world of a game is that of the dump after the round in which the red ant dies.
+fn check_killed<R: Abort>(rt: &R, alloc: Global, game: &Game<'_>) -> Result<(), Fail> {
+    let text = text_of(alloc, game)?;
+    check_same(rt, &text, KILLED);
     Ok(())
 }
 
@@ -261,17 +282,27 @@ fn check_step<R: Abort, C: Crew>(
     Ok(())
 }
 
-// Asserts what comes of two rounds of that game.
-fn check_game<R: Abort>(rt: &R, alloc: Global, played: &Played) -> Result<(), Fail> {
-    let players = killing_players(rt, alloc)?;
-    let mut game = Game::begin(killing_field(rt, alloc, &players)?, 3);
+// Asserts what comes of the next two rounds of a game.
+fn check_rounds<R: Abort>(
+    rt: &R,
+    alloc: Global,
+    game: &mut Game<'_>,
+    played: &Played,
+) -> Result<(), Fail> {
     let mut crew = Refusing {
         crew: SoloCrew::new(),
         calls: 0,
         refused: played.refused,
     };
-    check_step(rt, alloc, &mut game, &mut crew, played.first)?;
-    check_step(rt, alloc, &mut game, &mut crew, played.second)
+    check_step(rt, alloc, game, &mut crew, played.first)?;
+    check_step(rt, alloc, game, &mut crew, played.second)
+}
+
+// Asserts what comes of two rounds of that game.
+fn check_game<R: Abort>(rt: &R, alloc: Global, played: &Played) -> Result<(), Fail> {
+    let players = killing_players(rt, alloc)?;
+    let mut game = Game::begin(killing_field(rt, alloc, &players)?, 3);
+    check_rounds(rt, alloc, &mut game, played)
 }
 
 // Asserts what comes of each of these games.

@@ -1,6 +1,6 @@
 // The command `gen`.
 use crate::status::Status;
-use crate::tests::{CutRun, Given, Job, NO_JOB, Told, check_cuts, check_rows, check_text};
+use crate::tests::{CutRun, Given, Job, NO_JOB, Table, Told, check_cuts, check_rows, check_text};
 use std::test::Fail;
 
 // Words of `gen`.
@@ -18,18 +18,21 @@ const GENERATE: Job<'static> = Job {
     ..NO_JOB
 };
 
+static GENERATED: Job<'static> = GENERATE;
+
+static TOLD: Told<'static> = Told {
+    start: "64\n64\n",
+    lines: HILL,
+    end: "#\n",
+};
+
 #[test]
 fn a_world_is_generated_from_its_seed(rt: HostRuntime) -> Result<(), Fail> {
-    let told = Told {
-        start: "64\n64\n",
-        lines: HILL,
-        end: "#\n",
-    };
-    check_text(&rt, rt.alloc(), &GENERATE, told)
+    check_text(&rt, rt.alloc(), &GENERATED, &TOLD)
 }
 
 // Outputs with room for some bytes, and what each holds of the world when it is full.
-const CUTS: [CutRun<'static>; 4] = [
+static CUTS: [CutRun<'static>; 4] = [
     CutRun {
         job: Job {
             room: 0,
@@ -81,14 +84,14 @@ const CROWDED: [(&str, &str); 2] = [
     ),
 ];
 
+static WITHOUT_ROOM: Table<'static> = Table {
+    job: NO_JOB,
+    given: Given::Line,
+    status: Status::Input,
+    rows: &CROWDED,
+};
+
 #[test]
 fn an_element_without_room_is_named(rt: HostRuntime) -> Result<(), Fail> {
-    check_rows(
-        &rt,
-        rt.alloc(),
-        NO_JOB,
-        Given::Line,
-        Status::Input,
-        &CROWDED,
-    )
+    check_rows(&rt, rt.alloc(), &WITHOUT_ROOM)
 }

@@ -1,13 +1,21 @@
 // What the program tells of itself.
 use crate::status::Status;
-use crate::tests::{CutRun, Given, Job, NO_JOB, Told, check_cuts, check_rows, check_text};
+use crate::tests::{CutRun, Given, Job, NO_JOB, Table, Told, check_cuts, check_rows, check_text};
 use std::test::Fail;
 
 // The line of the version.
 const VERSION: [(&str, &str); 1] = [("--version", "ants 1.0.0\n")];
 
+// The words that ask for it.
+static ASKED: Table<'static> = Table {
+    job: NO_JOB,
+    given: Given::Line,
+    status: Status::Done,
+    rows: &VERSION,
+};
+
 // How the page of all commands begins, some of its lines, and how it ends.
-const PAGE: Told<'static> = Told {
+static PAGE: Told<'static> = Told {
     start: "ants 1.0.0 plays the ant world of the ICFP Programming Contest 2004.\n\nusage: ants COMMAND WORD.. [OPTION]..\n",
     lines: "  run WORLD RED BLACK --seed N --rounds N [OPTION]..\n  --help\n  --corpse N    food that a dead ant leaves, 0 to 9; 3\n",
     end: "README.md and docs/RULES.md have the rules, the form of each file and examples.\n",
@@ -19,14 +27,16 @@ const HELP: Job<'static> = Job {
     ..NO_JOB
 };
 
+static HELPED: Job<'static> = HELP;
+
 #[test]
 fn the_page_and_the_version_are_printed(rt: HostRuntime) -> Result<(), Fail> {
-    check_text(&rt, rt.alloc(), &HELP, PAGE)?;
-    check_rows(&rt, rt.alloc(), NO_JOB, Given::Line, Status::Done, &VERSION)
+    check_text(&rt, rt.alloc(), &HELPED, &PAGE)?;
+    check_rows(&rt, rt.alloc(), &ASKED)
 }
 
 // The page, whose second push fails.
-const CUTS: [CutRun<'static>; 1] = [CutRun {
+static CUTS: [CutRun<'static>; 1] = [CutRun {
     job: Job {
         failing_push: 2,
         ..HELP

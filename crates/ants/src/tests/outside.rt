@@ -1,6 +1,6 @@
 // Files that can't be read, and output that fails.
 use crate::status::Status;
-use crate::tests::runs::{KILLED, KILLING, UNPLAYED};
+use crate::tests::runs::{KILLED, KILLING_ROUND, UNPLAYED};
 use crate::tests::shown::SHOWN;
 use crate::tests::workloads::UNTOUCHED;
 use crate::tests::{
@@ -21,6 +21,8 @@ const UNPLAYED_GAME: Job<'static> = Job {
     black: "Drop 0",
     ..NO_JOB
 };
+
+static UNPLAYED_ROUND: Job<'static> = UNPLAYED_GAME;
 
 // Words with the names of files that aren't there, and the line that names the first of them.
 const NOT_THERE: [(&str, &str); 6] = [
@@ -47,7 +49,7 @@ const NOT_ACCEPTED: [(&str, &str); 4] = [
 ];
 
 // Both.
-const AT_FAULT: [Table<'static>; 2] = [
+static AT_FAULT: [Table<'static>; 2] = [
     Table {
         job: UNPLAYED_GAME,
         given: Given::Line,
@@ -118,28 +120,33 @@ const FETCHED: [Fetching<'static>; 6] = [
     ),
 ];
 
+// Asserts what comes of a command whose fetch of this number fails.
+fn check_fetch<R: Threads + Wait + Sync + Abort>(
+    rt: &R,
+    alloc: Global,
+    job: &Job<'_>,
+    failing_fetch: u64,
+    wanted: Ending<'_>,
+) -> Result<(), Fail> {
+    let mut failing = *job;
+    failing.failing_fetch = failing_fetch;
+    check(rt, alloc, &failing, wanted)
+}
+
 // Asserts that the command fetches its files in this order and nothing more: of each the line where its fetch fails.
 fn check_fetches<R: Threads + Wait + Sync + Abort>(
     rt: &R,
     alloc: Global,
-    job: Job<'_>,
+    job: &Job<'_>,
     lines: &[&str],
     text: &str,
 ) -> Result<(), Fail> {
     let mut next = 1;
     for line in lines {
-        let failing = Job {
-            failing_fetch: next,
-            ..job
-        };
-        check(rt, alloc, &failing, stopped(Status::Read, line))?;
+        check_fetch(rt, alloc, job, next, stopped(Status::Read, line))?;
         next = next.saturating_add(1);
     }
-    let whole = Job {
-        failing_fetch: next,
-        ..job
-    };
-    check(rt, alloc, &whole, done(text))
+    check_fetch(rt, alloc, job, next, done(text))
 }
 
 // Asserts of each row how its files are fetched.
@@ -149,8 +156,8 @@ fn check_fetchings<R: Threads + Wait + Sync + Abort>(
     rows: &[Fetching<'_>],
 ) -> Result<(), Fail> {
     for (line, lines, text) in rows {
-        let job = UNPLAYED_GAME.with(Given::Line, line);
-        check_fetches(rt, alloc, job, lines, text)?;
+        let job = UNPLAYED_ROUND.with(Given::Line, line);
+        check_fetches(rt, alloc, &job, lines, text)?;
     }
     Ok(())
 }
@@ -160,46 +167,52 @@ fn each_file_is_fetched_once_in_the_order_of_its_word(rt: HostRuntime) -> Result
     check_fetchings(&rt, rt.alloc(), &FETCHED)
 }
 
+// Asserts what comes of a command whose output has room for so many bytes.
+fn check_in<R: Threads + Wait + Sync + Abort>(
+    rt: &R,
+    alloc: Global,
+    job: &Job<'_>,
+    room: usize,
+    wanted: Ending<'_>,
+) -> Result<(), Fail> {
+    let mut full = *job;
+    full.room = room as u64;
+    check(rt, alloc, &full, wanted)
+}
+
 // Asserts that output with room for so many bytes of the command's text gets these, and fails.
 fn check_room<R: Threads + Wait + Sync + Abort>(
     rt: &R,
     alloc: Global,
-    job: Job<'_>,
+    job: &Job<'_>,
     text: &str,
     room: usize,
 ) -> Result<(), Fail> {
     let front = text.get(..room).ok_or("the text is shorter")?;
-    let full = Job {
-        room: room as u64,
-        ..job
-    };
-    check(rt, alloc, &full, cut(front, "ants: output failed\n"))
+    let wanted = cut(front, "ants: output failed\n");
+    check_in(rt, alloc, job, room, wanted)
 }
 
 // Asserts the same of each room that is smaller than the text, and that the command is done where the room is as large as the text.
 fn check_rooms<R: Threads + Wait + Sync + Abort>(
     rt: &R,
     alloc: Global,
-    job: Job<'_>,
+    job: &Job<'_>,
     text: &str,
 ) -> Result<(), Fail> {
     for room in 0..text.len() {
         check_room(rt, alloc, job, text, room)?;
     }
-    let whole = Job {
-        room: text.len() as u64,
-        ..job
-    };
-    check(rt, alloc, &whole, done(text))
+    check_in(rt, alloc, job, text.len(), done(text))
 }
 
 #[test]
 fn output_that_is_full_holds_a_prefix_of_the_text(rt: HostRuntime) -> Result<(), Fail> {
-    check_rooms(&rt, rt.alloc(), UNPLAYED_GAME, UNPLAYED)
+    check_rooms(&rt, rt.alloc(), &UNPLAYED_ROUND, UNPLAYED)
 }
 
 // Output with room for five bytes, and errors with room for none or for eight.
-const FULL: [CutRun<'static>; 2] = [
+static FULL: [CutRun<'static>; 2] = [
     CutRun {
         job: Job {
             room: 5,
@@ -238,23 +251,40 @@ fn check_front<R: Abort>(rt: &R, ending: Ending<'_>, text: &str, failing_push: u
 fn check_pushes<R: Threads + Wait + Sync + Abort>(
     rt: &R,
     alloc: Global,
-    job: Job<'_>,
+    job: &Job<'_>,
     text: &str,
 ) -> Result<(), Fail> {
     for failing_push in 1..10000 {
-        let failing = Job {
-            failing_push,
-            ..job
-        };
-        let outcome = answer(rt, alloc, &failing)?;
-        let ending = ending_of(&outcome)?;
-        if ending.status == Status::Done {
-            assert_eq!(rt; ending, done(text));
+        if check_push(rt, alloc, job, text, failing_push)? {
             return Ok(());
         }
-        check_front(rt, ending, text, failing_push);
     }
     Err(Fail::new("the text has 10,000 pushes or more"))
+}
+
+// Asserts what comes of a command whose push of this number fails: all its text where there is no such push, which is the answer, and else a
+// prefix of it.
+fn check_push<R: Threads + Wait + Sync + Abort>(
+    rt: &R,
+    alloc: Global,
+    job: &Job<'_>,
+    text: &str,
+    failing_push: u64,
+) -> Result<bool, Fail> {
+    let mut failing = *job;
+    failing.failing_push = failing_push;
+    let outcome = answer(rt, alloc, &failing)?;
+    Ok(is_whole(rt, ending_of(&outcome)?, text, failing_push))
+}
+
+// Whether a command is done. Asserts that it wrote all its text then, and that its output failed after a prefix of it else.
+fn is_whole<R: Abort>(rt: &R, ending: Ending<'_>, text: &str, failing_push: u64) -> bool {
+    if ending.status == Status::Done {
+        assert_eq!(rt; ending, done(text));
+        return true;
+    }
+    check_front(rt, ending, text, failing_push);
+    false
 }
 
 // A line of each command, and its text.
@@ -280,13 +310,22 @@ fn check_written<R: Threads + Wait + Sync + Abort>(
     rows: &[(&str, &str)],
 ) -> Result<(), Fail> {
     for (line, text) in rows {
-        let job = UNPLAYED_GAME.with(Given::Line, line);
-        check_pushes(rt, alloc, job, text)?;
-        check_room(rt, alloc, job, text, 0)?;
-        check_room(rt, alloc, job, text, 1)?;
-        check_room(rt, alloc, job, text, text.len().saturating_sub(1))?;
+        check_failures(rt, alloc, &UNPLAYED_ROUND.with(Given::Line, line), text)?;
     }
     Ok(())
+}
+
+// Asserts the same of one command.
+fn check_failures<R: Threads + Wait + Sync + Abort>(
+    rt: &R,
+    alloc: Global,
+    job: &Job<'_>,
+    text: &str,
+) -> Result<(), Fail> {
+    check_pushes(rt, alloc, job, text)?;
+    check_room(rt, alloc, job, text, 0)?;
+    check_room(rt, alloc, job, text, 1)?;
+    check_room(rt, alloc, job, text, text.len().saturating_sub(1))
 }
 
 #[test]
@@ -301,7 +340,8 @@ fn check_killing_pushes<R: Threads + Wait + Sync + Abort>(
 ) -> Result<(), Fail> {
     let line = "run w r b --seed 12345 --rounds 1 --dump 1 --stats";
     let text = format!(in alloc; "{KILLED}turns 7 taken 5 redone 2\n")?;
-    check_pushes(rt, alloc, KILLING.with(Given::Line, line), &text)
+    let job = KILLING_ROUND.with(Given::Line, line);
+    check_pushes(rt, alloc, &job, &text)
 }
 
 #[test]

@@ -1,8 +1,8 @@
 // The command `run`.
 use crate::status::Status;
 use crate::tests::{
-    CLOSED, CLOSING, Ending, Given, Job, NO_JOB, Table, Told, check, check_tables, check_text,
-    done, ending_with,
+    CLOSED, CLOSING, Ending, Given, Job, NO_JOB, Table, Told, check_tables, check_text, check_with,
+    done, ending_with, game_of, walled,
 };
 use std::alloc::Global;
 use std::process::Abort;
@@ -139,11 +139,13 @@ pub const KILLING: Job<'static> = Job {
     ..NO_JOB
 };
 
+pub static KILLING_ROUND: Job<'static> = KILLING;
+
 // Its words.
 const KILLS: [(&str, &str); 1] = [("run w r b --seed 12345 --rounds 1 --dump 1", KILLED)];
 
 // Games that are printed.
-const PRINTED: [Table<'static>; 4] = [
+static PRINTED: [Table<'static>; 4] = [
     Table {
         job: TURNING,
         given: Given::Line,
@@ -178,11 +180,19 @@ fn a_run_prints_its_seed_its_dumps_and_its_score(rt: HostRuntime) -> Result<(), 
     check_tables(&rt, rt.alloc(), &PRINTED)
 }
 
+// The round in which the one ant turns left, for words of any length.
+static TURNING_ROUND: Job<'static> = TURNING;
+
+// Words that ask for a thousand rounds to be dumped.
+fn listing(alloc: Global) -> Result<String, Fail> {
+    let later = ",1000000".repeat(alloc, 997)?;
+    Ok(format!(in alloc; "run w r b --seed 12345 --rounds 1 --dump 9,1{later},0")?)
+}
+
 // Asserts that a thousand rounds to be dumped are read as a list.
 fn check_listed<R: Threads + Wait + Sync + Abort>(rt: &R, alloc: Global) -> Result<(), Fail> {
-    let later = ",1000000".repeat(alloc, 997)?;
-    let line = format!(in alloc; "run w r b --seed 12345 --rounds 1 --dump 9,1{later},0")?;
-    check(rt, alloc, &TURNING.with(Given::Line, &line), done(TURNED))
+    let line = listing(alloc)?;
+    check_with(rt, alloc, &TURNING_ROUND, Given::Line, &line, done(TURNED))
 }
 
 #[test]
@@ -190,26 +200,21 @@ fn a_thousand_rounds_are_listed(rt: HostRuntime) -> Result<(), Fail> {
     check_listed(&rt, rt.alloc())
 }
 
-// The text of a world without a hill, as wide as high, whose cells are clear but for the rim, and so many in each row.
-fn clear(alloc: Global, cells: u16) -> Result<String, Fail> {
-    let inner = usize::from(cells);
-    let size = inner + 2;
-    let rim = "#".repeat(alloc, size)?;
-    let row = format!(in alloc; "#{}#\n", ".".repeat(alloc, inner)?)?;
-    let rows = row.repeat(alloc, inner)?;
-    Ok(format!(in alloc; "{size}\n{size}\n{rim}\n{rows}{rim}")?)
-}
+// Five rounds.
+static FIVE_ROUNDS: Job<'static> = Job {
+    line: "run w r b --seed 7 --rounds 5",
+    ..TURNING
+};
 
-// Asserts what comes of five rounds on a world without a hill, with so many clear cells in each row.
+// Asserts what comes of five rounds on a world without a hill, as wide as high, with so many clear cells in each row.
 fn check_clear<R: Threads + Wait + Sync + Abort>(
     rt: &R,
     alloc: Global,
     cells: u16,
     wanted: Ending<'_>,
 ) -> Result<(), Fail> {
-    let world = clear(alloc, cells)?;
-    let job = TURNING.with(Given::Line, "run w r b --seed 7 --rounds 5");
-    check(rt, alloc, &job.with(Given::World, &world), wanted)
+    let world = walled(alloc, ".", cells, cells)?;
+    check_with(rt, alloc, &FIVE_ROUNDS, Given::World, &world, wanted)
 }
 
 // How many clear cells a row has, and what comes of it.
@@ -387,19 +392,13 @@ fn check_games<R: Threads + Wait + Sync + Abort>(
     games: &[Game<'_>],
 ) -> Result<(), Fail> {
     for game in games {
-        let job = Job {
-            line: game.line,
-            world: game.world,
-            red: game.red,
-            black: game.black,
-            ..NO_JOB
-        };
+        let job = game_of(game.line, game.world, game.red, game.black);
         let told = Told {
             start: "",
             lines: game.lines,
             end: game.score,
         };
-        check_text(rt, alloc, &job, told)?;
+        check_text(rt, alloc, &job, &told)?;
     }
     Ok(())
 }

@@ -1,6 +1,6 @@
 // The commands `save` and `resume`.
 use crate::status::Status;
-use crate::tests::{CLOSED, Given, Job, NO_JOB, Table, check, check_tables, stopped};
+use crate::tests::{CLOSED, Given, Job, NO_JOB, Table, check_tables, check_with, stopped};
 use std::alloc::Global;
 use std::process::Abort;
 use std::sync::Wait;
@@ -114,7 +114,7 @@ const RESUMED: Job<'static> = Job {
 };
 
 // Games that are saved or gone on with, and saves that are refused.
-const TABLES: [Table<'static>; 7] = [
+static TABLES: [Table<'static>; 7] = [
     Table {
         job: TURNING,
         given: Given::Line,
@@ -173,11 +173,14 @@ fn a_game_is_saved_and_gone_on_with_or_its_save_refused(rt: HostRuntime) -> Resu
     check_tables(&rt, rt.alloc(), &TABLES)
 }
 
+// The words that go on with a save, for one of any length.
+static RESUMING: Job<'static> = RESUMED;
+
 // Asserts that a file of one byte more than the longest is too long.
 fn check_long<R: Threads + Wait + Sync + Abort>(rt: &R, alloc: Global) -> Result<(), Fail> {
     let long = " ".repeat(alloc, 4194305)?;
     let wanted = stopped(Status::Input, "ants: k: too long\n");
-    check(rt, alloc, &RESUMED.with(Given::Breaks, &long), wanted)
+    check_with(rt, alloc, &RESUMING, Given::Breaks, &long, wanted)
 }
 
 #[test]

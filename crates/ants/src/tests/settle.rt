@@ -1,5 +1,5 @@
 // A window of turns, settled by looks that were made at guesses.
-ghost use Rattle.std.specs.Prelude.{◌≡◌, ◌-◌, ◌≤◌, OnOk};
+ghost use Rattle.std.specs.Prelude.{◌≡◌, ◌-◌, ◌≤◌, true, OnOk};
 ghost use Rattle.cell_world.specs.Grid.{world_of};
 ghost use Rattle.spec_record.specs.Guess.{guesses_of};
 ghost use Rattle.round_book.specs.Book.{CanBegin, IsSameWindow, StandsOn, window_of};
@@ -105,8 +105,13 @@ const FATES: [Fate; 7] = [
 fn check_fates<R: Abort>(rt: &R, causes: &[Option<Cause>], wanted: &[Fate]) {
     assert_eq!(rt; causes.len(), wanted.len());
     for (cause, fate) in causes.iter().zip(wanted) {
-        assert_eq!(rt; fate_of(cause), *fate, "{cause:?}");
+        check_fate(rt, cause, *fate);
     }
+}
+
+// Asserts what became of a look.
+fn check_fate<R: Abort>(rt: &R, cause: &Option<Cause>, wanted: Fate) {
+    assert_eq!(rt; fate_of(cause), wanted, "{cause:?}");
 }
 
 // Asserts that a field is that of seven ants, of which none has drawn a number.
@@ -118,16 +123,28 @@ fn check_beginning<R: Abort>(rt: &R, field: &Field<'_>)
     assert!(rt; field.place() == 0);
 }
 
+// Settles the first round of a field of seven ants, and asserts its counts and what became of each look.
+fn check_settled<R: Abort>(
+    rt: &R,
+    alloc: Global,
+    field: &mut Field<'_>,
+    wanted: &[Fate],
+) -> Result<(), Fail>
+    requires whole { field.old.whole ≡ true }
+{
+    check_beginning(rt, field);
+    let mut causes = Vec::new(alloc);
+    let counts = play_by_looks(alloc, field, 0, 7, &mut causes)?;
+    assert_eq!(rt; (counts.taken(), counts.redone()), (5, 2));
+    check_fates(rt, &causes, wanted);
+    Ok(())
+}
+
 // Settles the round in which the red ant dies, and asserts its counts and what became of each look.
 fn check_settling<R: Abort>(rt: &R, alloc: Global, wanted: &[Fate]) -> Result<(), Fail> {
     let players = killing_players(rt, alloc)?;
     let mut field = killing_field(rt, alloc, &players)?;
-    check_beginning(rt, &field);
-    let mut causes = Vec::new(alloc);
-    let counts = play_by_looks(alloc, &mut field, 0, 7, &mut causes)?;
-    assert_eq!(rt; (counts.taken(), counts.redone()), (5, 2));
-    check_fates(rt, &causes, wanted);
-    Ok(())
+    check_settled(rt, alloc, &mut field, wanted)
 }
 
 #[test]

@@ -1,7 +1,7 @@
 // The command `show`.
 use crate::status::Status;
 use crate::tests::{
-    CLOSED, Given, Job, NO_JOB, Table, Told, check, check_tables, check_text, stopped,
+    CLOSED, Given, Job, NO_JOB, Table, Told, check_tables, check_text, check_with, stopped, walled,
 };
 use std::alloc::Global;
 use std::process::Abort;
@@ -69,7 +69,7 @@ const SHOW: Job<'static> = Job {
 };
 
 // Worlds that are shown, and such as are refused.
-const WORLDS: [Table<'static>; 3] = [
+static WORLDS: [Table<'static>; 3] = [
     Table {
         job: SHOW,
         given: Given::Line,
@@ -97,41 +97,39 @@ fn show_prints_the_seed_and_the_world_or_names_its_first_fault(
     check_tables(&rt, rt.alloc(), &WORLDS)
 }
 
+// The command, over a world of any size.
+static SHOWING: Job<'static> = SHOW;
+
 // The text of a world of 130 rows, whose cells are red hill but for the rim, and so many in each row.
-fn hill(alloc: Global, cells: u8) -> Result<String, Fail> {
-    let width = usize::from(cells) + 2;
-    let rim = "#".repeat(alloc, width)?;
-    let inner = "+".repeat(alloc, usize::from(cells))?;
-    let row = format!(in alloc; "#{inner}#\n")?;
-    let rows = row.repeat(alloc, 128)?;
-    Ok(format!(in alloc; "{width}\n130\n{rim}\n{rows}{rim}")?)
+fn hill(alloc: Global, cells: u16) -> Result<String, Fail> {
+    walled(alloc, "+", cells, 128)
 }
 
 // Asserts that a world with a hill of so many cells in each row is shown, and how its text is told.
 fn check_hill<R: Threads + Wait + Sync + Abort>(
     rt: &R,
     alloc: Global,
-    cells: u8,
-    told: Told<'_>,
+    cells: u16,
+    told: &Told<'_>,
 ) -> Result<(), Fail> {
     let world = hill(alloc, cells)?;
-    check_text(rt, alloc, &SHOW.with(Given::World, &world), told)
+    check_text(rt, alloc, &SHOWING.with(Given::World, &world), told)
 }
 
 // Asserts with which line such a world is refused.
 fn check_no_hill<R: Threads + Wait + Sync + Abort>(
     rt: &R,
     alloc: Global,
-    cells: u8,
+    cells: u16,
     line: &str,
 ) -> Result<(), Fail> {
     let world = hill(alloc, cells)?;
-    let job = SHOW.with(Given::World, &world);
-    check(rt, alloc, &job, stopped(Status::Input, line))
+    let wanted = stopped(Status::Input, line);
+    check_with(rt, alloc, &SHOWING, Given::World, &world, wanted)
 }
 
 // The last ant of the largest hill.
-const CROWDED: Told<'static> = Told {
+static CROWDED: Told<'static> = Told {
     start: "random seed: 12345\n",
     lines: "cell (128, 128): red hill; red ant of id 16383, dir 0, food 0, state 0, resting 0\n",
     end: "rock\n",
@@ -139,7 +137,7 @@ const CROWDED: Told<'static> = Told {
 
 #[test]
 fn a_world_holds_up_to_16384_ants(rt: HostRuntime) -> Result<(), Fail> {
-    check_hill(&rt, rt.alloc(), 128, CROWDED)?;
+    check_hill(&rt, rt.alloc(), 128, &CROWDED)?;
     let line = "ants: w: too many ants, 16512\n";
     check_no_hill(&rt, rt.alloc(), 129, line)
 }

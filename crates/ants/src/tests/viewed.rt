@@ -2,7 +2,7 @@
 use crate::status::Status;
 use crate::tests::runs::KILLED;
 use crate::tests::{
-    CLOSING, Ending, Given, Job, NO_JOB, Table, Told, check, check_tables, check_text, done,
+    CLOSING, Ending, Given, Job, NO_JOB, Table, Told, check_tables, check_text, check_with, done,
     ending_with,
 };
 use std::alloc::Global;
@@ -20,6 +20,8 @@ const VIEW: Job<'static> = Job {
     black: "Move 0 0",
     ..NO_JOB
 };
+
+static VIEWING: Job<'static> = VIEW;
 
 // Breaks, each alone, and the second line of the view: the turn after which each first holds.
 const ALONE: [(&str, &str); 18] = [
@@ -114,7 +116,7 @@ const NO_BREAKS: Job<'static> = Job {
 };
 
 // Files of a view that are at fault.
-const FAULTS: [Table<'static>; 4] = [
+static FAULTS: [Table<'static>; 4] = [
     Table {
         job: NO_BREAKS,
         given: Given::World,
@@ -161,7 +163,7 @@ const NO_STOPS: [(&str, &str); 1] = [("Round 9", NO_STOP)];
 
 const NO_ANTS: [(&str, &str); 1] = [("Round 1\nFood 1 1 0\n", NO_STOP)];
 
-const UNSTOPPED: [Table<'static>; 2] = [
+static UNSTOPPED: [Table<'static>; 2] = [
     Table {
         job: VIEW,
         given: Given::Breaks,
@@ -187,17 +189,39 @@ fn a_view_without_a_turn_at_which_a_break_holds_says_so(rt: HostRuntime) -> Resu
 // Asserts the whole text of the view that stops at the death of the red ant.
 fn check_killed<R: Threads + Wait + Sync + Abort>(rt: &R, alloc: Global) -> Result<(), Fail> {
     let text = killed_view(alloc)?;
-    check(
-        rt,
-        alloc,
-        &VIEW.with(Given::Breaks, "Killed 2"),
-        done(&text),
-    )
+    let wanted = done(&text);
+    check_with(rt, alloc, &VIEWING, Given::Breaks, "Killed 2", wanted)
 }
 
 #[test]
 fn a_view_stops_after_the_first_turn_at_which_a_break_holds(rt: HostRuntime) -> Result<(), Fail> {
     check_killed(&rt, rt.alloc())
+}
+
+// Asserts how the view with these breaks begins.
+fn check_start<R: Threads + Wait + Sync + Abort>(
+    rt: &R,
+    alloc: Global,
+    breaks: &str,
+    start: &str,
+) -> Result<(), Fail> {
+    let told = Told {
+        start,
+        lines: "",
+        end: "",
+    };
+    check_text(rt, alloc, &VIEWING.with(Given::Breaks, breaks), &told)
+}
+
+// Asserts the second line of the view with these breaks.
+fn check_stop<R: Threads + Wait + Sync + Abort>(
+    rt: &R,
+    alloc: Global,
+    breaks: &str,
+    wanted: &str,
+) -> Result<(), Fail> {
+    let start = format!(in alloc; "random seed: 12345\n{wanted}\n")?;
+    check_start(rt, alloc, breaks, &start)
 }
 
 // Asserts of each text of breaks the second line of its view.
@@ -207,13 +231,7 @@ fn check_stops<R: Threads + Wait + Sync + Abort>(
     rows: &[(&str, &str)],
 ) -> Result<(), Fail> {
     for (breaks, wanted) in rows {
-        let start = format!(in alloc; "random seed: 12345\n{wanted}\n")?;
-        let told = Told {
-            start: &start,
-            lines: "",
-            end: "",
-        };
-        check_text(rt, alloc, &VIEW.with(Given::Breaks, breaks), told)?;
+        check_stop(rt, alloc, breaks, wanted)?;
     }
     Ok(())
 }
@@ -238,7 +256,7 @@ fn check_many<R: Threads + Wait + Sync + Abort>(
     wanted: Ending<'_>,
 ) -> Result<(), Fail> {
     let breaks = "Round 9\n".repeat(alloc, count)?;
-    check(rt, alloc, &VIEW.with(Given::Breaks, &breaks), wanted)
+    check_with(rt, alloc, &VIEWING, Given::Breaks, &breaks, wanted)
 }
 
 // Asserts of each row what comes of its breaks.

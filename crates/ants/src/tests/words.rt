@@ -2,7 +2,7 @@
 use crate::program::run_here;
 use crate::status::Status;
 use crate::tests::{
-    CLOSED, Ending, Given, Job, NO_JOB, Outcome, ROOM, check_rows, ending_of, split, stopped,
+    CLOSED, Ending, Given, Job, NO_JOB, Outcome, ROOM, Table, check_rows, ending_of, split, stopped,
 };
 use ant_base::{Calls, Files, MemShelf, MemSink, NoGate};
 use std::alloc::Global;
@@ -122,13 +122,20 @@ const REFUSED: [(&str, &str); 78] = [
     ),
 ];
 
-#[test]
-fn the_first_word_with_which_no_command_begins_is_refused(rt: HostRuntime) -> Result<(), Fail> {
-    let job = Job {
+// No commands, beside a world.
+static NO_COMMANDS: Table<'static> = Table {
+    job: Job {
         world: CLOSED,
         ..NO_JOB
-    };
-    check_rows(&rt, rt.alloc(), job, Given::Line, Status::Words, &REFUSED)
+    },
+    given: Given::Line,
+    status: Status::Words,
+    rows: &REFUSED,
+};
+
+#[test]
+fn the_first_word_with_which_no_command_begins_is_refused(rt: HostRuntime) -> Result<(), Fail> {
+    check_rows(&rt, rt.alloc(), &NO_COMMANDS)
 }
 
 // Words with `--far`, and the line that names the refused one where nobody may wait for a worker.
@@ -148,6 +155,25 @@ const REFUSED_HERE: [(&str, &str); 4] = [
     ("brain b --far", "ants: word 3 refused\n"),
 ];
 
+// Carries out these words, without any file, where nobody may wait for a worker.
+fn answer_here<R: Threads + Sync>(
+    rt: &R,
+    alloc: Global,
+    words: &[String],
+) -> Result<Outcome, Fail> {
+    let mut out = MemSink::with_room(alloc, ROOM, Calls::new(alloc))?;
+    let mut err = MemSink::with_room(alloc, ROOM, Calls::new(alloc))?;
+    let mut shelf = MemShelf::new(Files::new(alloc), Calls::new(alloc));
+    let status = run_here(rt, alloc, words, &mut shelf, &mut out, &mut err, &NoGate);
+    Ok(Outcome { status, out, err })
+}
+
+// Carries out the words of a line there.
+fn answer_line<R: Threads + Sync>(rt: &R, alloc: Global, line: &str) -> Result<Outcome, Fail> {
+    let words = split(alloc, line)?;
+    answer_here(rt, alloc, &words)
+}
+
 // Asserts what comes of words where nobody may wait for a worker.
 fn check_here<R: Threads + Sync + Abort>(
     rt: &R,
@@ -155,14 +181,14 @@ fn check_here<R: Threads + Sync + Abort>(
     line: &str,
     wanted: Ending<'_>,
 ) -> Result<(), Fail> {
-    let words = split(alloc, line)?;
-    let mut shelf = MemShelf::new(Files::new(alloc), Calls::new(alloc));
-    let mut out = MemSink::with_room(alloc, ROOM, Calls::new(alloc))?;
-    let mut err = MemSink::with_room(alloc, ROOM, Calls::new(alloc))?;
-    let status = run_here(rt, alloc, &words, &mut shelf, &mut out, &mut err, &NoGate);
-    let outcome = Outcome { status, out, err };
-    assert_eq!(rt; ending_of(&outcome)?, wanted, "at {line:?}");
+    let outcome = answer_line(rt, alloc, line)?;
+    check_line(rt, line, ending_of(&outcome)?, wanted);
     Ok(())
+}
+
+// Asserts how the words of a line ended.
+fn check_line<R: Abort>(rt: &R, line: &str, ending: Ending<'_>, wanted: Ending<'_>) {
+    assert_eq!(rt; ending, wanted, "at {line:?}");
 }
 
 // Asserts which word of each row is refused where nobody may wait for a worker.

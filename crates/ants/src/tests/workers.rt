@@ -3,9 +3,9 @@ ghost use Rattle.std.specs.Prelude.{◌≡◌, true};
 
 use crate::status::Status;
 use crate::tests::games::{killing_field, killing_players};
-use crate::tests::runs::{KILLED, KILLING};
+use crate::tests::runs::{KILLED, KILLING, KILLING_ROUND};
 use crate::tests::saves::STANDING;
-use crate::tests::{Given, Job, NO_JOB, answer_over, check_over, done, files_of};
+use crate::tests::{Given, Job, NO_JOB, answer_over, check_by, done, files_of};
 use ant_base::{Gate, NoGate};
 use round_book::Field;
 use round_workers::{BoardCrew, PieceCrew};
@@ -46,10 +46,14 @@ impl Meeting {
             "a worker waited in vain"
         );
         for (turn, count) in self.announced.iter().enumerate() {
-            let wanted = u32::from(turn >= from);
-            assert_eq!(rt; count.load(Ordering::SeqCst), wanted, "turn {turn}");
+            check_announced(rt, turn, count, u32::from(turn >= from));
         }
     }
+}
+
+// Asserts how often a turn was announced.
+fn check_announced<R: Abort>(rt: &R, turn: usize, count: &AtomicU32, wanted: u32) {
+    assert_eq!(rt; count.load(Ordering::SeqCst), wanted, "turn {turn}");
 }
 
 // So many workers who haven't begun.
@@ -155,10 +159,9 @@ fn check_killing<R: Threads + Wait + Sync + Abort, G: Gate>(
     gate: &G,
     counts: &str,
 ) -> Result<(), Fail> {
-    let job = KILLING.with(Given::Line, line);
     let whole = format!(in alloc; "{KILLED}{counts}")?;
-    let files = files_of(alloc, &job)?;
-    check_over(rt, alloc, &job, files, gate, done(&whole))
+    let job = KILLING_ROUND.with(Given::Line, line);
+    check_by(rt, alloc, &job, gate, done(&whole))
 }
 
 // Asserts what is written of that round with the words of each row.
@@ -258,7 +261,45 @@ fn window_on_board<R: Threads + Sync, G: Gate>(
     })
 }
 
-// Asserts what comes of a window by a crew of pieces, whose workers meet and announce each of its turns once.
+// Asserts what came of a window whose workers met and announced each of its turns once.
+fn check_window<R: Abort>(rt: &R, meeting: &Meeting, window: Window, wanted: &Window) {
+    assert_eq!(rt; window, *wanted);
+    meeting.check(rt, wanted.from as usize);
+}
+
+// Asserts what comes of a window of a field by a crew of pieces, whose workers meet and announce each of its turns once.
+fn check_field_in_pieces<R: Threads + Sync + Abort>(
+    rt: &R,
+    alloc: Global,
+    field: &mut Field<'_>,
+    wanted: &Window,
+) -> Result<(), Fail>
+    requires whole { field.old.whole ≡ true }
+    requires first { field.old.place ≡ 0 }
+{
+    let meeting = Meeting::of(alloc, 3, TURNS)?;
+    let window = window_in_pieces(rt, alloc, field, wanted.from, &meeting)?;
+    check_window(rt, &meeting, window, wanted);
+    Ok(())
+}
+
+// The same by a crew with a board.
+fn check_field_on_board<R: Threads + Sync + Abort>(
+    rt: &R,
+    alloc: Global,
+    field: &mut Field<'_>,
+    wanted: &Window,
+) -> Result<(), Fail>
+    requires whole { field.old.whole ≡ true }
+    requires first { field.old.place ≡ 0 }
+{
+    let meeting = Meeting::of(alloc, 3, TURNS)?;
+    let window = window_on_board(rt, alloc, field, wanted.from, &meeting)?;
+    check_window(rt, &meeting, window, wanted);
+    Ok(())
+}
+
+// Asserts what comes of a window of that round by a crew of pieces.
 fn check_pieces<R: Threads + Sync + Abort>(
     rt: &R,
     alloc: Global,
@@ -266,11 +307,7 @@ fn check_pieces<R: Threads + Sync + Abort>(
 ) -> Result<(), Fail> {
     let players = killing_players(rt, alloc)?;
     let mut field = killing_field(rt, alloc, &players)?;
-    let meeting = Meeting::of(alloc, 3, TURNS)?;
-    let window = window_in_pieces(rt, alloc, &mut field, wanted.from, &meeting)?;
-    assert_eq!(rt; window, *wanted);
-    meeting.check(rt, wanted.from as usize);
-    Ok(())
+    check_field_in_pieces(rt, alloc, &mut field, wanted)
 }
 
 // The same of a crew with a board.
@@ -281,11 +318,7 @@ fn check_board<R: Threads + Sync + Abort>(
 ) -> Result<(), Fail> {
     let players = killing_players(rt, alloc)?;
     let mut field = killing_field(rt, alloc, &players)?;
-    let meeting = Meeting::of(alloc, 3, TURNS)?;
-    let window = window_on_board(rt, alloc, &mut field, wanted.from, &meeting)?;
-    assert_eq!(rt; window, *wanted);
-    meeting.check(rt, wanted.from as usize);
-    Ok(())
+    check_field_on_board(rt, alloc, &mut field, wanted)
 }
 
 // Asserts of each window what comes of it by both crews.
@@ -375,7 +408,7 @@ struct Round<'t> {
 }
 
 // A workload; and a game that is saved, and one that goes on.
-const ROUNDS: [Round<'static>; 3] = [
+static ROUNDS: [Round<'static>; 3] = [
     Round {
         job: Job {
             line: "workload 12345 1 16",
@@ -410,10 +443,21 @@ fn check_meeting<R: Threads + Wait + Sync + Abort>(
     round: &Round<'_>,
 ) -> Result<(), Fail> {
     let meeting = Meeting::of(alloc, round.workers, round.turns)?;
-    let files = files_of(alloc, &round.job)?;
-    let outcome = answer_over(rt, alloc, &round.job, files, &meeting)?;
-    assert_eq!(rt; outcome.status, Status::Done);
+    check_done(rt, alloc, &round.job, &meeting)?;
     meeting.check(rt, 0);
+    Ok(())
+}
+
+// Asserts that a command is done, whose workers call this gate.
+fn check_done<R: Threads + Wait + Sync + Abort, G: Gate>(
+    rt: &R,
+    alloc: Global,
+    job: &Job<'_>,
+    gate: &G,
+) -> Result<(), Fail> {
+    let files = files_of(alloc, job)?;
+    let outcome = answer_over(rt, alloc, job, files, gate)?;
+    assert_eq!(rt; outcome.status, Status::Done);
     Ok(())
 }
 

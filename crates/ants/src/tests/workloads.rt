@@ -1,6 +1,6 @@
 // The command `workload`.
 use crate::status::Status;
-use crate::tests::{Given, NO_JOB, check_rows};
+use crate::tests::{Given, NO_JOB, Table, check_rows};
 use std::test::Fail;
 
 // The world of the seed 12345 before a round: two hills of 127 cells, and eleven blobs of 25 cells with 5 particles each.
@@ -37,14 +37,14 @@ const PLAYED_OUT: [(&str, &str); 6] = [
     ("workload 12345 1000 16", THOUSAND),
 ];
 
+static WORKLOADS: Table<'static> = Table {
+    job: NO_JOB,
+    given: Given::Line,
+    status: Status::Done,
+    rows: &PLAYED_OUT,
+};
+
 #[test]
 fn a_workload_tells_of_its_world_and_its_game(rt: HostRuntime) -> Result<(), Fail> {
-    check_rows(
-        &rt,
-        rt.alloc(),
-        NO_JOB,
-        Given::Line,
-        Status::Done,
-        &PLAYED_OUT,
-    )
+    check_rows(&rt, rt.alloc(), &WORKLOADS)
 }
