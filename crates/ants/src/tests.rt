@@ -1,6 +1,7 @@
 // What no clause says: that commands succeed, and the exact bytes that they write. Each file has tables of cases, and a loop for each. A table
 // with commands in it is a `static`, and so is a command that a function varies: where they are constants, a function builds them piece by
-// piece.
+// piece. The texts of one `static` are proved together, and what that costs grows with the square of their length: so a long table is one of
+// its own, or several.
 mod assembled;
 mod brains;
 mod counts;
@@ -83,8 +84,25 @@ fn game_of<'t>(line: &'t str, world: &'t str, red: &'t str, black: &'t str) -> J
 #[derive(Drop)]
 struct Outcome {
     status: Status,
-    out: MemSink,
-    err: MemSink,
+    out: String,
+    err: String,
+}
+
+// The text that a sink holds.
+fn text_held(alloc: Global, sink: &MemSink) -> Result<String, Fail> {
+    Ok(String::from_str(alloc, str::from_utf8(sink.held())?)?)
+}
+
+// What came of a command with this status, whose output and errors went to these sinks.
+fn outcome_of(
+    alloc: Global,
+    status: Status,
+    out: &MemSink,
+    err: &MemSink,
+) -> Result<Outcome, Fail> {
+    let out = text_held(alloc, out)?;
+    let err = text_held(alloc, err)?;
+    Ok(Outcome { status, out, err })
 }
 
 // The words of a line, which has one space between them.
@@ -148,9 +166,26 @@ fn answer_over<R: Threads + Wait + Sync, G: Gate>(
     files: Files,
     gate: &G,
 ) -> Result<Outcome, Fail> {
-    let mut shelf = MemShelf::new(files, only(alloc, job.failing_fetch)?);
+    let mut shelf = shelf_of(alloc, job, files)?;
+    answer_on(rt, alloc, job, &mut shelf, gate)
+}
+
+// The shelf of a command with these files.
+fn shelf_of(alloc: Global, job: &Job<'_>, files: Files) -> Result<MemShelf, Fail> {
+    let failing = only(alloc, job.failing_fetch)?;
+    Ok(MemShelf::new(files, failing))
+}
+
+// Carries out a command over the files of a shelf.
+fn answer_on<R: Threads + Wait + Sync, G: Gate>(
+    rt: &R,
+    alloc: Global,
+    job: &Job<'_>,
+    shelf: &mut MemShelf,
+    gate: &G,
+) -> Result<Outcome, Fail> {
     let words = split(alloc, job.line)?;
-    answer_from(rt, alloc, job, &words, &mut shelf, gate)
+    answer_from(rt, alloc, job, &words, shelf, gate)
 }
 
 // Carries out the command of these words over the files of a shelf.
@@ -165,7 +200,7 @@ fn answer_from<R: Threads + Wait + Sync, G: Gate>(
     let mut out = MemSink::with_room(alloc, job.room, only(alloc, job.failing_push)?)?;
     let mut err = MemSink::with_room(alloc, job.err_room, Calls::new(alloc))?;
     let status = run_ants(rt, alloc, words, shelf, &mut out, &mut err, gate);
-    Ok(Outcome { status, out, err })
+    outcome_of(alloc, status, &out, &err)
 }
 
 // A status, and what the output and the errors got.
@@ -212,12 +247,12 @@ fn cut<'t>(front: &'t str, line: &'t str) -> Ending<'t> {
 }
 
 // How a command ended.
-fn ending_of(outcome: &Outcome) -> Result<Ending<'_>, Fail> {
-    Ok(Ending {
+fn ending_of(outcome: &Outcome) -> Ending<'_> {
+    Ending {
         status: outcome.status,
-        out: str::from_utf8(outcome.out.held())?,
-        err: str::from_utf8(outcome.err.held())?,
-    })
+        out: &outcome.out,
+        err: &outcome.err,
+    }
 }
 
 // Asserts what comes of a command.
@@ -251,7 +286,7 @@ fn check_over<R: Threads + Wait + Sync + Abort, G: Gate>(
     wanted: Ending<'_>,
 ) -> Result<(), Fail> {
     let outcome = answer_over(rt, alloc, job, files, gate)?;
-    check_ending(rt, job, ending_of(&outcome)?, wanted);
+    check_ending(rt, job, ending_of(&outcome), wanted);
     Ok(())
 }
 
@@ -298,7 +333,7 @@ fn check_text<R: Threads + Wait + Sync + Abort>(
     told: &Told<'_>,
 ) -> Result<(), Fail> {
     let outcome = answer(rt, alloc, job)?;
-    check_told(rt, job, ending_of(&outcome)?, told);
+    check_told(rt, job, ending_of(&outcome), told);
     Ok(())
 }
 
@@ -391,9 +426,13 @@ struct CutRun<'t> {
 fn walled(alloc: Global, cell: &str, cells: u16, height: u16) -> Result<String, Fail> {
     let rows = rows_of(alloc, cell, cells, height)?;
     let width = usize::from(cells) + 2;
-    let whole_height = usize::from(height) + 2;
+    framed(alloc, width, usize::from(height) + 2, &rows)
+}
+
+// The text of a world as wide and as high as this, with these rows between those of its rim.
+fn framed(alloc: Global, width: usize, height: usize, rows: &str) -> Result<String, Fail> {
     let rim = "#".repeat(alloc, width)?;
-    Ok(format!(in alloc; "{width}\n{whole_height}\n{rim}\n{rows}{rim}")?)
+    Ok(format!(in alloc; "{width}\n{height}\n{rim}\n{rows}{rim}")?)
 }
 
 // So many rows of so many cells of one kind, each between two rocks.

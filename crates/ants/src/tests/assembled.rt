@@ -1,6 +1,6 @@
 // The command `asm`.
 use crate::status::Status;
-use crate::tests::{CutRun, Given, Job, NO_JOB, Table, check_cuts, check_tables};
+use crate::tests::{CutRun, Given, Job, NO_JOB, Table, check_cuts, check_rows};
 use std::test::Fail;
 
 // A block that turns back, put in place where an ant is stuck.
@@ -74,24 +74,24 @@ const ASSEMBLE: Job<'static> = Job {
 };
 
 // Labelled programs that are assembled, and such as are refused.
-static PROGRAMS: [Table<'static>; 2] = [
-    Table {
-        job: ASSEMBLE,
-        given: Given::Red,
-        status: Status::Done,
-        rows: &ASSEMBLED,
-    },
-    Table {
-        job: ASSEMBLE,
-        given: Given::Red,
-        status: Status::Input,
-        rows: &REFUSED,
-    },
-];
+static ASSEMBLED_PROGRAMS: Table<'static> = Table {
+    job: ASSEMBLE,
+    given: Given::Red,
+    status: Status::Done,
+    rows: &ASSEMBLED,
+};
+
+static REFUSED_PROGRAMS: Table<'static> = Table {
+    job: ASSEMBLE,
+    given: Given::Red,
+    status: Status::Input,
+    rows: &REFUSED,
+};
 
 #[test]
 fn a_labelled_program_becomes_a_brain_or_its_fault_is_told(rt: HostRuntime) -> Result<(), Fail> {
-    check_tables(&rt, rt.alloc(), &PROGRAMS)
+    check_rows(&rt, rt.alloc(), &ASSEMBLED_PROGRAMS)?;
+    check_rows(&rt, rt.alloc(), &REFUSED_PROGRAMS)
 }
 
 // An assembled brain for whose second line the output has no room.

@@ -1,8 +1,8 @@
 // The command `brain`.
 use crate::status::Status;
 use crate::tests::{
-    Ending, Given, Job, NO_JOB, Table, check_over, check_tables, check_with, done, ending_with,
-    stopped,
+    Ending, Given, Job, NO_JOB, Table, check_over, check_rows, check_tables, check_with, done,
+    ending_with, stopped,
 };
 use ant_base::{Files, NoGate};
 use std::alloc::Global;
@@ -60,7 +60,7 @@ const PRINTED: [(&str, &str); 12] = [
 ];
 
 // Texts that are no brain, and the line that names the first fault of each.
-const REFUSED: [(&str, &str); 42] = [
+const REFUSED: [(&str, &str); 21] = [
     (
         "Drop 0\nDrop 5\nDrop 0\nDrop 0\nDrop 0\n",
         "ants: b: line 2: no such state 5\n",
@@ -91,6 +91,10 @@ const REFUSED: [(&str, &str); 42] = [
         "\nDrop 0\n\nMove 7 9\nDrop 8",
         "ants: b: line 4: no such state 7\n",
     ),
+];
+
+// More of them.
+const MORE_REFUSED: [(&str, &str); 21] = [
     ("Flip 9 1 2", "ants: b: line 1: no such state 1\n"),
     ("Sense Here 0 1 Rock", "ants: b: line 1: no such state 1\n"),
     ("Drop 1\nDrop x", "ants: b: line 2: bad number\n"),
@@ -269,19 +273,28 @@ const MINIMISE: Job<'static> = Job {
 };
 
 // Brains that are printed or minimised, and such as are refused.
-static TOLD: [Table<'static>; 4] = [
-    Table {
-        job: PRINT,
-        given: Given::Black,
-        status: Status::Done,
-        rows: &PRINTED,
-    },
-    Table {
-        job: PRINT,
-        given: Given::Black,
-        status: Status::Input,
-        rows: &REFUSED,
-    },
+static PRINTED_BRAINS: Table<'static> = Table {
+    job: PRINT,
+    given: Given::Black,
+    status: Status::Done,
+    rows: &PRINTED,
+};
+
+static REFUSED_BRAINS: Table<'static> = Table {
+    job: PRINT,
+    given: Given::Black,
+    status: Status::Input,
+    rows: &REFUSED,
+};
+
+static MORE_REFUSED_BRAINS: Table<'static> = Table {
+    job: PRINT,
+    given: Given::Black,
+    status: Status::Input,
+    rows: &MORE_REFUSED,
+};
+
+static MINIMISED_BRAINS: [Table<'static>; 2] = [
     Table {
         job: MINIMISE,
         given: Given::Black,
@@ -300,5 +313,8 @@ static TOLD: [Table<'static>; 4] = [
 fn a_brain_is_told_in_one_spelling_or_named_with_its_first_fault(
     rt: HostRuntime,
 ) -> Result<(), Fail> {
-    check_tables(&rt, rt.alloc(), &TOLD)
+    check_rows(&rt, rt.alloc(), &PRINTED_BRAINS)?;
+    check_rows(&rt, rt.alloc(), &REFUSED_BRAINS)?;
+    check_rows(&rt, rt.alloc(), &MORE_REFUSED_BRAINS)?;
+    check_tables(&rt, rt.alloc(), &MINIMISED_BRAINS)
 }

@@ -25,8 +25,8 @@ const STEPPED: &str = "random seed: 1\n\nscore: red 0 black 3\n";
 
 const MARKED: &str = "random seed: 7\n\nscore: red 0 black 0\n";
 
-// A red ant dies among four black ones, or steps among them and one dies, or marks its cell beside a black one.
-const COUNTED: [Counted<'static>; 13] = [
+// There is no ant, or a red one dies among four black ones.
+const DYING: [Counted<'static>; 4] = [
     Counted {
         line: "run w r b --seed 7 --rounds 5 --stats",
         world: EMPTY,
@@ -59,6 +59,10 @@ const COUNTED: [Counted<'static>; 13] = [
         text: "random seed: 12345\n\nscore: red 0 black 0\n",
         counts: "turns 7 taken 7 redone 0\n",
     },
+];
+
+// A red ant steps among others, and one dies.
+const STEPPING: [Counted<'static>; 6] = [
     Counted {
         line: "run w r b --seed 1 --rounds 1 --stats",
         world: NEIGHBOURS,
@@ -107,6 +111,10 @@ const COUNTED: [Counted<'static>; 13] = [
         text: "random seed: 1\n\nscore: red 0 black 9\n",
         counts: "turns 10 taken 9 redone 1\n",
     },
+];
+
+// A red ant marks its cell beside a black one.
+const MARKING: [Counted<'static>; 3] = [
     Counted {
         line: "run w r b --seed 7 --rounds 1 --stats",
         world: BELOW,
@@ -158,5 +166,7 @@ fn check_counts<R: Threads + Wait + Sync + Abort>(
 
 #[test]
 fn a_run_ends_with_its_counts(rt: HostRuntime) -> Result<(), Fail> {
-    check_counts(&rt, rt.alloc(), &COUNTED)
+    check_counts(&rt, rt.alloc(), &DYING)?;
+    check_counts(&rt, rt.alloc(), &STEPPING)?;
+    check_counts(&rt, rt.alloc(), &MARKING)
 }

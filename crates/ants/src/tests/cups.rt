@@ -1,6 +1,6 @@
 // The command `cup`.
 use crate::status::Status;
-use crate::tests::{CLOSED, CLOSING, Given, Job, NO_JOB, Table, check_tables};
+use crate::tests::{CLOSED, CLOSING, Given, Job, NO_JOB, Table, check_rows};
 use std::test::Fail;
 
 // A world on which the player that draws numbers wins as red and draws as black against one that steps ahead: the worlds w and -. On the
@@ -127,34 +127,38 @@ const UNREAD: [(&str, &str); 1] = [(
 )];
 
 // Cups that are played, and such as are refused.
-static CUPS: [Table<'static>; 4] = [
-    Table {
-        job: CUP,
-        given: Given::Line,
-        status: Status::Done,
-        rows: &PLAYED,
-    },
-    Table {
-        job: DASH,
-        given: Given::Line,
-        status: Status::Done,
-        rows: &DASHED,
-    },
-    Table {
-        job: CUP,
-        given: Given::Line,
-        status: Status::Input,
-        rows: &REFUSED,
-    },
-    Table {
-        job: CUP,
-        given: Given::Line,
-        status: Status::Read,
-        rows: &UNREAD,
-    },
-];
+static PLAYED_CUPS: Table<'static> = Table {
+    job: CUP,
+    given: Given::Line,
+    status: Status::Done,
+    rows: &PLAYED,
+};
+
+static DASHED_CUPS: Table<'static> = Table {
+    job: DASH,
+    given: Given::Line,
+    status: Status::Done,
+    rows: &DASHED,
+};
+
+static REFUSED_CUPS: Table<'static> = Table {
+    job: CUP,
+    given: Given::Line,
+    status: Status::Input,
+    rows: &REFUSED,
+};
+
+static UNREAD_CUPS: Table<'static> = Table {
+    job: CUP,
+    given: Given::Line,
+    status: Status::Read,
+    rows: &UNREAD,
+};
 
 #[test]
 fn a_cup_prints_its_standing_or_names_its_first_file_at_fault(rt: HostRuntime) -> Result<(), Fail> {
-    check_tables(&rt, rt.alloc(), &CUPS)
+    check_rows(&rt, rt.alloc(), &PLAYED_CUPS)?;
+    check_rows(&rt, rt.alloc(), &DASHED_CUPS)?;
+    check_rows(&rt, rt.alloc(), &REFUSED_CUPS)?;
+    check_rows(&rt, rt.alloc(), &UNREAD_CUPS)
 }

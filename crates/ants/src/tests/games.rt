@@ -301,7 +301,17 @@ fn check_rounds<R: Abort>(
 // Asserts what comes of two rounds of that game.
 fn check_game<R: Abort>(rt: &R, alloc: Global, played: &Played) -> Result<(), Fail> {
     let players = killing_players(rt, alloc)?;
-    let mut game = Game::begin(killing_field(rt, alloc, &players)?, 3);
+    check_game_of(rt, alloc, &players, played)
+}
+
+// The same of the game of these players.
+fn check_game_of<R: Abort>(
+    rt: &R,
+    alloc: Global,
+    players: &Players,
+    played: &Played,
+) -> Result<(), Fail> {
+    let mut game = Game::begin(killing_field(rt, alloc, players)?, 3);
     check_rounds(rt, alloc, &mut game, played)
 }
 

@@ -274,7 +274,7 @@ fn check_push<R: Threads + Wait + Sync + Abort>(
     let mut failing = *job;
     failing.failing_push = failing_push;
     let outcome = answer(rt, alloc, &failing)?;
-    Ok(is_whole(rt, ending_of(&outcome)?, text, failing_push))
+    Ok(is_whole(rt, ending_of(&outcome), text, failing_push))
 }
 
 // Whether a command is done. Asserts that it wrote all its text then, and that its output failed after a prefix of it else.

@@ -1,8 +1,8 @@
 // The command `run`.
 use crate::status::Status;
 use crate::tests::{
-    CLOSED, CLOSING, Ending, Given, Job, NO_JOB, Table, Told, check_tables, check_text, check_with,
-    done, ending_with, game_of, walled,
+    CLOSED, CLOSING, Ending, Given, Job, NO_JOB, Table, Told, check_rows, check_tables, check_text,
+    check_with, done, ending_with, game_of, walled,
 };
 use std::alloc::Global;
 use std::process::Abort;
@@ -145,13 +145,14 @@ pub static KILLING_ROUND: Job<'static> = KILLING;
 const KILLS: [(&str, &str); 1] = [("run w r b --seed 12345 --rounds 1 --dump 1", KILLED)];
 
 // Games that are printed.
-static PRINTED: [Table<'static>; 4] = [
-    Table {
-        job: TURNING,
-        given: Given::Line,
-        status: Status::Done,
-        rows: &DUMPED,
-    },
+static DUMPED_RUNS: Table<'static> = Table {
+    job: TURNING,
+    given: Given::Line,
+    status: Status::Done,
+    rows: &DUMPED,
+};
+
+static BARE_RUNS: [Table<'static>; 2] = [
     Table {
         job: TURNING,
         given: Given::Line,
@@ -167,17 +168,20 @@ static PRINTED: [Table<'static>; 4] = [
         status: Status::Done,
         rows: &BARE,
     },
-    Table {
-        job: KILLING,
-        given: Given::Line,
-        status: Status::Done,
-        rows: &KILLS,
-    },
 ];
+
+static KILLING_RUNS: Table<'static> = Table {
+    job: KILLING,
+    given: Given::Line,
+    status: Status::Done,
+    rows: &KILLS,
+};
 
 #[test]
 fn a_run_prints_its_seed_its_dumps_and_its_score(rt: HostRuntime) -> Result<(), Fail> {
-    check_tables(&rt, rt.alloc(), &PRINTED)
+    check_rows(&rt, rt.alloc(), &DUMPED_RUNS)?;
+    check_tables(&rt, rt.alloc(), &BARE_RUNS)?;
+    check_rows(&rt, rt.alloc(), &KILLING_RUNS)
 }
 
 // The round in which the one ant turns left, for words of any length.
@@ -251,7 +255,8 @@ struct Game<'t> {
     score: &'t str,
 }
 
-const GAMES: [Game<'static>; 13] = [
+// Games by the contest's sheet.
+const GAMES: [Game<'static>; 7] = [
     Game {
         line: "run w r b --seed 1 --rounds 16 --dump 1,15,16",
         world: OPEN,
@@ -335,6 +340,10 @@ const GAMES: [Game<'static>; 13] = [
                 cell (1, 1): red hill; red marks: 0; red ant of id 0, dir 0, food 0, state 2, resting 0\n",
         score: "\n\nscore: red 0 black 0\n",
     },
+];
+
+// Games by other sheets.
+const OTHER_SHEETS: [Game<'static>; 6] = [
     Game {
         line: "run w r b --seed 1 --rounds 1 --surround 4",
         world: NEIGHBOURS,
@@ -405,5 +414,6 @@ fn check_games<R: Threads + Wait + Sync + Abort>(
 
 #[test]
 fn a_run_follows_the_rules_of_the_world(rt: HostRuntime) -> Result<(), Fail> {
-    check_games(&rt, rt.alloc(), &GAMES)
+    check_games(&rt, rt.alloc(), &GAMES)?;
+    check_games(&rt, rt.alloc(), &OTHER_SHEETS)
 }

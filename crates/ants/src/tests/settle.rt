@@ -4,7 +4,7 @@ ghost use Rattle.cell_world.specs.Grid.{world_of};
 ghost use Rattle.spec_record.specs.Guess.{guesses_of};
 ghost use Rattle.round_book.specs.Book.{CanBegin, IsSameWindow, StandsOn, window_of};
 
-use crate::tests::games::{killing_field, killing_players};
+use crate::tests::games::{Players, killing_field, killing_players};
 use cell_world::Part;
 use hex_geometry::{OutOfMemory, Pos};
 use round_book::{Book, Cause, Counts, Field, advance};
@@ -140,11 +140,21 @@ fn check_settled<R: Abort>(
     Ok(())
 }
 
-// Settles the round in which the red ant dies, and asserts its counts and what became of each look.
+// Settles the round of these players in which the red ant dies, and asserts its counts and what became of each look.
+fn check_round_of<R: Abort>(
+    rt: &R,
+    alloc: Global,
+    players: &Players,
+    wanted: &[Fate],
+) -> Result<(), Fail> {
+    let mut field = killing_field(rt, alloc, players)?;
+    check_settled(rt, alloc, &mut field, wanted)
+}
+
+// The same of the players of that game.
 fn check_settling<R: Abort>(rt: &R, alloc: Global, wanted: &[Fate]) -> Result<(), Fail> {
     let players = killing_players(rt, alloc)?;
-    let mut field = killing_field(rt, alloc, &players)?;
-    check_settled(rt, alloc, &mut field, wanted)
+    check_round_of(rt, alloc, &players, wanted)
 }
 
 #[test]

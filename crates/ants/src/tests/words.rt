@@ -2,7 +2,8 @@
 use crate::program::run_here;
 use crate::status::Status;
 use crate::tests::{
-    CLOSED, Ending, Given, Job, NO_JOB, Outcome, ROOM, Table, check_rows, ending_of, split, stopped,
+    CLOSED, Ending, Given, Job, NO_JOB, Outcome, ROOM, Table, check_rows, ending_of, outcome_of,
+    split, stopped,
 };
 use ant_base::{Calls, Files, MemShelf, MemSink, NoGate};
 use std::alloc::Global;
@@ -11,7 +12,7 @@ use std::test::Fail;
 use std::thread::Threads;
 
 // Words, and the line that names the first one with which no command begins.
-const REFUSED: [(&str, &str); 78] = [
+const REFUSED: [(&str, &str); 20] = [
     ("", "ants: word 1 refused\n"),
     ("jump", "ants: word 1 refused\n"),
     ("-h", "ants: word 1 refused\n"),
@@ -32,6 +33,10 @@ const REFUSED: [(&str, &str); 78] = [
     ("brain", "ants: word 2 refused\n"),
     ("brain --", "ants: word 2 refused\n"),
     ("brain b b", "ants: word 3 refused\n"),
+];
+
+// The same of the command `run`.
+const REFUSED_RUNS: [(&str, &str); 24] = [
     ("run", "ants: word 2 refused\n"),
     ("run w r --seed 1 --rounds 2", "ants: word 4 refused\n"),
     ("run w r b", "ants: word 5 refused\n"),
@@ -71,14 +76,10 @@ const REFUSED: [(&str, &str); 78] = [
         "run w r b --seed 1 --rounds 1 --rest 256",
         "ants: word 10 refused\n",
     ),
-    ("gen 1 --width 2", "ants: word 4 refused\n"),
-    ("gen 1 --height 513", "ants: word 4 refused\n"),
-    ("gen 1 --rocks 256", "ants: word 4 refused\n"),
-    ("gen", "ants: word 2 refused\n"),
-    ("minimise", "ants: word 2 refused\n"),
-    ("minimise b b", "ants: word 3 refused\n"),
-    ("asm", "ants: word 2 refused\n"),
-    ("asm r r", "ants: word 3 refused\n"),
+];
+
+// The same of the command `cup`.
+const REFUSED_CUPS: [(&str, &str); 12] = [
     ("cup", "ants: word 2 refused\n"),
     ("cup w --brains r b", "ants: word 2 refused\n"),
     ("cup --brains r b --worlds w", "ants: word 2 refused\n"),
@@ -103,6 +104,18 @@ const REFUSED: [(&str, &str); 78] = [
         "cup --worlds w --brains a b c d e f g h i j k l m n o p q",
         "ants: word 21 refused\n",
     ),
+];
+
+// The same of other commands.
+const REFUSED_OTHERS: [(&str, &str); 22] = [
+    ("gen 1 --width 2", "ants: word 4 refused\n"),
+    ("gen 1 --height 513", "ants: word 4 refused\n"),
+    ("gen 1 --rocks 256", "ants: word 4 refused\n"),
+    ("gen", "ants: word 2 refused\n"),
+    ("minimise", "ants: word 2 refused\n"),
+    ("minimise b b", "ants: word 3 refused\n"),
+    ("asm", "ants: word 2 refused\n"),
+    ("asm r r", "ants: word 3 refused\n"),
     ("view w r b --seed 1", "ants: word 5 refused\n"),
     ("view w r b k --rounds 1", "ants: word 8 refused\n"),
     ("view w r b k --surround 5", "ants: word 6 refused\n"),
@@ -133,9 +146,42 @@ static NO_COMMANDS: Table<'static> = Table {
     rows: &REFUSED,
 };
 
+static NO_RUNS: Table<'static> = Table {
+    job: Job {
+        world: CLOSED,
+        ..NO_JOB
+    },
+    given: Given::Line,
+    status: Status::Words,
+    rows: &REFUSED_RUNS,
+};
+
+static NO_CUPS: Table<'static> = Table {
+    job: Job {
+        world: CLOSED,
+        ..NO_JOB
+    },
+    given: Given::Line,
+    status: Status::Words,
+    rows: &REFUSED_CUPS,
+};
+
+static NO_OTHERS: Table<'static> = Table {
+    job: Job {
+        world: CLOSED,
+        ..NO_JOB
+    },
+    given: Given::Line,
+    status: Status::Words,
+    rows: &REFUSED_OTHERS,
+};
+
 #[test]
 fn the_first_word_with_which_no_command_begins_is_refused(rt: HostRuntime) -> Result<(), Fail> {
-    check_rows(&rt, rt.alloc(), &NO_COMMANDS)
+    check_rows(&rt, rt.alloc(), &NO_COMMANDS)?;
+    check_rows(&rt, rt.alloc(), &NO_RUNS)?;
+    check_rows(&rt, rt.alloc(), &NO_CUPS)?;
+    check_rows(&rt, rt.alloc(), &NO_OTHERS)
 }
 
 // Words with `--far`, and the line that names the refused one where nobody may wait for a worker.
@@ -165,7 +211,7 @@ fn answer_here<R: Threads + Sync>(
     let mut err = MemSink::with_room(alloc, ROOM, Calls::new(alloc))?;
     let mut shelf = MemShelf::new(Files::new(alloc), Calls::new(alloc));
     let status = run_here(rt, alloc, words, &mut shelf, &mut out, &mut err, &NoGate);
-    Ok(Outcome { status, out, err })
+    outcome_of(alloc, status, &out, &err)
 }
 
 // Carries out the words of a line there.
@@ -182,7 +228,7 @@ fn check_here<R: Threads + Sync + Abort>(
     wanted: Ending<'_>,
 ) -> Result<(), Fail> {
     let outcome = answer_line(rt, alloc, line)?;
-    check_line(rt, line, ending_of(&outcome)?, wanted);
+    check_line(rt, line, ending_of(&outcome), wanted);
     Ok(())
 }
 

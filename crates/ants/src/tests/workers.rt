@@ -2,7 +2,7 @@
 ghost use Rattle.std.specs.Prelude.{◌≡◌, true};
 
 use crate::status::Status;
-use crate::tests::games::{killing_field, killing_players};
+use crate::tests::games::{Players, killing_field, killing_players};
 use crate::tests::runs::{KILLED, KILLING, KILLING_ROUND};
 use crate::tests::saves::STANDING;
 use crate::tests::{Given, Job, NO_JOB, answer_over, check_by, done, files_of};
@@ -303,10 +303,10 @@ fn check_field_on_board<R: Threads + Sync + Abort>(
 fn check_pieces<R: Threads + Sync + Abort>(
     rt: &R,
     alloc: Global,
+    players: &Players,
     wanted: &Window,
 ) -> Result<(), Fail> {
-    let players = killing_players(rt, alloc)?;
-    let mut field = killing_field(rt, alloc, &players)?;
+    let mut field = killing_field(rt, alloc, players)?;
     check_field_in_pieces(rt, alloc, &mut field, wanted)
 }
 
@@ -314,24 +314,35 @@ fn check_pieces<R: Threads + Sync + Abort>(
 fn check_board<R: Threads + Sync + Abort>(
     rt: &R,
     alloc: Global,
+    players: &Players,
     wanted: &Window,
 ) -> Result<(), Fail> {
-    let players = killing_players(rt, alloc)?;
-    let mut field = killing_field(rt, alloc, &players)?;
+    let mut field = killing_field(rt, alloc, players)?;
     check_field_on_board(rt, alloc, &mut field, wanted)
 }
 
 // Asserts of each window what comes of it by both crews.
+fn check_each<R: Threads + Sync + Abort>(
+    rt: &R,
+    alloc: Global,
+    players: &Players,
+    windows: &[Window],
+) -> Result<(), Fail> {
+    for window in windows {
+        check_pieces(rt, alloc, players, window)?;
+        check_board(rt, alloc, players, window)?;
+    }
+    Ok(())
+}
+
+// Asserts of each window of that round what comes of it by both crews.
 fn check_windows<R: Threads + Sync + Abort>(
     rt: &R,
     alloc: Global,
     windows: &[Window],
 ) -> Result<(), Fail> {
-    for window in windows {
-        check_pieces(rt, alloc, window)?;
-        check_board(rt, alloc, window)?;
-    }
-    Ok(())
+    let players = killing_players(rt, alloc)?;
+    check_each(rt, alloc, &players, windows)
 }
 
 #[test]
