@@ -1,7 +1,7 @@
 //! Tests of the libraries by their public calls: what no clause says, which is that a call goes through where there is memory, and the exact bytes and rows that were worked out by hand.
 //!
-//! A crate with tests is proved twice. So these stand here, above the libraries that they call, and each of those is proved once. The tests
-//! of `ants` and of `far_crew` reach what isn't public, and stand there.
+//! A crate with tests is proved twice. So these stand here, above the libraries that they call, and each of those is proved once. Those of
+//! `ants` stand there, since nothing stands on a program.
 #![tactic(auto)]
 
 #[cfg(test)]

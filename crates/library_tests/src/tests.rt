@@ -9,6 +9,7 @@ mod labelled_programs;
 mod minimised;
 mod numbers;
 mod saves;
+mod standing_workers;
 mod stream_sinks;
 mod turns;
 mod world_files;
