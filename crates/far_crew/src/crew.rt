@@ -2,7 +2,7 @@
 ghost use Rattle.std.specs.Prelude.{◌≡◌, IfOk, OnOk, OnErr};
 ghost use Rattle.round_book.specs.Book.{CanBegin, IsPlayed, window_of};
 ghost use Rattle.round_book.specs.Counts.{counts_of};
-ghost use Rattle.far_crew.specs.Inner.Turns.{AreTurnsOf};
+ghost use Rattle.far_crew.specs.Inner.Turns.{AreTurnsOf, window_on};
 
 use crate::caller::Caller;
 use crate::deal::prepare_all;
@@ -82,27 +82,39 @@ impl<'c, R: Wait, G: Gate> FarCrew<'c, R, G> {
             to,
             guesses: &guesses,
         };
-        self.prepare(alloc, field, &turns)?;
-        take_room(&mut self.picks, &mut self.own, (to - from) as usize)?;
+        self.play(alloc, field, &turns)
+    }
+
+    // Plays the turns of a window.
+    fn play(
+        &mut self,
+        alloc: Global,
+        field: &mut Field<'_>,
+        turns: &GuessedTurns<'_>,
+    ) -> Result<Counts, OutOfMemory>
+        requires { AreTurnsOf field.old turns.now }
+        ensures played { OnOk result (IsPlayed field.old turns.now.from turns.now.to field.new) }
+        ensures counts { IfOk result (λ counts. counts ≡ counts_of (window_on field.old turns.now)) }
+        ensures unchanged { OnErr result (field.new ≡ field.old) }
+    {
+        self.prepare(alloc, field, turns)?;
+        take_room(
+            &mut self.picks,
+            &mut self.own,
+            (turns.to - turns.from) as usize,
+        )?;
         ask_all(self.rt, &mut self.lines);
         take_in_all(self.rt, &mut self.lines);
         choose(
             &self.caller,
             field,
             &self.lines,
-            &turns,
+            turns,
             &mut self.picks,
             &mut self.own,
         );
-        let mut book = field.begin(alloc, from, to)?;
-        settle(
-            &mut book,
-            field,
-            &self.lines,
-            &self.own,
-            &self.picks,
-            &turns,
-        );
+        let mut book = field.begin(alloc, turns.from, turns.to)?;
+        settle(&mut book, field, &self.lines, &self.own, &self.picks, turns);
         Ok(field.finish(book))
     }
 
