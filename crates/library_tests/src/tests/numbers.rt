@@ -3,24 +3,31 @@ ghost use Rattle.std.specs.Prelude.{◌≡◌, ◌-◌, ◌^◌, ◌<◌};
 
 use ant_random::{Steps, Stream};
 use std::marker::Brand;
+use std::process::Abort;
 use std::sync::ledger::{Blank, Ledger};
 
 const NUMBERS: [u32; 10] = [7193, 2932, 10386, 5575, 100, 15976, 430, 9740, 9449, 1636];
+
+// Asserts the next number of a stream at this place, and of one that jumped there.
+fn check_next<R: Abort>(rt: &R, stream: &mut Stream, place: u64, number: u32) {
+    assert_eq!(rt; stream.place(), place);
+    assert!(rt; place < 10);
+    let mut jumped = Stream::at_place_uncounted(stream.seed(), place);
+    assert_eq!(rt; jumped.place(), place);
+    let drawn = (stream.draw(16384), jumped.draw(16384));
+    assert_eq!(rt;
+        drawn,
+        (number, number),
+        "drawn, and after a jump, at {place}"
+    );
+}
 
 #[test]
 fn first_ten_numbers_are_those_of_the_task(rt: HostRuntime) {
     let mut stream = Stream::from_seed(12345);
     assert_eq!(rt; stream.seed(), 12345);
     for (place, number) in NUMBERS.iter().enumerate() {
-        let mut jumped = Stream::at_place_uncounted(12345, place as u64);
-        assert!(rt; stream.place() < 10);
-        assert_eq!(rt; stream.place(), jumped.place());
-        let drawn = (stream.draw(16384), jumped.draw(16384));
-        assert_eq!(rt;
-            drawn,
-            (*number, *number),
-            "drawn, and after a jump, at {place}"
-        );
+        check_next(&rt, &mut stream, place as u64, *number);
     }
     assert_eq!(rt; stream.place(), 10);
 }

@@ -1,14 +1,17 @@
 // A round in which each ant of a world takes its turn: red ants flip, black ones move, and one Move kills.
 ghost use Rattle.std.specs.Prelude.{◌≡◌, [], ◌∷◌, IfOk};
+ghost use Rattle.ant_turn.specs.Minds.{Fits, minds_of};
 ghost use Rattle.brain_read.specs.Soundness.{IsSound};
+ghost use Rattle.cell_world.specs.Grid.{world_of};
 
 use crate::tests::{BLACK, CLEAR, RED, ROCK, shared};
 use ant_random::Stream;
 use ant_turn::{Brains, Sheet, take_turn};
 use brain_read::{Brain, Instr};
-use cell_world::{Score, World};
+use cell_world::{Kind, Score, World};
 use hex_geometry::Pos;
 use std::alloc::{AllocError, Global};
+use std::process::Abort;
 
 // The brain of one instruction.
 fn brain_of(alloc: Global, instruction: Instr) -> Result<Brain, AllocError>
@@ -18,14 +21,46 @@ fn brain_of(alloc: Global, instruction: Instr) -> Result<Brain, AllocError>
     Ok(Brain::from_list(vec![in alloc; instruction]?))
 }
 
+// A red ant among four black ones, a fifth about to come.
+const CLOSING: [Kind; 42] = [
+    ROCK, ROCK, ROCK, ROCK, ROCK, ROCK, ROCK, ROCK, CLEAR, CLEAR, CLEAR, CLEAR, CLEAR, ROCK, ROCK,
+    CLEAR, CLEAR, BLACK, ROCK, CLEAR, ROCK, ROCK, BLACK, CLEAR, RED, BLACK, ROCK, ROCK, ROCK, RED,
+    CLEAR, BLACK, BLACK, ROCK, ROCK, ROCK, ROCK, ROCK, ROCK, ROCK, ROCK, ROCK,
+];
+
+// Asserts of each turn whether a number was drawn and how many ants were killed.
+fn check_turns<R: Abort>(rt: &R, world: &mut World, brains: Brains<'_>, stream: &mut Stream)
+    requires { Fits (world_of world.old) (minds_of brains) }
+{
+    for id in 0..7 {
+        assert!(rt; id < world.ant_count());
+        assert!(rt; stream.place() < 7);
+        let deed = take_turn(world, brains, stream, id);
+        let told = (deed.drew, deed.killed.len());
+        assert_eq!(rt; told, (id == 4, usize::from(id == 1)), "id {id}");
+    }
+}
+
+// Asserts where two ants are after the round, and the score.
+fn check_after<R: Abort>(rt: &R, world: &World) {
+    let places = (world.ant_place(1), world.ant_place(2));
+    assert_eq!(rt; places, (Some(Pos { x: 2, y: 3 }), None));
+    assert_eq!(rt; world.score(), Score { red: 3, black: 0 });
+}
+
+// Asserts both of a round.
+fn check_round<R: Abort>(rt: &R, world: &mut World, brains: Brains<'_>)
+    requires { Fits (world_of world.old) (minds_of brains) }
+{
+    let mut stream = Stream::from_seed(12345);
+    check_turns(rt, world, brains, &mut stream);
+    assert_eq!(rt; stream.place(), 1);
+    check_after(rt, world);
+}
+
 #[test]
 fn each_of_seven_ants_takes_its_turn(rt: HostRuntime) {
-    let kinds = [
-        ROCK, ROCK, ROCK, ROCK, ROCK, ROCK, ROCK, ROCK, CLEAR, CLEAR, CLEAR, CLEAR, CLEAR, ROCK,
-        ROCK, CLEAR, CLEAR, BLACK, ROCK, CLEAR, ROCK, ROCK, BLACK, CLEAR, RED, BLACK, ROCK, ROCK,
-        ROCK, RED, CLEAR, BLACK, BLACK, ROCK, ROCK, ROCK, ROCK, ROCK, ROCK, ROCK, ROCK, ROCK,
-    ];
-    let mut world = World::build(rt.alloc(), 7, 6, &kinds).expect(&rt, "there is memory");
+    let mut world = World::build(rt.alloc(), 7, 6, &CLOSING).expect(&rt, "there is memory");
     let flip = Instr::Flip {
         bound: 2,
         yes: 0,
@@ -38,18 +73,7 @@ fn each_of_seven_ants_takes_its_turn(rt: HostRuntime) {
         black: &black,
         sheet: Sheet::contest(),
     };
-    let mut stream = Stream::from_seed(12345);
-    for id in 0..7 {
-        assert!(rt; id < world.ant_count());
-        assert!(rt; stream.place() < 7);
-        let deed = take_turn(&mut world, brains, &mut stream, id);
-        let told = (deed.drew, deed.killed.len());
-        assert_eq!(rt; told, (id == 4, usize::from(id == 1)), "id {id}");
-    }
-    assert_eq!(rt; stream.place(), 1);
-    let places = (world.ant_place(1), world.ant_place(2));
-    assert_eq!(rt; places, (Some(Pos { x: 2, y: 3 }), None));
-    assert_eq!(rt; world.score(), Score { red: 3, black: 0 });
+    check_round(&rt, &mut world, brains);
 }
 
 #[test]

@@ -8,8 +8,8 @@ use Rattle.library_tests.proofs.tests.turns.each_of_seven_ants_takes_its_turn.Go
 pub build-requires : goal.build-requires
 build-requires g c = IsPlan-test 7 6 _ refl
 
-pub loop-id-init : goal.loop-id-init
-loop-id-init g c =
+pub check_round-requires : goal.check_round-requires
+check_round-requires g c =
     let made = rw c.expect-world.ensures at c.build.ensures in
     rw made (Fits-opening 7 6 _ _
     (subst (λ (list : List Instr). 1 ≤ length list) c.red.view_is c.red.invariant.some)
