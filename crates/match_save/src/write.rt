@@ -356,23 +356,10 @@ impl Layout for AntLine {
         let facing = ant.facing.number();
         let laden = u8::from(ant.laden);
         layout!(
-            "ant ",
-            ant.id,
-            " ",
-            word,
-            " ",
-            p.x,
-            " ",
-            p.y,
-            " ",
-            facing,
-            " ",
-            laden,
-            " ",
-            ant.state,
-            " ",
-            ant.resting,
-            "\n"
+            layout!("ant ", ant.id, " ", word),
+            layout!(" ", p.x, " ", p.y),
+            layout!(" ", facing, " ", laden),
+            layout!(" ", ant.state, " ", ant.resting, "\n")
         )
         .push_to(sink)
     }
