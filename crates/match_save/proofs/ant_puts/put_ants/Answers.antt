@@ -13,3 +13,13 @@ pub loop-it-preserved : goal.loop-it-preserved
 loop-it-preserved c =
     let on = subst (λ (l : List PlacedAnt). PutsOn c.args.world.now c.loop-it.world c.args.ants.now l) (drop-from c.args.ants.now c.loop-it.it-index _ (omega arith)) c.loop-it.invariant in
     PutsOn-more c.put_ant.new.world _ (drop (c.loop-it.it-index + 1) c.args.ants.now) on c.if-not-put_ant.ensures
+
+pub put_ant-requires-clause-inside : goal.put_ant-requires-clause-inside
+put_ant-requires-clause-inside c =
+    let on = subst (λ (l : List PlacedAnt). PutsOn c.args.world.now c.loop-it.world c.args.ants.now l) (drop-from c.args.ants.now c.loop-it.it-index _ (omega arith)) c.loop-it.invariant in
+    (PutsOn-asks _ (drop (c.loop-it.it-index + 1) c.args.ants.now) on).inside
+
+pub put_ant-requires-clause-light : goal.put_ant-requires-clause-light
+put_ant-requires-clause-light c =
+    let on = subst (λ (l : List PlacedAnt). PutsOn c.args.world.now c.loop-it.world c.args.ants.now l) (drop-from c.args.ants.now c.loop-it.it-index _ (omega arith)) c.loop-it.invariant in
+    (PutsOn-asks _ (drop (c.loop-it.it-index + 1) c.args.ants.now) on).light

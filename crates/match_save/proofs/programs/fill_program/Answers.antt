@@ -1,4 +1,4 @@
-use Rattle.std.proofs.Common.{◌≡◌, ◌+◌, ◌-◌, ℕ, suc, List, map, sym, ◌∙◌, ap, arith}
+use Rattle.std.proofs.Common.{◌≡◌, ◌+◌, ◌-◌, ℕ, suc, List, map, Ok, append-nil, sym, ◌∙◌, ap, arith}
 use Rattle.std.proofs.lemmas.Result.{err_from_is_err_and}
 use Rattle.brain_read.specs.declared.instr.Instr.{Instr}
 use Rattle.brain_read.specs.Drafts.{drafted}
@@ -31,3 +31,9 @@ pub returns-in_err-push : goal.returns-in_err-push
 returns-in_err-push c =
     let p = err_from_is_err_and c.from_residual-in_err-push.result c.from_residual-in_err-push.ensures.1 in
     rw (p.1, p.2) tt
+
+pub returns : goal.returns
+returns c =
+    let front = map drafted c.loop-state.list.items in
+    let none : c.args.count - c.loop-state._state ≡ 0 = omega (arith, c.loop-state-test.false) in
+    c.loop-state.invariant ∙ ap (λ m. behind front (many instruction_of m c.loop-state.lines)) none ∙ ap (λ (l : List Instr). Ok (l, c.loop-state.lines)) (append-nil front)
