@@ -1,9 +1,10 @@
 -- The endings of a command that generates a world and reads no file.
-use Rattle.std.proofs.Common.{◌≡◌, ◌∙◌, ℕ, List, [], ap₂, refl, sym, subst, Result, Ok, Err}
+use Rattle.std.proofs.Common.{◌≡◌, ◌∙◌, ℕ, List, [], ap₂, refl, sym, subst, Result, Err}
 use Rattle.std.specs.Prelude.{IsErrAnd}
 use Rattle.ant_base.proofs.Fetches.{fetches_none}
 use Rattle.ant_base.specs.Shelf.{ShelfState}
-use Rattle.ant_base.specs.Sink.{SinkState, PushedAll, PushedFront}
+use Rattle.ant_base.specs.Sink.{SinkState, Pushed}
+use Rattle.ant_base.specs.declared.sink.Failed.{Failed}
 use Rattle.ant_turn.specs.Minds.{Fits}
 use Rattle.ant_turn.proofs.FitLemmas.{Fits-opening}
 use Rattle.cell_world.specs.Grid.{Grid, world_of}
@@ -20,9 +21,9 @@ use Rattle.ants.specs.declared.stop.CommandStop.{CommandStop}
 use Rattle.ants.specs.declared.stop.CommandStop.TheVariants as stop
 use Rattle.ants.specs.Files.{AreAccepted, File}
 use Rattle.ants.specs.Inner.Plans.{IsGenerating}
-use Rattle.ants.specs.Inner.Reading.{CarriesOut, ending_of}
+use Rattle.ants.specs.Inner.Reading.{CarriesOut, ending_of, push_ending}
 use Rattle.ants.specs.Outputs.{LacksRoom, contest_shape, files_of, sample_minds, shape_named}
-use Rattle.ants.proofs.Readings.{carries_done, carries_failure, carries_wanting, ending_stopped, reads_none}
+use Rattle.ants.proofs.Readings.{carries_pushed, carries_wanting, ending_stopped, reads_none}
 use Rattle.ants.proofs.SampleWorked.{sample_brain-sound}
 
 -- a shape with the contest's numbers is the contest's
@@ -59,14 +60,8 @@ carries_ungenerated command seed shape shelf out result (stop.NoRoom element) no
     })
 carries_ungenerated command seed shape shelf out result stop.Memory no_file room same none = carries_wanting command shelf out result same
 
--- the world's text was written
-pub carries_generated : (seed : ℕ) (shape : GenShape) (shelf : ShelfState) (out new_out : SinkState) (world : Grid) → IsGenerated seed (shape_named shape) world
-    → PushedAll out new_out (canonical_text world.width world.height (kinds_of world)) → CarriesOut (GenCommand seed shape) shelf shelf out new_out (ending_of {U = Unit {0}} (Ok tt))
-carries_generated seed shape shelf out new_out world generated pushed =
-    carries_done (GenCommand seed shape) shelf shelf out new_out [] (reads_none shelf) (canonical_text world.width world.height (kinds_of world)) (record { world = world; generated = generated; told = refl }) pushed
-
--- a prefix of it was written
-pub carries_generated_front : {U : Type 0} (seed : ℕ) (shape : GenShape) (shelf : ShelfState) (out new_out : SinkState) (world : Grid) (result : Result U CommandStop) → IsErrAnd result (λ other. other ≡ stop.Write) → IsGenerated seed (shape_named shape) world
-    → PushedFront out new_out (canonical_text world.width world.height (kinds_of world)) → CarriesOut (GenCommand seed shape) shelf shelf out new_out (ending_of result)
-carries_generated_front seed shape shelf out new_out world result same generated pushed =
-    carries_failure (GenCommand seed shape) shelf shelf out new_out [] result same (reads_none shelf) (canonical_text world.width world.height (kinds_of world)) (record { world = world; generated = generated; told = refl }) pushed
+-- the world's text was pushed last
+pub carries_generated : {U : Type 0} (seed : ℕ) (shape : GenShape) (shelf : ShelfState) (out new_out : SinkState) (world : Grid) (result : Result U CommandStop) (last : Result (Unit {0}) Failed) → ending_of result ≡ push_ending last → IsGenerated seed (shape_named shape) world
+    → Pushed out new_out (canonical_text world.width world.height (kinds_of world)) last → CarriesOut (GenCommand seed shape) shelf shelf out new_out (ending_of result)
+carries_generated seed shape shelf out new_out world result last same generated pushed =
+    carries_pushed (GenCommand seed shape) shelf shelf out new_out [] result last same (reads_none shelf) (canonical_text world.width world.height (kinds_of world)) (record { world = world; generated = generated; told = refl }) pushed

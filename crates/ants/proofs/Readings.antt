@@ -5,21 +5,22 @@ use Rattle.ant_base.proofs.Fetches.{fetches_none, fetches_one, fetches_then}
 use Rattle.ant_base.proofs.Pushes.{rose_later}
 use Rattle.ant_base.specs.Fetched.{Fetched}
 use Rattle.ant_base.specs.Shelf.{Fetches, FetchesEach, ShelfState}
-use Rattle.ant_base.specs.Sink.{SinkState, PushedAll, PushedFront}
+use Rattle.ant_base.specs.Sink.{SinkState, Pushed, PushedAll, PushedFront}
 use Rattle.ant_base.specs.declared.shelf.FetchFault.{FetchFault}
 use Rattle.ant_base.specs.declared.shelf.FetchFault.TheVariants as answer
+use Rattle.ant_base.specs.declared.sink.Failed.{Failed}
 use Rattle.command_words.proofs.WordLaws.{within_limits}
 use Rattle.command_words.specs.Command.{PlainCommand, IsCommand, IsRefusedAt}
 use Rattle.match_run.specs.declared.fault.PlayFault.{PlayFault}
 use Rattle.match_run.specs.declared.fault.PlayFault.TheVariants as play
-use Rattle.match_run.specs.Play.{PushedProperPrefix, StoppedBy}
+use Rattle.match_run.specs.Play.{PushedBy, PushedProperPrefix, StoppedBy}
 use Rattle.ants.specs.declared.stop.FileFault.{FileFault}
 use Rattle.ants.specs.declared.stop.FileFault.TheVariants.{TooLong, World, Brain, Breaks, Labelled, Save, AlreadyAt}
 use Rattle.ants.specs.declared.stop.CommandStop.{CommandStop}
 use Rattle.ants.specs.declared.stop.CommandStop.TheVariants as stop
 use Rattle.ants.specs.Files.{File, FileContent, AreAccepted, AreBegun, IsRefused, Refuses, StopsAt}
-use Rattle.ants.specs.Inner.Plans.{stop_of}
-use Rattle.ants.specs.Inner.Reading.{CarriesOut, CarriesOutWords, ComesTo, EndsBy, ReadOutcome, ReadingStops, ReadsFiles, ReadsText, TextStops, ending_of, fetch_reason, outcome_of}
+use Rattle.ants.specs.Inner.Plans.{play_ending, stop_of}
+use Rattle.ants.specs.Inner.Reading.{CarriesOut, CarriesOutWords, ComesTo, EndsBy, ReadOutcome, ReadingStops, ReadsFiles, ReadsText, TextStops, ending_of, fetch_reason, outcome_of, push_ending}
 use Rattle.ants.specs.Inner.Reading.ReadOutcome.{Contents, Stopped}
 use Rattle.ants.specs.Outputs.{files_of, IsJobText}
 use Rattle.ants.specs.Verdict.{IsRefusedAs}
@@ -284,6 +285,14 @@ pub carries_failure : {U : Type 0} (command : PlainCommand) (shelf new_shelf : S
 carries_failure command shelf new_shelf out new_out contents result same reads text is pushed =
     subst (CarriesOut command shelf new_shelf out new_out) (ending_stopped result stop.Write same) (carries_cut command shelf new_shelf out new_out contents reads text is pushed)
 
+-- a command that pushes its text last, and answers as that went
+pub carries_pushed : {U : Type 0} (command : PlainCommand) (shelf new_shelf : ShelfState) (out new_out : SinkState) (contents : List FileContent) (result : Result U CommandStop) (last : Result (Unit {0}) Failed) → ending_of result ≡ push_ending last
+    → ReadsFiles shelf new_shelf (files_of command) (Contents contents) → (text : List ℕ) → IsJobText command contents text → Pushed out new_out text last → CarriesOut command shelf new_shelf out new_out (ending_of result)
+carries_pushed command shelf new_shelf out new_out contents result (Ok done) same reads text is pushed =
+    subst (CarriesOut command shelf new_shelf out new_out) (sym same) (carries_done command shelf new_shelf out new_out contents reads text is pushed)
+carries_pushed command shelf new_shelf out new_out contents result (Err failed) same reads text is pushed =
+    subst (CarriesOut command shelf new_shelf out new_out) (sym same) (carries_cut command shelf new_shelf out new_out contents reads text is pushed)
+
 -- a command that answers with the fault of a play
 pub carries_fault : {U : Type 0} (command : PlainCommand) (shelf new_shelf : ShelfState) (out new_out : SinkState) (contents : List FileContent) (result : Result U CommandStop) (fault : PlayFault) → IsErrAnd result (λ other. other ≡ stop_of fault)
     → ReadsFiles shelf new_shelf (files_of command) (Contents contents) → (text : List ℕ) → IsJobText command contents text → StoppedBy out new_out text fault → WritesInPlay command
@@ -291,6 +300,16 @@ pub carries_fault : {U : Type 0} (command : PlainCommand) (shelf new_shelf : She
 carries_fault command shelf new_shelf out new_out contents result play.WriteFault same reads text is pushed in_play = carries_failure command shelf new_shelf out new_out contents result same reads text is pushed
 carries_fault command shelf new_shelf out new_out contents result play.OutOfMemory same reads text is pushed in_play =
     subst (CarriesOut command shelf new_shelf out new_out) (ending_stopped result stop.Memory same) (carries_broken command shelf new_shelf out new_out contents reads text is pushed in_play)
+
+-- a command that plays a game last, and answers as that went
+pub carries_played : {U V : Type 0} (command : PlainCommand) (shelf new_shelf : ShelfState) (out new_out : SinkState) (contents : List FileContent) (result : Result U CommandStop) (last : Result V PlayFault) → ending_of result ≡ play_ending last
+    → ReadsFiles shelf new_shelf (files_of command) (Contents contents) → (text : List ℕ) → IsJobText command contents text → PushedBy out new_out text last → WritesInPlay command → CarriesOut command shelf new_shelf out new_out (ending_of result)
+carries_played command shelf new_shelf out new_out contents result (Ok done) same reads text is pushed in_play =
+    subst (CarriesOut command shelf new_shelf out new_out) (sym same) (carries_done command shelf new_shelf out new_out contents reads text is pushed)
+carries_played command shelf new_shelf out new_out contents result (Err play.WriteFault) same reads text is pushed in_play =
+    subst (CarriesOut command shelf new_shelf out new_out) (sym same) (carries_cut command shelf new_shelf out new_out contents reads text is pushed)
+carries_played command shelf new_shelf out new_out contents result (Err play.OutOfMemory) same reads text is pushed in_play =
+    subst (CarriesOut command shelf new_shelf out new_out) (sym same) (carries_broken command shelf new_shelf out new_out contents reads text is pushed in_play)
 
 -- a command that answers out of memory before a file was fetched
 pub carries_wanting : {U : Type 0} (command : PlainCommand) (shelf : ShelfState) (out : SinkState) (result : Result U CommandStop) → IsErrAnd result (λ other. other ≡ stop.Memory) → CarriesOut command shelf shelf out out (ending_of result)

@@ -3,7 +3,7 @@ ghost use Rattle.command_words.specs.Command.PlainCommand.{AsmCommand};
 ghost use Rattle.ants.specs.Inner.Reading.{CarriesOut, ending_of};
 
 use crate::files::read_file;
-use crate::stop::CommandStop;
+use crate::stop::{CommandStop, after_push};
 use ant_asm::Assembled;
 use ant_base::{Shelf, Sink};
 use brain_read::write_brain;
@@ -19,6 +19,5 @@ pub fn asm<'w, S: Shelf, K: Sink>(
     ensures { CarriesOut (AsmCommand name.now) (S.state shelf.old) (S.state shelf.new) (K.state out.old) (K.state out.new) (ending_of result) }
 {
     let made: Assembled = read_file(alloc, shelf, name)?;
-    write_brain(&made.brain, out)?;
-    Ok(())
+    after_push(write_brain(&made.brain, out))
 }

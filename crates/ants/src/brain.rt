@@ -3,7 +3,7 @@ ghost use Rattle.command_words.specs.Command.PlainCommand.{BrainCommand};
 ghost use Rattle.ants.specs.Inner.Reading.{CarriesOut, ending_of};
 
 use crate::files::read_file;
-use crate::stop::CommandStop;
+use crate::stop::{CommandStop, after_push};
 use ant_base::{Shelf, Sink};
 use brain_read::{Brain, write_brain};
 use std::alloc::Global;
@@ -18,6 +18,5 @@ pub fn brain<'w, S: Shelf, K: Sink>(
     ensures { CarriesOut (BrainCommand name.now) (S.state shelf.old) (S.state shelf.new) (K.state out.old) (K.state out.new) (ending_of result) }
 {
     let brain: Brain = read_file(alloc, shelf, name)?;
-    write_brain(&brain, out)?;
-    Ok(())
+    after_push(write_brain(&brain, out))
 }

@@ -12,7 +12,7 @@ ghost use Rattle.ants.specs.Inner.Reading.{CarriesOut, ReadsFiles, ending_of, ou
 ghost use Rattle.ants.specs.Outputs.{cup_contents, cup_files, score_between};
 
 use crate::files::read_files;
-use crate::stop::CommandStop;
+use crate::stop::{CommandStop, after_push};
 use ant_base::{Shelf, Sink};
 use ant_turn::{Brains, Sheet};
 use brain_read::Brain;
@@ -140,6 +140,5 @@ pub fn cup<'w, R: Threads + Sync, S: Shelf, K: Sink>(
     let roster = roster_of(alloc, entry, shelf)?;
     let standing = standing_of(rt, alloc, &roster, entry.seed, entry.rounds, entry.workers)?;
     let names = names_of(alloc, entry.brains)?;
-    push_standing(&standing, &names, out)?;
-    Ok(())
+    after_push(push_standing(&standing, &names, out))
 }

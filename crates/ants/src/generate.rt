@@ -6,7 +6,7 @@ ghost use Rattle.ants.specs.Inner.Reading.{CarriesOut, ending_of};
 ghost use Rattle.ants.specs.Inner.Plans.{IsGenerating};
 ghost use Rattle.ants.specs.Outputs.{shape_named};
 
-use crate::stop::CommandStop;
+use crate::stop::{CommandStop, after_push};
 use ant_base::{Shelf, Sink};
 use cell_world::World;
 use command_words::GenShape;
@@ -58,6 +58,5 @@ pub fn gen_world<'w, S: Shelf, K: Sink>(
     ensures { CarriesOut (GenCommand seed shape) (S.state shelf.old) (S.state shelf.new) (K.state out.old) (K.state out.new) (ending_of result) }
 {
     let world = named_world(alloc, seed, shape)?;
-    write_world(&world, out)?;
-    Ok(())
+    after_push(write_world(&world, out))
 }

@@ -4,7 +4,7 @@ ghost use Rattle.command_words.specs.Command.PlainCommand.{HelpCommand, VersionC
 ghost use Rattle.ants.specs.Help.{file_lines, game_lines, game_option_lines, head_lines, help_text, status_lines, version_text, world_option_lines};
 ghost use Rattle.ants.specs.Inner.Reading.{CarriesOut, ending_of};
 
-use crate::stop::CommandStop;
+use crate::stop::{CommandStop, after_push};
 use ant_base::{Failed, Layout, Shelf, Sink, layout};
 
 // The first lines: what the program is, and how it is called.
@@ -187,14 +187,12 @@ fn push_version<K: Sink>(out: &mut K) -> Result<(), Failed>
 pub fn help<'w, S: Shelf, K: Sink>(shelf: &mut S, out: &mut K) -> Result<(), CommandStop<'w>>
     ensures { CarriesOut HelpCommand (S.state shelf.old) (S.state shelf.new) (K.state out.old) (K.state out.new) (ending_of result) }
 {
-    push_help(out)?;
-    Ok(())
+    after_push(push_help(out))
 }
 
 /// Writes which program this is.
 pub fn version<'w, S: Shelf, K: Sink>(shelf: &mut S, out: &mut K) -> Result<(), CommandStop<'w>>
     ensures { CarriesOut VersionCommand (S.state shelf.old) (S.state shelf.new) (K.state out.old) (K.state out.new) (ending_of result) }
 {
-    push_version(out)?;
-    Ok(())
+    after_push(push_version(out))
 }

@@ -3,7 +3,7 @@ ghost use Rattle.command_words.specs.Command.PlainCommand.{MinimiseCommand};
 ghost use Rattle.ants.specs.Inner.Reading.{CarriesOut, ending_of};
 
 use crate::files::read_file;
-use crate::stop::CommandStop;
+use crate::stop::{CommandStop, after_push};
 use ant_base::{Shelf, Sink};
 use brain_minimise::push_minimised;
 use brain_read::Brain;
@@ -20,6 +20,5 @@ pub fn minimise<'w, S: Shelf, K: Sink>(
 {
     let brain: Brain = read_file(alloc, shelf, name)?;
     let minimised = brain_minimise::minimise(alloc, &brain)?;
-    push_minimised(&brain, &minimised, out)?;
-    Ok(())
+    after_push(push_minimised(&brain, &minimised, out))
 }

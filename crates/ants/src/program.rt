@@ -64,8 +64,16 @@ fn carry_out_by<'w, R: Threads + Sync, C: Crew, S: Shelf, K: Sink>(
             black,
             options,
         } => {
-            let names = FileNames { world, red, black };
-            run(alloc, crew, AskedGame { names, options }, shelf, out)
+            run(
+                alloc,
+                crew,
+                AskedGame {
+                    names: FileNames { world, red, black },
+                    options,
+                },
+                shelf,
+                out,
+            )
         }
         Command::Cup {
             worlds,
@@ -74,14 +82,19 @@ fn carry_out_by<'w, R: Threads + Sync, C: Crew, S: Shelf, K: Sink>(
             rounds,
             workers,
         } => {
-            let entry = Entry {
-                worlds,
-                brains,
-                seed,
-                rounds,
-                workers,
-            };
-            cup(rt, alloc, entry, shelf, out)
+            cup(
+                rt,
+                alloc,
+                Entry {
+                    worlds,
+                    brains,
+                    seed,
+                    rounds,
+                    workers,
+                },
+                shelf,
+                out,
+            )
         }
         Command::View {
             world,
@@ -91,14 +104,17 @@ fn carry_out_by<'w, R: Threads + Sync, C: Crew, S: Shelf, K: Sink>(
             seed,
             rounds,
         } => {
-            let names = FileNames { world, red, black };
-            let game = ViewedGame {
-                names,
-                breaks,
-                seed,
-                rounds,
-            };
-            view(alloc, game, shelf, out)
+            view(
+                alloc,
+                ViewedGame {
+                    names: FileNames { world, red, black },
+                    breaks,
+                    seed,
+                    rounds,
+                },
+                shelf,
+                out,
+            )
         }
         Command::Workload {
             seed,
@@ -114,8 +130,16 @@ fn carry_out_by<'w, R: Threads + Sync, C: Crew, S: Shelf, K: Sink>(
             black,
             options,
         } => {
-            let names = FileNames { world, red, black };
-            save(alloc, crew, AskedGame { names, options }, shelf, out)
+            save(
+                alloc,
+                crew,
+                AskedGame {
+                    names: FileNames { world, red, black },
+                    options,
+                },
+                shelf,
+                out,
+            )
         }
         Command::Resume {
             save: name,
@@ -198,8 +222,17 @@ fn carry_out_far_command<'w, R: Threads + Wait + Sync, S: Shelf, K: Sink, G: Gat
             black,
             options,
         } => {
-            let names = FileNames { world, red, black };
-            run_far(rt, alloc, AskedGame { names, options }, shelf, out, gate)
+            run_far(
+                rt,
+                alloc,
+                AskedGame {
+                    names: FileNames { world, red, black },
+                    options,
+                },
+                shelf,
+                out,
+                gate,
+            )
         }
         other => carry_out_command(rt, alloc, other, shelf, out, gate),
     }

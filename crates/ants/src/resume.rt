@@ -13,7 +13,7 @@ ghost use Rattle.ants.specs.FaultLines.{reason_of};
 
 use crate::files::fetch_file;
 use crate::run::dumps_of;
-use crate::stop::{CommandStop, FileFault};
+use crate::stop::{CommandStop, FileFault, after_play};
 use ant_base::{Shelf, Sink};
 use command_words::ResumeOptions;
 use match_save::{SaveFault, Saved, read_saved, resume as go_on};
@@ -89,6 +89,5 @@ pub fn resume<'w, C: Crew, S: Shelf, K: Sink>(
     let stats = options.stats;
     let dumps = dumps_of(alloc, options.dumps)?;
     let saved = saved_in(alloc, shelf, name, rounds)?;
-    go_on(alloc, crew, &saved, rounds, &dumps, stats, out)?;
-    Ok(())
+    after_play(go_on(alloc, crew, &saved, rounds, &dumps, stats, out))
 }

@@ -3,16 +3,17 @@ ghost use Rattle.std.specs.Prelude.{◌≡◌, ◌≤◌, IfOk};
 ghost use Rattle.ant_turn.specs.Minds.{Fits, minds_of};
 ghost use Rattle.cell_world.specs.Grid.{world_of};
 ghost use Rattle.command_words.specs.Command.PlainCommand.{SaveCommand};
+ghost use Rattle.command_words.specs.Command.{RunSetup};
 ghost use Rattle.command_words.specs.Laws.{SetupWithin};
 ghost use Rattle.command_words.specs.Words.{plain_setup};
 ghost use Rattle.match_save.specs.Saves.{saved_after};
 ghost use Rattle.world_read.specs.Opened.{IsOpeningWorld};
-ghost use Rattle.ants.specs.Inner.Plans.{CanPlay, minds_in};
+ghost use Rattle.ants.specs.Inner.Plans.{CanPlay, Plans, minds_in};
 ghost use Rattle.ants.specs.Inner.Reading.{CarriesOut, ending_of};
 
 use crate::played::play_game;
-use crate::run::{AskedGame, PlannedGame, Setting, planned_game, setting_of};
-use crate::stop::CommandStop;
+use crate::run::{AskedGame, FileNames, PlannedGame, Setting, planned_game, setting_of};
+use crate::stop::{CommandStop, after_push};
 use ant_base::{Shelf, Sink};
 use ant_turn::Brains;
 use cell_world::World;
@@ -70,6 +71,27 @@ fn saved_setting<C: Crew>(
     }
 }
 
+// Plays a game by a crew, and writes its save.
+fn save_by<'w, C: Crew, S: Shelf, K: Sink>(
+    alloc: Global,
+    crew: &mut C,
+    names: FileNames<'w>,
+    game: &PlannedGame,
+    shelf: &mut S,
+    out: &mut K,
+) -> Result<(), CommandStop<'w>>
+    requires ready { C.ready crew.old }
+    requires planned { CanPlay game.now.plan }
+    requires narrow { game.now.plan.window ≤ 16384 }
+    ensures { (setup : RunSetup) → Plans setup game.now
+        → CarriesOut (SaveCommand names.entry.world.now names.entry.red.now names.entry.black.now setup) (S.state shelf.old) (S.state shelf.new)
+        (K.state out.old) (K.state out.new) (ending_of result) }
+{
+    let setting = setting_of(alloc, names, shelf)?;
+    let saved = saved_setting(alloc, crew, setting, game)?;
+    after_push(write_saved(&saved, out))
+}
+
 /// Plays the game that the words ask for by a crew, and writes its save. Nothing is written before the last round is played.
 pub fn save<'w, C: Crew, S: Shelf, K: Sink>(
     alloc: Global,
@@ -85,8 +107,5 @@ pub fn save<'w, C: Crew, S: Shelf, K: Sink>(
 {
     let AskedGame { names, options } = asked;
     let game = planned_game(alloc, options)?;
-    let setting = setting_of(alloc, names, shelf)?;
-    let saved = saved_setting(alloc, crew, setting, &game)?;
-    write_saved(&saved, out)?;
-    Ok(())
+    save_by(alloc, crew, names, &game, shelf, out)
 }

@@ -1,7 +1,8 @@
 // How a run ended, why a command stopped, and the line that says so.
 ghost use Rattle.std.specs.Prelude.{◌≡◌};
 ghost use Rattle.ants.specs.FaultLines.{file_fault_text, brain_fault_text, break_fault_text, labelled_fault_text, world_fault_text, ending_by, plain_ending, reason_of, reason_text, fault_line, status_of, save_fault_text};
-ghost use Rattle.ants.specs.Inner.Reading.{ending_of};
+ghost use Rattle.ants.specs.Inner.Plans.{play_ending};
+ghost use Rattle.ants.specs.Inner.Reading.{ending_of, push_ending};
 ghost use Rattle.ants.specs.Inner.Words.{text_of_words};
 
 use crate::status::Status;
@@ -9,6 +10,7 @@ use ant_asm::AsmFault;
 use ant_base::{Failed, Layout, Sink, layout};
 use brain_read::BrainFault;
 use break_view::BreakFault;
+use cell_world::Score;
 use match_run::{OutOfMemory, PlayFault};
 use match_save::SaveFault;
 use std::alloc::AllocFailed;
@@ -46,6 +48,27 @@ pub enum CommandStop<'w> {
     NoRoom(u32),
     /// Memory could not be had.
     Memory,
+}
+
+/// What a command answers that pushed its text last.
+pub fn after_push<'w>(pushed: Result<(), Failed>) -> Result<(), CommandStop<'w>>
+    ensures { ending_of result ≡ push_ending pushed }
+{
+    match pushed {
+        Ok(()) => Ok(()),
+        Err(Failed) => Err(CommandStop::Write),
+    }
+}
+
+/// What a command answers that played a game last.
+pub fn after_play<'w>(played: Result<Score, PlayFault>) -> Result<(), CommandStop<'w>>
+    ensures { ending_of result ≡ play_ending played }
+{
+    match played {
+        Ok(_) => Ok(()),
+        Err(PlayFault::WriteFault) => Err(CommandStop::Write),
+        Err(PlayFault::OutOfMemory) => Err(CommandStop::Memory),
+    }
 }
 
 /// How a run of the program ended.
@@ -127,12 +150,10 @@ pub enum FaultWords {
     BadCell(u16, u16),
     /// A rim that is open at this place.
     OpenRim(u16, u16),
-    /// Too many ants, this many.
-    TooManyAnts(u32),
+    /// These words, and a number after them.
+    NumberAfter(&'static str, u32),
     /// A line that names a state which isn't there.
     NoSuchState(u32, u64),
-    /// A save that is at this round already.
-    AlreadyAt(u32),
 }
 
 impl Layout for FaultWords {
@@ -149,11 +170,10 @@ impl Layout for FaultWords {
                 layout!("row ", row, ": bad cell at column ", column).push_to(sink)
             }
             FaultWords::OpenRim(x, y) => layout!("rim open at (", x, ", ", y, ")").push_to(sink),
-            FaultWords::TooManyAnts(count) => layout!("too many ants, ", count).push_to(sink),
+            FaultWords::NumberAfter(words, number) => layout!(words, number).push_to(sink),
             FaultWords::NoSuchState(line, state) => {
                 layout!("line ", line, ": no such state ", state).push_to(sink)
             }
-            FaultWords::AlreadyAt(round) => layout!("already at round ", round).push_to(sink),
         }
     }
 }
@@ -171,7 +191,7 @@ fn world_words(fault: WorldFault) -> FaultWords
         WorldFault::LongRow { row } => FaultWords::AtRow(row, ": long"),
         WorldFault::ExtraRow => FaultWords::Alone("extra row"),
         WorldFault::OpenRim { x, y } => FaultWords::OpenRim(x, y),
-        WorldFault::TooManyAnts { count } => FaultWords::TooManyAnts(count),
+        WorldFault::TooManyAnts { count } => FaultWords::NumberAfter("too many ants, ", count),
         WorldFault::OutOfMemory => FaultWords::Alone("out of memory"),
     }
 }
@@ -252,7 +272,7 @@ fn file_words(fault: FileFault) -> FaultWords
         FileFault::Breaks(fault) => break_words(fault),
         FileFault::Labelled(fault) => labelled_words(fault),
         FileFault::Save(fault) => save_words(fault),
-        FileFault::AlreadyAt(round) => FaultWords::AlreadyAt(round),
+        FileFault::AlreadyAt(round) => FaultWords::NumberAfter("already at round ", round),
     }
 }
 

@@ -10,7 +10,7 @@ ghost use Rattle.ants.specs.Inner.Reading.{CarriesOut, ending_of};
 
 use crate::files::read_file;
 use crate::run::{FileNames, Setting, setting_of};
-use crate::stop::CommandStop;
+use crate::stop::{CommandStop, after_push};
 use ant_base::{Failed, Shelf, Sink};
 use ant_turn::{Brains, Sheet};
 use break_view::{Breaks, find_stop, push_view};
@@ -68,6 +68,5 @@ pub fn view<'w, S: Shelf, K: Sink>(
 {
     let setting = setting_of(alloc, game.names, shelf)?;
     let breaks: Breaks = read_file(alloc, shelf, game.breaks)?;
-    push_stop(setting, &breaks, game.seed, game.rounds, out)?;
-    Ok(())
+    after_push(push_stop(setting, &breaks, game.seed, game.rounds, out))
 }

@@ -15,7 +15,7 @@ ghost use Rattle.ants.specs.Sample.{sample_brain};
 use crate::generate::generated;
 use crate::played::play_game;
 use crate::sample::sample_brain;
-use crate::stop::CommandStop;
+use crate::stop::{CommandStop, after_push};
 use ant_base::{Failed, Layout, Shelf, Sink, layout};
 use ant_turn::{Brains, Sheet};
 use brain_read::Brain;
@@ -147,6 +147,5 @@ pub fn workload<'w, C: Crew, S: Shelf, K: Sink>(
     let world = contest_world(alloc, seed)?;
     let brain = sample_brain(alloc)?;
     let summary = summary_of(alloc, crew, world, &brain, seed, rounds)?;
-    push_summary(seed, rounds, summary, out)?;
-    Ok(())
+    after_push(push_summary(seed, rounds, summary, out))
 }

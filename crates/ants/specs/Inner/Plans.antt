@@ -1,5 +1,5 @@
 -- What the private functions that plan a game ensure.
-use Rattle.std.specs.Prelude.{◌≡◌, ℕ, ◌<◌, ◌≤◌, List, [], ◌∷◌, Result, Ok, Err}
+use Rattle.std.specs.Prelude.{◌≡◌, ℕ, ◌<◌, ◌≤◌, List, [], ◌∷◌, Option, Some, None, Result, Ok, Err}
 use Rattle.ant_turn.specs.Minds.{Minds}
 use Rattle.ant_turn.specs.Sheet.{sheet_of}
 use Rattle.command_words.specs.Command.{PlainCommand, RunSetup}
@@ -23,7 +23,7 @@ use Rattle.ants.specs.declared.stop.CommandStop.TheVariants as stop
 use Rattle.ants.specs.Files.{FileContent}
 use Rattle.ants.specs.Files.FileContent.{WorldContent, BrainContent}
 use Rattle.ants.specs.Outputs.{chosen_rounds, sheet_named}
-use Rattle.ants.specs.FaultLines.{reason_of}
+use Rattle.ants.specs.FaultLines.{Reason, reason_of}
 use Rattle.ants.specs.FaultLines.Reason.{AtInput}
 
 -- the sheet and the plan are what the words say
@@ -44,6 +44,11 @@ pub record CanPlay (plan : Plan) : Type 0 where
 abbrev pub stop_of : PlayFault → CommandStop
 stop_of play.WriteFault = stop.Write
 stop_of play.OutOfMemory = stop.Memory
+
+-- why a command stopped that played a game last, if it did
+abbrev pub play_ending : {A : Type 0} → Result A PlayFault → Option Reason
+play_ending (Ok done) = None
+play_ending (Err fault) = Some (reason_of (stop_of fault))
 
 -- a game was planned; only memory can be wanting
 abbrev pub IsPlanned : RunSetup → Result PlannedGame CommandStop → Type 0

@@ -8,6 +8,7 @@ use Rattle.ant_base.specs.Shelf.{Fetches, FetchesEach, ShelfState}
 use Rattle.ant_base.specs.Sink.{SinkState}
 use Rattle.ant_base.specs.declared.shelf.FetchFault.{FetchFault}
 use Rattle.ant_base.specs.declared.shelf.FetchFault.TheVariants as answer
+use Rattle.ant_base.specs.declared.sink.Failed.{Failed}
 use Rattle.brain_read.specs.declared.fault.BrainFault.{BrainFault}
 use Rattle.brain_read.specs.declared.fault.BrainFault.TheVariants as brain
 use Rattle.break_view.specs.declared.fault.BreakFault.{BreakFault}
@@ -25,7 +26,7 @@ use Rattle.ants.specs.Outside.{Outside, outside_of}
 use Rattle.ants.specs.Endings.{IsDone, IsUnsure, StopsFor}
 use Rattle.ants.specs.Run.{Ends}
 use Rattle.ants.specs.FaultLines.{Ending, Reason, reason_of}
-use Rattle.ants.specs.FaultLines.Reason.{AtFile, AtInput, AtMemory}
+use Rattle.ants.specs.FaultLines.Reason.{AtFile, AtOutput, AtInput, AtMemory}
 
 -- what the reading of some files came to: their contents, or why it stopped
 pub data ReadOutcome : Type 0 where
@@ -113,6 +114,11 @@ ReadsText content_of kind bytes name (Err stop) = TextStops kind bytes name (rea
 abbrev pub ending_of : {U : Type 0} → Result U CommandStop → Option Reason
 ending_of (Ok done) = None
 ending_of (Err stop) = Some (reason_of stop)
+
+-- why a command stopped that pushed its text last, if it did
+abbrev pub push_ending : {U : Type 0} → Result U Failed → Option Reason
+push_ending (Ok done) = None
+push_ending (Err failed) = Some AtOutput
 
 -- how a command ended: with its text, or for a reason
 abbrev pub EndsBy : PlainCommand → Outside → Outside → List Fetched → Option Reason → Type 0

@@ -11,6 +11,5 @@ text_of_words (words.AtLine line text) = codes "line " +++ decimal line +++ text
 text_of_words (words.AtRow row text) = codes "row " +++ decimal row +++ text.now
 text_of_words (words.BadCell row column) = codes "row " +++ decimal row +++ codes ": bad cell at column " +++ decimal column
 text_of_words (words.OpenRim x y) = codes "rim open at (" +++ decimal x +++ codes ", " +++ decimal y +++ codes ")"
-text_of_words (words.TooManyAnts count) = codes "too many ants, " +++ decimal count
+text_of_words (words.NumberAfter text number) = text.now +++ decimal number
 text_of_words (words.NoSuchState line state) = codes "line " +++ decimal line +++ codes ": no such state " +++ decimal state
-text_of_words (words.AlreadyAt round) = codes "already at round " +++ decimal round

@@ -1,12 +1,14 @@
--- what was read can be played, each player has a name, and memory may be wanting after the reading
-use Rattle.std.proofs.Common.{◌≡◌, ◌≤◌, length, ap, arith}
+-- what was read can be played, each player has a name, and memory may be wanting after the reading; the standing is pushed last
+use Rattle.std.proofs.Common.{◌≡◌, ◌≤◌, ℕ, List, length, ap, arith, refl, subst}
+use Rattle.ant_base.specs.Sink.{Pushed}
 use Rattle.command_words.specs.Command.PlainCommand.{CupCommand}
 use Rattle.command_words.specs.Words.{texts}
 use Rattle.tournament.proofs.StandingLemmas.{players_named}
 use Rattle.tournament.specs.Games.{all_played}
+use Rattle.tournament.specs.Text.{standing_text}
 use Rattle.ants.specs.Outputs.{cup_contents, score_between}
 use Rattle.ants.proofs.Cups.{players_counted, ready}
-use Rattle.ants.proofs.Readings.{carries_wanting_later}
+use Rattle.ants.proofs.Readings.{carries_pushed, carries_stop, carries_wanting_later}
 use Rattle.ants.proofs.cup.cup.Goals as goal
 
 pub standing_of-requires-clause-ready : goal.standing_of-requires-clause-ready
@@ -31,3 +33,16 @@ push_standing-requires g c =
     players_counted (texts c.args.entry.worlds.now) (texts c.args.entry.brains.now) c.in_ok-roster.ensures.fetches c.in_ok-roster.roster.worlds.items c.in_ok-roster.roster.players.items c.in_ok-roster.ensures.comes in
     let enough : length c.in_ok-roster.roster.players.items ≤ length c.in_ok-names.names = omega arith in
     players_named (length c.in_ok-roster.roster.players.items) (length c.in_ok-names.names) (all_played (length c.in_ok-roster.roster.players.items) (length c.in_ok-roster.roster.worlds.items) (score_between c.in_ok-roster.roster.worlds.items c.in_ok-roster.roster.players.items c.args.entry.seed c.args.entry.rounds)) c.in_ok-standing.standing enough c.in_ok-standing.ensures
+
+pub returns-in_err-roster : goal.returns-in_err-roster
+returns-in_err-roster g c =
+    carries_stop (CupCommand (texts c.args.entry.worlds.now) (texts c.args.entry.brains.now) c.args.entry.seed c.args.entry.rounds c.args.entry.workers) (g.S.Shelf.state c.args.shelf.now) (g.S.Shelf.state c.roster_of.new.shelf) (g.K.Sink.state c.args.out.now)
+    c.from_residual.result c.in_err-roster.field-0.0 c.from_residual.ensures.1 c.in_err-roster.ensures
+
+pub returns : goal.returns
+returns g c =
+    carries_pushed (CupCommand (texts c.args.entry.worlds.now) (texts c.args.entry.brains.now) c.args.entry.seed c.args.entry.rounds c.args.entry.workers) (g.S.Shelf.state c.args.shelf.now) (g.S.Shelf.state c.roster_of.new.shelf) (g.K.Sink.state c.args.out.now) (g.K.Sink.state c.push_standing.new.sink)
+    (cup_contents c.in_ok-roster.roster.worlds.items c.in_ok-roster.roster.players.items) c.after_push.result c.push_standing.result c.after_push.ensures c.in_ok-roster.ensures
+    (standing_text (texts c.args.entry.brains.now) c.in_ok-standing.standing)
+    (record { worlds = c.in_ok-roster.roster.worlds.items; players = c.in_ok-roster.roster.players.items; read = refl; told = record { lines = c.in_ok-standing.standing; standing = c.in_ok-standing.ensures; is = refl } })
+    (subst (λ (names : List (List ℕ)). Pushed (g.K.Sink.state c.args.out.now) (g.K.Sink.state c.push_standing.new.sink) (standing_text names c.in_ok-standing.standing) c.push_standing.result) c.in_ok-names.ensures c.push_standing.ensures)

@@ -2,7 +2,7 @@
 use Rattle.std.proofs.Common.{refl}
 use Rattle.command_words.specs.Command.PlainCommand.{GenCommand}
 use Rattle.ants.specs.Outputs.{shape_named}
-use Rattle.ants.proofs.Generated.{carries_generated, carries_generated_front, carries_ungenerated, opens_generated}
+use Rattle.ants.proofs.Generated.{carries_generated, carries_ungenerated, opens_generated}
 use Rattle.ants.proofs.generate.gen_world.Goals as goal
 
 pub returns-in_err-world : goal.returns-in_err-world
@@ -12,12 +12,7 @@ returns-in_err-world g c =
 pub write_world-requires : goal.write_world-requires
 write_world-requires g c = opens_generated c.args.seed (shape_named c.args.shape) c.in_ok-world.world c.in_ok-world.ensures
 
-pub returns-in_err-write_world : goal.returns-in_err-write_world
-returns-in_err-write_world g c =
-    carries_generated_front c.args.seed c.args.shape (g.S.Shelf.state c.args.shelf.now) (g.K.Sink.state c.args.out.now) (g.K.Sink.state c.write_world.new.sink) c.in_ok-world.world
-    c.from_residual-in_err-write_world.result c.from_residual-in_err-write_world.ensures.1 c.in_ok-world.ensures c.in_err-write_world.ensures
-
 pub returns : goal.returns
 returns g c =
     carries_generated c.args.seed c.args.shape (g.S.Shelf.state c.args.shelf.now) (g.K.Sink.state c.args.out.now) (g.K.Sink.state c.write_world.new.sink) c.in_ok-world.world
-    c.in_ok-world.ensures c.in_ok-write_world.ensures
+    c.after_push.result c.write_world.result c.after_push.ensures c.in_ok-world.ensures c.write_world.ensures

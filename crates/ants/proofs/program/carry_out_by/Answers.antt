@@ -1,4 +1,8 @@
 -- each command was carried out by its function
+use Rattle.std.proofs.Common.{subst}
+use Rattle.command_words.specs.declared.command.Command.{Command}
+use Rattle.command_words.specs.Laws.{CommandWithin}
+use Rattle.command_words.specs.Words.{plain}
 use Rattle.ants.proofs.program.carry_out_by.Goals as goal
 
 pub returns-in-Show : goal.returns-in-Show
@@ -39,3 +43,15 @@ returns-in-Save g c = rw c.in-Save.is c.save.ensures
 
 pub returns-in-Resume : goal.returns-in-Resume
 returns-in-Resume g c = rw c.in-Resume.is c.resume.ensures
+
+pub gen_world-requires : goal.gen_world-requires
+gen_world-requires g c = (subst (λ (command : Command). CommandWithin (plain command)) c.in-Gen.is c.requires.within).1
+
+pub run-requires-clause-within : goal.run-requires-clause-within
+run-requires-clause-within g c = subst (λ (command : Command). CommandWithin (plain command)) c.in-Run.is c.requires.within
+
+pub save-requires-clause-within : goal.save-requires-clause-within
+save-requires-clause-within g c = subst (λ (command : Command). CommandWithin (plain command)) c.in-Save.is c.requires.within
+
+pub resume-requires-clause-within : goal.resume-requires-clause-within
+resume-requires-clause-within g c = subst (λ (command : Command). CommandWithin (plain command)) c.in-Resume.is c.requires.within

@@ -1,7 +1,9 @@
 -- the files were accepted, and their game was played
 use Rattle.ant_turn.specs.Sheet.{sheet_of}
+use Rattle.command_words.specs.Command.PlainCommand.{RunCommand}
 use Rattle.ants.proofs.Accepted.{fits_accepted}
 use Rattle.ants.proofs.Planned.{carries_game, carries_game_stopped}
+use Rattle.ants.proofs.Readings.{carries_stop}
 use Rattle.ants.proofs.run.run_by.Goals as goal
 
 pub play_setting-requires-clause-fit : goal.play_setting-requires-clause-fit
@@ -19,3 +21,8 @@ returns g c = λ setup plans.
     carries_game setup c.args.game.now c.in_ok-setting.setting plans c.args.names.world.now c.args.names.red.now c.args.names.black.now
     (g.S.Shelf.state c.args.shelf.now) (g.S.Shelf.state c.setting_of.new.shelf) (g.K.Sink.state c.args.out.now) (g.K.Sink.state c.play_setting.new.out) c.in_ok-setting.ensures
     c.in_ok-play_setting.ensures
+
+pub returns-in_err-setting : goal.returns-in_err-setting
+returns-in_err-setting g c = λ setup plans.
+    carries_stop (RunCommand c.args.names.world.now c.args.names.red.now c.args.names.black.now setup) (g.S.Shelf.state c.args.shelf.now) (g.S.Shelf.state c.setting_of.new.shelf) (g.K.Sink.state c.args.out.now)
+    c.from_residual.result c.in_err-setting.field-0.0 c.from_residual.ensures.1 c.in_err-setting.ensures

@@ -10,7 +10,7 @@ use Rattle.ants.specs.Inner.Plans.{setting_contents}
 use Rattle.ants.specs.Inner.Reading.ReadOutcome.{Contents}
 use Rattle.ants.specs.Outputs.{break_file, game_files}
 use Rattle.ants.proofs.Accepted.{fits_accepted}
-use Rattle.ants.proofs.Readings.{carries_done, carries_failure, carries_stop, reads_stopped, reads_then}
+use Rattle.ants.proofs.Readings.{carries_pushed, carries_stop, reads_stopped, reads_then}
 use Rattle.ants.proofs.Viewed.{view_of-view}
 use Rattle.ants.proofs.view.view.Goals as goal
 
@@ -31,22 +31,12 @@ pub push_stop-requires-clause-fit : goal.push_stop-requires-clause-fit
 push_stop-requires-clause-fit g c =
     fits_accepted c.args.game.names.world.now c.args.game.names.red.now c.args.game.names.black.now c.in_ok-setting.ensures.fetches c.in_ok-setting.setting.world c.in_ok-setting.setting.red c.in_ok-setting.setting.black contest c.in_ok-setting.ensures.comes
 
-pub returns-in_err-push_stop : goal.returns-in_err-push_stop
-returns-in_err-push_stop g c =
-    carries_failure (ViewCommand c.args.game.names.world.now c.args.game.names.red.now c.args.game.names.black.now c.args.game.breaks.now c.args.game.seed c.args.game.rounds) (g.S.Shelf.state c.args.shelf.now) (g.S.Shelf.state c.read_file.new.shelf) (g.K.Sink.state c.args.out.now) (g.K.Sink.state c.push_stop.new.out)
-    (setting_contents c.in_ok-setting.setting ++ BreakContent c.in_ok-breaks.breaks ∷ []) c.from_residual-in_err-push_stop.result c.from_residual-in_err-push_stop.ensures.1
-    (reads_then (g.S.Shelf.state c.args.shelf.now) (g.S.Shelf.state c.setting_of.new.shelf) (g.S.Shelf.state c.read_file.new.shelf) (game_files c.args.game.names.world.now c.args.game.names.red.now c.args.game.names.black.now) (break_file c.args.game.breaks.now ∷ [])
-    (setting_contents c.in_ok-setting.setting) (Contents (BreakContent c.in_ok-breaks.breaks ∷ [])) c.in_ok-setting.ensures c.in_ok-breaks.ensures)
-    (view_of (contest_minds c.in_ok-setting.setting.red c.in_ok-setting.setting.black) c.args.game.seed c.args.game.rounds (world_of c.in_ok-setting.setting.world) c.in_ok-breaks.breaks)
-    (view_of-view (contest_minds c.in_ok-setting.setting.red c.in_ok-setting.setting.black) c.args.game.seed c.args.game.rounds (world_of c.in_ok-setting.setting.world) c.in_ok-breaks.breaks)
-    c.in_err-push_stop.ensures
-
 pub returns : goal.returns
 returns g c =
-    carries_done (ViewCommand c.args.game.names.world.now c.args.game.names.red.now c.args.game.names.black.now c.args.game.breaks.now c.args.game.seed c.args.game.rounds) (g.S.Shelf.state c.args.shelf.now) (g.S.Shelf.state c.read_file.new.shelf) (g.K.Sink.state c.args.out.now) (g.K.Sink.state c.push_stop.new.out)
-    (setting_contents c.in_ok-setting.setting ++ BreakContent c.in_ok-breaks.breaks ∷ [])
+    carries_pushed (ViewCommand c.args.game.names.world.now c.args.game.names.red.now c.args.game.names.black.now c.args.game.breaks.now c.args.game.seed c.args.game.rounds) (g.S.Shelf.state c.args.shelf.now) (g.S.Shelf.state c.read_file.new.shelf) (g.K.Sink.state c.args.out.now) (g.K.Sink.state c.push_stop.new.out)
+    (setting_contents c.in_ok-setting.setting ++ BreakContent c.in_ok-breaks.breaks ∷ []) c.after_push.result c.push_stop.result c.after_push.ensures
     (reads_then (g.S.Shelf.state c.args.shelf.now) (g.S.Shelf.state c.setting_of.new.shelf) (g.S.Shelf.state c.read_file.new.shelf) (game_files c.args.game.names.world.now c.args.game.names.red.now c.args.game.names.black.now) (break_file c.args.game.breaks.now ∷ [])
     (setting_contents c.in_ok-setting.setting) (Contents (BreakContent c.in_ok-breaks.breaks ∷ [])) c.in_ok-setting.ensures c.in_ok-breaks.ensures)
     (view_of (contest_minds c.in_ok-setting.setting.red c.in_ok-setting.setting.black) c.args.game.seed c.args.game.rounds (world_of c.in_ok-setting.setting.world) c.in_ok-breaks.breaks)
     (view_of-view (contest_minds c.in_ok-setting.setting.red c.in_ok-setting.setting.black) c.args.game.seed c.args.game.rounds (world_of c.in_ok-setting.setting.world) c.in_ok-breaks.breaks)
-    c.in_ok-push_stop.ensures
+    c.push_stop.ensures

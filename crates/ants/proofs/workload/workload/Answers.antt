@@ -3,7 +3,7 @@ use Rattle.std.proofs.Common.{[], refl, ap}
 use Rattle.command_words.specs.Command.PlainCommand.{WorkloadCommand}
 use Rattle.ants.specs.Outputs.{contest_shape, workload_text}
 use Rattle.ants.proofs.Generated.{carries_ungenerated, fits_generated}
-use Rattle.ants.proofs.Readings.{carries_done, carries_failure, carries_wanting, reads_none}
+use Rattle.ants.proofs.Readings.{carries_pushed, carries_wanting, reads_none}
 use Rattle.ants.proofs.workload.workload.Goals as goal
 
 pub returns-in_err-world : goal.returns-in_err-world
@@ -13,12 +13,6 @@ returns-in_err-world g c = λ workers.
 
 pub summary_of-requires-clause-fit : goal.summary_of-requires-clause-fit
 summary_of-requires-clause-fit g c = fits_generated c.args.seed contest_shape c.in_ok-world.world c.in_ok-world.ensures
-
-pub returns-in_err-push_summary : goal.returns-in_err-push_summary
-returns-in_err-push_summary g c = λ workers.
-    carries_failure (WorkloadCommand c.args.seed c.args.rounds workers) (g.S.Shelf.state c.args.shelf.now) (g.S.Shelf.state c.args.shelf.now) (g.K.Sink.state c.args.out.now) (g.K.Sink.state c.push_summary.new.out) []
-    c.from_residual-in_err-push_summary.result c.from_residual-in_err-push_summary.ensures.1 (reads_none (g.S.Shelf.state c.args.shelf.now)) (workload_text c.args.seed c.args.rounds c.in_ok-summary.summary)
-    (record { world = c.in_ok-world.world; generated = c.in_ok-world.ensures; told = ap (workload_text c.args.seed c.args.rounds) c.in_ok-summary.ensures }) c.in_err-push_summary.ensures
 
 pub returns-in_err-brain : goal.returns-in_err-brain
 returns-in_err-brain g c = λ workers.
@@ -30,6 +24,7 @@ returns-in_err-summary g c = λ workers.
 
 pub returns : goal.returns
 returns g c = λ workers.
-    carries_done (WorkloadCommand c.args.seed c.args.rounds workers) (g.S.Shelf.state c.args.shelf.now) (g.S.Shelf.state c.args.shelf.now) (g.K.Sink.state c.args.out.now) (g.K.Sink.state c.push_summary.new.out) []
-    (reads_none (g.S.Shelf.state c.args.shelf.now)) (workload_text c.args.seed c.args.rounds c.in_ok-summary.summary)
-    (record { world = c.in_ok-world.world; generated = c.in_ok-world.ensures; told = ap (workload_text c.args.seed c.args.rounds) c.in_ok-summary.ensures }) c.in_ok-push_summary.ensures
+    carries_pushed (WorkloadCommand c.args.seed c.args.rounds workers) (g.S.Shelf.state c.args.shelf.now) (g.S.Shelf.state c.args.shelf.now) (g.K.Sink.state c.args.out.now) (g.K.Sink.state c.push_summary.new.out)
+    [] c.after_push.result c.push_summary.result c.after_push.ensures (reads_none (g.S.Shelf.state c.args.shelf.now))
+    (workload_text c.args.seed c.args.rounds c.in_ok-summary.summary)
+    (record { world = c.in_ok-world.world; generated = c.in_ok-world.ensures; told = ap (workload_text c.args.seed c.args.rounds) c.in_ok-summary.ensures }) c.push_summary.ensures

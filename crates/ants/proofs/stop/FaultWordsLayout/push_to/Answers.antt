@@ -16,11 +16,8 @@ returns-in-BadCell g c = rw c.in-BadCell.is c.push_to-in-BadCell.ensures
 pub returns-in-OpenRim : goal.returns-in-OpenRim
 returns-in-OpenRim g c = rw c.in-OpenRim.is c.push_to-in-OpenRim.ensures
 
-pub returns-in-TooManyAnts : goal.returns-in-TooManyAnts
-returns-in-TooManyAnts g c = rw c.in-TooManyAnts.is c.push_to-in-TooManyAnts.ensures
+pub returns-in-NumberAfter : goal.returns-in-NumberAfter
+returns-in-NumberAfter g c = rw c.in-NumberAfter.is c.push_to-in-NumberAfter.ensures
 
 pub returns-in-NoSuchState : goal.returns-in-NoSuchState
 returns-in-NoSuchState g c = rw c.in-NoSuchState.is c.push_to-in-NoSuchState.ensures
-
-pub returns-in-AlreadyAt : goal.returns-in-AlreadyAt
-returns-in-AlreadyAt g c = rw c.in-AlreadyAt.is c.push_to-in-AlreadyAt.ensures
