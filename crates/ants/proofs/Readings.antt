@@ -280,7 +280,7 @@ carries_stop command shelf new_shelf out result why same reads =
     subst (CarriesOut command shelf new_shelf out out) (ending_stopped result why same) (carries_stopped command shelf new_shelf out (reason_of why) reads)
 
 -- a command that answers with a failed output
-pub carries_failure : {U : Type 0} (command : PlainCommand) (shelf new_shelf : ShelfState) (out new_out : SinkState) (contents : List FileContent) (result : Result U CommandStop) → IsErrAnd result (λ other. other ≡ stop.Write)
+carries_failure : {U : Type 0} (command : PlainCommand) (shelf new_shelf : ShelfState) (out new_out : SinkState) (contents : List FileContent) (result : Result U CommandStop) → IsErrAnd result (λ other. other ≡ stop.Write)
     → ReadsFiles shelf new_shelf (files_of command) (Contents contents) → (text : List ℕ) → IsJobText command contents text → PushedFront out new_out text → CarriesOut command shelf new_shelf out new_out (ending_of result)
 carries_failure command shelf new_shelf out new_out contents result same reads text is pushed =
     subst (CarriesOut command shelf new_shelf out new_out) (ending_stopped result stop.Write same) (carries_cut command shelf new_shelf out new_out contents reads text is pushed)
