@@ -1,22 +1,20 @@
 -- Fetches from a list of files.
-use Rattle.std.proofs.Common.{◌≡◌, ℕ, ◌+◌, ◌<◌, ◌≤◌, true, false, cond, ◌&&◌, List, [], ◌∷◌, ◌++◌, length, take, drop, get_or, Some, None, Ok, Err, Result, is_some, refl, sym, ◌∙◌, ap, subst, append-nil, append_assoc, arith}
+use Rattle.std.proofs.Common.{◌≡◌, ℕ, ◌+◌, ◌<◌, ◌≤◌, true, false, cond, ◌&&◌, List, [], ◌∷◌, ◌++◌, length, take, drop, get_or, Some, None, Err, is_some, refl, sym, ◌∙◌, ap, subst, append-nil, append_assoc, arith}
 use Rattle.std.proofs.lemmas.Bool.{and_right, false≢true}
 use Rattle.std.proofs.Math.Seq.{take-append_seam, drop-append_seam, take-length}
 use Rattle.std.proofs.lemmas.List.{at_drop_more, drop-append-le, length-append, length-drop, take-append-le}
 use Rattle.std.specs.List.{AllByRecursion}
-use Rattle.std.specs.Prelude.{Vec}
 use Rattle.std.specs.Str.{bytes_eq}
 use Rattle.list_lemmas.proofs.AllElements.{AllByRecursion-append, AllByRecursion-append_first, AllByRecursion-append_second, AllByRecursion-weaker}
 use Rattle.ant_base.specs.Calls.{is_failing}
 use Rattle.ant_base.specs.Inner.Entries.{bytes_in, files_in}
 use Rattle.ant_base.specs.Inner.Noted.{noted}
 use Rattle.ant_base.specs.Faults.{Rose}
-use Rattle.ant_base.specs.Fetched.{Fetched, fetched}
+use Rattle.ant_base.specs.Fetched.{Fetched}
 use Rattle.ant_base.specs.MemShelf.{MemShelfState, content_of, none_fails, shelf_of}
-use Rattle.ant_base.specs.Shelf.{Answers, Fetches, FetchesEach, IsTold, ShelfState, Told}
+use Rattle.ant_base.specs.Shelf.{Fetches, FetchesEach, IsTold, ShelfState, Told}
 use Rattle.ant_base.specs.declared.files.Sizes.{Sizes}
-use Rattle.ant_base.specs.declared.shelf.FetchFault.{FetchFault}
-use Rattle.ant_base.specs.declared.shelf.FetchFault.TheVariants.{Failed, TooLong, OutOfMemory}
+use Rattle.ant_base.specs.declared.shelf.FetchFault.TheVariants.{Failed}
 
 content_of-drop : (entries : List Sizes) (i : ℕ) (sizes : Sizes) (texts name : List ℕ) → i < length entries → sizes ≡ get_or entries i sizes
     → content_of (files_in (drop i entries) texts) name
@@ -34,22 +32,6 @@ content_found entries i sizes texts name own after bytes lt is named left under 
     content_of-drop entries i sizes texts name lt is
     ∙ ap (λ b. cond b (Some (take sizes.bytes (drop sizes.name texts))) (content_of (files_in (drop (i + 1) entries) (drop sizes.bytes (drop sizes.name texts))) name)) test
     ∙ ap Some (sym (under ∙ ap (λ t. take sizes.bytes t) left))
-
--- the entry at i has another name
-pub content_further : (entries : List Sizes) (i : ℕ) (sizes : Sizes) (texts name own after others : List ℕ) → i < length entries → sizes ≡ get_or entries i sizes
-    → own ≡ take sizes.name texts → after ≡ drop sizes.name texts → others ≡ drop sizes.bytes after → false ≡ bytes_eq own name
-    → content_of (files_in (drop i entries) texts) name ≡ content_of (files_in (drop (i + 1) entries) others) name
-content_further entries i sizes texts name own after others lt is named left beyond other =
-    let test = sym (other ∙ ap (λ t. bytes_eq t name) named) in
-    content_of-drop entries i sizes texts name lt is
-    ∙ ap (λ b. cond b (Some (take sizes.bytes (drop sizes.name texts))) (content_of (files_in (drop (i + 1) entries) (drop sizes.bytes (drop sizes.name texts))) name)) test
-    ∙ ap (λ t. content_of (files_in (drop (i + 1) entries) t) name) (sym (beyond ∙ ap (λ t. drop sizes.bytes t) left))
-
--- the entry at i and those after it have their bytes in what is left
-pub bytes_in-drop : (entries : List Sizes) (i : ℕ) (sizes : Sizes) → i < length entries → sizes ≡ get_or entries i sizes
-    → bytes_in (drop i entries) ≡ sizes.name + sizes.bytes + bytes_in (drop (i + 1) entries)
-bytes_in-drop entries i sizes lt is =
-    at_drop_more bytes_in entries i sizes lt ∙ ap (λ (one : Sizes). one.name + one.bytes + bytes_in (drop (i + 1) entries)) (sym is)
 
 empty_text : (texts : List ℕ) → 0 ≡ length texts → texts ≡ []
 empty_text [] none = refl
@@ -124,28 +106,6 @@ fetch_failed s t name unsure files failing log rose later = record {
 -- no fetch does nothing
 pub fetches_none : (shelf : ShelfState) → FetchesEach shelf shelf []
 fetches_none shelf = record { log = sym (append-nil shelf.log); told = tt; files = refl; sure = λ name is. is; quiet = λ sure. refl; later = omega arith }
-
-answer_told : {A : Type 0} (old new : ShelfState) (name : List ℕ) (result : Result (Vec ℕ A) FetchFault) → Answers old new name result → IsTold old.files (fetched name result)
-answer_told old new name (Ok content) answer = answer
-answer_told old new name (Err Failed) answer = tt
-answer_told old new name (Err TooLong) answer = answer
-answer_told old new name (Err OutOfMemory) answer = tt
-
-fetched_name : {A : Type 0} (name : List ℕ) (result : Result (Vec ℕ A) FetchFault) → (fetched name result).name ≡ name
-fetched_name name (Ok content) = refl
-fetched_name name (Err fault) = refl
-
--- one fetch
-pub fetches_one : {A : Type 0} (old new : ShelfState) (name : List ℕ) (result : Result (Vec ℕ A) FetchFault) → Fetches old new name result → FetchesEach old new (fetched name result ∷ [])
-fetches_one old new name result fetches =
-    record {
-      log = fetches.log;
-      told = (answer_told old new name result fetches.answer, tt);
-      files = fetches.files;
-      sure = fetches.sure;
-      quiet = λ sure. fetches.quiet (ap old.sure (sym (fetched_name name result)) ∙ sure.0);
-      later = fetches.later;
-    }
 
 -- some fetches, and then others
 pub fetches_then : (first second third : ShelfState) (a b : List Fetched) → FetchesEach first second a → FetchesEach second third b → FetchesEach first third (a ++ b)

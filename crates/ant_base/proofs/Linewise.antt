@@ -3,12 +3,11 @@ use Rattle.std.proofs.Common.{◌≡◌, ℕ, suc, ◌+◌, ◌-◌, ◌^◌, �
 use Rattle.std.proofs.lemmas.Bool.{and_from, and_parts, ne_eqb, not-true}
 use Rattle.std.proofs.lemmas.List.{take_all}
 use Rattle.std.proofs.lemmas.List.Folds.{list_all-append}
-use Rattle.std.proofs.lemmas.List.Splits.{length-slice_split}
 use Rattle.std.proofs.lemmas.List.Sums.{prefix_len_is, suffix_len_is}
 use Rattle.std.proofs.lemmas.Str.Parse.{digit_at, digit_from_value}
 use Rattle.std.proofs.lemmas.Fmt.{decimal_is_IsNumeral}
 use Rattle.std.specs.Int.{IsInRange}
-use Rattle.std.specs.List.{flat_map, prefix_len, suffix_len, onto_first, slice_split}
+use Rattle.std.specs.List.{flat_map, prefix_len, suffix_len, onto_first}
 use Rattle.std.specs.Str.Parse.{AllDigits}
 use Rattle.std.specs.Fmt.{decimal}
 use Rattle.ant_base.specs.Lines.{is_lf, lines_of, first_line, after_line, has_no_lf, is_separator, trimmed}
@@ -43,46 +42,12 @@ lines_of-first (byte ∷ next ∷ text) some = go (is_lf byte) (lines_of-first (
   go true cut = refl
   go false cut = rw cut refl
 
--- pieces less an empty last one
-abbrev pub without_empty_end : List (List ℕ) → List (List ℕ)
-without_empty_end [] = []
-without_empty_end ([] ∷ []) = []
-without_empty_end ((byte ∷ piece) ∷ []) = (byte ∷ piece) ∷ []
-without_empty_end (piece ∷ next ∷ pieces) = piece ∷ without_empty_end (next ∷ pieces)
-
-without_empty_end-onto_first : (byte : ℕ) (pieces : List (List ℕ)) → onto_first byte (without_empty_end pieces) ≡ without_empty_end (onto_first byte pieces)
-without_empty_end-onto_first byte [] = refl
-without_empty_end-onto_first byte ([] ∷ []) = refl
-without_empty_end-onto_first byte ((first ∷ piece) ∷ []) = refl
-without_empty_end-onto_first byte (piece ∷ next ∷ pieces) = refl
-
-without_empty_end-more : (pieces : List (List ℕ)) → 0 < length pieces → [] ∷ without_empty_end pieces ≡ without_empty_end ([] ∷ pieces)
-without_empty_end-more [] some = absurd (omega arith)
-without_empty_end-more (piece ∷ pieces) some = refl
-
--- the lines are the pieces that std's split gives, less the empty one after a last LF or of an empty text
-pub lines_of-slice_split : (text : List ℕ) → lines_of text ≡ without_empty_end (slice_split is_lf text)
-lines_of-slice_split [] = refl
-lines_of-slice_split (byte ∷ text) = go (is_lf byte) (lines_of-slice_split text) where
-  go : (lf : Bool) → lines_of text ≡ without_empty_end (slice_split is_lf text)
-      → cond lf ([] ∷ lines_of text) (onto_first byte (lines_of text)) ≡ without_empty_end (cond lf ([] ∷ slice_split is_lf text) (onto_first byte (slice_split is_lf text)))
-  go true same = ap (λ lines. [] ∷ lines) same ∙ without_empty_end-more (slice_split is_lf text) (omega (arith, length-slice_split is_lf text))
-  go false same = ap (onto_first byte) same ∙ without_empty_end-onto_first byte (slice_split is_lf text)
-
 -- a line, its LF, and the lines of the rest
 pub lines_of-line : (line rest : List ℕ) → has_no_lf line ≡ true → lines_of (line ++ 10 ∷ rest) ≡ line ∷ lines_of rest
 lines_of-line [] rest e = refl
 lines_of-line (byte ∷ line) rest e =
     let parts = and_parts (not (is_lf byte)) (has_no_lf line) e in
     rw (not-true (is_lf byte) parts.0, lines_of-line line rest parts.1) refl
-
--- a last line without an LF
-pub lines_of-last : (line : List ℕ) → has_no_lf line ≡ true → 0 < length line → lines_of line ≡ line ∷ []
-lines_of-last [] e some = absurd (omega arith)
-lines_of-last (byte ∷ []) e some = rw (not-true (is_lf byte) (and_parts (not (is_lf byte)) true e).0) refl
-lines_of-last (byte ∷ next ∷ line) e some =
-    let parts = and_parts (not (is_lf byte)) (has_no_lf (next ∷ line)) e in
-    rw (not-true (is_lf byte) parts.0, lines_of-last (next ∷ line) parts.1 (omega arith)) refl
 
 length-onto_first : (byte : ℕ) (lines : List (List ℕ)) → length (onto_first byte lines) ≤ suc (length lines)
 length-onto_first byte [] = omega arith

@@ -1,26 +1,20 @@
 -- What writers took and readers gave.
-use Rattle.std.proofs.Common.{◌≡◌, ℕ, Bool, eqb, min, zero, suc, Result, Ok, Err, is_ok, if◌then◌else◌, ◌<◌, ◌≤◌, ◌^◌, ◌+◌, ◌-◌, List, [], ◌∷◌, ◌++◌, length, take, drop, Option, Some, None, IfSome, inl, inr, refl, sym, ◌∙◌, ap, subst, append_assoc, append-nil, take-append-drop, arith}
+use Rattle.std.proofs.Common.{◌≡◌, ℕ, Bool, eqb, min, zero, suc, Result, Ok, Err, ◌<◌, ◌≤◌, ◌+◌, ◌-◌, List, [], ◌∷◌, ◌++◌, length, take, drop, Option, Some, None, IfSome, refl, sym, ◌∙◌, ap, subst, append_assoc, append-nil, take-append-drop, arith}
 use Rattle.std.proofs.lemmas.Bool.{ne_eqb}
 use Rattle.std.proofs.lemmas.List.{length-append, length-drop, length-take, take_all}
 use Rattle.std.specs.Io.KnownBytes.{Appends, Consumes, IsAtEnd, Keeps, ReadConsumes, WriteAppends}
 use Rattle.std.specs.Counts.{IsPrefixLen}
-use Rattle.std.specs.Prelude.{true, false, IfOk, OnOk, OnErr}
+use Rattle.std.specs.Prelude.{true, false, IfOk, OnErr}
 use Rattle.std.specs.IoError.{error_kind}
 use Rattle.std.specs.declared.io.Error.{Error}
 use Rattle.std.specs.declared.io.ErrorKind.{ErrorKind}
 use Rattle.std.specs.declared.io.ErrorKind.TheVariants.{Interrupted}
 use Rattle.ant_base.specs.declared.shelf.FetchFault.{FetchFault}
 use Rattle.ant_base.specs.declared.shelf.FetchFault.TheVariants.{Failed as ReadFailed, TooLong, OutOfMemory}
-use Rattle.ant_base.specs.declared.sink.Failed.{Failed}
-use Rattle.ant_base.specs.Faults.{one_more}
-use Rattle.ant_base.specs.Lines.{ends_in_lf}
 use Rattle.ant_base.specs.Inner.Answered.{ReadsOn, given_at, given_of, taken_at, taken_of}
 use Rattle.ant_base.specs.Shelf.{longest}
 use Rattle.ant_base.specs.System.{GivesWithin, IsReadFrom, TakesAtMost}
-use Rattle.ant_base.specs.Sink.{Pushed}
-use Rattle.list_lemmas.proofs.Elements.{append-empty}
-use Rattle.ant_base.proofs.Pushes.{ends_in_lf-append}
-use Rattle.ant_base.specs.Streams.{IsFlushedByLines, StreamState, TakesSome, TookUpTo, Takes, sink_of_stream}
+use Rattle.ant_base.specs.Streams.{TakesSome, TookUpTo}
 
 consumes_nothing : (known : Option (List ℕ)) → Consumes known known []
 consumes_nothing None = tt
@@ -162,21 +156,10 @@ appends_then (Some held) None next a b first second = absurd first
 appends_then (Some held) (Some holds) None a b first second = absurd second
 appends_then (Some held) (Some holds) (Some more) a b first second = second ∙ ap (λ bytes. bytes ++ b) first ∙ append_assoc held a b
 
-appends_kept : (held now next : Option (List ℕ)) (a : List ℕ) → Appends held now a → Keeps now next → Appends held next a
-appends_kept None now next a first keeps = tt
-appends_kept (Some held) None next a first keeps = absurd first
-appends_kept (Some held) (Some holds) None a first keeps = absurd keeps
-appends_kept (Some held) (Some holds) (Some stays) a first keeps = keeps ∙ first
-
 keeps_is_nothing : (held now : Option (List ℕ)) → Keeps held now → Appends held now []
 keeps_is_nothing None now keeps = tt
 keeps_is_nothing (Some held) None keeps = absurd keeps
 keeps_is_nothing (Some held) (Some stays) keeps = keeps ∙ sym (append-nil held)
-
-nothing_is_kept : (held now : Option (List ℕ)) → Appends held now [] → Keeps held now
-nothing_is_kept None now appends = tt
-nothing_is_kept (Some held) None appends = absurd appends
-nothing_is_kept (Some held) (Some stays) appends = appends ∙ append-nil held
 
 -- nothing is taken yet
 pub took_none : (taken : List ℕ) (written : Option (List ℕ)) (piece : List ℕ) → TookUpTo taken taken written written piece piece
@@ -190,15 +173,6 @@ took_more taken now next written tells told piece rest n took noted appends = re
   whole = took.whole ∙ ap (λ bytes. took.front ++ bytes) (sym (take-append-drop n rest)) ∙ sym (append_assoc took.front (take n rest) (drop n rest));
   took = noted ∙ ap (λ bytes. bytes ++ take n rest) took.took ∙ append_assoc taken took.front (take n rest);
   told = appends_then written tells told took.front (take n rest) took.told appends;
-}
-
--- nothing more is taken
-pub took_still : (taken now : List ℕ) (written tells told : Option (List ℕ)) (piece rest : List ℕ) → TookUpTo taken now written tells piece rest → Keeps tells told → TookUpTo taken now written told piece rest
-took_still taken now written tells told piece rest took keeps = record {
-  front = took.front;
-  whole = took.whole;
-  took = took.took;
-  told = appends_kept written tells told took.front took.told keeps;
 }
 
 -- a failed write that is no fault took no byte
@@ -235,39 +209,3 @@ write_next turn n (byte ∷ bytes) all some took before = omega (arith, length-d
 -- before the first turn all is left
 pub write_first : (len : ℕ) → 0 + len ≤ len
 write_first len = omega arith
-
--- a write that was a fault took nothing
-pub write_failed : (tells told : Option (List ℕ)) (answer : Result ℕ Error) (rest : List ℕ) (failed : Failed) → WriteAppends tells told answer rest → taken_of answer ≡ Err failed → Keeps tells told
-write_failed tells told (Ok zero) rest failed appends is = nothing_is_kept tells told appends
-write_failed tells told (Ok (suc m)) rest failed appends is = absurd (cc)
-write_failed tells told (Err error) rest failed appends is = appends
-
--- a sink over a stream that took a piece, or a prefix of it, was pushed to
-pub pushed_by_taking : (old new : StreamState) (piece : List ℕ) (result : Result (Unit {0}) Failed) → old.faults ≤ 2 ^ 64 - 1 → Takes old.taken new.taken old.written new.written piece result → new.faults ≡ (if is_ok result then old.faults else one_more old.faults)
-    → OnOk result (ends_in_lf piece ≡ true → new.waiting ≡ []) → (piece ≡ [] → old.waiting ≡ [] → new.waiting ≡ []) → Pushed (sink_of_stream old) (sink_of_stream new) piece result
-pushed_by_taking old new piece (Ok _) most takes count sent kept = record {
-  held = ap Some (takes.took ∙ ap (λ bytes. old.taken ++ bytes) (sym (append-nil takes.front) ∙ sym takes.whole));
-  quiet = count;
-  flushed = sent;
-  kept = kept;
-}
-pushed_by_taking old new piece (Err _) most takes count sent kept = record {
-  front = takes.1.front;
-  rest = takes.0;
-  whole = takes.1.whole;
-  held = ap Some takes.1.took;
-  rose = omega (arith, count);
-  later = omega (arith, count);
-}
-
--- a sink whose stream took a piece that has bytes, or failed, waits with nothing behind the end of a line as long as no push failed
-pub flushed_by_taking : (old new : StreamState) (piece : List ℕ) (result : Result (Unit {0}) Failed) → (piece ≡ [] → ⊥) → Takes old.taken new.taken old.written new.written piece result
-    → new.faults ≡ (if is_ok result then old.faults else one_more old.faults) → OnOk result (ends_in_lf piece ≡ true → new.waiting ≡ []) → IsFlushedByLines new.faults new.taken new.waiting
-flushed_by_taking old new [] (Ok _) some takes count sent none text = absurd (some refl)
-flushed_by_taking old new (byte ∷ piece) (Ok _) some takes count sent none text =
-    let taken : new.taken ≡ old.taken ++ byte ∷ piece = takes.took ∙ ap (λ bytes. old.taken ++ bytes) (sym (append-nil takes.front) ∙ sym takes.whole) in
-    elim text [
-      | inl empty ↦ absurd (some (append-empty old.taken (byte ∷ piece) (sym taken ∙ empty)).1)
-      | inr ends ↦ sent (sym (ends_in_lf-append old.taken byte piece) ∙ ap ends_in_lf (sym taken) ∙ ends)
-    ]
-flushed_by_taking old new piece (Err _) some takes count sent none text = absurd (omega (arith, count, none))

@@ -50,10 +50,11 @@ impl Files {
     }
 
     /// Adds a name with its bytes last. It is refused only where there is no room for one name more or for the bytes of both, and memory for
-    /// more could not be had; the list then has the same names and bytes. An add takes no more room than it needs.
+    /// more could not be had; the list then has the same names and bytes, and no less room. An add takes no more room than it needs.
     pub fn add(&mut self, name: &str, bytes: &[u8]) -> Result<(), OutOfMemory>
         ensures added { OnOk result (self.new.files ≡ self.old.files ++ (name.now, bytes.now) ∷ []) }
         ensures refused { OnErr result (self.new.files ≡ self.old.files) }
+        ensures kept { OnErr result ((self.old.spare ≤ self.new.spare) × (self.old.room ≤ self.new.room)) }
         ensures full { OnErr result ((self.old.spare ≡ 0) ⊎ (self.old.room < length name.now + length bytes.now)) }
         ensures spare { self.old.spare ≤ self.new.spare + 1 }
         ensures room { self.old.room ≤ self.new.room + (length name.now + length bytes.now) }
