@@ -1,6 +1,5 @@
--- A step, a jump, and the laws of a stream.
+-- A step and a jump.
 pub mod StepLemmas
 pub mod JumpLemmas
-pub mod StreamLaws
 -- Worked values: the numbers of the task.
 pub mod Worked

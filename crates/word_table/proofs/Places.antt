@@ -1,9 +1,7 @@
 -- The place of a word in a table, and the word at a place.
-use Prim.Native.Nat.compare
-use Rattle.std.proofs.Common.{◌≡◌, ◌+◌, ◌<◌, ℕ, zero, suc, Bool, true, false, not, ◌||◌, List, [], ◌∷◌, length, drop, get_or, map, Option, Some, None, cond, option_map, refl, sym, ap, ◌∙◌, subst, IsTrue, IfSome, arith}
-use Rattle.std.specs.List.{list_any, position, position_or_len}
-use Rattle.std.specs.Prelude.{nat_lt}
-use Rattle.std.proofs.lemmas.Bool.{and_parts, lt-ltb, not-true, false≢true, false_from_ne_true}
+use Rattle.std.proofs.Common.{◌≡◌, ◌+◌, ◌<◌, ℕ, zero, suc, Bool, true, false, not, ◌||◌, List, [], ◌∷◌, length, drop, get_or, map, Option, Some, None, cond, option_map, refl, sym, ap, ◌∙◌, subst, IsTrue, arith}
+use Rattle.std.specs.List.{list_any}
+use Rattle.std.proofs.lemmas.Bool.{and_parts, not-true, false≢true, false_from_ne_true}
 use Rattle.std.proofs.lemmas.List.{drop_more, get_or-map, length-map}
 use Rattle.std.proofs.lemmas.Slice.Eq.{bytes_eq-Decides}
 use Rattle.std.specs.Str.{str_to_ascii_lowercase, str_eq_ignore_ascii_case}
@@ -22,20 +20,6 @@ word_place-later word words text no_word = ap (λ b. cond b (Some 0) (option_map
 
 pub word_place-first : (word : List ℕ) (words : List (List ℕ)) (text : List ℕ) → str_eq_ignore_ascii_case word text ≡ true → word_place (word ∷ words) text ≡ Some 0
 word_place-first word words text is_word = ap (λ b. cond b (Some 0) (option_map suc (word_place words text))) is_word
-
--- the place is that of the first word that passes std's test
-pub word_place-position : (words : List (List ℕ)) (text : List ℕ) → word_place words text ≡ position (λ word. str_eq_ignore_ascii_case word text) words
-word_place-position [] text = refl
-word_place-position (word ∷ words) text = go (str_eq_ignore_ascii_case word text) (position_or_len (λ w. str_eq_ignore_ascii_case w text) words) (word_place-position words text)
-  where
-    later : (b : Bool) (n : ℕ) → option_map suc (cond b (Some n) None) ≡ cond b (Some (suc n)) None
-    later true n = refl
-    later false n = refl
-
-    go : (b : Bool) (n : ℕ) → word_place words text ≡ cond (nat_lt n (length words)) (Some n) None
-        → cond b (Some 0) (option_map suc (word_place words text)) ≡ cond (nat_lt (cond (not b) (1 + n) 0) (suc (length words))) (Some (cond (not b) (1 + n) 0)) None
-    go true n rest = rw (lt-ltb 0 (suc (length words)) (omega arith)) refl
-    go false n rest = let next : 1 + n ≡ suc n = omega arith in rw (next, compare.suc-suc (suc n) (length words)) (ap (option_map suc) rest ∙ later (nat_lt n (length words)) n)
 
 -- what was counted from the next word
 counted : (o : Option ℕ) (i : ℕ) → option_map suc o ≡ Some i → (j : ℕ) × (o ≡ Some j) × (i ≡ suc j)
@@ -82,19 +66,6 @@ word_place-only (word ∷ words) text (suc i) distinct at =
     let later : IsWordAt words i text = record { word = at.word; stands = at.stands; same = at.same } in
     let differs : str_eq_ignore_ascii_case word text ≡ false = false_from_ne_true (str_eq_ignore_ascii_case word text) (λ is_word. false≢true (sym (not-true (list_any (str_eq_ignore_ascii_case word) words) parts.0) ∙ any_at word words i text later is_word)) in
     word_place-later word words text differs ∙ ap (option_map suc) (word_place-only words text i parts.1 later)
-
--- the place lies in the table
-pub word_place-below : (words : List (List ℕ)) (text : List ℕ) → IfSome (word_place words text) (λ i. i < length words)
-word_place-below [] text = tt
-word_place-below (word ∷ words) text = go (str_eq_ignore_ascii_case word text) (word_place words text) (word_place-below words text)
-  where
-    up : (o : Option ℕ) → IfSome o (λ i. i < length words) → IfSome (option_map suc o) (λ i. i < suc (length words))
-    up None h = tt
-    up (Some i) h = omega arith
-
-    go : (b : Bool) (o : Option ℕ) → IfSome o (λ i. i < length words) → IfSome (cond b (Some 0) (option_map suc o)) (λ i. i < suc (length words))
-    go true o h = omega arith
-    go false o h = up o h
 
 -- what is left of the table from place i on
 rest_at : {A : Type 0} (text_of : A → List ℕ) (xs : List A) (i : ℕ) (x : A) (text : List ℕ) → i < length xs → x ≡ get_or xs i x → option_map (λ j. i + j) (word_place (drop i (map text_of xs)) text) ≡ option_map (λ j. i + j) (word_place (text_of x ∷ drop (i + 1) (map text_of xs)) text)
