@@ -42,13 +42,6 @@ pub has_mark-without_same : (marks : Marks) (i : ℕ) → i < 6 → has_mark (wi
 has_mark-without_same marks i known =
     has_mark-bit (without_mark marks i) i 0 (omega (arith, bit_at_and marks.set (255 - 2 ^ i) i, others i i known known, bit_at-pow_same i)) ∙ and-false (nat_lt i 6)
 
--- beyond the six there is none
-has_mark-beyond : (marks : Marks) (j : ℕ) → (j < 6 → ⊥) → has_mark marks j ≡ false
-has_mark-beyond marks j beyond = go (has_mark marks j) refl where
-  go : (b : Bool) → has_mark marks j ≡ b → has_mark marks j ≡ false
-  go true is = absurd (beyond (has_mark-six marks j is))
-  go false is = is
-
 -- the others stay
 pub has_mark-without_other : (marks : Marks) (i j : ℕ) → i < 6 → j ≢ i → has_mark (without_mark marks i) j ≡ has_mark marks j
 has_mark-without_other marks i j known apart = go (nat_lt j 6) refl where

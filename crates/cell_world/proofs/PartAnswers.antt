@@ -1,12 +1,12 @@
 -- Tests of several parts, one after another.
-use Rattle.std.proofs.Common.{◌≡◌, Bool, true, false, sym, ◌∙◌}
-use Rattle.std.specs.Prelude.{◌↔◌}
-use Rattle.std.proofs.lemmas.Bool.{false≢true}
+use Rattle.std.proofs.Common.{◌≡◌, inl, inr, Bool, true, false, sym, ◌∙◌}
+use Rattle.std.specs.Prelude.{◌↔◌, Some}
+use Rattle.std.proofs.lemmas.Bool.{cases_Bool, false≢true}
 use Rattle.cell_world.specs.declared.cell.Cell.{Cell}
 use Rattle.cell_world.specs.declared.part.Part.{Part}
 use Rattle.cell_world.specs.declared.part.Part.TheVariants.{Who, Mind, Load, Food, RedMarks, BlackMarks}
 use Rattle.cell_world.specs.declared.part.Parts.{Parts}
-use Rattle.cell_world.specs.Parts.{Agree, Alike, has_part}
+use Rattle.cell_world.specs.Parts.{Agree, AgreeBefore, Alike, IsDifference, has_part}
 
 -- what holds of each of the six parts holds of all
 pub each_part : (P : Part → Type 0) → P Who → P Mind → P Load → P Food → P RedMarks → P BlackMarks → (k : Part) → P k
@@ -36,3 +36,15 @@ six_hold {parts} {c} {d} {value} all = (
   λ now. let it = all.0 now in each_part (AgreeIn parts c d) it.0.0.0.0.0 it.0.0.0.0.1 it.0.0.0.1 it.0.0.1 it.0.1 it.1,
   λ agree. all.1 (((((agree Who, agree Mind), agree Load), agree Food), agree RedMarks), agree BlackMarks),
 )
+
+-- where the test of a part fails and the parts before it agree, it is the first in which two cells differ
+pub first_differs : (parts : Parts) (c d : Cell) (k : Part) (test : Bool) → (test ≡ true) ↔ AgreeIn parts c d k → test ≡ false → AgreeBefore k parts c d → IsDifference parts c d (Some k)
+first_differs parts c d k test is failed before =
+    let never : ¬ AgreeIn parts c d k = λ agree. false≢true (sym failed ∙ is.1 agree) in (
+      elim (cases_Bool (has_part parts k)) [
+        | inl named ↦ named
+        | inr unnamed ↦ absurd (never (λ named. absurd (false≢true (sym unnamed ∙ named))))
+      ],
+      λ alike. never (λ named. alike),
+      before,
+    )

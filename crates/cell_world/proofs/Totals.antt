@@ -22,14 +22,6 @@ sum_over-both width f g (suc n) =
     let front : sum_over width (λ p. f p + g p) n ≡ sum_over width f n + sum_over width g n = sum_over-both width f g n in
     omega arith
 
--- what is nowhere more has no greater a sum
-pub sum_over-le : (width : ℕ) (f g : Pos → ℕ) (n : ℕ) → ((p : Pos) → f p ≤ g p) → sum_over width f n ≤ sum_over width g n
-sum_over-le width f g zero less = omega arith
-sum_over-le width f g (suc n) less =
-    let front : sum_over width f n ≤ sum_over width g n = sum_over-le width f g n less in
-    let last : f (pos_at width n) ≤ g (pos_at width n) = less (pos_at width n) in
-    omega arith
-
 -- one summand is at most the sum
 pub sum_over-part : (width : ℕ) (f : Pos → ℕ) (n k : ℕ) → k < n → f (pos_at width k) ≤ sum_over width f n
 sum_over-part width f zero k early = absurd (omega arith)

@@ -1,5 +1,5 @@
 -- The parts of a cell, which looks read and write one by one (this project's own).
-use Rattle.std.specs.Prelude.{◌≡◌, ℕ, Bool, true, false, if◌then◌else◌, ◌||◌, Option, Some, None, option_map}
+use Rattle.std.specs.Prelude.{◌≡◌, ℕ, ◌<◌, Bool, true, false, if◌then◌else◌, ◌||◌, Option, Some, None, option_map}
 use Rattle.hex_geometry.specs.declared.direction.Dir.{Dir}
 use Rattle.cell_world.specs.declared.ant.Ant.{Ant}
 use Rattle.cell_world.specs.declared.ant.Colour.{Colour}
@@ -90,10 +90,23 @@ Alike k c d = part k c ≡ part k d
 abbrev pub Agree : Parts → Cell → Cell → Type 0
 Agree parts c d = (k : Part) → has_part parts k ≡ true → Alike k c d
 
--- a part of a set in which two cells differ, or that there is none
+-- the place of a part in the order of the variants
+abbrev pub place_of_part : Part → ℕ
+place_of_part Who = 0
+place_of_part Mind = 1
+place_of_part Load = 2
+place_of_part Food = 3
+place_of_part RedMarks = 4
+place_of_part BlackMarks = 5
+
+-- two cells are equal in each part of a set that comes before one
+abbrev pub AgreeBefore : Part → Parts → Cell → Cell → Type 0
+AgreeBefore k parts c d = (j : Part) → place_of_part j < place_of_part k → has_part parts j ≡ true → Alike j c d
+
+-- the first part of a set in which two cells differ, or that there is none
 abbrev pub IsDifference : Parts → Cell → Cell → Option Part → Type 0
 IsDifference parts c d None = Agree parts c d
-IsDifference parts c d (Some k) = (has_part parts k ≡ true) × (¬ Alike k c d)
+IsDifference parts c d (Some k) = (has_part parts k ≡ true) × (¬ Alike k c d) × AgreeBefore k parts c d
 
 -- this ant with the named ones of another's posture and load
 abbrev pub patched_by : Parts → Ant → Ant → Ant

@@ -1,25 +1,16 @@
-use Rattle.std.proofs.Common.{◌≡◌, ℕ, ◌+◌, ◌*◌, ◌<◌, ◌≤◌, List, [], ◌∷◌, ◌++◌, length, get_or, drop, refl, sym, ◌∙◌, ap, append_assoc, append-nil, length-append, arith}
+use Rattle.std.proofs.Common.{◌≡◌, ℕ, ◌+◌, ◌*◌, ◌<◌, ◌≤◌, List, [], ◌∷◌, ◌++◌, length, get_or, drop, sym, ◌∙◌, ap, append_assoc, append-nil, length-append, arith}
 use Rattle.std.proofs.lemmas.List.{drop_all, drop_more}
 use Rattle.std.specs.Prelude.{vec_len}
-use Rattle.hex_geometry.specs.declared.position.Pos.{Pos}
 use Rattle.hex_geometry.specs.RowOrder.{pos_at}
 use Rattle.cell_world.specs.declared.body.Body.{Body}
 use Rattle.cell_world.specs.declared.kind.Kind.{Kind}
-use Rattle.cell_world.specs.declared.kind.Kind.TheVariants.{Rock, Clear, RedHill, BlackHill, Food}
 use Rattle.cell_world.specs.declared.tile.Tile.{Tile}
 use Rattle.cell_world.specs.Cell.{one_if}
 use Rattle.cell_world.specs.Opening.{hill_count, is_hill, opening_cell}
 use Rattle.cell_world.specs.Inner.Stored.{hill_of, new_bodies, opening_bodies, opening_tiles, tile_of}
+use Rattle.cell_world.proofs.OpeningStores.{length-new_bodies}
 use Rattle.cell_world.proofs.build.WorldParts.of_kinds.Invariants.{IsBegun}
 use Rattle.cell_world.proofs.build.WorldParts.of_kinds.Goals as goal
-
--- an ant begins on a hill cell alone
-length-new_bodies : (kind : Kind) (p : Pos) → length (new_bodies (hill_of kind) p) ≡ one_if (is_hill kind)
-length-new_bodies Rock p = refl
-length-new_bodies Clear p = refl
-length-new_bodies RedHill p = refl
-length-new_bodies BlackHill p = refl
-length-new_bodies (Food n) p = refl
 
 -- nothing is done yet
 begun-none : (width : ℕ) (kinds : List Kind) (tiles : List Tile) (bodies : List Body) → tiles ≡ [] → bodies ≡ [] → IsBegun width kinds 0 tiles bodies
