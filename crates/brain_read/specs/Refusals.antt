@@ -1,4 +1,4 @@
--- The fault of a line that was refused; the clause of `Refusal::at` rests on it (this project's own).
+-- The fault of a line that was refused; the clause of `BrainFault::of_line` rests on it (this project's own).
 use Rattle.std.specs.Prelude.{ℕ, if◌then◌else◌}
 use Rattle.brain_read.specs.declared.fault.BrainFault.{BrainFault}
 use Rattle.brain_read.specs.declared.fault.BrainFault.TheVariants.{BadByte, UnknownWord, MissingToken, BadNumber, ExtraToken}
