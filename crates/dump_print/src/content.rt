@@ -7,10 +7,11 @@ use ant_base::{Each, Failed, Layout, Parts, Sink, layout};
 use cell_world::{Ant, Cell, Colour, Marks};
 use hex_geometry::Dir;
 
+/// The word of a colour, as it stands in a dump and in a save: `red` or `black` (this project's own layout).
 #[derive(Clone, Copy)]
-pub struct Word(pub Colour);
+pub struct ColourWord(pub Colour);
 
-impl Layout for Word {
+impl Layout for ColourWord {
     ghost text = { λ word. colour_text word.0 };
 
     fn push_to<K: Sink>(&self, sink: &mut K) -> Result<(), Failed> {
@@ -48,7 +49,7 @@ impl Layout for Hill {
     fn push_to<K: Sink>(&self, sink: &mut K) -> Result<(), Failed> {
         match self.0 {
             None => Ok(()),
-            Some(colour) => layout!(Word(colour), " hill; ").push_to(sink),
+            Some(colour) => layout!(ColourWord(colour), " hill; ").push_to(sink),
         }
     }
 }
@@ -81,7 +82,7 @@ impl Layout for Marked {
 
     fn push_to<K: Sink>(&self, sink: &mut K) -> Result<(), Failed> {
         let part = if self.1.any() {
-            Some(layout!(Word(self.0), " marks: ", Each(Digits(self.1)), "; "))
+            Some(layout!(ColourWord(self.0), " marks: ", Each(Digits(self.1)), "; "))
         } else {
             None
         };
@@ -127,7 +128,7 @@ impl Layout for StandingAnt {
     fn push_to<K: Sink>(&self, sink: &mut K) -> Result<(), Failed> {
         let ant = self.0;
         layout!(
-            Word(ant.colour),
+            ColourWord(ant.colour),
             " ant of id ",
             ant.id,
             ", dir ",

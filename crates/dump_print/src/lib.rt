@@ -10,5 +10,6 @@ mod lines;
 mod pushes;
 mod totals;
 
+pub use content::ColourWord;
 pub use pushes::{push_cells, push_dump, push_score, push_seed, push_stats};
 pub use totals::Totals;
