@@ -56,13 +56,6 @@ killed_all-alive sheet places w t valid found =
     let it = killed_all-holds_id sheet places w.cells t found in
     (it.0, place_in-found w t it.0 valid it.1)
 
--- their ids are known
-pub killed_all-known : (sheet : Sheet) (places : List Pos) (w : World) (t : ℕ) → Valid w → Contains (killed_all sheet w.cells places) t → t < w.ids
-killed_all-known sheet places w t valid found =
-    let it = killed_all-holds_id sheet places w.cells t found in
-    let its : Holder t (w.cells it.0).ant = is_ant-true t (w.cells it.0).ant it.1 in
-    subst (λ i. i < w.ids) its.id (valid.known it.0 its.ant its.is)
-
 -- the dead stay dead
 pub check_all-dead : (sheet : Sheet) (places : List Pos) (w : World) (t : ℕ) → Valid w → place_in w t ≡ None → place_in (with_cells w (check_all sheet w.cells places)) t ≡ None
 check_all-dead sheet places w t valid dead =

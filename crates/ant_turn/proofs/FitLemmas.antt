@@ -1,19 +1,13 @@
--- Brains that fit the world at the start of a game, and sound ones.
-use Rattle.std.proofs.Common.{◌≡◌, ℕ, ◌<◌, ◌≤◌, List, length, None, ap, arith}
+-- Brains that fit the world at the start of a game.
+use Rattle.std.proofs.Common.{◌≡◌, ℕ, ◌<◌, ◌≤◌, List, length, ap, arith}
 use Rattle.cell_world.specs.declared.ant.Ant.{Ant}
 use Rattle.cell_world.specs.declared.ant.Colour.{Colour}
 use Rattle.cell_world.specs.declared.ant.Colour.TheVariants.{Red, Black}
 use Rattle.cell_world.specs.declared.kind.Kind.{Kind}
 use Rattle.cell_world.specs.Grid.{world_of}
 use Rattle.cell_world.specs.Opening.{opening}
-use Rattle.cell_world.specs.Valid.{Valid}
-use Rattle.cell_world.specs.World.{World, place_in}
 use Rattle.cell_world.proofs.OpeningLaws.{opening-new}
-use Rattle.cell_world.proofs.Places.{place_in-none, place_in-nowhere}
-use Rattle.brain_read.specs.Soundness.{IsBrain}
-use Rattle.ant_turn.specs.declared.brains.Brains.{Brains}
-use Rattle.ant_turn.specs.Keeps.{Keeps}
-use Rattle.ant_turn.specs.Minds.{Minds, Fits, AreSound, mind_of, minds_of}
+use Rattle.ant_turn.specs.Minds.{Minds, Fits, mind_of}
 
 -- two brains of at least one state have a state 0
 some_state : (minds : Minds) (colour : Colour) → 1 ≤ length minds.red → 1 ≤ length minds.black → 0 < length (mind_of minds colour)
@@ -28,11 +22,3 @@ Fits-opening width height kinds minds red black = record {
       let some : 0 < length (mind_of minds ant.colour) = some_state minds ant.colour red black in
       omega arith;
 }
-
--- the brains of a game are sound under its sheet
-pub AreSound-minds_of : (brains : Brains) → IsBrain brains.red.now → IsBrain brains.black.now → AreSound (minds_of brains)
-AreSound-minds_of brains red black = record { red = red; black = black; corpse = brains.sheet.light }
-
--- who has no place gets none
-pub Keeps-place_in : (minds : Minds) (earlier now : World) (t : ℕ) → Valid earlier → Keeps minds earlier now → place_in earlier t ≡ None → place_in now t ≡ None
-Keeps-place_in minds earlier now t valid kept nowhere = place_in-nowhere now t (kept.dead t (λ p. place_in-none earlier t p valid nowhere))

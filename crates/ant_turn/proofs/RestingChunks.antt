@@ -1,5 +1,5 @@
 -- Of some ids the turns of those whose ants rest may be taken first: a law of chunks of a round.
-use Rattle.std.proofs.Common.{◌≡◌, ◌≢◌, inl, inr, ℕ, zero, suc, ◌+◌, ◌-◌, ◌<◌, ◌≤◌, Bool, true, false, List, [], ◌∷◌, length, Option, Some, None, refl, sym, ap, ◌∙◌, subst, arith, add-zero}
+use Rattle.std.proofs.Common.{◌≡◌, ◌≢◌, inl, inr, ℕ, zero, suc, ◌+◌, ◌-◌, ◌<◌, ◌≤◌, Bool, true, false, List, [], ◌∷◌, Option, Some, None, refl, sym, ap, ◌∙◌, subst, arith, add-zero}
 use Rattle.std.specs.Prelude.{nat_eq, option_map}
 use Rattle.std.specs.List.{AllByRecursion}
 use Rattle.std.proofs.Math.Path.{fun_ext}
@@ -10,7 +10,7 @@ use Rattle.hex_geometry.specs.Neighbourhood.{adjacent_pos}
 use Rattle.cell_world.specs.declared.ant.Ant.{Ant}
 use Rattle.cell_world.specs.declared.cell.Cell.{Cell}
 use Rattle.cell_world.specs.Cell.{holds_id}
-use Rattle.cell_world.specs.Resting.{ActsListed, ids_where, one_less, rested, with_rest, with_rest_in, with_rests}
+use Rattle.cell_world.specs.Resting.{ActsListed, ids_where, one_less, rested, with_rest, with_rest_in}
 use Rattle.cell_world.specs.Valid.{Valid}
 use Rattle.cell_world.specs.World.{Cells, World, place_in, put, put_cell, with_cells}
 use Rattle.cell_world.proofs.Places.{Holder, holds_id-own, place_in-ant, place_in-none}
@@ -20,7 +20,7 @@ use Rattle.brain_read.specs.declared.instr.Instr.{Instr}
 use Rattle.ant_turn.specs.Keeps.{Keeps}
 use Rattle.ant_turn.specs.Kills.{places_around}
 use Rattle.ant_turn.specs.Listed.{AreUp, after_listed}
-use Rattle.ant_turn.specs.Minds.{AreSound, Fits, Minds, mind_of}
+use Rattle.ant_turn.specs.Minds.{AreSound, Fits, Minds}
 use Rattle.ant_turn.specs.Rounds.{Moment, after_turn, after_turns}
 use Rattle.ant_turn.specs.Sheet.{Sheet}
 use Rattle.ant_turn.specs.Turn.{Outcome, arrived, left_by_ant, stepped, turn, with_ant}
@@ -241,11 +241,3 @@ module _ (minds : Minds) (seed : ℕ) (m : Moment) (from n : ℕ) (listed : List
 
   pub chunk-up : from + n ≤ m.world.ids → AreUp (rested from (from + n) m.world) listed
   chunk-up made = subst (AreUp (rested from (from + n) m.world)) (sym told.are) (AreUp-listed told.acts m.world from (from + n) from n made told.each)
-
--- the brains fit whatever the counts are
-pub Fits-with_rests : (f : ℕ → ℕ → ℕ) (w : World) (minds : Minds) → Fits w minds → Fits (with_rests f w) minds
-Fits-with_rests f w minds fits = record { below = λ p. each (w.cells p).ant (fits.below p) }
-  where
-    each : (o : Option Ant) → ((ant : Ant) → o ≡ Some ant → ant.state < length (mind_of minds ant.colour)) → (ant : Ant) → option_map (with_rest f) o ≡ Some ant → ant.state < length (mind_of minds ant.colour)
-    each None below ant is = absurd (cc)
-    each (Some before) below ant is = subst (λ (a : Ant). a.state < length (mind_of minds a.colour)) (same_Some (with_rest f before) ant is) (below before refl)

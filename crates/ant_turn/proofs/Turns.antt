@@ -15,11 +15,6 @@ pub turn-dead : (minds : Minds) (seed : ℕ) (w : World) (place t : ℕ) → pla
 unfolding turn
 turn-dead minds seed w place t dead = ap (turn_from minds seed w.cells place) dead
 
--- nor where nobody stands at its place
-pub turn-empty : (minds : Minds) (seed : ℕ) (w : World) (place t : ℕ) (p : Pos) → place_in w t ≡ Some p → (w.cells p).ant ≡ None → turn minds seed w place t ≡ idle w.cells
-unfolding turn
-turn-empty minds seed w place t p found none = ap (turn_from minds seed w.cells place) found ∙ ap (turn_at minds seed w.cells place p) none
-
 -- the turn of an id is that of the ant at its place
 pub turn-acts : (minds : Minds) (seed : ℕ) (w : World) (place t : ℕ) (p : Pos) (ant : Ant) → place_in w t ≡ Some p → (w.cells p).ant ≡ Some ant → turn minds seed w place t ≡ acts ant.resting minds seed w.cells place p ant
 unfolding turn

@@ -19,9 +19,9 @@ pub struct Brains<'b> {
 }
 
 impl<'b> Brains<'b> {
-    // The brain of this colour.
+    /// The brain of the ants of this colour (the task's game play).
     #[inline]
-    pub(crate) fn of(self, colour: Colour) -> &'b Brain
+    pub fn of(self, colour: Colour) -> &'b Brain
         ensures { result.now ≡ mind_of (minds_of self.entry) colour }
     {
         match colour {

@@ -25,6 +25,7 @@ pub use conditions::matches;
 pub use hill_laws::{games_keep_hills, rounds_keep_hills, turns_keep_hills};
 pub use in_place::{InPlace, turn_in_place};
 pub use kills::{check_around, surrounded};
+pub use own_cell::is_blocked;
 pub use renumber_laws::{rounds_renumber, turns_renumber};
 pub use sheet::Sheet;
 pub use turn::{Deed, take_acting_turn, take_turn};

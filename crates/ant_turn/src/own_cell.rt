@@ -142,9 +142,9 @@ pub(crate) fn cell_after_drop(cell: &Cell, ant: Ant, next: u16) -> Cell
     }
 }
 
-// Whether no ant can move onto the cell: it is rocky or holds an ant.
+/// Whether no ant can move onto the cell: it is rocky or holds an ant (the task's kinetics).
 #[inline]
-pub(crate) fn is_blocked(cell: &Cell) -> bool
+pub fn is_blocked(cell: &Cell) -> bool
     ensures { result ≡ turn.is_blocked cell.now }
 {
     cell.rocky || cell.ant.is_some()
