@@ -108,9 +108,6 @@ one_claim : (cells : Cells) (p : Pos) (parts : Parts) → with_cells_at cells (m
 unfolding merged
 one_claim cells p parts = refl
 
-mind_and_none : union (only part.Mind) no_parts ≡ only part.Mind
-mind_and_none = refl
-
 reads-nothing : (cells : Cells) (p : Pos) → with_cells_at cells (merged (claim p who_and_mind ∷ [])) ≡ sighted ((p, who_and_mind, cells p) ∷ []) (p, no_parts, cells p)
 reads-nothing cells p = one_claim cells p who_and_mind ∙ sym (nothing_more cells p who_and_mind)
 

@@ -1,5 +1,5 @@
 -- The writes of a look that holds may be set, one after another, and make the turn.
-use Rattle.std.proofs.Common.{◌≡◌, ◌≢◌, ℕ, ◌≤◌, false, List, [], ◌∷◌, sym, ◌∙◌, ap, subst, arith}
+use Rattle.std.proofs.Common.{◌≡◌, ◌≢◌, ℕ, ◌≤◌, false, List, [], ◌∷◌, sym, ◌∙◌, subst, arith}
 use Rattle.std.specs.List.{AllByRecursion}
 use Rattle.list_lemmas.proofs.AllElements.{AllByRecursion-weaker}
 use Rattle.hex_geometry.specs.declared.position.Pos.{Pos}
@@ -8,16 +8,16 @@ use Rattle.cell_world.specs.Valid.{Valid}
 use Rattle.cell_world.specs.World.{Cells, World, with_cells}
 use Rattle.cell_world.proofs.Patches.{patched-only}
 use Rattle.ant_turn.specs.Minds.{AreSound, Fits, Minds}
-use Rattle.ant_turn.specs.Turn.{Outcome, turn}
+use Rattle.ant_turn.specs.Turn.{turn}
 use Rattle.ant_turn.proofs.KeptByTurns.{Keeps-turn}
 use Rattle.spec_record.specs.Claims.{Claim, EachOnce, Sighting, seen_place, with_cells_at}
 use Rattle.spec_record.specs.Holds.{Holds}
 use Rattle.spec_record.specs.Locality.{GoesOn}
 use Rattle.spec_record.specs.Look.{look_of}
-use Rattle.spec_record.specs.Patches.{CanSetWrites, after_heavier, after_lighter, parts_at, patched_cells}
+use Rattle.spec_record.specs.Patches.{CanSetWrites, after_heavier, after_lighter, parts_at}
 use Rattle.spec_record.specs.Writes.{writes}
 use Rattle.spec_record.proofs.ClaimLemmas.{own_parts, parts_at-fresh, seen_positions-claims, positions}
-use Rattle.spec_record.proofs.Patched.{look_step, patched-none, turn-patched, written_once}
+use Rattle.spec_record.proofs.Patched.{look_step, patched-none, written_once}
 use Rattle.spec_record.proofs.RaisedWeights.{RaisesOne, turn-raises}
 use Rattle.spec_record.proofs.SettledWrites.{CanSetWrites-all, Makes, Settles, after_all}
 use Rattle.spec_record.proofs.Steps.{CellStep, InStep}
@@ -83,7 +83,3 @@ module _ (minds : Minds) (seed : ℕ) (base : World) (guess : ℕ) (now : World)
   -- and that makes the turn
   pub look-after : after_heavier (after_lighter now (look_of minds seed base guess t).writes) (look_of minds seed base guess t).writes ≡ with_cells now (turn minds seed now place t).cells
   look-after = after_all settles 1 (omega arith)
-
-  -- which is what all patches make, in any order
-  pub look-settled : after_heavier (after_lighter now (look_of minds seed base guess t).writes) (look_of minds seed base guess t).writes ≡ with_cells now (patched_cells now.cells (look_of minds seed base guess t).writes)
-  look-settled = look-after ∙ ap (λ (o : Outcome). with_cells now o.cells) (turn-patched minds seed base guess now place t goes holds)

@@ -8,7 +8,7 @@ ghost use Rattle.spec_record.specs.Guess.{ant_flips, flips, guess, guesses_of, i
 
 use ant_turn::Brains;
 use brain_read::Instr;
-use cell_world::{Ant, Colour, OutOfMemory, World};
+use cell_world::{Ant, OutOfMemory, World};
 use std::alloc::Global;
 
 /// Whether the ant of this id is alive, not resting and at a Flip, so that its turn draws a random number.
@@ -92,10 +92,7 @@ pub(crate) fn instruction(brains: Brains<'_>, ant: &Ant) -> Instr
     ensures instruction { result ≡ instruction_at (mind_of (minds_of brains.entry) ant.now.colour) ant.now.state }
     ensures sound { (states : ℕ) × IsSound states result }
 {
-    match ant.colour {
-        Colour::Red => brains.red.at(ant.state),
-        Colour::Black => brains.black.at(ant.state),
-    }
+    brains.of(ant.colour).at(ant.state)
 }
 
 // Whether it is a Flip.

@@ -12,7 +12,7 @@ ghost use Rattle.spec_record.specs.Inner.Sightings.{all_sighted, sighted, sighti
 ghost use Rattle.spec_record.specs.Reads.{ant_and_food, load_and_food, whole_ant};
 ghost use Rattle.spec_record.specs.Trail.{trail_world};
 
-use crate::sightings::{is_same, note_read, note_write};
+use crate::sightings::{is_same, note};
 use crate::trail::Trail;
 use arrayvec::ArrayVec;
 use brain_read::Instr;
@@ -226,8 +226,8 @@ fn note_if_fallen(
         (sightings_of (trail_world trail.now).cells ant_and_food (going.fallen_at (world_of base.now).cells (trail_world trail.now).cells step.from step.to r)) }
 {
     if has_fallen(base, trail, step, r) {
-        note_read(reads, r, load_and_food(), base.cell(r));
-        note_write(writes, r, ant_and_food(), trail.cell(r));
+        note(reads, r, load_and_food(), base.cell(r));
+        note(writes, r, ant_and_food(), trail.cell(r));
     }
 }
 

@@ -1,5 +1,5 @@
 // Looks at the turn of one ant.
-ghost use Rattle.std.specs.Prelude.{◌≡◌, ◌+◌, ◌<◌, ◌≤◌, ◌^◌, ◌∷◌, [], ◌++◌, take, true};
+ghost use Rattle.std.specs.Prelude.{◌≡◌, ◌+◌, ◌<◌, ◌≤◌, ◌^◌, ◌∷◌, [], ◌++◌, drop, take, true};
 ghost use Rattle.std.specs.Vec.{vec_capacity, vec_len};
 ghost use Rattle.cell_world.specs.Cell.{one_if};
 ghost use Rattle.cell_world.specs.Grid.{world_of};
@@ -47,8 +47,8 @@ pub fn look_by(base: &World, brains: Brains<'_>, stream: &mut Stream, id: u32) -
     look
 }
 
-/// The same look, put into a list: in place of the look with this number, or behind the last one, where the list has room. The looks before
-/// it stay. It takes no memory, so that the looks of one window are made in the rooms of those of another.
+/// The same look, put into a list: in place of the look with this number, or behind the last one, where the list has room. The other looks
+/// stay. It takes no memory, so that the looks of one window are made in the rooms of those of another.
 ///
 /// Each ant's state is below the length of its colour's brain, the id is below the number of ids, and the stream stands below 2^63 - 1.
 #[inline]
@@ -67,6 +67,7 @@ pub fn look_into(
     requires room { at < vec_capacity looks.old }
     ensures made { take (at + 1) looks.new.items ≡ take at looks.old.items ++ look_of (minds_of brains.entry) stream.old.seed
         (world_of base.now) stream.old.place id ∷ [] }
+    ensures behind { drop (at + 1) looks.new.items ≡ drop (at + 1) looks.old.items }
     ensures stream { stream.new ≡ record stream.old {
       place = stream.old.place + one_if
           (look_of (minds_of brains.entry) stream.old.seed (world_of base.now) stream.old.place id).drew;

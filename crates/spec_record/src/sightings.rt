@@ -16,15 +16,15 @@ pub(crate) struct Seen<'c> {
     pub(crate) cell: &'c Cell,
 }
 
-// Notes that these parts of the cell at `p` are read: where the position is in the list the parts go there, else it comes last.
+// Notes these parts of the cell at `p`: where the position is in the list the parts go there, else it comes last.
 #[inline]
-pub(crate) fn note_read(
-    list: &mut ArrayVec<(Pos, Parts, Cell), 19>,
+pub(crate) fn note<const N: usize>(
+    list: &mut ArrayVec<(Pos, Parts, Cell), N>,
     p: Pos,
     parts: Parts,
     cell: Cell,
 )
-    requires { length (sighting.sighted list.old.items (p, parts, cell)) ≤ 19 }
+    requires { length (sighting.sighted list.old.items (p, parts, cell)) ≤ N }
     ensures { list.new.items ≡ sighting.sighted list.old.items (p, parts, cell) }
 {
     let number = number_of(list.as_slice(), p);
@@ -74,26 +74,6 @@ pub(crate) fn note_two(
     } else {
         note_alone(list, first.at, first.parts, *first.cell);
         list.push((second.at, second.parts, *second.cell));
-    }
-}
-
-// As `note_read` of parts that are written.
-#[inline]
-pub(crate) fn note_write(
-    list: &mut ArrayVec<(Pos, Parts, Cell), 7>,
-    p: Pos,
-    parts: Parts,
-    cell: Cell,
-)
-    requires { length (sighting.sighted list.old.items (p, parts, cell)) ≤ 7 }
-    ensures { list.new.items ≡ sighting.sighted list.old.items (p, parts, cell) }
-{
-    let number = number_of(list.as_slice(), p);
-    if number < list.len() {
-        let (q, old, there) = list[number];
-        list[number] = (q, union(old, parts), there);
-    } else {
-        list.push((p, parts, cell));
     }
 }
 

@@ -10,8 +10,9 @@ ghost use Rattle.spec_record.specs.Inner.Stays as standing;
 ghost use Rattle.spec_record.specs.Reads.{asked, marks_part};
 
 use crate::moves::{load_and_food, who};
+use ant_turn::is_blocked;
 use brain_read::{Cond, Instr};
-use cell_world::{Ant, Cell, Colour, Part, Parts, World};
+use cell_world::{Ant, Colour, Part, Parts, World};
 use hex_geometry::{Dir, Pos, adjacent, sensed};
 
 // Onto which cell the ant of `p` goes by an instruction, if it goes.
@@ -37,14 +38,6 @@ fn free_ahead(base: &World, p: Pos, facing: Dir) -> Option<Pos>
     let ahead = adjacent(p, facing);
     let cell = base.cell(ahead);
     if is_blocked(&cell) { None } else { Some(ahead) }
-}
-
-// Whether no ant can move onto the cell.
-#[inline]
-fn is_blocked(cell: &Cell) -> bool
-    ensures { result ≡ is_blocked cell.now }
-{
-    cell.rocky || cell.ant.is_some()
 }
 
 // Which cell it reads besides who it is and what it is about.

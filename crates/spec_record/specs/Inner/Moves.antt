@@ -53,12 +53,13 @@ fallen_at cells last p q r = if has_fallen cells last p q r then r ∷ [] else [
 abbrev pub fallen : Cells → Cells → Pos → Pos → List Pos
 fallen cells last p q = flat_map (fallen_at cells last p q) (places_around q)
 
+-- the reads of an ant that goes to q where nobody is killed
+abbrev pub calm_reads : Cells → Pos → Pos → List Sighting
+calm_reads cells p q = all_sighted ((p, whole_ant, cells p) ∷ []) (sightings_of cells (only part.Who) (seen_from cells p q))
+
 -- the reads of an ant that goes to q
 abbrev pub going_reads : Cells → Cells → Pos → Pos → List Sighting
-going_reads cells last p q =
-    all_sighted
-    (all_sighted ((p, whole_ant, cells p) ∷ []) (sightings_of cells (only part.Who) (seen_from cells p q)))
-    (sightings_of cells load_and_food (fallen cells last p q))
+going_reads cells last p q = all_sighted (calm_reads cells p q) (sightings_of cells load_and_food (fallen cells last p q))
 
 -- and its writes
 abbrev pub going_writes : Cells → Cells → Pos → Pos → List Sighting
@@ -84,10 +85,6 @@ state_gone (Turn side next) = 0
 state_gone (Move met unmet) = met
 state_gone (Flip bound met unmet) = 0
 
--- the reads of an ant that goes to q where nobody is killed
-abbrev pub calm_reads : Cells → Pos → Pos → List Sighting
-calm_reads cells p q = all_sighted ((p, whole_ant, cells p) ∷ []) (sightings_of cells (only part.Who) (seen_from cells p q))
-
--- and its writes, where its state becomes next
+-- the writes of an ant that goes to q where nobody is killed, where its state becomes next
 abbrev pub calm_writes : Sheet → Cells → Pos → Ant → Pos → ℕ → List Sighting
 calm_writes sheet cells p ant q next = (p, whole_ant, left_by_ant (cells p)) ∷ (q, whole_ant, with_ant (cells q) (arrived sheet ant next)) ∷ []

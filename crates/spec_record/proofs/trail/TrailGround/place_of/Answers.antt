@@ -9,7 +9,7 @@ use Rattle.spec_record.specs.Inner.Laid.{first_held}
 use Rattle.spec_record.specs.Trail.{Sets, TrailValue, trail_world}
 use Rattle.spec_record.proofs.LaidCells.{place_in-set, place_in-left, place_in-was_dead, place_in-is_gone}
 use Rattle.spec_record.proofs.trail.TrailGround.place_of.Goals as goal
-use Rattle.spec_record.proofs.trail.TrailGround.place_of.Goals.{After-set_place, After-ant_place, After-cell}
+use Rattle.spec_record.proofs.trail.TrailGround.place_of.Goals.{After-set_place, After-ant_place}
 
 -- what a trail keeps
 valid : (c : After-set_place) → Valid (trail_world c.args.self.now)
