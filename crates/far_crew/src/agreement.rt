@@ -15,7 +15,7 @@ use crate::own_brains::are_sheets_same;
 use crate::same_cells::are_cells_same;
 use ant_turn::Brains;
 use brain_read::{Brain, Instr, are_same};
-use cell_world::{Ant, Colour, World};
+use cell_world::{Ant, World};
 use hex_geometry::Pos;
 use round_book::Field;
 use spec_record::Look;
@@ -159,16 +159,10 @@ fn ant_at(base: &World, id: u32, p: Pos) -> Ant
 fn is_same_instruction(one: Brains<'_>, other: Brains<'_>, ant: &Ant) -> bool
     ensures { (result ≡ true) ↔ (instruction_at (mind_of (minds_of one.entry) ant.now.colour) ant.now.state ≡ instruction_at (mind_of (minds_of other.entry) ant.now.colour) ant.now.state) }
 {
-    match ant.colour {
-        Colour::Red => are_same(
-            instruction_at(one.red, ant.state),
-            instruction_at(other.red, ant.state),
-        ),
-        Colour::Black => are_same(
-            instruction_at(one.black, ant.state),
-            instruction_at(other.black, ant.state),
-        ),
-    }
+    are_same(
+        instruction_at(one.of(ant.colour), ant.state),
+        instruction_at(other.of(ant.colour), ant.state),
+    )
 }
 
 // The instruction at a state; beyond the last one there stands a Drop, as in the definition.

@@ -1,10 +1,9 @@
 -- What is counted is what holds.
-use Rattle.std.proofs.Common.{◌≡◌, ⊎_elim, ◌↔◌, ℕ, zero, suc, ◌+◌, ◌-◌, ◌≤◌, Bool, true, false, not, cond, ◌&&◌, ◌||◌, nat_eq, List, [], ◌∷◌, ◌++◌, length, Option, Some, None, option_map, refl, sym, ◌∙◌, ap, ap₂, subst, arith}
+use Rattle.std.proofs.Common.{◌≡◌, ⊎_elim, ◌↔◌, ℕ, zero, suc, ◌+◌, ◌-◌, ◌≤◌, Bool, true, false, not, cond, ◌&&◌, ◌||◌, nat_eq, List, [], ◌∷◌, ◌++◌, Option, Some, None, option_map, refl, sym, ◌∙◌, ap, ap₂, subst, arith}
 use Rattle.std.specs.List.{AllByRecursion, count_by}
 use Rattle.std.proofs.lemmas.Bool.{and_from, and_parts, eq-eqb, eqb-true, false_from_ne_true, false≢true, or_cases, or_left, or_right}
 use Rattle.std.proofs.lemmas.List.Elements.{All-contains, All-from_recursion}
 use Rattle.std.proofs.lemmas.List.Sums.{sum_by_push}
-use Rattle.std.proofs.lemmas.List.{length-append}
 use Rattle.hex_geometry.specs.declared.direction.Dir.{Dir}
 use Rattle.hex_geometry.specs.Direction.{dir_of, number_of}
 use Rattle.hex_geometry.proofs.Turns.{dir_of_number_of}
@@ -193,11 +192,6 @@ verdicts-counts window (suc n) verdicts (before, last, is, rest, said) =
     ap (count_by is_taken_verdict) is
     ∙ verdicts-more before last
     ∙ ap₂ (λ x y. x + y) (verdicts-counts window n before rest) (ap one_if (verdict-counts window (window.from + n) last said))
-
-pub verdicts-length : (window : Window) (n : ℕ) (verdicts : List Verdict) → AreVerdicts window n verdicts → length verdicts ≡ n
-verdicts-length window zero verdicts are = ap length are
-verdicts-length window (suc n) verdicts (before, last, is, rest, said) =
-    ap length is ∙ (let more : length (before ++ last ∷ []) ≡ length before + 1 = length-append before (last ∷ []) in let same : length before ≡ n = verdicts-length window n before rest in omega arith)
 
 -- no more looks are taken than there are turns
 taken_among-le : (window : Window) (n : ℕ) → taken_among window n ≤ n

@@ -1,5 +1,5 @@
 -- Books on fields: where one begins, goes on, and ends.
-use Rattle.std.proofs.Common.{◌≡◌, ℕ, ◌+◌, ◌-◌, ◌<◌, ◌≤◌, true, [], length, Option, Some, None, refl, sym, ◌∙◌, ap, ap₂, subst, arith}
+use Rattle.std.proofs.Common.{◌≡◌, ℕ, ◌+◌, ◌-◌, ◌<◌, ◌≤◌, true, [], Option, Some, None, refl, sym, ◌∙◌, ap, ap₂, subst, arith}
 use Rattle.std.specs.Prelude.{IfOk, OnOk, Result, Ok, Err}
 use Rattle.std.specs.List.{AllByRecursion, count_by}
 use Rattle.cell_world.specs.Grid.{IsWorld, world_of}
@@ -11,7 +11,7 @@ use Rattle.round_book.specs.Book.{AgreesUnwritten, BookValue, CanBegin, CanTake,
 use Rattle.round_book.specs.Counts.{Counted, counts_of, is_taken_verdict, taken_among}
 use Rattle.round_book.specs.Window.{AreVerdicts, Window, look_for, moment_before}
 use Rattle.round_book.proofs.BookLemmas.{Stands-redone, Stands-taken, keeps, look_for-CanTake, look_for-turn, look_for-unwritten}
-use Rattle.round_book.proofs.CountLemmas.{verdicts-counts, verdicts-length}
+use Rattle.round_book.proofs.CountLemmas.{verdicts-counts}
 use Rattle.round_book.proofs.MachineLemmas.{moment_before-from}
 
 -- what settling answered
@@ -91,9 +91,6 @@ module _ (field : FieldValue) (book : BookValue) (on : StandsOn field book) wher
 
   -- the end of the window
   module _ (done : book.next ≡ book.to) where
-    pub end-verdicts : length book.verdicts ≡ book.to - book.from
-    end-verdicts = verdicts-length its (book.next - book.from) book.verdicts on.stands.stands.verdicts ∙ ap (λ n. n - book.from) done
-
     pub end-counts : (taken redone : ℕ) → taken ≡ count_by is_taken_verdict book.verdicts → redone ≡ book.to - book.from - taken → record { taken = taken; redone = redone } ≡ counts_of (window_of field book.from book.to)
     unfolding counts_of
     end-counts taken redone is_taken is_redone =
@@ -108,6 +105,7 @@ module _ (field : FieldValue) (book : BookValue) (on : StandsOn field book) wher
       seed = refl;
       ids = on-keeps.ids;
       whole = refl;
+      lent = refl;
     })
 
 -- where a window begins

@@ -1,12 +1,11 @@
 -- A call that plays a window.
 use Rattle.std.proofs.Common.{◌≡◌, ℕ, MutBor, refl, subst}
-use Rattle.std.specs.Prelude.{Result, Ok, Err, IfOk, OnErr, OnOk}
+use Rattle.std.specs.Prelude.{Result, Ok, Err, OnErr}
 use Rattle.std.specs.Fn.{Called, Mut}
 use Rattle.hex_geometry.specs.declared.memory.OutOfMemory.{OutOfMemory}
 use Rattle.round_book.specs.declared.counts.Counts.{Counts}
 use Rattle.round_book.specs.declared.field.Field.{Field}
-use Rattle.round_book.specs.Book.{CanBegin, FieldValue, IsPlayed, window_of}
-use Rattle.round_book.specs.Counts.{counts_of}
+use Rattle.round_book.specs.Book.{CanBegin, FieldValue}
 use Rattle.round_book.specs.Led.{IsWindow, PlaysWindows}
 
 -- what such a call comes to
@@ -15,11 +14,7 @@ pub IsWindow-called : {F : Type 0} (g : Mut F (MutBor Field × (ℕ × (ℕ × U
 IsWindow-called g plays f f' shown left from to result can called =
     plays f shown.now from to result f' left.now can (record { shown = shown; shows = refl; left = left; called = called; leaves = refl })
 
--- where it went well, and where it didn't
-pub IsWindow-ok : (result : Result Counts OutOfMemory) (old : FieldValue) (from to : ℕ) (new : FieldValue) (counts : Counts) → IsWindow result old from to new → result ≡ Ok counts → IsPlayed old from to new × (counts ≡ counts_of (window_of old from to))
-IsWindow-ok result old from to new counts window is =
-    (subst (λ r. OnOk r (IsPlayed old from to new)) is window.played, subst (λ r. IfOk r (λ it. it ≡ counts_of (window_of old from to))) is window.counts)
-
+-- where it didn't go well
 pub IsWindow-err : (result answer : Result Counts OutOfMemory) (old : FieldValue) (from to : ℕ) (new : FieldValue) (e : OutOfMemory) → IsWindow result old from to new → result ≡ Err e → OnErr answer (new ≡ old)
 IsWindow-err result answer old from to new e window is = always answer (subst (λ r. OnErr r (new ≡ old)) is window.unchanged) where
   always : (r : Result Counts OutOfMemory) → new ≡ old → OnErr r (new ≡ old)

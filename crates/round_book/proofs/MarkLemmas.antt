@@ -16,8 +16,8 @@ use Rattle.cell_world.specs.World.{Cells}
 use Rattle.spec_record.specs.Claims.{Sighting, seen_cell, seen_parts, seen_place, seen_positions}
 use Rattle.round_book.specs.declared.verdict.Cause.{Cause}
 use Rattle.round_book.specs.declared.verdict.Cause.TheVariants as cause
-use Rattle.round_book.specs.Book.{Wrote}
-use Rattle.round_book.specs.Inner.Changes.{AgreesIfUnwritten, Changes, IsUnwritten}
+use Rattle.round_book.specs.Book.{AgreesIfUnwritten, Wrote}
+use Rattle.round_book.specs.Inner.Changes.{Changes, IsUnwritten}
 use Rattle.round_book.specs.Inner.Workspace.{AreMarked}
 use Rattle.round_book.proofs.WorkspaceLemmas.{marks_in-none}
 
@@ -31,9 +31,6 @@ pub record Marking (start : List Pos) (all : List Sighting) (now : List Pos) (le
   pub old : (p : Pos) → Contains start p → Contains now p
   pub from : (p : Pos) → Contains now p → Contains start p ⊎ Contains (seen_positions all) p
   pub done : (p : Pos) → Contains (seen_positions all) p → Contains now p ⊎ Contains (seen_positions left) p
-
-pub Marking-none : (start : List Pos) (all : List Sighting) → Marking start all start all
-Marking-none start all = record { old = λ p held. held; from = λ p held. inl held; done = λ p held. inr held }
 
 pub Marking-step : (start : List Pos) (all : List Sighting) (now : List Pos) (i : ℕ) (d : Sighting) (new : List Pos) → i < length all →
     ((q : Pos) → Contains new q ↔ (Contains now q ⊎ (q ≡ (seen_place (slice_index_or all i d))))) → Marking start all now (drop i all) → Marking start all new (drop (i + 1) all)
@@ -62,9 +59,6 @@ pub record Unmarking (grid : Grid) (marked : List Bool) (left : List Pos) : Type
   pub sized : length marked ≡ grid.width * grid.height
   pub inside : (p : Pos) → Contains left p → IsInside grid.width grid.height p
   pub listed : (p : Pos) → IsInside grid.width grid.height p → slice_index_or marked (index_of grid.width p) false ≡ true → Contains left p
-
-pub Unmarking-all : (grid : Grid) (marked : List Bool) (written : List Pos) → AreMarked grid marked written → Unmarking grid marked written
-Unmarking-all grid marked written marks = record { sized = marks.sized; inside = marks.inside; listed = marks.listed }
 
 pub Unmarking-here : (grid : Grid) (marked : List Bool) (places : List Pos) (i : ℕ) (d : Pos) → i < length places → Unmarking grid marked (drop i places) → IsInside grid.width grid.height (slice_index_or places i d)
 Unmarking-here grid marked places i d early before =

@@ -55,9 +55,6 @@ module _ (field : FieldValue) (from to id : ℕ) (book : BookValue) (guess : ℕ
   pub going-first : from ≤ id
   going-first = let a : book.from ≡ from = going.begins in let b : book.next ≡ id = going.at in let d : book.from ≤ book.next = going.stands.stands.begun in omega arith
 
-  pub going-id : id < to → id < field.world.ids
-  going-id below = let e : book.to ≡ to = going.ends in let l : book.to ≤ field.world.ids = going.stands.stands.playable.ids in omega arith
-
   pub going-guess : id < to → guess + 1 < 2 ^ 63
   going-guess below =
       let e : guess ≡ guess_for (window_of field from to) id = going.guessed in

@@ -100,9 +100,13 @@ abbrev pub IsCause : LookValue → Moment → Cause → Type 0
 IsCause look now (cause.Part at k) = IsChanged look.reads now.world.cells at k
 IsCause look now (cause.Place guessed actual) = IsMoved look now guessed actual
 
--- where a read position wasn't written, its cell agrees in the parts that were read
+-- what was read at a position that wasn't written is there still
+abbrev pub AgreesIfUnwritten : List Pos → Cells → Sighting → Type 0
+AgreesIfUnwritten written cells read = ¬ Contains written (seen_place read) → Agree (seen_parts read) (seen_cell read) (cells (seen_place read))
+
+-- the same of what a book has written, and of its world
 abbrev pub AgreesUnwritten : BookValue → Sighting → Type 0
-AgreesUnwritten book read = ¬ Contains book.written (seen_place read) → Agree (seen_parts read) (seen_cell read) ((world_of book.world).cells (seen_place read))
+AgreesUnwritten book = AgreesIfUnwritten book.written (world_of book.world).cells
 
 -- a write can be patched into the cell of its position, which is inside
 abbrev pub CanPatchIn : World → Sighting → Type 0
@@ -173,10 +177,11 @@ pub record StandsOn (field : FieldValue) (book : BookValue) : Type 0 where
   pub lent : field.lent ≡ Some (book.from, book.to)
   pub stands : StandsFor (window_of field book.from book.to) book
 
--- a field after the turns of a window: it is whole, and stands where they lead to
+-- a field after the turns of a window: it is whole and not lent, and stands where they lead to
 pub record IsPlayed (old : FieldValue) (from to : ℕ) (new : FieldValue) : Type 0 where
   pub now : field_moment new ≡ moment_before (window_of old from to) to
   pub minds : new.minds ≡ old.minds
   pub seed : new.seed ≡ old.seed
   pub ids : new.world.ids ≡ old.world.ids
   pub whole : new.whole ≡ true
+  pub lent : new.lent ≡ None

@@ -8,8 +8,8 @@ ghost use Rattle.hex_geometry.specs.RowOrder.{index_of};
 ghost use Rattle.cell_world.specs.World.{with_cells};
 ghost use Rattle.spec_record.specs.Claims.{EachOnce, seen_place, seen_positions};
 ghost use Rattle.spec_record.specs.Patches.{patched_cells};
-ghost use Rattle.round_book.specs.Book.{CanTake, Wrote};
-ghost use Rattle.round_book.specs.Inner.Changes.{AgreesIfUnwritten, Changes, IsUnwritten};
+ghost use Rattle.round_book.specs.Book.{AgreesIfUnwritten, CanTake, Wrote};
+ghost use Rattle.round_book.specs.Inner.Changes.{Changes, IsUnwritten};
 ghost use Rattle.round_book.specs.Inner.Kept.{IsWorkspaceReady};
 ghost use Rattle.round_book.specs.Inner.Workspace.{AreMarked, most_listed};
 

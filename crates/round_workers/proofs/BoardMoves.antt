@@ -1,5 +1,5 @@
 -- A seat that holds a slot, before and after what lies in it is exchanged.
-use Rattle.std.proofs.Common.{◌≡◌, ◌≢◌, ℕ, ◌+◌, ◌-◌, ◌≤◌, List, [], ◌∷◌, refl, sym, ap, ◌∙◌, subst, arith, Option, Some, None}
+use Rattle.std.proofs.Common.{◌≡◌, ◌≢◌, ℕ, ◌+◌, ◌-◌, List, [], ◌∷◌, refl, sym, ap, ◌∙◌, subst, Option, Some, None}
 use Rattle.std.specs.Prelude.{IfNone, IfSome, OnSome}
 use Rattle.atomic_table.specs.declared.shared.Seat.{Seat as Hand}
 use Rattle.atomic_table.specs.Table.{rest}
@@ -29,9 +29,6 @@ lay-in me a k p q c d e is = let same : (k, p) ∷ c ≡ (k, q) ∷ d = sym (ap 
   head-place : List (ℕ × BoardSlot) → BoardSlot → BoardSlot
   head-place [] none_there = none_there
   head-place (x ∷ xs) none_there = x.1
-
-pub ticket-of : (turn from : ℕ) → from ≤ turn → from + (turn - from) ≡ turn
-ticket-of turn from le = omega arith
 
 -- a seat that comes to rest with what it had out
 pub at-rest-so : (me new : At) (w : View) → new ≡ (w, me.1) → w.about ≡ me.0.about → w.holds ≡ me.0.holds → w.phase ≡ Resting → IsAtRest me → IsAtRest new

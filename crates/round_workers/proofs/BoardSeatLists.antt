@@ -1,5 +1,5 @@
 -- Seats that are made for workers and joined again, and the looks that a board leaves.
-use Rattle.std.proofs.Common.{◌≡◌, ◌≢◌, ℕ, zero, suc, ◌+◌, ◌-◌, ◌<◌, ◌≤◌, false, nat_eq, List, [], ◌∷◌, ◌++◌, map, length, slice_index_or, All, length-append, Option, Some, refl, sym, ap, ap₂, ◌∙◌, subst, arith}
+use Rattle.std.proofs.Common.{◌≡◌, ◌≢◌, ℕ, zero, suc, ◌+◌, ◌-◌, ◌<◌, false, nat_eq, List, [], ◌∷◌, ◌++◌, map, length, slice_index_or, All, length-append, Option, Some, refl, sym, ap, ap₂, ◌∙◌, subst, arith}
 use Rattle.std.proofs.Math.ListN.{get_or-append}
 use Rattle.std.proofs.Math.Seq.{get_or-append_seam}
 use Rattle.std.specs.Prelude.{IfSome}
@@ -23,7 +23,7 @@ use Rattle.round_workers.specs.BoardSeats.{IsSeatOf, known, left_if, left_look}
 use Rattle.round_workers.specs.BoardTotals.{once_below}
 use Rattle.round_workers.specs.BoardView.{first_seat, window_about}
 use Rattle.round_workers.specs.BoardWorker.{IsWorker, ascends, those_below, turns_in}
-use Rattle.round_workers.proofs.BoardTotalLemmas.{above-none, below-one, once-suc, times-append}
+use Rattle.round_workers.proofs.BoardTotalLemmas.{above-none, once-suc, times-append}
 
 numbers-snoc : (workers : List Worker) (w : Worker) → seat_numbers (workers ++ w ∷ []) ≡ seat_numbers workers ++ (known w.seat).number ∷ []
 numbers-snoc [] w = refl
@@ -74,10 +74,6 @@ manned-joined board first new workers all w is manned seat number made opened ho
       let g : once_below k ((known new).made + 1) ≡ once_below k ((known first).made + 1) = ap (λ (m : ℕ). once_below k (m + 1)) made in
       let h = manned.numbered k in omega arith;
 }
-
--- once every seat went into the first one, it has every part
-pub whole-joined : (board : Board) (first : Seat) → IsManned board first [] → (k : ℕ) → k ≤ (known first).made → 1 ≤ times k (known first).parts
-whole-joined board first manned k le = let sum = manned.numbered k in let one = below-one k ((known first).made + 1) (omega arith) in omega arith
 
 pub hired-more : (board : Board) (workers more : List Worker) (w : Worker) → All (IsHired board) workers → IsHired board w → more ≡ workers ++ w ∷ [] → All (IsHired board) more
 hired-more board workers more w all one is = All-same (IsHired board) more (workers ++ w ∷ []) is (All-append (IsHired board) workers (w ∷ []) all (All-cons (IsHired board) w [] one (All-nil (IsHired board))))
@@ -142,14 +138,6 @@ all-front P all front back is holds k d h =
 pub all-last : {X : Type 0} (P : X → Type 0) (all front : List X) (x : X) → all ≡ front ++ x ∷ [] → All P all → P x
 all-last P all front x is holds =
     subst P (ap (λ l. slice_index_or l (length front) x) is ∙ get_or-append_seam front x [] x) (holds (length front) x (let a : length all ≡ length front + length (x ∷ []) = ap length is ∙ length-append front (x ∷ []) in omega arith))
-
--- the look at the next turn, by its ticket
-module _ (field : FieldValue) (from to : ℕ) (book : BookValue) (begins : book.from ≡ from) (ends : book.to ≡ to) (first : from ≤ book.next) (within : book.next < to) (k : ℕ) (at : k ≡ book.next - from) where
-  pub look-next : (look : LookValue) → look ≡ look_for (window_of field from to) (from + k) → look ≡ look_for (window_of field book.from book.to) book.next
-  look-next look is = let turn : from + k ≡ book.next = omega arith in is ∙ ap₂ (λ (w : Window) (t : ℕ). look_for w t) (ap₂ (window_of field) (sym begins) (sym ends)) turn
-
-  pub look-there : (look : LookValue) (places : List BoardSlot) → AreLooks (window_of field from to) places → look_in (slice_index_or places k Nothing) ≡ Some look → look ≡ look_for (window_of field book.from book.to) book.next
-  look-there look places are is = look-next look (subst (λ (o : Option LookValue). IfSome o (λ l. l ≡ look_for (window_of field from to) (from + k))) is (are k (omega arith)))
 
 -- what workers did that were lent as a slice
 pub worked-so : (board : Board) (slice items new : List Worker) → slice ≡ items → ((i : ℕ) (d : Worker) → i < length slice → HasWorked board (slice_index_or slice i d) (slice_index_or new i d))

@@ -34,9 +34,6 @@ pub record IsSameByBook (v w : View) : Type 0 where
   pub opens : phase_opening w.phase ≡ phase_opening v.phase
   pub opened : w.opened ≡ v.opened
 
-abbrev at-homes : List (maybe.Option BoardSlot) → ℕ → maybe.Option (maybe.Option BoardSlot)
-at-homes homes k = get_elem? homes k
-
 module _ (key : Basis) (s : State BoardSlot View) (r : IsKept key s) (id : ℕ) (v w : View) (at : get_elem? s.views id ≡ maybe.some v) (same : IsSameSeat v w) (sits : Sits key w) where
   first-same : is_first w ≡ is_first v
   first-same = λ k. is_first record v { about = same.about k; number = same.number k }

@@ -171,9 +171,6 @@ module _ (field : FieldValue) (window : Window) (lent : IsLentFor field window) 
   for-on old book for same on = let one = its-window book (same.from ∙ for.stands.from) (same.to ∙ for.stands.to) in
       subst (λ (w : Window). StandsFor w book) one on.stands
 
-  pub look-on : (book : BookValue) (look : LookValue) → StandsFor window book → look ≡ look_for window book.next → look ≡ look_for (window_of field book.from book.to) book.next
-  look-on book look for is = is ∙ ap (λ (w : Window). look_for w book.next) (sym (its-window book for.stands.from for.stands.to))
-
 -- the look of a window, from what it is made of
 pub look-so : (window : Window) (t g seed : ℕ) (minds : Minds) (base : World) → minds ≡ window.minds → seed ≡ window.seed → base ≡ window.base → g ≡ guess_for window t → look_of minds seed base g t ≡ look_for window t
 unfolding look_for

@@ -9,10 +9,6 @@ use Rattle.round_book.specs.declared.verdict.Cause.{Cause}
 use Rattle.round_book.specs.declared.verdict.Cause.TheVariants as cause
 use Rattle.round_book.specs.Book.{IsChanged}
 
--- what was read at a position that wasn't written is there still
-abbrev pub AgreesIfUnwritten : List Pos → Cells → Sighting → Type 0
-AgreesIfUnwritten written cells read = ¬ Contains written (seen_place read) → Agree (seen_parts read) (seen_cell read) (cells (seen_place read))
-
 -- what was read is at a position that wasn't written
 abbrev pub IsUnwritten : List Pos → Sighting → Type 0
 IsUnwritten written read = ¬ Contains written (seen_place read)

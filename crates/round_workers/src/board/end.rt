@@ -34,7 +34,8 @@ pub struct Closed {
 impl Board {
     /// Ends a board. The seat is the first one, every seat that it made was joined into it, and it has opened the book and doesn't hold it.
     /// The book stands for the board's window. A look is left for each turn that the seat, with all that went into it, put and didn't take.
-    /// The tickets that they drew are the numbers below the count, each once. It takes no memory.
+    /// The tickets that they drew are the numbers below the count, each once. Lawful events lead from the window to where the board closed.
+    /// It takes no memory.
     pub fn close(self, seat: Seat) -> Closed
         requires board { IsSeatOf self seat }
         requires first { (known seat).number ≡ 0 }

@@ -34,6 +34,11 @@ pub struct Worker {
 impl Worker {
     /// Draws tickets until one is behind the window, makes the look of each turn and puts it, and after each tries once for the book; with
     /// it it settles the next turns for as long as their looks are there.
+    ///
+    /// The seat is one of this board, which was opened, and drew no ticket behind the window yet. The field is lent for the board's window,
+    /// and the guesses are those for it; `made` has room for all of its turns. After it the worker's number and its seat's are what they
+    /// were, and the board is open to the seat; a ticket behind the window was drawn, each turn that the seat drew was put as often, and for
+    /// each put there was a try for the book. `made` has the room that it had. It takes no memory.
     pub fn work<G: Gate>(&mut self, board: &Board, field: &Field<'_>, guesses: &[u64], gate: &G)
         requires board { IsSeatOf board.now self.old.seat }
         requires opened { (known self.old.seat).opened ≡ true }
@@ -44,8 +49,10 @@ impl Worker {
         ensures number { self.new.number ≡ self.old.number }
         ensures board { IsSeatOf board.now self.new.seat }
         ensures seat_number { (known self.new.seat).number ≡ (known self.old.seat).number }
+        ensures opened { (known self.new.seat).opened ≡ true }
         ensures late { 1 ≤ late_among (turns_in (board_window board.now)) (known self.new.seat).drawn }
         ensures put { (k : ℕ) → k < turns_in (board_window board.now) → times k (known self.new.seat).put ≡ times k (known self.new.seat).drawn }
+        ensures room { vec_capacity self.new.made ≡ vec_capacity self.old.made }
         ensures tries { (known self.old.seat).tries + length (known self.new.seat).put ≤ (known self.new.seat).tries + length (known self.old.seat).put }
     {
         let number = self.number;

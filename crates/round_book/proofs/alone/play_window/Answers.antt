@@ -54,7 +54,7 @@ returns-clause-played g c =
       | else-from-to-2 w ↦ (ap (λ (b : BookValue). b.from) (w.book-is ∙ c.in_ok-book.ensures.book), ap (λ (b : BookValue). b.to) (w.book-is ∙ c.in_ok-book.ensures.book))
     ] in
     let played : IsPlayed (lent_for c.args.field.now c.args.from c.args.to) c.args.from c.args.to c.keep.new.self = subst (λ (z : FieldValue × ℕ × ℕ × FieldValue). IsPlayed z.0 z.1 z.2 z.3) (λ j. (lent j, ends.0 j, ends.1 j, sym c.keep.ensures j)) c.finish-counts.ensures.played in
-    record { now = played.now; minds = played.minds; seed = played.seed; ids = played.ids; whole = played.whole }
+    record { now = played.now; minds = played.minds; seed = played.seed; ids = played.ids; whole = played.whole; lent = played.lent }
 
 pub returns-clause-counts : goal.returns-clause-counts
 returns-clause-counts g c =

@@ -41,3 +41,14 @@ returns-in-Some-clause-answer c =
 pub returns-in-None-clause-answer : goal.returns-in-None-clause-answer
 returns-in-None-clause-answer c =
     (settles-none c.args.look.now c.args.book.now c.settle_by.new.self c.settle_by.result c.in-None.is c.settle_by.ensures.settled).holds
+
+pub returns-in-Some-clause-settled : goal.returns-in-Some-clause-settled
+returns-in-Some-clause-settled c =
+    let back = settles-some c.args.look.now c.args.book.now c.settle_by.new.self c.settle_by.result c.in-Some.cause c.in-Some.is c.settle_by.ensures.settled in (
+      back.1,
+      subst (λ (m : Minds). IsRedone m c.in-Some.cause c.args.book.now c.redo.new.self) c.brains.ensures.brains
+          (subst (λ (b : BookValue). IsRedone (minds_of c.brains.result) c.in-Some.cause b c.redo.new.self) back.0 c.redo.ensures.redone),
+    )
+
+pub returns-in-None-clause-settled : goal.returns-in-None-clause-settled
+returns-in-None-clause-settled c = settles-none c.args.look.now c.args.book.now c.settle_by.new.self c.settle_by.result c.in-None.is c.settle_by.ensures.settled

@@ -60,7 +60,7 @@ returns-clause-played g c =
     let begins = subst (λ (i : ℕ). IsPlayed c.begin.new.self i c.settle.new.book.to c.finish.new.self) from c.finish.ensures.played in
     let ends = subst (λ (i : ℕ). IsPlayed c.begin.new.self c.args.turns.now.from i c.finish.new.self) to begins in
     let played = subst (λ (f : FieldValue). IsPlayed f c.args.turns.now.from c.args.turns.now.to c.finish.new.self) c.in_ok-book.ensures.lent ends in
-    record { now = played.now; minds = played.minds; seed = played.seed; ids = played.ids; whole = played.whole }
+    record { now = played.now; minds = played.minds; seed = played.seed; ids = played.ids; whole = played.whole; lent = played.lent }
 
 pub returns-clause-counts : goal.returns-clause-counts
 returns-clause-counts g c =

@@ -1,8 +1,7 @@
 use Rattle.std.proofs.Common.{sym, ◌∙◌, subst}
 use Rattle.std.specs.List.{AllByRecursion}
 use Rattle.cell_world.specs.Grid.{world_of}
-use Rattle.round_book.specs.Book.{AgreesUnwritten, BookValue}
-use Rattle.round_book.specs.Inner.Changes.{AgreesIfUnwritten}
+use Rattle.round_book.specs.Book.{AgreesIfUnwritten, AgreesUnwritten, BookValue}
 use Rattle.round_book.proofs.book.Book.cause_against.Goals as goal
 
 pub first_change-requires-clause-unwritten : goal.first_change-requires-clause-unwritten

@@ -9,7 +9,7 @@ use Rattle.round_workers.proofs.board.crew.play_on_board.Goals as goal
 played-so : (old lent now : FieldValue) (from to a b : ℕ) → lent ≡ lent_for old from to → a ≡ from → b ≡ to → IsPlayed lent a b now → IsPlayed old from to now
 played-so old lent now from to a b is begins ends played =
     let here = subst (λ (f : FieldValue). IsPlayed f from to now) is (subst (λ (n : ℕ). IsPlayed lent from n now) ends (subst (λ (n : ℕ). IsPlayed lent n b now) begins played)) in
-    record { now = here.now; minds = here.minds; seed = here.seed; ids = here.ids; whole = here.whole }
+    record { now = here.now; minds = here.minds; seed = here.seed; ids = here.ids; whole = here.whole; lent = here.lent }
 
 pub settle-book-requires-clause-laid : goal.settle-book-requires-clause-laid
 settle-book-requires-clause-laid g c κs within = subst (λ (f : FieldValue). IsLaid (window_of f c.args.turns.from c.args.turns.to) c.in_ok-laid.laid) (sym c.in_ok-book.ensures.lent) c.in_ok-laid.ensures.laid

@@ -22,6 +22,7 @@ stream-init g c = record {
   early = c.requires.early;
   seed = c.from_seed-stream.ensures.seed ∙ (c.seed.ensures ∙ ap (λ (w : Window). w.seed) c.requires.field.same);
   room = c.requires.room;
+  capacity = refl;
   tries = omega arith;
 }
 
@@ -34,6 +35,7 @@ stream-preserved g c = let old = c.stream.invariant in let served = c.serve.ensu
   early = served.early c.stream-test.true;
   seed = c.serve.ensures.seed ∙ old.seed;
   room = subst (λ (n : ℕ). turns_in (board_window c.args.board.now) ≤ n) (sym c.serve.ensures.room) old.room;
+  capacity = c.serve.ensures.room ∙ old.capacity;
   tries = (let before = old.tries in let more = served.tries in omega arith);
 }
 
@@ -49,8 +51,14 @@ returns-clause-board g c = c.serve.ensures.board
 pub returns-clause-seat_number : goal.returns-clause-seat_number
 returns-clause-seat_number g c = c.serve.ensures.served.number ∙ c.stream.invariant.seat_number
 
+pub returns-clause-opened : goal.returns-clause-opened
+returns-clause-opened g c = c.serve.ensures.served.opened ∙ c.stream.invariant.opened
+
 pub returns-clause-late : goal.returns-clause-late
 returns-clause-late g c = c.serve.ensures.served.late c.stream-test.false
 
 pub returns-clause-tries : goal.returns-clause-tries
 returns-clause-tries g c = let before = c.stream.invariant.tries in let more = c.serve.ensures.served.tries in omega arith
+
+pub returns-clause-room : goal.returns-clause-room
+returns-clause-room g c = c.serve.ensures.room ∙ c.stream.invariant.capacity

@@ -14,6 +14,7 @@ invariant-stream g l = record {
   early : AllByRecursion (λ k. k < turns_in (board_window l.board)) (known l.self.seat).drawn;
   seed : l.stream.seed ≡ (board_window l.board).seed;
   room : turns_in (board_window l.board) ≤ vec_capacity l.self.made;
+  capacity : vec_capacity l.self.made ≡ vec_capacity l.fn.self.made;
   tries : (known l.fn.self.seat).tries + length (known l.self.seat).put ≤ (known l.self.seat).tries + length (known l.fn.self.seat).put;
 }
 
