@@ -1,5 +1,5 @@
 -- The counts of games, worked out.
-use Rattle.std.proofs.Common.{◌≡◌, [], ◌∷◌, None, refl}
+use Rattle.std.proofs.Common.{◌≡◌, [], ◌∷◌, None, refl, arith}
 use Rattle.brain_read.specs.declared.instr.Instr.TheVariants.{Drop, Move, Turn}
 use Rattle.hex_geometry.specs.declared.direction.Side.TheVariants.{Left}
 use Rattle.cell_world.specs.declared.kind.Kind.TheVariants.{Rock, Clear, RedHill}
@@ -24,6 +24,15 @@ use Rattle.spec_record.proofs.LooksWorked.{field, minds}
 use Rattle.round_book.specs.Counts.{counts_of, is_taken}
 use Rattle.round_book.specs.Window.{Window, guess_for, look_for, moment_before}
 use Rattle.match_run.specs.Counts.{round_totals, totals_of, window_at, window_totals, windows_of}
+use Rattle.match_run.specs.Game.{RisesUpTo, counted_on}
+
+-- a crew's count of turns stays at the last value of a u64
+counts_end : (counted_on 3 4 ≡ 7) × (counted_on 18446744073709551614 1 ≡ 18446744073709551615) × (counted_on 18446744073709551614 7 ≡ 18446744073709551615) × (counted_on 18446744073709551615 1 ≡ 18446744073709551615)
+counts_end = (refl, refl, refl, refl)
+
+-- a count has risen by seven at most
+seven_more : RisesUpTo 3 3 7 × RisesUpTo 3 10 7 × (RisesUpTo 3 11 7 → ⊥) × (RisesUpTo 3 2 7 → ⊥)
+seven_more = ((omega arith, omega arith), (omega arith, omega arith), (λ rises. let most = rises.1 in omega (arith, most)), (λ rises. let least = rises.0 in omega (arith, least)))
 
 -- seven turns are one window of seven, and three windows of three
 cut : (windows_of 7 7 ≡ 1) × (windows_of 3 7 ≡ 3) × (windows_of 1 7 ≡ 7) × (windows_of 16384 7 ≡ 1) × (windows_of 3 6 ≡ 2) × (windows_of 3 0 ≡ 0)

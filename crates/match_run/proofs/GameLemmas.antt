@@ -6,7 +6,7 @@ use Rattle.ant_turn.specs.Rounds.{after_round, after_turns}
 use Rattle.dump_print.specs.declared.totals.Totals.{Totals}
 use Rattle.round_book.specs.Book.{FieldValue, field_moment}
 use Rattle.match_run.specs.Counts.{both, round_totals, sum_windows, windows_of}
-use Rattle.match_run.specs.Game.{CanGoOn, GameValue, IsGame, IsRoundPlayed, IsRoundRefused, IsSameGame, beginning, game_at_round, now_of}
+use Rattle.match_run.specs.Game.{CanGoOn, GameValue, IsGame, IsRoundPlayed, IsSameGame, beginning, game_at_round, now_of}
 use Rattle.match_run.specs.declared.game.Game.TheInside.{Inside}
 use Rattle.match_run.specs.Inner.Windows.{WindowsPlayed}
 use Rattle.match_run.specs.Run.{most_rounds}
@@ -45,17 +45,6 @@ IsGame-game_at_round field window done totals can = record {
   place_from = omega arith;
   place_to = omega (arith, can.place);
   early = omega arith;
-}
-
--- a game that began at place 0 and is at the end of a round can go on
-pub CanGoOn-game : (game : GameValue) → IsGame game → game.first_place ≡ 0 → game.next ≡ 0 → CanGoOn game.field game.window game.done game.totals
-CanGoOn-game game is first ends = record {
-  whole = is.whole;
-  sized = is.sized;
-  few = is.few;
-  turns = is.turns ∙ omega (arith, ends);
-  add_up = is.add_up;
-  place = omega (arith, is.place_to, first);
 }
 
 -- the next turn of a game is a turn, or there is none
@@ -113,20 +102,6 @@ module _ (old : GameValue) (field : FieldValue) (next : ℕ) (totals : Totals) (
         place_from = omega (arith, place_from, first_from);
         place_to = omega (arith, place_to, first_to, turns, here);
         early = is.early;
-      }
-
-  pub IsRoundRefused-windows : next < old.field.world.ids → IsRoundRefused old (with_field old field old.done next totals)
-  IsRoundRefused-windows left =
-      let here = played-next played left in
-      let turns : next - old.next ≡ played.windows * old.window = omega (arith, here) in
-      record {
-        windows = played.windows;
-        now = played.now ∙ ap (after_turns old.field.minds old.field.seed (field_moment old.field) old.next) turns;
-        totals = played.totals_are;
-        done = refl;
-        next = here;
-        is_left = left;
-        same = same old.done next;
       }
 
   -- where all windows were played

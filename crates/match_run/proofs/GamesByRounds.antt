@@ -8,7 +8,7 @@ use Rattle.round_book.specs.Book.{FieldValue, field_moment}
 use Rattle.round_book.proofs.BookLemmas.{moment_at}
 use Rattle.match_run.specs.Counts.{totals_of}
 use Rattle.match_run.specs.GameLaws.{AreRounds, GamesFollowTheRules, GamesGoOnByRounds, GamesKeepTheirHills, IsRoundAtLast}
-use Rattle.match_run.specs.Game.{GameValue, GoesOnFor, IsRoundPlayed, IsRoundRefused, beginning}
+use Rattle.match_run.specs.Game.{GameValue, GoesOnFor, IsRoundPlayed, beginning}
 use Rattle.match_run.specs.Run.{world_after}
 use Rattle.match_run.proofs.CountLaws.{broken_rounds_go_on}
 use Rattle.match_run.proofs.CountLemmas.{none-both}
@@ -20,15 +20,8 @@ at-last zero old new sized played = played
 at-last (suc refusals) old new sized (mid, refused, rest) =
     broken_rounds_go_on old mid new sized refused (at-last refusals mid new (let e : mid.window ≡ old.window = refused.same.window in omega arith) rest)
 
--- no round at all; one more, which was played at once; and one more, which was refused once before
-pub AreRounds-none : (game : GameValue) → AreRounds 0 game game
-AreRounds-none game = refl
-
 pub AreRounds-played : (old mid new : GameValue) (r : ℕ) → AreRounds r old mid → IsRoundPlayed mid new → AreRounds (suc r) old new
 AreRounds-played old mid new r rounds played = (mid, rounds, (0, played))
-
-pub AreRounds-refused : (old mid broken new : GameValue) (r : ℕ) → AreRounds r old mid → IsRoundRefused mid broken → IsRoundPlayed broken new → AreRounds (suc r) old new
-AreRounds-refused old mid broken new r rounds refused played = (mid, rounds, (1, (broken, refused, played)))
 
 pub games_go_on_by_rounds : GamesGoOnByRounds
 games_go_on_by_rounds old new zero sized ends is = subst (λ (game : GameValue). GoesOnFor old game 0) (sym is) (GoesOnFor-none old ends)

@@ -1,6 +1,7 @@
 -- What playing a run pushes, and where it stands.
-use Rattle.std.proofs.Common.{◌≡◌, inl, inr, ℕ, ◌+◌, ◌-◌, ◌*◌, ◌^◌, ◌<◌, ◌≤◌, Bool, List, [], ◌++◌, length, refl, sym, ◌∙◌, ap, ap₂, subst, Result, Ok, Err, append_assoc, length-append, arith}
-use Rattle.ant_base.specs.Sink.{SinkState, PushedAll}
+use Rattle.std.proofs.Common.{◌≡◌, inl, ℕ, ◌+◌, ◌-◌, ◌*◌, ◌^◌, ◌<◌, ◌≤◌, Bool, List, [], ◌++◌, length, refl, sym, ◌∙◌, ap, ap₂, subst, Result, Ok, Err, append_assoc, arith}
+use Rattle.std.proofs.lemmas.Nat.{mul-le}
+use Rattle.ant_base.specs.Sink.{SinkState, PushedAll, PushedFront}
 use Rattle.ant_base.proofs.Numbered.{numbered-front, numbered-more, numbered-none}
 use Rattle.ant_base.proofs.Pushes.{all_of_nothing, all_then, front_more, front_then}
 use Rattle.ant_turn.specs.Minds.{Minds}
@@ -11,29 +12,19 @@ use Rattle.dump_print.specs.declared.totals.Totals.{Totals}
 use Rattle.match_run.specs.declared.fault.PlayFault.{PlayFault}
 use Rattle.match_run.specs.declared.fault.PlayFault.TheVariants.{WriteFault, OutOfMemory}
 use Rattle.match_run.specs.Counts.{both, round_totals, totals_of}
-use Rattle.match_run.specs.Game.{GameValue, GoesOnFor, IsRoundPlayed, StopsWithin, counted_on, now_of}
-use Rattle.match_run.specs.Inner.Rounds.{RoundStopped}
+use Rattle.match_run.specs.Game.{GameValue, GoesOnFor, IsRoundPlayed, RisesUpTo, counted_on, now_of, totals_ahead}
+use Rattle.match_run.specs.Inner.Rounds.{RoundStopped, RoundsStop}
 use Rattle.match_run.specs.Play.{PushedBy, PushedProperPrefix, StoppedBy}
 use Rattle.match_run.specs.Rest.{later_dumps}
 use Rattle.match_run.specs.Run.{chosen_dump}
-use Rattle.match_run.proofs.CountLemmas.{both-both, both-none, totals_of-more, totals_of-turns}
+use Rattle.match_run.specs.Stopped.{StopsBy, dumps_behind}
+use Rattle.match_run.proofs.CountLemmas.{both-both, both-none, round_totals-turns, sum_windows-turns, totals_of-more, totals_of-turns}
 use Rattle.match_run.proofs.GameLemmas.{whole-moment, whole-totals}
 use Rattle.match_run.proofs.RestLaws.{some_then}
 
 -- nothing of a text that has something is pushed
 pub prefix_of_nothing : (state : SinkState) (text : List ℕ) → 1 ≤ length text → PushedProperPrefix state state text
 prefix_of_nothing state text some = record { front = []; rest = text; whole = refl; some_left = some; pushed = all_of_nothing state }
-
--- a play that stopped in a text stopped in a longer one
-pub stopped_more : (old new : SinkState) (a b : List ℕ) (fault : PlayFault) → StoppedBy old new a fault → StoppedBy old new (a ++ b) fault
-stopped_more old new a b WriteFault p = front_more old new a b p
-stopped_more old new a b OutOfMemory p = record {
-  front = p.front;
-  rest = p.rest ++ b;
-  whole = ap (λ t. t ++ b) p.whole ∙ append_assoc p.front p.rest b;
-  some_left = (let left = p.some_left in omega (arith, length-append p.rest b));
-  pushed = p.pushed;
-}
 
 -- one text, and then a play that stopped in another
 pub stopped_then : (old mid new : SinkState) (a b : List ℕ) (fault : PlayFault) → PushedAll old mid a → StoppedBy mid new b fault → StoppedBy old new (a ++ b) fault
@@ -132,14 +123,45 @@ stopped-shown {first} {round} {old} sink mid new_sink chosen at new OutOfMemory 
 }
 
 -- a round that wasn't shown stops a play of more rounds
-pub StopsWithin-shown : (first old new : GameValue) (round n : ℕ) (sink new_sink : SinkState) (chosen : ℕ → Bool) (rounds : ℕ) (fault : PlayFault) → round < rounds → GoesOnFor first old round → RoundStopped old new chosen n sink new_sink fault
-    → StopsWithin first new rounds
-StopsWithin-shown first old new round n sink new_sink chosen rounds WriteFault more at stopped = record { played = round + 1; within = omega (arith, more); at = new; whole = GoesOnFor-more at new stopped.0; rest = inl refl }
-StopsWithin-shown first old new round n sink new_sink chosen rounds OutOfMemory more at stopped = record { played = round; within = omega (arith, more); at = old; whole = at; rest = inr stopped.0 }
+pub RoundsStop-shown : {first old : GameValue} {round : ℕ} (new : GameValue) (rounds : ℕ) (chosen : ℕ → Bool) (sink mid new_sink : SinkState) (fault : PlayFault) → round < rounds → GoesOnFor first old round
+    → PushedAll sink mid (dumps_behind first chosen round) → RoundStopped old new chosen (first.done + round + 1) mid new_sink fault → RoundsStop first new rounds chosen sink new_sink fault
+RoundsStop-shown {first} {old} {round} new rounds chosen sink mid new_sink WriteFault more at so_far stopped =
+    let whole : GoesOnFor first new (round + 1) = GoesOnFor-more at new stopped.0 in
+    let behind : first.done + round + 1 ≡ new.done = (let done = whole.done in omega (arith, done)) in
+    record {
+      shown = round;
+      left = more;
+      whole = whole;
+      mid = mid;
+      before = so_far;
+      failed = subst (λ (n : ℕ). PushedFront mid new_sink (chosen_dump chosen (world_of new.field.world) n)) behind stopped.1;
+    }
+RoundsStop-shown {first} {old} {round} new rounds chosen sink mid new_sink OutOfMemory more at so_far stopped = record {
+  shown = round;
+  left = more;
+  at = old;
+  whole = at;
+  refused = stopped.0;
+  before = subst (λ (state : SinkState). PushedAll sink state (dumps_behind first chosen round)) (sym stopped.1) so_far;
+}
 
--- a play stops behind its last round
-pub StopsWithin-last : {first new : GameValue} {rounds : ℕ} → GoesOnFor first new rounds → StopsWithin first new rounds
-StopsWithin-last {first} {new} {rounds} whole = record { played = rounds; within = omega arith; at = new; whole = whole; rest = inl refl }
+-- a play whose rounds stopped has stopped
+pub StopsBy-rounds : (old new : GameValue) (rounds : ℕ) (chosen : ℕ → Bool) (stats : Bool) (sink new_sink : SinkState) (fault : PlayFault) → RoundsStop old new rounds chosen sink new_sink fault → StopsBy old new rounds chosen stats sink new_sink fault
+StopsBy-rounds old new rounds chosen stats sink new_sink WriteFault stop = inl stop
+StopsBy-rounds old new rounds chosen stats sink new_sink OutOfMemory stop = stop
+
+-- a round that wasn't shown had a turn of each id at most
+pub RoundStopped-turns : (old new : GameValue) (chosen : ℕ → Bool) (n : ℕ) (mid new_sink : SinkState) (fault : PlayFault) → old.next ≡ 0 → 1 ≤ old.window → RoundStopped old new chosen n mid new_sink fault
+    → (old.totals.turns ≤ new.totals.turns) × (new.totals.turns ≤ old.totals.turns + old.field.world.ids)
+RoundStopped-turns old new chosen n mid new_sink WriteFault ends sized stopped =
+    let sum : new.totals.turns ≡ old.totals.turns + (round_totals old.field.minds old.field.seed old.window (now_of old)).turns = ap (λ (t : Totals). t.turns) (whole-totals old new ends stopped.0) in
+    let turns = round_totals-turns old.field.minds old.field.seed old.window (now_of old) sized in
+    (omega (arith, sum), omega (arith, sum, turns))
+RoundStopped-turns old new chosen n mid new_sink OutOfMemory ends sized stopped =
+    let windows : ℕ = stopped.0.windows in
+    let sum : new.totals.turns ≡ old.totals.turns + (totals_ahead old windows).turns = ap (λ (t : Totals). t.turns) stopped.0.totals in
+    let turns = sum_windows-turns old.field.minds old.field.seed old.window (now_of old) old.next windows (omega (arith, ends)) in
+    (omega (arith, sum), omega (arith, sum, turns))
 
 -- one text, and then a play that pushes another
 pub by_then : {A : Type 0} (old mid new : SinkState) (a b : List ℕ) (result : Result A PlayFault) → PushedAll old mid a → PushedBy mid new b result → PushedBy old new (a ++ b) result
@@ -153,3 +175,17 @@ counted-round first mid new before after turns ids round so_far step is_before i
 -- a crew's count of turns before a round
 pub counted-start : (played ids : ℕ) → played < 2 ^ 64 → played ≡ counted_on played (ids * 0)
 counted-start played ids small = omega arith
+
+-- a crew's count of turns goes on with the turns of a round that wasn't shown
+pub counted-stopped : (first mid new before turns after ids round : ℕ) → mid ≡ counted_on first (ids * round) → new ≡ counted_on mid (after - turns) → turns ≡ before + ids * round → turns ≤ after → new ≡ counted_on first (after - before)
+counted-stopped first mid new before turns after ids round so_far step is_turns le = omega arith
+
+-- so many turns of the ids are those of so many rounds at most
+pub rises-rounds : (first new before after ids round rounds : ℕ) → first < 2 ^ 64 → new ≡ counted_on first (after - before) → after ≤ before + ids * (round + 1) → round < rounds → RisesUpTo first new (ids * rounds)
+rises-rounds first new before after ids round rounds small counted le more =
+    let all : ids * (round + 1) ≤ ids * rounds = mul-le ids (round + 1) ids rounds (omega arith) (omega arith) in
+    (omega (arith, all), omega (arith, all))
+
+-- the turns of whole rounds
+pub rises-all : (first new ids rounds : ℕ) → first < 2 ^ 64 → new ≡ counted_on first (ids * rounds) → RisesUpTo first new (ids * rounds)
+rises-all first new ids rounds small counted = (omega arith, omega arith)

@@ -1,22 +1,13 @@
--- Rounds that never fall: how they stay so, and how one of them is found.
-use Rattle.std.proofs.Common.{◌≡◌, ◌+◌, ◌-◌, ◌<◌, ◌≤◌, ℕ, Bool, true, false, List, [], ◌∷◌, ◌++◌, length, get_or, Result, Ok, Err, nat_eq, nat_lt, refl, sym, arith, eq-eqb, ne_eqb, ltb-true, ltb-false}
+-- Rounds in another order, and how one of those that never fall is found.
+use Rattle.std.proofs.Common.{◌≡◌, ◌-◌, ◌<◌, ◌≤◌, ℕ, Bool, true, false, List, length, get_or, Result, Ok, Err, nat_eq, nat_lt, refl, sym, arith, eq-eqb, ne_eqb, ltb-true, ltb-false}
 use Rattle.std.specs.Prelude.{IsPermutation}
-use Rattle.std.specs.List.{list_any, All}
 use Rattle.std.specs.List.Sorted.{IsBinarySearchResult, IsNonDecreasing}
 use Rattle.std.specs.Ordering.{nat_cmp}
 use Rattle.std.specs.Result.{MatchResult, is_ok}
 use Rattle.std.proofs.lemmas.List.Elements.{All-from_get_or}
 use Rattle.std.proofs.lemmas.List.Folds.{list_any_at, list_any_none}
-use Rattle.std.proofs.lemmas.List.Sorted.{IsNonDecreasingBy-push, list_any-IsPermutation, searched}
+use Rattle.std.proofs.lemmas.List.Sorted.{list_any-IsPermutation, searched}
 use Rattle.match_run.specs.Dumps.{has_round}
-
--- no numbers never fall
-pub rising-none : IsNonDecreasing []
-rising-none = λ i j d up below. absurd (omega (arith, below))
-
--- nor do they with one more that is no earlier than the last
-pub rising-more : (list : List ℕ) (round : ℕ) → IsNonDecreasing list → ((d : ℕ) → 0 < length list → get_or list (length list - 1) d ≤ round) → IsNonDecreasing (list ++ round ∷ [])
-rising-more list round rises last = IsNonDecreasingBy-push (λ n. n) list round rises last
 
 -- the same numbers in another order are the same rounds
 pub has_round-permuted : (list other : List ℕ) → IsPermutation list other → (round : ℕ) → has_round other round ≡ has_round list round

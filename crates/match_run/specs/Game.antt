@@ -1,5 +1,5 @@
 -- Games that are played window by window (the task's game play; windows are this project's own).
-use Rattle.std.specs.Prelude.{◌≡◌, ◌⊎◌, ℕ, ◌+◌, ◌-◌, ◌*◌, ◌%◌, ◌<◌, ◌≤◌, ◌^◌, true, min}
+use Rattle.std.specs.Prelude.{◌≡◌, ℕ, ◌+◌, ◌-◌, ◌*◌, ◌%◌, ◌<◌, ◌≤◌, ◌^◌, true, min}
 use Rattle.ant_turn.specs.Rounds.{Moment, after_rounds, after_turns}
 use Rattle.dump_print.specs.declared.totals.Totals.{Totals}
 use Rattle.round_book.specs.Book.{FieldValue, field_moment}
@@ -99,14 +99,10 @@ pub record GoesOnFor (old new : GameValue) (rounds : ℕ) : Type 0 where
   pub next : new.next ≡ 0
   pub same : IsSameGame old new
 
--- a play of so many rounds stopped: after some of them, or in a further one, of which a window was refused
-pub record StopsWithin (old new : GameValue) (rounds : ℕ) : Type 0 where
-  pub played : ℕ
-  pub within : played ≤ rounds
-  pub at : GameValue
-  pub whole : GoesOnFor old at played
-  pub rest : (new ≡ at) ⊎ IsRoundRefused at new
-
 -- a count of turns after some more, which stays at the last value of a u64
 abbrev pub counted_on : ℕ → ℕ → ℕ
 counted_on turns more = min (turns + more) (2 ^ 64 - 1)
+
+-- a count of turns has risen by so many at most
+abbrev pub RisesUpTo : ℕ → ℕ → ℕ → Type 0
+RisesUpTo old new turns = (old ≤ new) × (new ≤ old + turns)

@@ -23,8 +23,8 @@ use dump_print::{push_score, push_seed};
 ///
 /// Each ant's state is below the length of its colour's brain, as in every opening world, and the plan has at most 1,000,000 rounds.
 /// The turns are those of the ids in rising order, from 0, round after round, with the random numbers of the seed from place 0 on.
-/// Gives the score after the last round: the food on each colour's hill. It fails only where the sink did: a prefix of the text was pushed
-/// then. It takes no memory. It makes no looks and counts none: its text is that of a plan without counts, whatever the plan's window and
+/// Gives the score after the last round: the food on each colour's hill. It fails only where the sink did, whose count of faults rose then: a
+/// prefix of the text was pushed. It takes no memory. It makes no looks and counts none: its text is that of a plan without counts, whatever the plan's window and
 /// whether it asks for counts.
 pub fn play_alone<K: Sink>(
     world: World,

@@ -1,5 +1,5 @@
 // A whole run, played by a crew.
-ghost use Rattle.std.specs.Prelude.{◌≡◌, ◌+◌, ◌-◌, ◌*◌, ◌<◌, ◌≤◌, true, None, IfOk, OnErr, OnOk};
+ghost use Rattle.std.specs.Prelude.{◌≡◌, ◌+◌, ◌-◌, ◌*◌, ◌<◌, ◌≤◌, true, None, IfErr, IfOk, OnOk};
 ghost use Rattle.ant_base.specs.Layout.{◌+++◌};
 ghost use Rattle.ant_base.specs.Sink.{Pushed};
 ghost use Rattle.ant_turn.specs.Minds.{Fits, minds_of};
@@ -9,11 +9,12 @@ ghost use Rattle.cell_world.specs.Score.{score_of};
 ghost use Rattle.dump_print.specs.Texts.{score_text};
 ghost use Rattle.match_run.specs.Counts.{counts_text, whole_text};
 ghost use Rattle.match_run.specs.Dumps.{chooses};
-ghost use Rattle.match_run.specs.Game.{GoesOnFor, StopsWithin, beginning, counted_on, now_of};
-ghost use Rattle.match_run.specs.Inner.Rounds.{RoundShown, RoundsPushed};
+ghost use Rattle.match_run.specs.Game.{GoesOnFor, RisesUpTo, beginning, counted_on, now_of};
+ghost use Rattle.match_run.specs.Inner.Rounds.{RoundShown, RoundsPushed, RoundsStop};
 ghost use Rattle.match_run.specs.Play.{PushedBy};
 ghost use Rattle.match_run.specs.Rest.{later_dumps, rest_text};
 ghost use Rattle.match_run.specs.Run.{ended, most_rounds, world_after};
+ghost use Rattle.match_run.specs.Stopped.{StopsBy};
 
 use crate::dumps::{Dumps, push_chosen};
 use crate::fault::PlayFault;
@@ -36,7 +37,7 @@ use std::alloc::Global;
 /// times the rounds then, or stands at its last value.
 ///
 /// It is refused where the sink failed, whose count of faults rose then: a prefix of the text was pushed. Or it is out of memory: a proper
-/// prefix of it was.
+/// prefix of it was. The crew's count has risen by no more than that of a whole run then.
 pub fn play<C: Crew, K: Sink>(
     alloc: Global,
     crew: &mut C,
@@ -54,6 +55,7 @@ pub fn play<C: Crew, K: Sink>(
         (whole_text (minds_of brains.entry) plan.now.seed plan.now.rounds (chooses plan.now.dumps) plan.now.window plan.now.stats (world_of world)) result }
     ensures score { IfOk result (λ s. s ≡ score_of (world_after (minds_of brains.entry) plan.now.seed (world_of world) plan.now.rounds)) }
     ensures turns { OnOk result (C.played crew.new ≡ counted_on (C.played crew.old) (world.ids * plan.now.rounds)) }
+    ensures rises { RisesUpTo (C.played crew.old) (C.played crew.new) (world.ids * plan.now.rounds) }
 {
     let mut game = game_of(alloc, world, brains, plan)?;
     push_seed(plan.seed, sink)?;
@@ -98,8 +100,9 @@ fn game_of<'b>(
 /// count of turns has risen by that of the ids times the later rounds, or stands at its last value.
 ///
 /// It is refused where the sink failed, whose count of faults rose then, and a prefix of the text was pushed; or it is out of memory,
-/// and a proper prefix was. The game stands at the end of a round, or, where it is out of memory, at the window that was refused, and it can
-/// be gone on with.
+/// and a proper prefix was. Where the sink failed at a dump, the game stands at the end of that round; where at the score or the counts, at
+/// the end of the last one. Out of memory, it stands at the window that was refused, exactly the dumps of the rounds before were pushed,
+/// and it can be gone on with. The crew has counted the turns that the game has, also after a refusal.
 pub fn play_rest<C: Crew, K: Sink>(
     alloc: Global,
     crew: &mut C,
@@ -118,8 +121,10 @@ pub fn play_rest<C: Crew, K: Sink>(
         (rest_text game.old.field.minds game.old.field.seed game.old.window (now_of game.old) game.old.done game.old.totals rounds (chooses dumps.now) stats) result }
     ensures score { IfOk result (λ s. s ≡ score_of (after_rounds game.old.field.minds game.old.field.seed (now_of game.old) (rounds - game.old.done)).world) }
     ensures played { OnOk result (GoesOnFor game.old game.new (rounds - game.old.done)) }
-    ensures stopped { OnErr result (StopsWithin game.old game.new (rounds - game.old.done)) }
+    ensures stopped { IfErr result (λ fault. StopsBy game.old game.new (rounds - game.old.done) (chooses dumps.now) stats (K.state sink.old) (K.state sink.new) fault) }
     ensures turns { OnOk result (C.played crew.new ≡ counted_on (C.played crew.old) (game.old.field.world.ids * (rounds - game.old.done))) }
+    ensures counted { C.played crew.new ≡ counted_on (C.played crew.old) (game.new.totals.turns - game.old.totals.turns) }
+    ensures rises { RisesUpTo (C.played crew.old) (C.played crew.new) (game.old.field.world.ids * (rounds - game.old.done)) }
 {
     play_rounds(alloc, crew, game, rounds, dumps, sink)?;
     Ok(push_end(game.world(), game.totals(), stats, sink)?)
@@ -142,8 +147,10 @@ fn play_rounds<C: Crew, K: Sink>(
     ensures text { RoundsPushed (K.state sink.old) (K.state sink.new)
         (later_dumps game.old.field.minds game.old.field.seed (chooses dumps.now) (now_of game.old) game.old.done (rounds - game.old.done)) result }
     ensures played { OnOk result (GoesOnFor game.old game.new (rounds - game.old.done)) }
-    ensures stopped { OnErr result (StopsWithin game.old game.new (rounds - game.old.done)) }
+    ensures stopped { IfErr result (λ fault. RoundsStop game.old game.new (rounds - game.old.done) (chooses dumps.now) (K.state sink.old) (K.state sink.new) fault) }
     ensures turns { OnOk result (C.played crew.new ≡ counted_on (C.played crew.old) (game.old.field.world.ids * (rounds - game.old.done))) }
+    ensures counted { C.played crew.new ≡ counted_on (C.played crew.old) (game.new.totals.turns - game.old.totals.turns) }
+    ensures rises { RisesUpTo (C.played crew.old) (C.played crew.new) (game.old.field.world.ids * (rounds - game.old.done)) }
 {
     // A crew's count is a u64, so it doesn't change where there is no round.
     let _count = crew.turns();

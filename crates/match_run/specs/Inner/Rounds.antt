@@ -7,6 +7,7 @@ use Rattle.match_run.specs.declared.fault.PlayFault.TheVariants.{WriteFault, Out
 use Rattle.match_run.specs.Game.{GameValue, IsRoundPlayed, IsRoundRefused}
 use Rattle.match_run.specs.Play.{StoppedBy}
 use Rattle.match_run.specs.Run.{chosen_dump}
+use Rattle.match_run.specs.Stopped.{FailsAtDump, RefusesWindow}
 
 -- why a round wasn't shown: it was played, and the sink failed at its dump; or memory was wanting for a window of it, and nothing was pushed
 abbrev pub RoundStopped : GameValue → GameValue → (ℕ → Bool) → ℕ → SinkState → SinkState → PlayFault → Type 0
@@ -22,3 +23,8 @@ RoundShown old new chosen round sink new_sink (Err fault) = RoundStopped old new
 abbrev pub RoundsPushed : {A : Type 0} → SinkState → SinkState → List ℕ → Result A PlayFault → Type 0
 RoundsPushed sink new_sink text (Ok _) = PushedAll sink new_sink text
 RoundsPushed sink new_sink text (Err fault) = (rest : List ℕ) → 1 ≤ length rest → StoppedBy sink new_sink (text ++ rest) fault
+
+-- why rounds weren't played and shown: the sink failed at the dump of one of them, or memory was wanting for a window
+abbrev pub RoundsStop : GameValue → GameValue → ℕ → (ℕ → Bool) → SinkState → SinkState → PlayFault → Type 0
+RoundsStop old new rounds chosen sink new_sink WriteFault = FailsAtDump old new rounds chosen sink new_sink
+RoundsStop old new rounds chosen sink new_sink OutOfMemory = RefusesWindow old new rounds chosen sink new_sink

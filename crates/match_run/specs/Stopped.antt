@@ -1,0 +1,47 @@
+-- Where a game stands, and what was pushed of the rest of its text, when its play stopped (this project's own).
+use Rattle.std.specs.Prelude.{ℕ, ◌+◌, ◌<◌, ◌⊎◌, Bool, List}
+use Rattle.ant_base.specs.Layout.{◌+++◌}
+use Rattle.ant_base.specs.Sink.{SinkState, PushedAll, PushedFront}
+use Rattle.cell_world.specs.Grid.{world_of}
+use Rattle.cell_world.specs.Score.{score_of}
+use Rattle.dump_print.specs.Texts.{score_text}
+use Rattle.match_run.specs.declared.fault.PlayFault.{PlayFault}
+use Rattle.match_run.specs.declared.fault.PlayFault.TheVariants.{WriteFault, OutOfMemory}
+use Rattle.match_run.specs.Counts.{counts_text}
+use Rattle.match_run.specs.Game.{GameValue, GoesOnFor, IsRoundRefused, now_of}
+use Rattle.match_run.specs.Rest.{later_dumps}
+use Rattle.match_run.specs.Run.{chosen_dump}
+
+-- the dumps of so many later rounds of a game that are chosen
+abbrev pub dumps_behind : GameValue → (ℕ → Bool) → ℕ → List ℕ
+dumps_behind game chosen rounds = later_dumps game.field.minds game.field.seed chosen (now_of game) game.done rounds
+
+-- the sink failed at the dump of one of so many rounds: the game stands behind that round, and the dumps of the rounds before it were pushed
+pub record FailsAtDump (old new : GameValue) (rounds : ℕ) (chosen : ℕ → Bool) (sink new_sink : SinkState) : Type 0 where
+  pub shown : ℕ
+  pub left : shown < rounds
+  pub whole : GoesOnFor old new (shown + 1)
+  pub mid : SinkState
+  pub before : PushedAll sink mid (dumps_behind old chosen shown)
+  pub failed : PushedFront mid new_sink (chosen_dump chosen (world_of new.field.world) new.done)
+
+-- the sink failed at the score or the counts: the game stands behind its last round, and all dumps were pushed
+pub record FailsAtEnd (old new : GameValue) (rounds : ℕ) (chosen : ℕ → Bool) (stats : Bool) (sink new_sink : SinkState) : Type 0 where
+  pub whole : GoesOnFor old new rounds
+  pub mid : SinkState
+  pub before : PushedAll sink mid (dumps_behind old chosen rounds)
+  pub failed : PushedFront mid new_sink (score_text (score_of (world_of new.field.world)) +++ counts_text stats new.totals)
+
+-- a window of one of so many rounds was refused: the game stands at that window, and the dumps of the rounds before it were pushed and no more
+pub record RefusesWindow (old new : GameValue) (rounds : ℕ) (chosen : ℕ → Bool) (sink new_sink : SinkState) : Type 0 where
+  pub shown : ℕ
+  pub left : shown < rounds
+  pub at : GameValue
+  pub whole : GoesOnFor old at shown
+  pub refused : IsRoundRefused at new
+  pub before : PushedAll sink new_sink (dumps_behind old chosen shown)
+
+-- why a game wasn't played so many rounds further with its text: the sink failed at a dump or at the end, or memory was wanting for a window
+abbrev pub StopsBy : GameValue → GameValue → ℕ → (ℕ → Bool) → Bool → SinkState → SinkState → PlayFault → Type 0
+StopsBy old new rounds chosen stats sink new_sink WriteFault = FailsAtDump old new rounds chosen sink new_sink ⊎ FailsAtEnd old new rounds chosen stats sink new_sink
+StopsBy old new rounds chosen stats sink new_sink OutOfMemory = RefusesWindow old new rounds chosen sink new_sink
