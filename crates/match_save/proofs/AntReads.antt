@@ -137,9 +137,6 @@ parts-good width height some narrow some' low =
     (λ laden ok5. followed-good (number-good 0 9999 (omega arith) (omega arith))
     (λ state ok6. number-good 0 255 (omega arith) (omega arith))))))))
 
-ant_line : PlacedAnt → List ℕ
-ant_line it = spaced (text.ant_tokens it)
-
 -- ants whose ids rise from this one on
 pub record AreAnts (width height least : ℕ) (ants : List PlacedAnt) : Type 0 where
   pub each : AllByRecursion (IsAnt width height) ants
@@ -223,11 +220,6 @@ module _ (width height : ℕ) (some : 1 ≤ width) (narrow : width ≤ 512) (som
           number = refl;
         } in
         subst (λ (p : List PlacedAnt × Left (List ℕ)). Took (AreAnts width height least) ant_lines (left_at n (line ∷ lines)) p.0 p.1) pair here
-
-  -- no line of an ant is the last line
-  no_end : (it : PlacedAnt) → bytes_eq (codes "end") (ant_line it) ≡ false
-  unfolding ant_line
-  no_end it = refl
 
   first_is : (least : ℕ) (line : List ℕ) (begins : Begins (AreAnts width height least) ant_lines (line ∷ [])) → bytes_eq (codes "end") line ≡ false
       → (it : PlacedAnt) × (ant_of width height line ≡ Some it) × (least ≤ it.ant.id)

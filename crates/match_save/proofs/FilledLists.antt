@@ -19,10 +19,6 @@ fault-passed whole part (BadLine k) pass told = pass k told
 fault-passed whole part BadState pass told = told
 fault-passed whole part OutOfMemory pass told = tt
 
-pub behind-none : {E A : Type 0} (told : Result (List A × Left E) ℕ) → behind [] told ≡ told
-behind-none (Ok read) = refl
-behind-none (Err k) = refl
-
 pub err-behind : {E A : Type 0} (front : List A) (told : Result (List A × Left E) ℕ) (k : ℕ) → behind front told ≡ Err k → told ≡ Err k
 err-behind front (Ok read) k e = absurd (cc)
 err-behind front (Err j) k e = (let s : j ≡ k = cc in ap Err s)
@@ -84,9 +80,6 @@ module _ {A : Type 0} (value : ℕ → Option A) where
     pub rows-refused : (old : List A) (n k : ℕ) (at : Left (List ℕ)) → behind old (one (row_of value width) at) ≡ Err k → behind old (read_rows value width (suc n) at) ≡ Err k
     rows-refused old n k at e =
         ap (λ r. behind old (made joined (made with_first (go_on (λ x. many (row_of value width) n) r)))) (err-behind old (one (row_of value width) at) k e)
-
-    pub rows-none : (old : List A) (at : Left (List ℕ)) → behind old (read_rows value width 0 at) ≡ Ok (old, at)
-    rows-none old at = ap (λ l. Ok (l, at)) (append-nil old)
 
 -- one food more
 pub foods-more : (width i value : ℕ) (values old : List ℕ) (food : ℕ) (at left : Left (List ℕ)) → food_at width i value at ≡ Ok (food, left)

@@ -79,9 +79,6 @@ module _ (d : Draft) (ok : IsInForm d) where
   unfolding grid_of_draft
   state-world state = record { few = state.world.valid.few; sound = sound-state d ok state; light = light-state d ok state; stand = stand-state d ok state }
 
-  pub state-rest : IsState d → HasRest d
-  state-rest state = record { red = state.red; black = state.black; fits = state.fits; place = state.place; turns = state.turns }
-
 -- it can be told whether a fact holds of each element of a list, and whether ants can stand
 dec_all : {A : Type 0} (P : A → Type 0) → ((a : A) → Dec (P a)) → (list : List A) → Dec (AllByRecursion P list)
 dec_all P one [] = yes tt

@@ -7,16 +7,13 @@ use Rattle.match_save.specs.Inner.Floor.{with_marker}
 use Rattle.match_save.specs.Inner.Written.{with_power}
 use Rattle.std.proofs.lemmas.Bool.{cases_eq, eqb-true, eqb-false, lt-ltb}
 use Rattle.std.proofs.lemmas.Nat.{or_lt, pow_below}
-use Rattle.std.proofs.lemmas.Nat.Bits.{bit_at-lt, bit_at-pow_other, bit_at-pow_same, bit_at-zero, bit_at_or, same_from_bits_below}
+use Rattle.std.proofs.lemmas.Nat.Bits.{bit_at-lt, bit_at-pow_other, bit_at-pow_same, bit_at_or}
 
 -- a set that has the markers below i of another, and no more
 pub record IsFilled (set i made : ℕ) : Type 0 where
   pub low : (j : ℕ) → j < i → bit_at made j ≡ bit_at set j
   pub high : (j : ℕ) → i ≤ j → bit_at made j ≡ 0
   pub small : made < 64
-
-pub IsFilled-none : (set : ℕ) → IsFilled set 0 0
-IsFilled-none set = record { low = λ j below. absurd (omega (arith, below)); high = λ j above. bit_at-zero j; small = omega arith }
 
 -- one that the other has is added
 pub IsFilled-with : (set i made : ℕ) → i < 6 → IsFilled set i made → nat_eq (bit_at set i) 1 ≡ true → IsFilled set (i + 1) (bit_or made (2 ^ i))
@@ -45,10 +42,6 @@ IsFilled-without set i made filled hasnt = record { low = low; high = λ j above
         ap (bit_at made) same ∙ filled.high i (omega arith) ∙ sym (ap (bit_at set) same ∙ none)
     | inr apart ↦ filled.low j (omega (arith, below, apart))
   ]
-
--- all six are there
-pub IsFilled-all : (set made : ℕ) → set < 64 → IsFilled set 6 made → made ≡ set
-IsFilled-all set made small filled = same_from_bits_below 6 made set filled.small small (λ j below. filled.low j below)
 
 -- the next marker, if it is there
 pub IsFilled-next : (set i : ℕ) (marks : Marks) → i < 6 → IsFilled set i marks.set → IsFilled set (i + 1) (with_marker marks set i).set

@@ -1,7 +1,6 @@
 -- Ants that are put one after another.
-use Rattle.std.proofs.Common.{◌≡◌, ℕ, suc, ◌+◌, ◌*◌, ◌<◌, ◌≤◌, List, [], ◌∷◌, length, get_or, drop, Some, None, refl, sym, ◌∙◌, ap, subst, arith, true, false, add-one}
+use Rattle.std.proofs.Common.{◌≡◌, ℕ, suc, ◌+◌, ◌<◌, ◌≤◌, List, ◌∷◌, length, get_or, drop, Some, sym, ◌∙◌, ap, subst, arith, true, add-one}
 use Rattle.std.proofs.Math.Seq.{drop-cons}
-use Rattle.std.specs.List.{AllByRecursion}
 use Rattle.hex_geometry.specs.Position.{IsInside}
 use Rattle.hex_geometry.specs.declared.position.Pos.{Pos}
 use Rattle.cell_world.specs.declared.ant.Ant.{Ant}
@@ -10,24 +9,9 @@ use Rattle.cell_world.specs.Cell.{ant_weight}
 use Rattle.cell_world.specs.Grid.{Grid, cell_in, world_of}
 use Rattle.cell_world.specs.Limits.{most_weight}
 use Rattle.cell_world.specs.World.{weight}
-use Rattle.match_save.specs.Draft.{IdsRise}
 use Rattle.match_save.specs.Inner.Puts.{PutsOn}
-use Rattle.match_save.specs.Inner.AntPuts.{CanAllStand, PutsAll, PutsOne, weight_of_ants}
+use Rattle.match_save.specs.Inner.AntPuts.{PutsOne}
 use Rattle.match_save.proofs.Standings.{below-standing, full-standing, weight-standing}
-
--- no ant was put yet
-pub PutsOn-none : (g : Grid) (ants : List PlacedAnt) → length g.cells ≡ g.width * g.height → AllByRecursion (λ (it : PlacedAnt). IsInside g.width g.height it.place) ants → IdsRise 0 ants → ((p : Pos) → (cell_in g p).ant ≡ None) → weight (world_of g) + weight_of_ants ants ≤ most_weight → PutsOn g g ants ants
-PutsOn-none g ants full inside rise empty light = record {
-  full = full;
-  becomes = refl;
-  can = λ can. can;
-  could = λ can. can;
-  inside = inside;
-  least = 0;
-  rise = rise;
-  below = λ p ant there. (let both : None ≡ Some ant = sym (empty p) ∙ there in absurd (cc));
-  light = light;
-}
 
 -- what the next ant asks for
 pub record AsksFor (now : Grid) (it : PlacedAnt) : Type 0 where
@@ -55,14 +39,6 @@ PutsOn-more {old} {now} {all} new it rest on put = subst (λ (g : Grid). PutsOn 
   below = below-standing now it on.least on.full on.inside.0 on.rise.0 on.below;
   light = (let l = on.light in let w = weight-standing now it on.full on.inside.0 put.0.free in omega (arith, l, w));
 })
-
--- an ant couldn't be put
-pub PutsOn-stop : {old now : Grid} {all : List PlacedAnt} (new : Grid) (it : PlacedAnt) (rest : List PlacedAnt) → PutsOn old now all (it ∷ rest) → PutsOne now new it false → CanAllStand old all → ⊥
-PutsOn-stop new it rest on put can = put (on.could can).0
-
--- all were put
-pub PutsOn-end : {old now : Grid} {all : List PlacedAnt} → PutsOn old now all [] → PutsAll old now all true
-PutsOn-end on = (on.can tt, on.becomes)
 
 -- the elements of a list from one on
 pub drop-from : {X : Type 0} (xs : List X) (i : ℕ) (none : X) → i < length xs → drop i xs ≡ get_or xs i none ∷ drop (i + 1) xs

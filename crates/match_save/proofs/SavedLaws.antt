@@ -28,9 +28,6 @@ record SayAgain (soils : List Soil) (reds blacks foods : List ℕ) : Type 0 wher
   blacks_again : map (λ (cell : Cell). cell.black.set) (ground_cells soils reds blacks foods) ≡ blacks
   foods_again : map (λ (cell : Cell). cell.food) (ground_cells soils reds blacks foods) ≡ foods
 
-soil-again : (soil : Soil) (reds blacks foods : List ℕ) (cell : Cell) → soil ≡ soil
-soil-again soil reds blacks foods cell = refl
-
 again : (soils : List Soil) (reds blacks foods : List ℕ) → AreAlike soils reds blacks foods → SayAgain soils reds blacks foods
 again [] [] [] [] are = record { full = refl; soils_again = refl; reds_again = refl; blacks_again = refl; foods_again = refl }
 again [] (r ∷ reds) blacks foods are = absurd (let l = are.reds_full in let wrong : ⊥ = omega (arith, l) in wrong)

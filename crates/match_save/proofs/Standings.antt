@@ -1,5 +1,5 @@
 -- Worlds into which ants are put one after another.
-use Rattle.std.proofs.Common.{◌≡◌, ◌≢◌, ℕ, suc, ◌+◌, ◌*◌, ◌<◌, ◌≤◌, true, false, not, ◌&&◌, List, [], ◌∷◌, length, set, Option, Some, None, refl, sym, ◌∙◌, ap, subst, inl, inr, arith}
+use Rattle.std.proofs.Common.{◌≡◌, ◌≢◌, ℕ, suc, ◌+◌, ◌*◌, ◌<◌, ◌≤◌, true, false, not, List, [], ◌∷◌, length, set, Option, Some, None, refl, sym, ◌∙◌, ap, subst, inl, inr, arith}
 use Rattle.std.specs.List.{AllByRecursion}
 use Rattle.std.proofs.lemmas.Bool.{and_parts, ne_eqb, not-true}
 use Rattle.std.proofs.lemmas.List.{length-set}
@@ -181,9 +181,3 @@ free-cell cell e =
     nobody : (o : Option Ant) → is_nobody o ≡ true → o ≡ None
     nobody None is = refl
     nobody (Some ant) is = absurd (cc)
-
-pub taken-cell : (cell : Cell) → false ≡ is_free cell → cell.rocky ≡ false → cell.ant ≡ None → ⊥
-taken-cell cell e clear free =
-    let both : is_free cell ≡ true = ap (λ b. not b && is_nobody cell.ant) clear ∙ ap is_nobody free in
-    let wrong : false ≡ true = e ∙ both in
-    absurd (cc)

@@ -2,7 +2,7 @@
 use Rattle.std.proofs.Common.{◌≡◌, ℕ, true, false, List, [], ◌∷◌, Some, None, Ok, Err, refl, sym, ◌∙◌, ap}
 use Rattle.match_save.specs.Inner.Readers.{Left, Reader, all_read, followed, go_on, if_none_left, paired, whole}
 use Rattle.match_save.specs.Inner.Reading.{is_none_left, led_by, word}
-use Rattle.match_save.proofs.Words.{word_passed, word_refused}
+use Rattle.match_save.proofs.Words.{word_passed}
 
 module _ {A : Type 0} (r : Reader (List ℕ) A) (items : List (List ℕ)) (at : Left (List ℕ)) (from : at ≡ record { number = 0; items = items }) where
   -- a value behind which nothing is left is the line's

@@ -2,7 +2,7 @@
 ghost use Rattle.std.specs.Prelude.{◌≡◌, ◌-◌, ◌*◌, ◌≤◌, IfOk, OnOk};
 ghost use Rattle.cell_world.specs.Score.{score_of};
 ghost use Rattle.match_run.specs.Dumps.{chooses};
-ghost use Rattle.match_run.specs.Game.{counted_on, game_at_round};
+ghost use Rattle.match_run.specs.Game.{RisesUpTo, counted_on, game_at_round};
 ghost use Rattle.match_run.specs.Play.{PushedBy};
 ghost use Rattle.match_run.specs.Run.{most_rounds};
 ghost use Rattle.match_save.specs.Resumed.{field_of, later_world, rest_of};
@@ -21,7 +21,8 @@ use std::alloc::Global;
 ///
 /// The rounds are at most 1,000,000, and at least those that are done. Gives the score at the end; the crew's count of turns has risen by that of
 /// the ids times the later rounds then, or stands at its last value. It is refused where the sink failed, whose count of faults rose then, and a
-/// prefix of the text was pushed; or it is out of memory, and a proper prefix was. The save stays as it is.
+/// prefix of the text was pushed; or it is out of memory, and a proper prefix was; the crew's count has risen by no more than that of the later
+/// rounds then. The save stays as it is.
 pub fn resume<C: Crew, K: Sink>(
     alloc: Global,
     crew: &mut C,
@@ -38,6 +39,7 @@ pub fn resume<C: Crew, K: Sink>(
     ensures text { PushedBy (K.state sink.old) (K.state sink.new) (rest_of saved.now rounds (chooses dumps.now) stats) result }
     ensures score { IfOk result (λ s. s ≡ score_of (later_world saved.now (rounds - saved.now.round))) }
     ensures turns { OnOk result (C.played crew.new ≡ counted_on (C.played crew.old) (saved.now.world.ids * (rounds - saved.now.round))) }
+    ensures rises { RisesUpTo (C.played crew.old) (C.played crew.new) (saved.now.world.ids * (rounds - saved.now.round)) }
 {
     let mut game = game_of(alloc, saved)?;
     play_rest(alloc, crew, &mut game, rounds, dumps, stats, sink)

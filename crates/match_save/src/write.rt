@@ -7,7 +7,6 @@ ghost use Rattle.cell_world.specs.declared.cell.Cell.{Cell};
 ghost use Rattle.cell_world.specs.Grid.{cell_in};
 ghost use Rattle.cell_world.specs.Marks.{IsOfSix};
 ghost use Rattle.match_save.specs.Saved.{save_text, soil_of_cell};
-ghost use Rattle.dump_print.specs.Content.{colour_text};
 ghost use Rattle.match_save.specs.Text.{ant_tokens, food_byte, head_tokens, marks_byte, soil_byte};
 ghost use Rattle.match_save.specs.Inner.LineTexts.{lines_text, tokens_text};
 ghost use Rattle.match_save.specs.Inner.Written.{ant_text_at, black_byte, cell_food_byte, cells_written, food_text, food_text_at, ground_byte, program_text, red_byte, row_text, rows_text, with_power, written};
@@ -17,6 +16,7 @@ use crate::saved::Saved;
 use ant_base::{Each, Failed, Layout, Parts, Sink, layout};
 use brain_read::{Brain, write_brain};
 use cell_world::{Ant, Cell, Colour, Marks, PlacedAnt, World};
+use dump_print::ColourWord;
 use hex_geometry::{Pos, pos_at};
 
 // How many markers a colour has.
@@ -327,21 +327,6 @@ impl Layout for CellLines<'_> {
     }
 }
 
-// A colour's word.
-#[derive(Clone, Copy)]
-struct Word(Colour);
-
-impl Layout for Word {
-    ghost text = { λ word. colour_text word.0 };
-
-    fn push_to<K: Sink>(&self, sink: &mut K) -> Result<(), Failed> {
-        match self.0 {
-            Colour::Red => "red".push_to(sink),
-            Colour::Black => "black".push_to(sink),
-        }
-    }
-}
-
 // The line of an ant.
 #[derive(Clone, Copy)]
 struct AntLine(PlacedAnt);
@@ -352,7 +337,7 @@ impl Layout for AntLine {
     fn push_to<K: Sink>(&self, sink: &mut K) -> Result<(), Failed> {
         let p = self.0.place;
         let ant = self.0.ant;
-        let word = Word(ant.colour);
+        let word = ColourWord(ant.colour);
         let facing = ant.facing.number();
         let laden = u8::from(ant.laden);
         layout!(
