@@ -54,15 +54,8 @@ module _ (bodies : List Body) (draft : OpenBody) (body : Body) (blocks : AreGood
 
 -- a block ends
 module _ (p : Program) (number : ℕ) where
-  pub end-outside : p.outer ≡ None → place_fault (program_seen p) number Ends ≡ Some (Misplaced number)
-  end-outside none = ap (λ (o : Option Outer). end_fault (begun_seen (trees_of p.bodies.items) o p.current) number) none
-
   pub end-inside : (outer : Outer) → p.outer ≡ Some outer → place_fault (program_seen p) number Ends ≡ (if length (open_items (trees_of p.bodies.items) p.current.items.items) == 0 then Some (EmptyBlock number) else None)
   end-inside outer is = ap (λ (o : Option Outer). end_fault (begun_seen (trees_of p.bodies.items) o p.current) number) is
-
-  pub end-empty : (outer : Outer) → p.outer ≡ Some outer → length p.current.items.items ≡ 0 → place_fault (program_seen p) number Ends ≡ Some (EmptyBlock number)
-  end-empty outer is none =
-      end-inside outer is ∙ ap (λ (b : Bool). cond b (Some (EmptyBlock number)) None) (eq-eqb (length (open_items (trees_of p.bodies.items) p.current.items.items)) 0 (length-open (trees_of p.bodies.items) p.current.items.items ∙ none))
 
   pub end-free : (outer : Outer) → p.outer ≡ Some outer → (length p.current.items.items ≡ 0 → ⊥) → place_fault (program_seen p) number Ends ≡ None
   end-free outer is some =
@@ -156,9 +149,6 @@ last-outer p free = go p.outer refl free
     go None is q = is
     go (Some outer) is q = (let never : Some (Misplaced outer.line) ≡ None = q in absurd (cc))
 
-pub last-begun : (p : Program) (outer : Outer) → p.outer ≡ Some outer → last_fault (program_seen p).begun (program_seen p) ≡ Some (Misplaced outer.line)
-last-begun p outer is = ap (λ (o : Option Outer). last_fault (begun_seen (trees_of p.bodies.items) o p.current) (program_seen p)) is
-
 -- the fault of main, where no block is left without an end
 pub last-main : (p : Program) → p.outer ≡ None → last_fault (program_seen p).begun (program_seen p)
     ≡ (if length p.current.items.items == 0 then Some Empty else option_map NoLabel (earlier p.unknown (unknown_of (open_seen (trees_of p.bodies.items) p.current))))
@@ -196,16 +186,6 @@ text-bodies text p main good read free closed = record {
 
 pub text-fault : (text : List ℕ) (p : Program) (fault : AsmFault) → reading nothing_yet (lines_with_tokens text) ≡ Ok (program_seen p) → last_fault (program_seen p).begun (program_seen p) ≡ Some fault → IsAsmFault text fault
 text-fault text p fault read wrong = OfWhole (program_seen p) (reading-leads nothing_yet (lines_with_tokens text) (program_seen p) read) wrong
-
-module _ (p : Program) (none : p.outer ≡ None) where
-  pub last-empty : length p.current.items.items ≡ 0 → last_fault (program_seen p).begun (program_seen p) ≡ Some Empty
-  last-empty nothing = last-main p none ∙ ap (λ (n : ℕ). if n == 0 then Some Empty else option_map NoLabel (earlier p.unknown (unknown_of (open_seen (trees_of p.bodies.items) p.current)))) nothing
-
-  pub last-some : (length p.current.items.items ≡ 0 → ⊥) → (o : Option ℕ) → earlier p.unknown (unknown_of (open_seen (trees_of p.bodies.items) p.current)) ≡ o → last_fault (program_seen p).begun (program_seen p) ≡ option_map NoLabel o
-  last-some some o is =
-      last-main p none
-      ∙ ap (λ (b : Bool). cond b (Some Empty) (option_map NoLabel (earlier p.unknown (unknown_of (open_seen (trees_of p.bodies.items) p.current))))) (false_from_ne_true (length p.current.items.items == 0) (λ nothing. some (eqb-true (length p.current.items.items) 0 nothing)))
-      ∙ ap (option_map NoLabel) is
 
 pub text-fails : (text : List ℕ) (p : Program) (fault : AsmFault) → reading nothing_yet (lines_with_tokens text) ≡ Ok (program_seen p) → FailsWith fault (last_fault (program_seen p).begun (program_seen p)) → FailsText text fault
 text-fails text p fault read (inl wrong) = inl (text-fault text p fault read wrong)

@@ -1,6 +1,5 @@
 -- The bodies of a text, expanded, are its program assembled.
-use Rattle.std.proofs.Common.{◌≡◌, ◌⊎◌, inl, inr, ℕ, ◌<◌, ◌≤◌, List, [], length, Some, sym, ap, ◌∙◌, subst, arith}
-use Rattle.std.specs.Prelude.{slice_get}
+use Rattle.std.proofs.Common.{◌≡◌, ◌⊎◌, inl, inr, ℕ, ◌<◌, ◌≤◌, List, [], length, sym, subst, arith}
 use Rattle.brain_read.specs.declared.instr.Instr.{Instr}
 use Rattle.brain_read.specs.Soundness.{IsBrain}
 use Rattle.ant_asm.proofs.FlatLemmas.{the_body}
@@ -15,7 +14,6 @@ use Rattle.ant_asm.specs.Text.{IsAsmFault, IsAsmText}
 use Rattle.ant_asm.specs.Inner.Emission.{emitted, main_numbers}
 use Rattle.ant_asm.specs.Inner.Flat.{most, tree_at}
 use Rattle.ant_asm.specs.Inner.ProgramView.{AreBodiesOf, last_of}
-use Rattle.ant_asm.specs.Inner.View.{parameters_in}
 use Rattle.ant_asm.proofs.Brains.{assembled-brain}
 use Rattle.ant_asm.proofs.Emission.{emitted-assembled, places_of-size}
 use Rattle.ant_asm.proofs.LineLemmas.{lines_decide}
@@ -30,9 +28,6 @@ module _ (text : List ℕ) (bodies : List Body) (are : AreBodiesOf text bodies) 
 
   pub main-few : size_of main ≤ most
   main-few = let there = the_body bodies (last_of bodies) last-inside in (are.blocks.good.each (last_of bodies) there.0 there.1).few
-
-  pub main-given : (given : List ℕ) → length given ≡ 0 → (body : Body) → slice_get bodies (last_of bodies) ≡ Some body → length given ≡ body.parameters
-  main-given given none body at = none ∙ sym are.plain ∙ ap parameters_in at
 
   main-some : 1 ≤ length (places main)
   main-some = let all = places_of-size main [] 0 in let some = are.blocks.some (last_of bodies) last-inside in omega (arith, all, some)

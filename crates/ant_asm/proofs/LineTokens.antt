@@ -11,7 +11,7 @@ use Rattle.word_table.specs.Words.{IsSameWord, word_place}
 use Rattle.line_tokens.specs.declared.refusal.LineFault.{LineFault}
 use Rattle.line_tokens.specs.Tokens.{has_bad_byte, is_bad_byte}
 use Rattle.line_tokens.specs.Steps as brain
-use Rattle.line_tokens.specs.Steps.{◌>>=◌, or_refused, refused, take_number, take_word}
+use Rattle.line_tokens.specs.Steps.{◌>>=◌, or_refused, take_number, take_word}
 use Rattle.brain_read.specs.Judgement as judging
 use Rattle.line_tokens.proofs.PlacesLemmas.{Names, decimal_value-good, good_byte, has_bad_byte-same, word-good}
 use Rattle.line_tokens.proofs.StepsLemmas.{within-some}

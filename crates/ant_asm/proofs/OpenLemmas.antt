@@ -28,7 +28,7 @@ use Rattle.ant_asm.specs.Inner.Ranged.{AreRanged}
 use Rattle.ant_asm.specs.Inner.Reading.{seen}
 use Rattle.ant_asm.specs.Inner.ReadLine.{labels_seen}
 use Rattle.ant_asm.specs.Inner.Scopes.{known_as}
-use Rattle.ant_asm.specs.Inner.View.{AreGoodItems, Flat, IsClosedAs, IsGoodKind, IsGoodOpen, IsNew, flat_kind, flat_of, flat_resolved, kind_seen, open_item, open_items, open_seen, parameters_in, start_of}
+use Rattle.ant_asm.specs.Inner.View.{AreGoodItems, Flat, IsClosedAs, IsGoodKind, IsGoodOpen, IsNew, flat_kind, flat_of, flat_resolved, kind_seen, open_items, open_seen, parameters_in, start_of}
 use Rattle.ant_asm.specs.Inner.View.Flat.{Acts, Puts}
 use Rattle.ant_asm.proofs.FlatLemmas.{get_or-front, get_or-last}
 
@@ -38,10 +38,6 @@ pub good-append : (bodies : List Body) (before : ℕ) (items : List OpenItem) (a
 good-append bodies before [] all size item good kind start = (size, kind, start ∙ sym good, ap (λ (n : ℕ). n + size) good)
 good-append bodies before (first ∷ items) all size item good kind start =
     (good.0, good.1, good.2, good-append bodies (before + good.0) items all size item good.3 kind start)
-
-pub items-append : (trees : List Items) (items : List OpenItem) (item : OpenItem) → open_items trees (items ++ item ∷ []) ≡ open_items trees items ++ open_item trees item ∷ []
-items-append trees [] item = refl
-items-append trees (first ∷ items) item = ap (λ (l : List ItemLine). open_item trees first ∷ l) (items-append trees items item)
 
 pub length-open : (trees : List Items) (items : List OpenItem) → length (open_items trees items) ≡ length items
 length-open trees [] = refl

@@ -1,24 +1,22 @@
 -- A program that is being read, line by line, is what stands above a line.
-use Rattle.std.proofs.Common.{◌≡◌, ℕ, ◌<◌, Bool, true, false, not, ◌||◌, cond, List, length, map, Option, Some, None, refl, sym, ap, ap₂, ◌∙◌, subst, is_some, nat_le}
-use Rattle.std.specs.Prelude.{slice_get, if◌then◌else◌, ◌==◌}
+use Rattle.std.proofs.Common.{◌≡◌, ℕ, ◌<◌, Bool, true, false, not, cond, List, length, Option, Some, None, refl, sym, ap, ◌∙◌, subst, is_some}
+use Rattle.std.specs.Prelude.{slice_get, ◌==◌}
 use Rattle.std.proofs.lemmas.Bool.{eq-eqb, eqb-true, false_from_ne_true}
 use Rattle.ant_asm.specs.declared.fault.AsmFault.{AsmFault}
-use Rattle.ant_asm.specs.declared.fault.AsmFault.TheVariants.{Misplaced, NoBlock, TooMany, Twice, WrongCount}
+use Rattle.ant_asm.specs.declared.fault.AsmFault.TheVariants.{NoBlock, WrongCount}
 use Rattle.ant_asm.specs.declared.open.OpenBody.{OpenBody}
 use Rattle.ant_asm.specs.declared.program.Outer.{Outer}
 use Rattle.ant_asm.specs.declared.program.Program.{Program}
-use Rattle.ant_asm.specs.declared.action.Label.{Label}
-use Rattle.ant_asm.specs.Program.{Items, size_of}
+use Rattle.ant_asm.specs.Program.{size_of}
 use Rattle.ant_asm.specs.Names.{Named}
-use Rattle.ant_asm.specs.Lines.Line.{Begins, Instructs, Marks, Uses}
-use Rattle.ant_asm.specs.Standing.{Begun, Draft, Standing, begin_fault, current, has_twice, mark_fault, new_draft, place_fault, size_fault, use_fault, used, with_current, with_line, with_mark}
+use Rattle.ant_asm.specs.Lines.Line.{Instructs, Marks, Uses}
+use Rattle.ant_asm.specs.Standing.{Draft, current, mark_fault, place_fault, size_fault, use_fault, used, with_current, with_line, with_mark}
 use Rattle.ant_asm.specs.Standing.Item.{Call, Instruction}
 use Rattle.ant_asm.specs.declared.action.Action.{Action}
-use Rattle.ant_asm.specs.declared.open.OpenItem.{OpenItem}
 use Rattle.ant_asm.specs.Inner.Flat.{tree_at, trees_of}
-use Rattle.ant_asm.specs.Inner.ProgramView.{IsGoodProgram, IsReadInto, begun_seen, block_in, blocks_seen, main_of, program_seen, standing_of}
+use Rattle.ant_asm.specs.Inner.ProgramView.{IsGoodProgram, IsReadInto, block_in, main_of, program_seen, standing_of}
 use Rattle.ant_asm.specs.Inner.Scopes.{known_as}
-use Rattle.ant_asm.specs.Inner.View.{FailsWith, IsGoodOpen, IsNew, open_item, open_seen, parameters_in}
+use Rattle.ant_asm.specs.Inner.View.{FailsWith, IsGoodOpen, open_seen, parameters_in}
 
 -- the faults of equal rules are equal
 pub fails-same : (fault : AsmFault) (o other : Option AsmFault) → o ≡ other → FailsWith fault o → FailsWith fault other
@@ -106,44 +104,6 @@ module _ (p : Program) (name : List ℕ) (handed : List Named) (number : ℕ) wh
 
 -- a block begins
 module _ (p : Program) (name : List ℕ) (parameters : List (List ℕ)) (number : ℕ) where
-  pub begin-inside : (outer : Outer) → p.outer ≡ Some outer → place_fault (program_seen p) number (Begins name parameters) ≡ Some (Misplaced number)
-  begin-inside outer is = ap (λ (o : Option Outer). begin_fault (begun_seen (trees_of p.bodies.items) o p.current) (blocks_seen p.bodies.items p.blocks.entries name) (length p.bodies.items) parameters number) is
-
-  pub begin-fault : p.outer ≡ None → place_fault (program_seen p) number (Begins name parameters)
-      ≡ (if has_twice parameters || is_some (block_in p.bodies.items (known_as p.blocks.entries name)) then Some (Twice number) else (if nat_le 256 (length p.bodies.items) then Some (TooMany number) else None))
-  begin-fault none = ap (λ (o : Option Outer). begin_fault (begun_seen (trees_of p.bodies.items) o p.current) (blocks_seen p.bodies.items p.blocks.entries name) (length p.bodies.items) parameters number) none
-
-  block-some : (o : Option ℕ) → is_some (block_in p.bodies.items o) ≡ is_some o
-  block-some None = refl
-  block-some (Some n) = refl
-
-  pub begin-twice : p.outer ≡ None → (has_twice parameters || is_some (known_as p.blocks.entries name)) ≡ true → place_fault (program_seen p) number (Begins name parameters) ≡ Some (Twice number)
-  begin-twice none twice =
-      begin-fault none
-      ∙ ap (λ (b : Bool). cond b (Some (Twice number)) (cond (nat_le 256 (length p.bodies.items)) (Some (TooMany number)) None)) (ap (λ (b : Bool). has_twice parameters || b) (block-some (known_as p.blocks.entries name)) ∙ twice)
-
-  pub begin-many : p.outer ≡ None → (has_twice parameters || is_some (known_as p.blocks.entries name)) ≡ false → place_fault (program_seen p) number (Begins name parameters) ≡ cond (nat_le 256 (length p.bodies.items)) (Some (TooMany number)) None
-  begin-many none once =
-      begin-fault none
-      ∙ ap (λ (b : Bool). cond b (Some (Twice number)) (cond (nat_le 256 (length p.bodies.items)) (Some (TooMany number)) None)) (ap (λ (b : Bool). has_twice parameters || b) (block-some (known_as p.blocks.entries name)) ∙ once)
-
-  -- a new body is seen as one
-  new-seen : (trees : List Items) (draft : OpenBody) → IsNew parameters draft → open_seen trees draft ≡ new_draft parameters
-  new-seen trees draft new =
-      ap₂ (λ (a : ℕ) (m : List ℕ → Option Label). let d : Draft = record { parameters = a; meaning = m; items = map (open_item trees) draft.items.items; size = draft.size } in d) new.parameters new.names
-      ∙ ap₂ (λ (l : List OpenItem) (s : ℕ). let d : Draft = record (new_draft parameters) { items = map (open_item trees) l; size = s } in d) new.items new.size
-
-  pub begin-into : (draft : OpenBody) (outer : Outer) → p.outer ≡ None → place_fault (program_seen p) number (Begins name parameters) ≡ None → IsNew parameters draft → outer.main ≡ p.current → outer.name.now ≡ name → outer.line ≡ number →
-      IsReadInto (program_seen p) number (Begins name parameters) (program_seen (record p { current = draft; outer = Some outer }))
-  begin-into draft outer none free new main named line = record {
-    free = free;
-    is =
-        ap₂ (λ (m : Draft) (b : Option Begun). let s : Standing = record (program_seen p) { main = m; begun = b } in s)
-        (ap (open_seen (trees_of p.bodies.items)) (main ∙ sym (ap (λ (o : Option Outer). main_of o p.current) none)))
-        (ap₂ (λ (n : List ℕ) (d : Draft). let b : Begun = record { name = n; line = outer.line; draft = d } in Some b) named (new-seen (trees_of p.bodies.items) draft new)
-        ∙ ap (λ (l : ℕ). let b : Begun = record { name = name; line = l; draft = new_draft parameters } in Some b) line);
-  }
-
   pub begin-good : (draft : OpenBody) (outer : Outer) → IsGoodProgram p → p.outer ≡ None → IsGoodOpen p.bodies.items draft → outer.main ≡ p.current → length p.bodies.items < 256 → IsGoodProgram (record p { current = draft; outer = Some outer })
   begin-good draft outer good none new main room = record {
     bodies = good.bodies;

@@ -1,5 +1,5 @@
 -- The reading of a text's lines, as what they lead to, or the first line at fault.
-use Rattle.std.proofs.Common.{◌≡◌, inl, inr, ℕ, ◌+◌, true, false, List, [], ◌∷◌, ◌++◌, ◌≤◌, length, Option, Some, None, Result, Ok, Err, refl, sym, ap, ◌∙◌, subst}
+use Rattle.std.proofs.Common.{◌≡◌, inl, inr, ℕ, ◌+◌, true, false, List, [], ◌∷◌, ◌++◌, ◌≤◌, length, Option, Some, None, Result, Ok, Err, refl, sym, ap, ◌∙◌}
 use Rattle.line_tokens.proofs.LineLemmas.{with_line-none}
 use Rattle.ant_base.specs.Lines.{lines_of}
 use Rattle.line_tokens.specs.Tokens.{has_token, tokens_of}
@@ -137,12 +137,6 @@ pub record IsUnderway (program : Program) (number : ℕ) (lines : List (List ℕ
   pub left : number + length lines ≤ length text + 1
 
 -- a reading of the whole text
-pub whole-fails : (text : List ℕ) (fault : AsmFault) (made : Result Standing AsmFault) → made ≡ reading_from nothing_yet 1 (lines_of text) → FailsAs fault made → FailsAs fault (reading nothing_yet (lines_with_tokens text))
-whole-fails text fault made same fails = subst (FailsAs fault) (same ∙ reading_from-start text) fails
-
-pub whole-read : (text : List ℕ) (program : Program) (number : ℕ) → reading_from (program_seen program) number [] ≡ reading_from nothing_yet 1 (lines_of text) → reading nothing_yet (lines_with_tokens text) ≡ Ok (program_seen program)
-whole-read text program number same = sym (reading_from-start text) ∙ sym same ∙ reading_from-end (program_seen program) number
-
 pub fails-text : (text : List ℕ) (fault : AsmFault) → FailsAs fault (reading nothing_yet (lines_with_tokens text)) → FailsText text fault
 fails-text text fault (inl is) = inl (reading-fault text fault is)
 fails-text text fault (inr want) = inr want

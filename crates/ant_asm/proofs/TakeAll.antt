@@ -1,49 +1,12 @@
 -- Tokens that are taken one after another.
-use Rattle.std.proofs.Common.{◌≡◌, inl, inr, ℕ, zero, suc, true, false, List, [], ◌∷◌, ◌++◌, Ok, Err, refl, sym, ap, ◌∙◌, subst, ◌+◌, ◌-◌, ◌<◌, ◌≤◌, arith}
-use Rattle.line_tokens.specs.Tokens.{has_token}
+use Rattle.std.proofs.Common.{◌≡◌, inl, inr, ℕ, suc, List, [], Ok, Err, refl, sym, ap, ◌∙◌, subst, ◌+◌, ◌-◌, ◌<◌, ◌≤◌, arith}
 use Rattle.std.proofs.lemmas.List.{append-nil}
 use Rattle.line_tokens.specs.declared.refusal.Refusal.{Refusal}
 use Rattle.line_tokens.specs.Steps as brain
 use Rattle.line_tokens.specs.Steps.{take_end}
 use Rattle.ant_asm.specs.declared.spelling.SpellingFault.{SpellingFault}
-use Rattle.ant_asm.specs.declared.spelling.SpellingFault.TheVariants.{MissingToken}
-use Rattle.ant_asm.specs.Inner.Reading.{Read, Step, ◌>>=◌, all_read, lifted, put_before, spelling_of, take_all, take_token, with_rest}
+use Rattle.ant_asm.specs.Inner.Reading.{Read, Step, ◌>>=◌, all_read, lifted, spelling_of, take_all}
 use Rattle.ant_asm.specs.Inner.ReadLine.{StopsAs, all_before}
-
-module _ {A : Type 0} (read : List ℕ → Read A) (front : List A) where
-  append_one : (x : A) (xs : List A) (list : List A) → (list ++ x ∷ []) ++ xs ≡ list ++ x ∷ xs
-  append_one x xs [] = refl
-  append_one x xs (y ∷ list) = ap (λ (l : List A). y ∷ l) (append_one x xs list)
-
-  before-one : (x : A) (made : Step (List A)) → all_before (front ++ x ∷ []) made ≡ all_before front (put_before x made)
-  before-one x (Ok others) = ap (λ (l : List A). Ok (l, others.1)) (append_one x others.0 front)
-  before-one x (Err fault) = refl
-
-  -- a token that was taken
-  pub all_took : (n : ℕ) (tokens rest : List (List ℕ)) (x : A) → take_token read tokens ≡ Ok (x, rest) → all_before (front ++ x ∷ []) (take_all read n rest) ≡ all_before front (take_all read (suc n) tokens)
-  all_took n [] rest x e = (let never : ◌≡◌ {A = Step A} (Err MissingToken) (Ok (x, rest)) = e in absurd (cc))
-  all_took n (token ∷ tokens) rest x e = go (read token) e
-    where
-      go : (r : Read A) → with_rest tokens r ≡ Ok (x, rest) → all_before (front ++ x ∷ []) (take_all read n rest) ≡ all_before front (r >>= (λ y. put_before y (take_all read n tokens)))
-      go (Ok y) q =
-          let same : (y, tokens) ≡ (x, rest) = (let s : ◌≡◌ {A = Step A} (Ok (y, tokens)) (Ok (x, rest)) = q in cc) in
-          before-one x (take_all read n rest) ∙ ap (λ (p : A × List (List ℕ)). all_before front (put_before p.0 (take_all read n p.1))) (sym same)
-      go (Err fault) q = (let never : ◌≡◌ {A = Step A} (Err fault) (Ok (x, rest)) = q in absurd (cc))
-
-  -- a token at fault
-  pub all_stopped : (n : ℕ) (tokens : List (List ℕ)) (fault : SpellingFault) → has_token tokens ≡ true → take_token read tokens ≡ Err fault → all_before front (take_all read (suc n) tokens) ≡ Err fault
-  all_stopped n [] fault has e = (let never : false ≡ true = has in absurd (cc))
-  all_stopped n (token ∷ tokens) fault has e = go (read token) e
-    where
-      go : (r : Read A) → with_rest tokens r ≡ Err fault → all_before front (r >>= (λ y. put_before y (take_all read n tokens))) ≡ Err fault
-      go (Ok y) q = (let never : ◌≡◌ {A = Step A} (Ok (y, tokens)) (Err fault) = q in absurd (cc))
-      go (Err other) q = let same : other ≡ fault = (let s : ◌≡◌ {A = Step A} (Err other) (Err fault) = q in cc) in ap Err same
-
-  -- no token
-  pub all_ended : (n : ℕ) (tokens : List (List ℕ)) → has_token tokens ≡ false → all_before front (take_all read n tokens) ≡ all_before front (take_all read (suc n) tokens)
-  all_ended zero [] none = refl
-  all_ended (suc n) [] none = refl
-  all_ended n (token ∷ tokens) none = (let never : true ≡ false = none in absurd (cc))
 
 -- nothing in front
 pub before-nothing : {A : Type 0} (made : Step (List A)) → all_before [] made ≡ made

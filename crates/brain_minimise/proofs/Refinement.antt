@@ -6,7 +6,7 @@ use Rattle.std.proofs.lemmas.Option.{none-some, same_Some}
 use Rattle.brain_read.specs.declared.instr.Instr.{Instr}
 use Rattle.ant_turn.specs.Renumber.{redirected}
 use Rattle.ant_turn.specs.Turn.{instruction_at}
-use Rattle.brain_minimise.specs.Inner.Classes.{AreClasses, AreStable, DoAlike, IsNewClass, slack}
+use Rattle.brain_minimise.specs.Inner.Classes.{AreClasses, DoAlike, IsNewClass, slack}
 use Rattle.brain_minimise.specs.Inner.Classes.IsNewClass.{Stays, Parts}
 use Rattle.brain_minimise.proofs.Equivalences.{alike_by}
 
@@ -179,10 +179,6 @@ module _ (brain : List Instr) (classes : List ℕ) where
               let one : slice_index classes state ≡ slice_index finer state = omega arith in
               absurd (it.2 (ap (λ s. redirected (slice_index classes) (instruction_at brain s)) (sym one)))
         ]
-
-    -- where no state parted the classes are stable
-    pub IsRefining-stable : parted ≡ false → AreStable brain classes
-    IsRefining-stable none = refining.whole none
 
 -- how far the names are below their states sinks where no name is lower
 slack-le : (i : ℕ) (classes finer : List ℕ) → length classes ≡ length finer → ((k : ℕ) → k < length classes → slice_index classes k ≤ slice_index finer k) → slack i finer ≤ slack i classes
