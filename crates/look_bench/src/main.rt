@@ -1,7 +1,7 @@
 //! Makes the looks at a whole round of a game's first world, so many times over, and throws them away.
 //!
-//! The words are the files of a world, a red and a black brain, and how many times. It prints how many looks a round has, and how many of
-//! them draw a random number. What a look costs is the difference between a run of many times and one of few, divided by the looks. It is
+//! The words are the files of a world, a red and a black brain, and how many times, at least once. It prints how many looks a round has, and how
+//! many of them draw a random number. What a look costs is the difference between a run of many times and one of few, divided by the looks. It is
 //! this project's own.
 #![tactic(auto)]
 
@@ -12,7 +12,7 @@ ghost use Rattle.ant_turn.specs.Minds.{Fits, minds_of};
 ghost use Rattle.spec_record.specs.Guess.{guess};
 ghost use Rattle.world_read.specs.Opened.{IsOpeningWorld};
 
-use ant_base::{FileShelf, Shelf, read_number};
+use ant_base::{FileShelf, Shelf, read_number_within};
 use ant_random::Stream;
 use ant_turn::{Brains, Sheet};
 use anyhow::{Context, Result};
@@ -24,6 +24,9 @@ use std::env;
 use world_read::read_world;
 
 const SEED: u32 = 12345;
+
+// The most times that may be asked for.
+const MOST_TIMES: u64 = 9_999_999_999;
 
 // The bytes of a file, if it could be fetched.
 fn bytes_of<S: Shelf>(alloc: Global, shelf: &mut S, name: &str) -> Option<Vec<u8>>
@@ -105,7 +108,7 @@ fn main(rt: HostRuntime) -> Result<()> {
     let red = words.get(1).context("no red brain")?;
     let black = words.get(2).context("no black brain")?;
     let count = words.get(3).context("no number of times")?;
-    let times = read_number(count.as_bytes()).context("no number of times")?;
+    let times = read_number_within(count.as_bytes(), 1, MOST_TIMES).context("no number of times")?;
     let mut shelf = FileShelf::new(&rt);
     let names = [world.as_str(), red.as_str(), black.as_str()];
     let (looks, drawn) = look_at_files(alloc, &mut shelf, names, times).context(

@@ -14,10 +14,6 @@ use Rattle.tournament.specs.Standing.{is_won, is_lost, is_drawn, line_of, Stands
 use Rattle.tournament.proofs.GamesLemmas.{All-games_of}
 use Rattle.tournament.proofs.TotalLemmas.{total, sum_by-lines, total-points, wins_losses, points_games}
 
-line_of-points : (games : List Played) (p : ℕ) → (line_of games p).points ≡ 2 * count_by (is_won p) games + count_by (is_drawn p) games
-unfolding line_of
-line_of-points games p = refl
-
 sum_by-points : (players : ℕ) (games : List Played) → sum_by (λ line. line.points) (map (line_of games) (below players)) ≡ 2 * total (λ p. count_by (is_won p) games) players + total (λ p. count_by (is_drawn p) games) players
 unfolding line_of
 sum_by-points players games = sum_by-lines (λ line. line.points) (line_of games) players ∙ total-points (λ p. count_by (is_won p) games) (λ p. count_by (is_drawn p) games) players

@@ -54,7 +54,7 @@ fn push_line<K: Sink>(names: &Names, line: Line, sink: &mut K) -> Result<(), Fai
 }
 
 /// Pushes a line for each player, the best first, as `3 points: b (1 won, 1 drawn, 0 lost)`. Each player of the standing has a name. Where
-/// the sink failed, a prefix of the lines was pushed. It takes no memory.
+/// the sink failed, a prefix of the lines was pushed, and its count of faults rose. It takes no memory.
 pub fn push_standing<K: Sink>(
     standing: &Standing,
     names: &Names,

@@ -5,11 +5,10 @@ use Rattle.hex_geometry.proofs.Walks.{Within, half}
 use Rattle.hex_geometry.specs.Distance.{HasBall, IsDistance, IsInBall}
 use Rattle.hex_geometry.specs.Position.{HasNeighbours, IsInner, Point, point_of}
 use Rattle.hex_geometry.specs.declared.position.Pos.{Pos}
-use Rattle.std.proofs.Common.{◌≡◌, ℕ, ◌+◌, ◌-◌, ◌*◌, ◌<◌, ◌≤◌, List, true, refl, sym, ◌∙◌, ap, arith, subst, inl, inr}
-use Rattle.std.proofs.lemmas.Bool.{cases_Bool, false≢true}
+use Rattle.std.proofs.Common.{◌≡◌, ℕ, ◌+◌, ◌-◌, ◌*◌, ◌<◌, ◌≤◌, List, refl, sym, ◌∙◌, ap, arith, subst, inl, inr}
+use Rattle.std.proofs.lemmas.Bool.{cases_Bool}
 use Rattle.std.proofs.lemmas.Int.{ints}
 use Rattle.std.specs.Prelude.{Bool, ℤ, pos, negsuc, ◌+ℤ◌, ◌-ℤ◌}
-use Rattle.world_gen.proofs.Steps.{point_one}
 use Rattle.world_gen.specs.FreeSpots.{IsOffRim}
 use Rattle.world_gen.specs.Inner.Open.{BallIsOpen, IsFenced, IsOpen, IsShut, IsBallWithin, RowIsOpen, in_row, is_unblocked}
 
@@ -130,10 +129,3 @@ pub rows_ball : (width height : ℕ) (blocked : List Bool) (centre : Pos) (radiu
 unfolding side
 rows_ball width height blocked centre radius n within whole rows q ball =
     row_of width height blocked centre radius n q.x q.y within whole rows ball (ball_within (point_of centre) q radius ball)
-
--- an open ball has open rows
-pub ball_row : (width height : ℕ) (blocked : List Bool) (centre : Pos) (radius y n : ℕ) → BallIsOpen width height blocked (point_of centre) radius → RowIsOpen width height blocked centre radius y n
-ball_row width height blocked centre radius y n all j below shut =
-    let found = all (point_of (in_row centre radius y j)) shut.0 in
-    let free : is_unblocked width height blocked (in_row centre radius y j) ≡ true = subst (λ r. is_unblocked width height blocked r ≡ true) (point_one found.0 (in_row centre radius y j) found.1) found.2 in
-    false≢true (sym shut.1 ∙ free)

@@ -11,7 +11,7 @@ use Rattle.hex_geometry.specs.declared.position.Pos.{Pos}
 use Rattle.std.proofs.Common.{◌≡◌, ℕ, List, [], ◌∷◌, ◌++◌, get_or, true, false, refl, sym, ◌∙◌, ap, subst, inl, inr}
 use Rattle.std.proofs.lemmas.Bool.{false_from_ne_true, false≢true}
 use Rattle.std.proofs.lemmas.List.Elements.{Contains-append_left, Contains-push, Contains-push_cases}
-use Rattle.std.specs.Prelude.{Bool, Contains, pos, ◌⊎◌}
+use Rattle.std.specs.Prelude.{Bool, Contains, pos}
 use Rattle.world_gen.proofs.Bares.{open_free, open_from, open_inside}
 use Rattle.world_gen.specs.Elements.{IsCell}
 use Rattle.world_gen.specs.FreeSpots.{IsFreeSpot, IsOffRim, IsTouching}
@@ -61,10 +61,6 @@ fits_open width height placed blocked kinds spot draft fits q cell =
     let place = fits.off_rim q cell in
     (place.0, place.1, draft.free place.0 place.2 (λ other among touched. fits.apart other q touched.cell among cell touched.of (subst (IsTouching touched.cell) place.1 touched.touching)))
 
--- one of those before, or the last
-among_cases : (placed : List Spot) (spot other : Spot) → Contains (placed ++ spot ∷ []) other → Contains placed other ⊎ (spot ≡ other)
-among_cases placed spot other among = Contains-push_cases placed spot other among
-
 module _ (width height : ℕ) (placed : List Spot) (blocked now : List Bool) (kinds paint : List Kind) (spot : Spot) (cells : List Pos)
     (draft : IsDraft width height placed blocked kinds) (fits : IsFreeSpot width height placed spot) (lists : ListsCells spot cells) (stamped : IsStamped width height cells (paint_of spot.figure) blocked now kinds paint) where
   cell_inner : (p : Pos) → Contains cells p → IsInner width height p
@@ -101,7 +97,7 @@ module _ (width height : ℕ) (placed : List Spot) (blocked now : List Bool) (ki
 
   now_shut : (p : Pos) (other : Spot) → IsInside width height p → Contains (placed ++ spot ∷ []) other → IsTouched other p → is_unblocked width height now p ≡ true → ⊥
   now_shut p other inside among touched free =
-      elim (among_cases placed spot other among) [
+      elim (Contains-push_cases placed spot other among) [
         | inl old ↦ draft.shut p other inside old touched (was_open p free)
         | inr same ↦ spot_shut p inside (subst (λ s. IsTouched s p) (sym same) touched) free
       ]
@@ -115,7 +111,7 @@ module _ (width height : ℕ) (placed : List Spot) (blocked now : List Bool) (ki
 
   now_off_rim : (other : Spot) (q : Point) → Contains (placed ++ spot ∷ []) other → IsCell other q → IsOffRim width height q
   now_off_rim other q among cell =
-      elim (among_cases placed spot other among) [
+      elim (Contains-push_cases placed spot other among) [
         | inl old ↦ draft.off_rim other q old cell
         | inr same ↦ fits.off_rim q (subst (λ s. IsCell s q) (sym same) cell)
       ]
@@ -128,7 +124,7 @@ module _ (width height : ℕ) (placed : List Spot) (blocked now : List Bool) (ki
   now_cell p other among cell =
       let place = now_off_rim other (point_of p) among cell in
       let inner : IsInner width height p = subst (IsInner width height) (point_one place.0 p place.1) place.2 in
-      elim (among_cases placed spot other among) [
+      elim (Contains-push_cases placed spot other among) [
         | inl old ↦ stamped.paints.off p kind.Rock (inner_inside inner) (not_among p other old cell) ∙ draft.painted.cell p other old cell
         | inr same ↦ stamped.paints.on p kind.Rock (inner_inside inner) (cell_among p (subst (λ s. IsCell s (point_of p)) (sym same) cell)) ∙ ap (λ (s : Spot). paint_of s.figure) same
       ]

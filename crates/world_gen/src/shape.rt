@@ -35,7 +35,7 @@ impl Shape {
     }
 
     // How many elements there are.
-    pub fn count(self) -> u32
+    pub(crate) fn count(self) -> u32
         ensures count { result ≡ count_of self }
         ensures below { result < 513 }
     {
@@ -43,7 +43,7 @@ impl Shape {
     }
 
     // The element of this number.
-    pub fn element(self, number: u32) -> Element
+    pub(crate) fn element(self, number: u32) -> Element
         ensures { result ≡ element_of self number }
     {
         if number == 0 {

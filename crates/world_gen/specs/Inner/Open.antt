@@ -10,7 +10,6 @@ use Rattle.hex_geometry.specs.declared.direction.Side.TheVariants.{Right}
 use Rattle.hex_geometry.specs.Position.{HasNeighbours, IsInner, Point, point_of}
 use Rattle.hex_geometry.specs.declared.position.Pos.{Pos}
 use Rattle.world_gen.specs.Elements.{IsCell, IsInBlob, point_after}
-use Rattle.world_gen.specs.FreeSpots.{IsOffRim}
 use Rattle.world_gen.specs.declared.spot.Spot.{Spot}
 
 -- whether the cell at p is inside and not blocked
@@ -66,10 +65,6 @@ LinesAreOpen width height blocked corner first n = (i : ℕ) → i < n → LineI
 -- each cell of a blob is open
 abbrev pub BlobIsOpen : ℕ → ℕ → List Bool → Point → Dir → Type 0
 BlobIsOpen width height blocked corner first = (q : Point) → IsInBlob corner first q → IsOpen width height blocked q
-
--- the cells of a spot are off the rim
-abbrev pub AllOffRim : ℕ → ℕ → Spot → Type 0
-AllOffRim width height spot = (q : Point) → IsCell spot q → IsOffRim width height q
 
 -- the positions of a spot's cells, and no others
 pub record ListsCells (spot : Spot) (cells : List Pos) : Type 0 where
