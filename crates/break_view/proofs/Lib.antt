@@ -18,3 +18,4 @@ pub mod WorkedBreaks
 pub mod WorkedEdges
 pub mod WorkedEnds
 pub mod WorkedGame
+pub mod WorkedSeeds

@@ -1,19 +1,9 @@
 -- Which break of a list holds, and the cells that breaks look at.
-use Rattle.std.proofs.Common.{◌≡◌, ◌+◌, ◌<◌, ◌≤◌, ℕ, Bool, true, false, List, ◌∷◌, length, drop, Some, None, cond, get_or, refl, ap, ◌∙◌}
+use Rattle.std.proofs.Common.{◌≡◌, ◌+◌, ◌<◌, ◌≤◌, ℕ, true, false, List, ◌∷◌, length, drop, Some, None, cond, get_or, ap, ◌∙◌}
 use Rattle.std.proofs.lemmas.List.{drop_more, drop_all}
-use Rattle.cell_world.specs.Valid.{Valid}
 use Rattle.cell_world.specs.World.{World}
-use Rattle.cell_world.proofs.Places.{clear_inside}
 use Rattle.break_view.specs.declared.breaks.Break.{Break}
-use Rattle.break_view.specs.Met.{is_met, first_met, clear_cell}
-
--- outside a world there is no clear cell
-pub clear_cell-outside : (w : World) (x y : ℕ) → Valid w → (x < w.width → y < w.height → ⊥) → clear_cell w x y ≡ None
-clear_cell-outside w x y valid outside = go (w.cells (record { x = x; y = y })).rocky refl
-  where
-    go : (b : Bool) → (w.cells (record { x = x; y = y })).rocky ≡ b → cond b None (Some (w.cells (record { x = x; y = y }))) ≡ None
-    go true e = refl
-    go false e = let inside = clear_inside w (record { x = x; y = y }) valid e in absurd (outside inside.column inside.row)
+use Rattle.break_view.specs.Met.{is_met, first_met}
 
 -- the break in front holds, or the next ones are looked at
 pub first_met-here : (number : ℕ) (item : Break) (items : List Break) (w : World) (r t : ℕ) → is_met item w r t ≡ true → first_met number (item ∷ items) w r t ≡ Some number

@@ -12,7 +12,7 @@ use dump_print::{push_cells, push_seed};
 
 /// Pushes the text of a view: the line of the seed; then, at a stop, its line, as `stop: round 1, ant 1, break 1`, and the lines of the
 /// cells of the world; where there is none, the line `no stop in 5 rounds`, with the number of rounds that were to be played. Where the
-/// sink failed, a prefix of the text was pushed. It takes no memory.
+/// sink failed, a prefix of the text was pushed, and its count of faults rose. It takes no memory.
 pub fn push_view<K: Sink>(
     world: &World,
     seed: u32,
