@@ -9,7 +9,16 @@ use std::process::Abort;
 type Row = (&'static [u8], Option<AsmFault>);
 
 /// Each fault at its line, and texts that come near it.
-const FAULTS: [Row; 85] = [
+const FAULTS: [Row; 88] = [
+    (
+        b"block b a b c d e f g h\nDrop h\nend\nuse b next next next next next next next next\n",
+        None,
+    ),
+    (
+        b"block b\nDrop next\nend\nuse b next next next next next next next next next\n",
+        Some(AsmFault::ExtraToken { line: 4 }),
+    ),
+    (b"BLOCK b\nDrop next\nEnd\nuSe b\n", None),
     (b"use a\n", Some(AsmFault::NoBlock { line: 1 })),
     (b"block a\nuse a\n", Some(AsmFault::NoBlock { line: 2 })),
     (b"Move go 1\n", Some(AsmFault::BadName { line: 1 })),

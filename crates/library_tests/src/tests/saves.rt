@@ -161,7 +161,19 @@ const BACK: &str =
     "###\n#+#\n###\n000\n000\n000\n000\n000\n000\n000\n000\n000\nant 0 red 1 1 5 0 0 0\nend\n";
 
 // What may follow the front, and what the text is read as then.
-const RESTS: [(&str, Option<SaveFault>); 31] = [
+const RESTS: [(&str, Option<SaveFault>); 34] = [
+    (
+        "000\n000\n000\n000\n000\n000\n000\n000\n000\nant 0 red 1 1 5 0 0 255\nend\n",
+        None,
+    ),
+    (
+        "000\n000\n000\n000\n0o0\n000\n000\n000\n000\nant 0 red 1 1 5 0 0 0\nend\n",
+        None,
+    ),
+    (
+        "000\n000\n000\n000\n0p0\n000\n000\n000\n000\nant 0 red 1 1 5 0 0 0\nend\n",
+        Some(SaveFault::BadLine { line: 20 }),
+    ),
     (
         "000\n000\n000\n000\n000\n000\n000\n0n0\n000\nant 0 red 1 1 5 0 0 0\nend\n",
         None,
@@ -386,7 +398,15 @@ const FRONTS: [(&str, Option<SaveFault>); 24] = [
 ];
 
 // Whole texts, likewise.
-const WHOLE: [(&str, Option<SaveFault>); 5] = [
+const WHOLE: [(&str, Option<SaveFault>); 7] = [
+    (
+        "ants save 1\nseed 7\nsheet 5 3 14\nwindow 1\nround 0\nplace 0\ntaken 0 redone 0\nsize 4 4\nred 1\nTurn Left 0\nblack 1\nDrop 0\n####\n#.+#\n#..#\n####\n0000\n0000\n0100\n0000\n0000\n0000\n0000\n0000\n0000\n00o0\n0o00\n0000\nfood 2 1 63\nfood 1 2 64\nant 0 red 2 1 0 0 0 0\nend\n",
+        None,
+    ),
+    (
+        "ants save 1\nseed 7\nsheet 5 3 14\nwindow 1\nround 0\nplace 0\ntaken 0 redone 0\nsize 4 4\nred 1\nTurn Left 0\nblack 1\nDrop 0\n####\n#.+#\n#..#\n####\n0000\n0000\n0100\n0000\n0000\n0000\n0000\n0000\n0000\n00o0\n0o00\n0000\nfood 1 2 64\nfood 2 1 63\nant 0 red 2 1 0 0 0 0\nend\n",
+        Some(SaveFault::BadLine { line: 29 }),
+    ),
     (
         "ants save 1\nseed 12345\nsheet 5 3 14\nwindow 16384\nround 1\nplace 0\ntaken 1 redone 0\nsize 3 3\nred 1\nTurn Left 0\nblack 1\nTurn Left 0\n###\n#+.\n###\n000\n000\n000\n000\n000\n000\n000\n000\n000\nant 0 red 1 1 5 0 0 0\nend\n",
         Some(SaveFault::BadState),
@@ -515,6 +535,47 @@ fn texts_are_judged_by_their_lines_and_their_state(rt: HostRuntime) -> Result<()
     check_texts(&rt, rt.alloc(), rests())?;
     check_texts(&rt, rt.alloc(), fronts())?;
     check_texts(&rt, rt.alloc(), whole())
+}
+
+// The inner width of a save of 128 inner rows, all red hill and without ants, its width, and what it is read as: there are 16,384 hill cells, and
+// 16,512.
+const HILLS: [(usize, &str, Option<SaveFault>); 2] = [
+    (128, "130", None),
+    (129, "131", Some(SaveFault::BadState)),
+];
+
+// The text of a save of a hill of so many columns and 128 rows in a world of this width, without ants.
+fn hill_save(alloc: Global, columns: usize, width: &str) -> Result<String, Fail> {
+    let hill = "+".repeat(alloc, columns)?;
+    let rocks = "#".repeat(alloc, columns)?;
+    let zeros = "0".repeat(alloc, columns)?;
+    let hills = format!(in alloc; "#{hill}#\n")?.repeat(alloc, 128)?;
+    let blank = format!(in alloc; "0{zeros}0\n")?.repeat(alloc, 390)?;
+    Ok(format!(in alloc;
+        "ants save 1\nseed 7\nsheet 5 3 14\nwindow 1\nround 0\nplace 0\ntaken 0 redone 0\nsize {width} 130\nred 1\nTurn Left 0\nblack 1\nDrop 0\n#{rocks}#\n{hills}#{rocks}#\n{blank}end\n"
+    )?)
+}
+
+// Asserts what saves of hills are read as.
+fn check_hills<R: Abort>(
+    rt: &R,
+    alloc: Global,
+    rows: &[(usize, &str, Option<SaveFault>)],
+) -> Result<(), Fail> {
+    for (columns, width, fault) in rows {
+        let text = hill_save(alloc, *columns, width)?;
+        assert_eq!(rt;
+            fault_of(rt, alloc, text.as_bytes()),
+            *fault,
+            "at {columns} columns"
+        );
+    }
+    Ok(())
+}
+
+#[test]
+fn a_saved_world_has_16384_hill_cells_at_most(rt: HostRuntime) -> Result<(), Fail> {
+    check_hills(&rt, rt.alloc(), &HILLS)
 }
 
 // Asserts that a save is written as this text, from which it was read.
