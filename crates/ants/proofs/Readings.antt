@@ -1,13 +1,11 @@
 -- Files read one after another: what the reading of some and then of others comes to.
 use Rattle.std.proofs.Common.{◌≡◌, ℕ, Bool, true, false, List, [], ◌∷◌, ◌++◌, refl, sym, ap, subst, inl, inr, Result, Ok, Err, Option, None, Some}
-use Rattle.std.specs.Prelude.{IsErrAnd, Vec}
-use Rattle.ant_base.proofs.Fetches.{fetches_none, fetches_one, fetches_then}
+use Rattle.std.specs.Prelude.{IsErrAnd}
+use Rattle.ant_base.proofs.Fetches.{fetches_none, fetches_then}
 use Rattle.ant_base.proofs.Pushes.{rose_later}
 use Rattle.ant_base.specs.Fetched.{Fetched}
-use Rattle.ant_base.specs.Shelf.{Fetches, FetchesEach, ShelfState}
+use Rattle.ant_base.specs.Shelf.{FetchesEach, ShelfState}
 use Rattle.ant_base.specs.Sink.{SinkState, Pushed, PushedAll, PushedFront}
-use Rattle.ant_base.specs.declared.shelf.FetchFault.{FetchFault}
-use Rattle.ant_base.specs.declared.shelf.FetchFault.TheVariants as answer
 use Rattle.ant_base.specs.declared.sink.Failed.{Failed}
 use Rattle.command_words.proofs.WordLaws.{within_limits}
 use Rattle.command_words.specs.Command.{PlainCommand, IsCommand, IsRefusedAt}
@@ -20,7 +18,7 @@ use Rattle.ants.specs.declared.stop.CommandStop.{CommandStop}
 use Rattle.ants.specs.declared.stop.CommandStop.TheVariants as stop
 use Rattle.ants.specs.Files.{File, FileContent, AreAccepted, AreBegun, IsRefused, Refuses, StopsAt}
 use Rattle.ants.specs.Inner.Plans.{play_ending, stop_of}
-use Rattle.ants.specs.Inner.Reading.{CarriesOut, CarriesOutWords, ComesTo, EndsBy, ReadOutcome, ReadingStops, ReadsFiles, ReadsText, TextStops, ending_of, fetch_reason, outcome_of, push_ending}
+use Rattle.ants.specs.Inner.Reading.{CarriesOut, CarriesOutWords, ComesTo, EndsBy, ReadOutcome, ReadingStops, ReadsFiles, ending_of, outcome_of, push_ending}
 use Rattle.ants.specs.Inner.Reading.ReadOutcome.{Contents, Stopped}
 use Rattle.ants.specs.Outputs.{files_of, IsJobText}
 use Rattle.ants.specs.Verdict.{IsRefusedAs}
@@ -158,38 +156,6 @@ refused_text file fetch bytes (Breaks fault) got refuses = record { bytes = byte
 refused_text file fetch bytes (Labelled fault) got refuses = record { bytes = bytes; got = got; refuses = refuses }
 refused_text file fetch bytes (Save fault) got refuses = record { bytes = bytes; got = got; refuses = refuses }
 refused_text file fetch bytes (AlreadyAt round) got refuses = record { bytes = bytes; got = got; refuses = refuses }
-
-text_stops : (shelf new_shelf : ShelfState) (file : File) (fetch : Fetched) (bytes : List ℕ) (reason : Reason) → fetch ≡ record { name = file.name; answer = Ok bytes } → TextStops file.kind bytes file.name reason
-    → ReadingStops shelf new_shelf (file ∷ []) (fetch ∷ []) reason
-text_stops shelf new_shelf file fetch bytes (AtFile name) got stops = absurd stops
-text_stops shelf new_shelf file fetch bytes AtOutput got stops = stops
-text_stops shelf new_shelf file fetch bytes (AtInput name fault) got stops = inl (record { named = sym stops.0; refused = refused_text file fetch bytes fault got stops.1 }, refl)
-text_stops shelf new_shelf file fetch bytes (AtRoom element) got stops = absurd stops
-text_stops shelf new_shelf file fetch bytes AtMemory got stops = inl (inl (bytes, got), refl)
-
-text_comes : {A : Type 0} (content_of : A → FileContent) (shelf new_shelf : ShelfState) (file : File) (fetch : Fetched) (bytes : List ℕ) (result : Result A CommandStop) → fetch ≡ record { name = file.name; answer = Ok bytes }
-    → ReadsText content_of file.kind bytes file.name result → ComesTo shelf new_shelf (file ∷ []) (fetch ∷ []) (outcome_of (λ value. content_of value ∷ []) result)
-text_comes content_of shelf new_shelf file fetch bytes (Ok value) got reads = (record { bytes = bytes; got = got; reads = reads }, (refl, refl))
-text_comes content_of shelf new_shelf file fetch bytes (Err stop) got reads = text_stops shelf new_shelf file fetch bytes (reason_of stop) got reads
-
--- a file was fetched, and its bytes were read
-pub reads_text : {A V : Type 0} (content_of : V → FileContent) (shelf new_shelf : ShelfState) (file : File) (bytes : Vec ℕ A) (result : Result V CommandStop) → Fetches {A = A} shelf new_shelf file.name (Ok bytes)
-    → ReadsText content_of file.kind bytes.items file.name result → ReadsFiles shelf new_shelf (file ∷ []) (outcome_of (λ value. content_of value ∷ []) result)
-reads_text content_of shelf new_shelf file bytes result fetches reads =
-    let fetch : Fetched = record { name = file.name; answer = Ok bytes.items } in
-    record { fetches = fetch ∷ []; fetched = fetches_one shelf new_shelf file.name (Ok bytes) fetches; comes = text_comes content_of shelf new_shelf file fetch bytes.items result refl reads }
-
-fetch_stops : {A : Type 0} (shelf new_shelf : ShelfState) (file : File) (fault : FetchFault) → Fetches {A = A} shelf new_shelf file.name (Err fault)
-    → ReadingStops shelf new_shelf (file ∷ []) (record { name = file.name; answer = Err fault } ∷ []) (fetch_reason file.name fault)
-fetch_stops shelf new_shelf file answer.Failed fetches = record { stopped = inl (record { named = refl; failed = refl; unsure = fetches.answer.unsure }, refl); rose = fetches.answer.rose }
-fetch_stops shelf new_shelf file answer.TooLong fetches = inl (record { named = refl; refused = refl }, refl)
-fetch_stops shelf new_shelf file answer.OutOfMemory fetches = inl (inr refl, refl)
-
--- a file was not fetched
-pub reads_no_text : {A : Type 0} (shelf new_shelf : ShelfState) (file : File) (fault : FetchFault) → Fetches {A = A} shelf new_shelf file.name (Err fault)
-    → ReadsFiles shelf new_shelf (file ∷ []) (Stopped (fetch_reason file.name fault))
-reads_no_text shelf new_shelf file fault fetches =
-    record { fetches = record { name = file.name; answer = Err fault } ∷ []; fetched = fetches_one shelf new_shelf file.name (Err fault) fetches; comes = fetch_stops shelf new_shelf file fault fetches }
 
 stops_for : (command : PlainCommand) (shelf new_shelf : ShelfState) (fetches : List Fetched) (out err new_err : SinkState) (reason : Reason) → ReadingStops shelf new_shelf (files_of command) fetches reason
     → StopsFor command (outside_of shelf out err) (outside_of new_shelf out new_err) fetches reason

@@ -1,5 +1,5 @@
 -- The bytes of a file of each kind: they are read in one way or refused in one way, and never both.
-use Rattle.std.proofs.Common.{◌≡◌, ◌≢◌, ◌⊎◌, inl, inr, ℕ, ◌≤◌, List, Result, Ok, Err, refl, sym, ◌∙◌, ap, subst, arith}
+use Rattle.std.proofs.Common.{◌≡◌, ◌⊎◌, inl, inr, ℕ, ◌≤◌, List, Result, Ok, Err, refl, sym, ◌∙◌, ap, subst, arith}
 use Rattle.std.proofs.lemmas.Bool.{cases_lt}
 use Rattle.ant_asm.proofs.HasAssembled.{one-reading, some-reading}
 use Rattle.ant_asm.proofs.Expansion.{no-fault}
@@ -39,7 +39,6 @@ use Rattle.ants.specs.Inner.Plans.{IsUpTo}
 use Rattle.ants.specs.Files.FileContent.{WorldContent, BrainContent, BreakContent, LabelledContent, SaveContent}
 use Rattle.ants.specs.Files.FileKind.{WorldFile, BrainFile, BreakFile, LabelledFile, SaveFile}
 use Rattle.ants.specs.Inner.Reading.{TextStops, ReadsText, save_reason, brain_reason, break_reason, labelled_reason, world_reason}
-use Rattle.ants.specs.FaultLines.Reason.{AtInput}
 
 -- bytes are never both a world's text and wrong
 never_wrong : (bytes : List ℕ) (grid : Grid) (fault : WorldFault) → OpensAs bytes grid → IsWorldFault bytes fault → ⊥
@@ -352,61 +351,3 @@ save_stops name bytes rounds save.OutOfMemory is = tt
 pub save_up_to : (name bytes : List ℕ) (rounds : ℕ) (saved : SavedValue) (result : Result SavedValue CommandStop) → IsSaveText bytes saved → IsUpTo rounds name saved result → ReadsText SaveContent (SaveFile rounds) bytes name result
 save_up_to name bytes rounds saved (Ok value) is up = (subst (IsSaveText bytes) (sym up.0) is, subst (λ (s : SavedValue). s.round ≤ rounds) (sym up.0) up.1)
 save_up_to name bytes rounds saved (Err stop) is up = subst (TextStops (SaveFile rounds) bytes name) (sym up.0) (refl, record { saved = saved; is = is; at = refl; past = up.1 })
-
--- a fault of a world's text that isn't out of memory names its file
-pub world_reason_other : (name : List ℕ) (fault : WorldFault) → fault ≢ world.OutOfMemory → AtInput name (World fault) ≡ world_reason name fault
-world_reason_other name world.BadWidth other = refl
-world_reason_other name world.BadHeight other = refl
-world_reason_other name (world.MissingRow row) other = refl
-world_reason_other name (world.BadCell row column) other = refl
-world_reason_other name (world.ShortRow row) other = refl
-world_reason_other name (world.LongRow row) other = refl
-world_reason_other name world.ExtraRow other = refl
-world_reason_other name (world.OpenRim x y) other = refl
-world_reason_other name (world.TooManyAnts count) other = refl
-world_reason_other name world.OutOfMemory other = absurd (other refl)
-
--- so does one of a brain's text
-pub brain_reason_other : (name : List ℕ) (fault : BrainFault) → fault ≢ brain.OutOfMemory → AtInput name (Brain fault) ≡ brain_reason name fault
-brain_reason_other name (brain.BadByte line) other = refl
-brain_reason_other name (brain.UnknownWord line) other = refl
-brain_reason_other name (brain.MissingToken line) other = refl
-brain_reason_other name (brain.BadNumber line) other = refl
-brain_reason_other name (brain.ExtraToken line) other = refl
-brain_reason_other name (brain.TooMany line) other = refl
-brain_reason_other name brain.Empty other = refl
-brain_reason_other name (brain.NoSuchState line state) other = refl
-brain_reason_other name brain.OutOfMemory other = absurd (other refl)
-
--- and one of a text of breaks
-pub break_reason_other : (name : List ℕ) (fault : BreakFault) → fault ≢ breaks.OutOfMemory → AtInput name (Breaks fault) ≡ break_reason name fault
-break_reason_other name (breaks.UnknownWord line) other = refl
-break_reason_other name (breaks.MissingToken line) other = refl
-break_reason_other name (breaks.BadNumber line) other = refl
-break_reason_other name (breaks.ExtraToken line) other = refl
-break_reason_other name (breaks.TooMany line) other = refl
-break_reason_other name breaks.OutOfMemory other = absurd (other refl)
-
--- and one of a labelled program's
-pub labelled_reason_other : (name : List ℕ) (fault : AsmFault) → fault ≢ labelled.OutOfMemory → AtInput name (Labelled fault) ≡ labelled_reason name fault
-labelled_reason_other name (labelled.BadByte line) other = refl
-labelled_reason_other name (labelled.UnknownWord line) other = refl
-labelled_reason_other name (labelled.MissingToken line) other = refl
-labelled_reason_other name (labelled.BadNumber line) other = refl
-labelled_reason_other name (labelled.ExtraToken line) other = refl
-labelled_reason_other name (labelled.BadName line) other = refl
-labelled_reason_other name (labelled.Misplaced line) other = refl
-labelled_reason_other name (labelled.Twice line) other = refl
-labelled_reason_other name (labelled.NoBlock line) other = refl
-labelled_reason_other name (labelled.WrongCount line) other = refl
-labelled_reason_other name (labelled.TooMany line) other = refl
-labelled_reason_other name (labelled.EmptyBlock line) other = refl
-labelled_reason_other name labelled.Empty other = refl
-labelled_reason_other name (labelled.NoLabel line) other = refl
-labelled_reason_other name labelled.OutOfMemory other = absurd (other refl)
-
--- and one of a save's text
-pub save_reason_other : (name : List ℕ) (fault : SaveFault) → fault ≢ save.OutOfMemory → AtInput name (Save fault) ≡ save_reason name fault
-save_reason_other name (save.BadLine line) other = refl
-save_reason_other name save.BadState other = refl
-save_reason_other name save.OutOfMemory other = absurd (other refl)

@@ -102,7 +102,8 @@ IsRefusing words before after ended =
     (name : List ℕ) (fault : FileFault) → IsJudgedCommand words before.shelf (FirstRefused name fault)
     → ¬ Rose before.shelf.faults after.shelf.faults → (ended ≡ status.Input) ⊎ (ended ≡ status.Memory)
 
--- where the shelf is sure of the files up to the first that is refused, or of all where none is, no run ends at a file that was not read
+-- where the shelf tells its contents and is sure of the files up to the first that is refused, or of all where none is, no run ends at a file
+-- that was not read
 abbrev pub NeverUnread : List (List ℕ) → Outside → Status → Type 0
 NeverUnread words before ended = (verdict : FilesVerdict) (is : IsJudgedCommand words before.shelf verdict) → AreSure before.shelf is.judged.fetches → ended ≢ status.Read
 

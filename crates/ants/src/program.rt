@@ -64,16 +64,8 @@ fn carry_out_by<'w, R: Threads + Sync, C: Crew, S: Shelf, K: Sink>(
             black,
             options,
         } => {
-            run(
-                alloc,
-                crew,
-                AskedGame {
-                    names: FileNames { world, red, black },
-                    options,
-                },
-                shelf,
-                out,
-            )
+            let names = FileNames { world, red, black };
+            run(alloc, crew, AskedGame { names, options }, shelf, out)
         }
         Command::Cup {
             worlds,
@@ -82,19 +74,14 @@ fn carry_out_by<'w, R: Threads + Sync, C: Crew, S: Shelf, K: Sink>(
             rounds,
             workers,
         } => {
-            cup(
-                rt,
-                alloc,
-                Entry {
-                    worlds,
-                    brains,
-                    seed,
-                    rounds,
-                    workers,
-                },
-                shelf,
-                out,
-            )
+            let entry = Entry {
+                worlds,
+                brains,
+                seed,
+                rounds,
+                workers,
+            };
+            cup(rt, alloc, entry, shelf, out)
         }
         Command::View {
             world,
@@ -104,17 +91,13 @@ fn carry_out_by<'w, R: Threads + Sync, C: Crew, S: Shelf, K: Sink>(
             seed,
             rounds,
         } => {
-            view(
-                alloc,
-                ViewedGame {
-                    names: FileNames { world, red, black },
-                    breaks,
-                    seed,
-                    rounds,
-                },
-                shelf,
-                out,
-            )
+            let asked = ViewedGame {
+                names: FileNames { world, red, black },
+                breaks,
+                seed,
+                rounds,
+            };
+            view(alloc, asked, shelf, out)
         }
         Command::Workload {
             seed,
@@ -130,16 +113,8 @@ fn carry_out_by<'w, R: Threads + Sync, C: Crew, S: Shelf, K: Sink>(
             black,
             options,
         } => {
-            save(
-                alloc,
-                crew,
-                AskedGame {
-                    names: FileNames { world, red, black },
-                    options,
-                },
-                shelf,
-                out,
-            )
+            let names = FileNames { world, red, black };
+            save(alloc, crew, AskedGame { names, options }, shelf, out)
         }
         Command::Resume {
             save: name,
@@ -222,17 +197,8 @@ fn carry_out_far_command<'w, R: Threads + Wait + Sync, S: Shelf, K: Sink, G: Gat
             black,
             options,
         } => {
-            run_far(
-                rt,
-                alloc,
-                AskedGame {
-                    names: FileNames { world, red, black },
-                    options,
-                },
-                shelf,
-                out,
-                gate,
-            )
+            let names = FileNames { world, red, black };
+            run_far(rt, alloc, AskedGame { names, options }, shelf, out, gate)
         }
         other => carry_out_command(rt, alloc, other, shelf, out, gate),
     }

@@ -54,21 +54,16 @@ pub enum CommandStop<'w> {
 pub fn after_push<'w>(pushed: Result<(), Failed>) -> Result<(), CommandStop<'w>>
     ensures { ending_of result ≡ push_ending pushed }
 {
-    match pushed {
-        Ok(()) => Ok(()),
-        Err(Failed) => Err(CommandStop::Write),
-    }
+    pushed?;
+    Ok(())
 }
 
 /// What a command answers that played a game last.
 pub fn after_play<'w>(played: Result<Score, PlayFault>) -> Result<(), CommandStop<'w>>
     ensures { ending_of result ≡ play_ending played }
 {
-    match played {
-        Ok(_) => Ok(()),
-        Err(PlayFault::WriteFault) => Err(CommandStop::Write),
-        Err(PlayFault::OutOfMemory) => Err(CommandStop::Memory),
-    }
+    played?;
+    Ok(())
 }
 
 /// How a run of the program ended.

@@ -31,7 +31,15 @@ const ASSEMBLED: [(&str, &str); 6] = [
 ];
 
 // Texts that are no labelled program, and the line that names the fault of each.
-const REFUSED: [(&str, &str); 20] = [
+const REFUSED: [(&str, &str); 21] = [
+    (
+        "block a\nDrop next\nDrop next\nDrop next\nDrop next\nDrop next\nDrop next\nDrop next\nDrop next\nDrop next\nDrop next\nend\n\
+        block b\nuse a\nuse a\nuse a\nuse a\nuse a\nuse a\nuse a\nuse a\nuse a\nuse a\nend\n\
+        block c\nuse b\nuse b\nuse b\nuse b\nuse b\nuse b\nuse b\nuse b\nuse b\nuse b\nend\n\
+        block d\nuse c\nuse c\nuse c\nuse c\nuse c\nuse c\nuse c\nuse c\nuse c\nuse c\nDrop next\nend\n\
+        use d",
+        "ants: r: line 48: too many\n",
+    ),
     ("use a", "ants: r: line 1: no such block\n"),
     ("block a\nuse a", "ants: r: line 2: no such block\n"),
     ("Move go 1", "ants: r: line 1: bad name\n"),

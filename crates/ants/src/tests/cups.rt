@@ -1,6 +1,6 @@
 // The command `cup`.
 use crate::status::Status;
-use crate::tests::{CLOSED, CLOSING, Given, Job, NO_JOB, Table, check_rows};
+use crate::tests::{CLOSED, CLOSING, Given, Job, NO_JOB, Table, check_rows, check_tables};
 use std::test::Fail;
 
 // A world on which the player that draws numbers wins as red and draws as black against one that steps ahead: the worlds w and -. On the
@@ -161,4 +161,69 @@ fn a_cup_prints_its_standing_or_names_its_first_file_at_fault(rt: HostRuntime) -
     check_rows(&rt, rt.alloc(), &DASHED_CUPS)?;
     check_rows(&rt, rt.alloc(), &REFUSED_CUPS)?;
     check_rows(&rt, rt.alloc(), &UNREAD_CUPS)
+}
+
+// Player r goes ahead in round 2 with each ant whose number leaves 0 modulo 2932; player b stays.
+const DRAWING: Job<'static> = Job {
+    world: CLOSING,
+    red: "Flip 2932 1 2\nMove 1 1\nDrop 2",
+    black: "Drop 0",
+    ..NO_JOB
+};
+
+// Where r is black, its ants 0, 1, 3, 5 and 6 draw the first five numbers: of seed 12345 they are 7193, 2932, 10386, 5575 and 100, so ant 1
+// alone steps ahead, and the red ant 2 dies on its hill. Where r is red, its ant 4 alone steps, and nobody dies. The other seed is the state that
+// follows 12345, in its lowest 30 bits, so its numbers begin 2932, 10386, 5575, 100, 15976: the ant of the first is to step, and can't, since
+// black ant 0 has rock ahead, and red ant 2 a foe.
+const DRAWN: [(&str, &str); 2] = [
+    (
+        "cup --worlds w --brains r b --seed 12345 --rounds 2",
+        "3 points: b (1 won, 1 drawn, 0 lost)\n1 points: r (0 won, 1 drawn, 1 lost)\n",
+    ),
+    (
+        "cup --worlds w --brains r b --seed 1002789326 --rounds 2",
+        "2 points: r (0 won, 2 drawn, 0 lost)\n2 points: b (0 won, 2 drawn, 0 lost)\n",
+    ),
+];
+
+// Of twelve ants the black ones 1, 10 and 11 have a particle ahead, and black ant 5 a cell beside both red ones: a step onto it makes four foes of
+// three for red ant 3, and five of four for red ant 6. Player r fetches food from the cell ahead, and b stays.
+const FETCHING: Job<'static> = Job {
+    world: "7\n7\n# # # # # # #\n # - # # - 1 #\n# - + - # # #\n # - . + - # #\n# # # - - # #\n # - 1 # - 1 #\n# # # # # # #\n",
+    red: "Move 1 7\nPickUp 2 7\nTurn Left 3\nTurn Left 4\nTurn Left 5\nMove 6 7\nDrop 7\nDrop 7",
+    black: "Drop 0",
+    ..NO_JOB
+};
+
+// Where r is red, no ant can step. Where it is black, red ant 6 alone dies in round 1, and leaves 3 particles on its hill. Ants 1, 10 and 11 step
+// in round 1, rest in rounds 2 to 15, take a particle in 16, turn in 17 to 19, step back in 20, rest in 21 to 34, and drop it on their hill in 35.
+const FETCHED: [(&str, &str); 2] = [
+    (
+        "cup --worlds w --brains r b --seed 1 --rounds 34",
+        "3 points: b (1 won, 1 drawn, 0 lost)\n1 points: r (0 won, 1 drawn, 1 lost)\n",
+    ),
+    (
+        "cup --worlds w --brains r b --seed 1 --rounds 35",
+        "2 points: r (0 won, 2 drawn, 0 lost)\n2 points: b (0 won, 2 drawn, 0 lost)\n",
+    ),
+];
+
+static CONTEST_CUPS: [Table<'static>; 2] = [
+    Table {
+        job: DRAWING,
+        given: Given::Line,
+        status: Status::Done,
+        rows: &DRAWN,
+    },
+    Table {
+        job: FETCHING,
+        given: Given::Line,
+        status: Status::Done,
+        rows: &FETCHED,
+    },
+];
+
+#[test]
+fn a_cup_is_played_with_its_seed_and_by_the_contests_numbers(rt: HostRuntime) -> Result<(), Fail> {
+    check_tables(&rt, rt.alloc(), &CONTEST_CUPS)
 }

@@ -67,8 +67,9 @@ const STOOD: [(&str, &str); 1] = [(
 
 // Saves, and the rest of each up to round 3. In the first an ant flips by the second number of its stream, 2932, and then moves, to rest for 9
 // turns; it would do neither by the first number, 7193. In the second two ants sense the marker that the first ant sets in round 2: in windows
-// of two turns one of their looks is made before it, in windows of one turn none, in longer ones both.
-const LATER: [(&str, &str); 2] = [
+// of two turns one of their looks is made before it, in windows of one turn none, in longer ones both. In the third the rows stand from the top,
+// and the amounts of food in row order.
+const LATER: [(&str, &str); 3] = [
     (
         "ants save 1\nseed 12345\nsheet 4 2 9\nwindow 50\nround 1\nplace 1\ntaken 2 redone 0\nsize 4 3\nred 3\nFlip 2 1 2\nMove 0 0\nDrop 2\nblack 1\nTurn Left 0\n####\n#++#\n####\n0000\n0000\n0000\n0000\n0000\n0000\n0000\n0000\n0000\nant 0 red 1 1 0 0 0 0\nend\n",
         "\nAfter round 3...\ncell (0, 0): rock\ncell (1, 0): rock\ncell (2, 0): rock\ncell (3, 0): rock\ncell (0, 1): rock\ncell (1, 1): red hill; \ncell (2, 1): red hill; red ant of id 0, dir 0, food 0, state 0, resting 9\ncell (3, 1): rock\ncell (0, 2): rock\ncell (1, 2): rock\ncell (2, 2): rock\ncell (3, 2): rock\n\nscore: red 0 black 0\nturns 6 taken 6 redone 0\n",
@@ -76,6 +77,10 @@ const LATER: [(&str, &str); 2] = [
     (
         "ants save 1\nseed 7\nsheet 5 3 14\nwindow 2\nround 1\nplace 0\ntaken 3 redone 0\nsize 5 3\nred 2\nMark 0 0\nSense Ahead 1 1 Marker 0\nblack 1\nTurn Left 0\n#####\n#+++#\n#####\n00000\n00000\n00000\n00000\n00000\n00000\n00000\n00000\n00000\nant 0 red 2 1 0 0 0 0\nant 1 red 1 1 0 0 1 0\nant 2 red 3 1 3 0 1 0\nend\n",
         "\nAfter round 3...\ncell (0, 0): rock\ncell (1, 0): rock\ncell (2, 0): rock\ncell (3, 0): rock\ncell (4, 0): rock\ncell (0, 1): rock\ncell (1, 1): red hill; red ant of id 1, dir 0, food 0, state 1, resting 0\ncell (2, 1): red hill; red marks: 0; red ant of id 0, dir 0, food 0, state 0, resting 0\ncell (3, 1): red hill; red ant of id 2, dir 3, food 0, state 1, resting 0\ncell (4, 1): rock\ncell (0, 2): rock\ncell (1, 2): rock\ncell (2, 2): rock\ncell (3, 2): rock\ncell (4, 2): rock\n\nscore: red 0 black 0\nturns 9 taken 8 redone 1\n",
+    ),
+    (
+        "ants save 1\nseed 7\nsheet 5 3 14\nwindow 1\nround 0\nplace 0\ntaken 0 redone 0\nsize 4 4\nred 1\nTurn Left 0\nblack 1\nDrop 0\n####\n#.+#\n#..#\n####\n0000\n0000\n0100\n0000\n0000\n0000\n0000\n0000\n0000\n00o0\n0o00\n0000\nfood 2 1 63\nfood 1 2 64\nant 0 red 2 1 0 0 0 0\nend\n",
+        "\nAfter round 3...\ncell (0, 0): rock\ncell (1, 0): rock\ncell (2, 0): rock\ncell (3, 0): rock\ncell (0, 1): rock\ncell (1, 1): \ncell (2, 1): 63 food; red hill; red ant of id 0, dir 3, food 0, state 0, resting 0\ncell (3, 1): rock\ncell (0, 2): rock\ncell (1, 2): 64 food; red marks: 0; \ncell (2, 2): \ncell (3, 2): rock\ncell (0, 3): rock\ncell (1, 3): rock\ncell (2, 3): rock\ncell (3, 3): rock\n\nscore: red 63 black 0\nturns 3 taken 3 redone 0\n",
     ),
 ];
 

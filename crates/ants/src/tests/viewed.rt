@@ -1,9 +1,9 @@
 // The command `view`.
 use crate::status::Status;
-use crate::tests::runs::KILLED;
+use crate::tests::runs::{KILLED, NEIGHBOURS};
 use crate::tests::{
-    CLOSING, Ending, Given, Job, NO_JOB, Table, Told, check_tables, check_text, check_with, done,
-    ending_with,
+    CLOSED, CLOSING, Ending, Given, Job, NO_JOB, Table, Told, check_rows, check_tables, check_text,
+    check_with, done, ending_with,
 };
 use std::alloc::Global;
 use std::process::Abort;
@@ -184,6 +184,57 @@ static UNSTOPPED: [Table<'static>; 2] = [
 #[test]
 fn a_view_without_a_turn_at_which_a_break_holds_says_so(rt: HostRuntime) -> Result<(), Fail> {
     check_tables(&rt, rt.alloc(), &UNSTOPPED)
+}
+
+// One red ant: it goes to state 3 where its first number leaves 0 modulo 7193 and the second leaves 0 modulo 2932, and else to state 2.
+const DRAWING: Job<'static> = Job {
+    world: CLOSED,
+    red: "Flip 7193 1 2\nFlip 2932 3 2\nDrop 2\nDrop 3",
+    black: "Drop 0",
+    breaks: "State Red 3\nState Red 2\n",
+    ..NO_JOB
+};
+
+// The numbers of seed 12345 begin 7193, 2932: it is in state 1 after round 1, in state 3 after round 2. The other seed is the state that follows
+// 12345, in its lowest 30 bits, so its numbers begin 2932: the ant is in state 2 after round 1.
+const DRAWN: [(&str, &str); 2] = [
+    (
+        "view w r b k --seed 12345 --rounds 5",
+        "random seed: 12345\nstop: round 2, ant 0, break 1\ncell (0, 0): rock\ncell (1, 0): rock\ncell (2, 0): rock\ncell (0, 1): rock\ncell (1, 1): red hill; red ant of id 0, dir 0, food 0, state 3, resting 0\ncell (2, 1): rock\ncell (0, 2): rock\ncell (1, 2): rock\ncell (2, 2): rock\n",
+    ),
+    (
+        "view w r b k --seed 1002789326 --rounds 5",
+        "random seed: 1002789326\nstop: round 1, ant 0, break 2\ncell (0, 0): rock\ncell (1, 0): rock\ncell (2, 0): rock\ncell (0, 1): rock\ncell (1, 1): red hill; red ant of id 0, dir 0, food 0, state 2, resting 0\ncell (2, 1): rock\ncell (0, 2): rock\ncell (1, 2): rock\ncell (2, 2): rock\n",
+    ),
+];
+
+static DRAWN_VIEWS: Table<'static> = Table {
+    job: DRAWING,
+    given: Given::Line,
+    status: Status::Done,
+    rows: &DRAWN,
+};
+
+// Red ant 2 steps beside black ant 3, which has five foes then, and red ant 6, which has four once that one is dead.
+const CONTEST: [(&str, &str); 1] = [("Killed 6", "random seed: 1\nno stop in 1 rounds\n")];
+
+static CONTEST_VIEW: Table<'static> = Table {
+    job: Job {
+        line: "view w r b k --seed 1 --rounds 1",
+        world: NEIGHBOURS,
+        red: "Move 0 0",
+        black: "Drop 0",
+        ..NO_JOB
+    },
+    given: Given::Breaks,
+    status: Status::Done,
+    rows: &CONTEST,
+};
+
+#[test]
+fn a_view_is_of_the_game_of_its_seed_by_the_contests_numbers(rt: HostRuntime) -> Result<(), Fail> {
+    check_rows(&rt, rt.alloc(), &DRAWN_VIEWS)?;
+    check_rows(&rt, rt.alloc(), &CONTEST_VIEW)
 }
 
 // Asserts the whole text of the view that stops at the death of the red ant.
