@@ -8,14 +8,10 @@ A row is `- BEND | REFUSED BY; REFUSED BY; ..`, where each is one of
 """
 import re
 
-from tree import Unknown, crates, exists, read, source_files
+from tree import Unknown, anchor_of, crates, exists, read, source_files
 
 FILE = "docs/bent_rules.txt"
 EXAMPLES = {"RULES": "docs/RULES.md", "README": "README.md"}
-
-
-def anchor_of(heading):
-    return re.sub(r"[^\w\- ]", "", heading.strip().lower()).replace(" ", "-")
 
 
 class Evidence:

@@ -67,6 +67,11 @@ def crates():
     return found
 
 
+def anchor_of(heading):
+    """What a link to a heading of a page has behind its `#`."""
+    return re.sub(r"[^\w\- ]", "", heading.strip().lower()).replace(" ", "-")
+
+
 def source_files(folder, ending):
     for where, folders, files in sorted(os.walk(os.path.join(ROOT, folder))):
         folders.sort()
