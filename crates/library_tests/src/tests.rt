@@ -10,6 +10,7 @@ mod minimised;
 mod numbers;
 mod saves;
 mod standing_workers;
+mod stopped_games;
 mod stream_sinks;
 mod turns;
 mod world_files;

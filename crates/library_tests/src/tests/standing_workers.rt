@@ -22,7 +22,7 @@ const WORLD: &str =
 
 const FLIPS: &str = "Flip 2 0 0";
 
-const MOVES: &str = "Move 0 0";
+pub const MOVES: &str = "Move 0 0";
 
 const SEED: u32 = 12345;
 
@@ -76,9 +76,9 @@ const REDS: [(u32, u64, bool); 7] = [
 
 // The brains of a game.
 #[derive(Drop)]
-struct Players {
-    red: Brain,
-    black: Brain,
+pub struct Players {
+    pub red: Brain,
+    pub black: Brain,
 }
 
 fn brain_of<R: Abort>(rt: &R, alloc: Global, text: &str) -> Result<Brain, Fail> {
@@ -87,14 +87,14 @@ fn brain_of<R: Abort>(rt: &R, alloc: Global, text: &str) -> Result<Brain, Fail> 
     Ok(read_brain(alloc, bytes)?)
 }
 
-fn make_players<R: Abort>(rt: &R, alloc: Global, black: &str) -> Result<Players, Fail> {
+pub fn make_players<R: Abort>(rt: &R, alloc: Global, black: &str) -> Result<Players, Fail> {
     let red = brain_of(rt, alloc, FLIPS)?;
     let black = brain_of(rt, alloc, black)?;
     Ok(Players { red, black })
 }
 
 // A whole field with the world of a text, at the start of a seed's random numbers.
-fn field_on<'b>(
+pub fn field_on<'b>(
     alloc: Global,
     text: &[u8],
     brains: Brains<'b>,

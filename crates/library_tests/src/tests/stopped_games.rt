@@ -1,0 +1,68 @@
+// Where a game stands when its sink had no room for its text.
+use crate::tests::standing_workers::{MOVES, Players, field_on, make_players};
+use ant_base::{Calls, LONGEST, MemSink};
+use ant_turn::{Brains, Sheet};
+use match_run::{Dumps, Game, PlayFault, play_rest};
+use round_book::{Crew, SoloCrew};
+use std::alloc::Global;
+use std::process::Abort;
+use std::test::Fail;
+
+// A red ant between rocks, which draws numbers and stays.
+const WORLD: &str = "3\n3\n# # #\n # + #\n# # #\n";
+
+// How many bytes the sink takes of the text of three rounds, each of which has a dump of 236 bytes, and how many rounds are done then: in the
+// first dump or at its last byte; in the second; and behind all three, at the score.
+const ROOMS: [(u64, u32); 6] = [(10, 1), (235, 1), (236, 2), (471, 2), (708, 3), (720, 3)];
+
+// Asserts how many rounds are done, and how many turns the crew has played, where the sink takes so many bytes.
+fn check_stop<R: Abort>(
+    rt: &R,
+    alloc: Global,
+    players: &Players,
+    room: u64,
+    done: u32,
+) -> Result<(), Fail> {
+    let bytes = WORLD.as_bytes();
+    assert!(rt; bytes.len() <= LONGEST);
+    let brains = Brains {
+        red: &players.red,
+        black: &players.black,
+        sheet: Sheet::contest(),
+    };
+    let mut game = Game::begin(field_on(alloc, bytes, brains, 12345)?, 16384);
+    let mut crew = SoloCrew::new();
+    let mut sink = MemSink::with_room(alloc, room, Calls::new(alloc))?;
+    let played = play_rest(
+        alloc,
+        &mut crew,
+        &mut game,
+        3,
+        &Dumps::All,
+        false,
+        &mut sink,
+    );
+    assert_eq!(rt; played.err(), Some(PlayFault::WriteFault));
+    assert_eq!(rt;
+        (game.done(), crew.turns()),
+        (done, u64::from(done)),
+        "with room for {room}"
+    );
+    Ok(())
+}
+
+// Asserts the same of each row.
+fn check_stops<R: Abort>(rt: &R, alloc: Global, rows: &[(u64, u32)]) -> Result<(), Fail> {
+    let players = make_players(rt, alloc, MOVES)?;
+    for (room, done) in rows {
+        check_stop(rt, alloc, &players, *room, *done)?;
+    }
+    Ok(())
+}
+
+#[test]
+fn a_game_whose_sink_failed_stands_behind_the_round_of_that_dump(
+    rt: HostRuntime,
+) -> Result<(), Fail> {
+    check_stops(&rt, rt.alloc(), &ROOMS)
+}
