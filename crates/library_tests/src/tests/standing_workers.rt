@@ -22,7 +22,7 @@ const WORLD: &str =
 
 const FLIPS: &str = "Flip 2 0 0";
 
-pub const MOVES: &str = "Move 0 0";
+pub(crate) const MOVES: &str = "Move 0 0";
 
 const SEED: u32 = 12345;
 
@@ -76,9 +76,9 @@ const REDS: [(u32, u64, bool); 7] = [
 
 // The brains of a game.
 #[derive(Drop)]
-pub struct Players {
-    pub red: Brain,
-    pub black: Brain,
+pub(crate) struct Players {
+    pub(crate) red: Brain,
+    pub(crate) black: Brain,
 }
 
 fn brain_of<R: Abort>(rt: &R, alloc: Global, text: &str) -> Result<Brain, Fail> {
@@ -87,14 +87,14 @@ fn brain_of<R: Abort>(rt: &R, alloc: Global, text: &str) -> Result<Brain, Fail> 
     Ok(read_brain(alloc, bytes)?)
 }
 
-pub fn make_players<R: Abort>(rt: &R, alloc: Global, black: &str) -> Result<Players, Fail> {
+pub(crate) fn make_players<R: Abort>(rt: &R, alloc: Global, black: &str) -> Result<Players, Fail> {
     let red = brain_of(rt, alloc, FLIPS)?;
     let black = brain_of(rt, alloc, black)?;
     Ok(Players { red, black })
 }
 
 // A whole field with the world of a text, at the start of a seed's random numbers.
-pub fn field_on<'b>(
+pub(crate) fn field_on<'b>(
     alloc: Global,
     text: &[u8],
     brains: Brains<'b>,
