@@ -20,7 +20,7 @@ map-related related f keeps (a ∷ states) [] all = absurd all
 map-related related f keeps (a ∷ states) (b ∷ others) all = ap₂ ◌∷◌ (keeps a b all.0) (map-related related f keeps states others all.1)
 
 -- states that a bisimulation relates do alike under any classes that it keeps
-pub alike_by : (brain : List Instr) (classes : List ℕ) (related : Relation) → IsBisimulation brain related → ((a b : ℕ) → related a b ≡ true → slice_index classes a ≡ slice_index classes b) → (a b : ℕ) → related a b ≡ true → DoAlike brain classes a b
+pub alike_by : (brain : List Instr) (classes : List ℕ) (related : Relation) → IsBisimulation brain brain related → ((a b : ℕ) → related a b ≡ true → slice_index classes a ≡ slice_index classes b) → (a b : ℕ) → related a b ≡ true → DoAlike brain classes a b
 alike_by brain classes related bisimulation keeps a b holds =
     redirected-same (slice_index classes) (slice_index classes) (instruction_at brain a) (instruction_at brain b) (bisimulation.shape a b holds)
     (map-related related (slice_index classes) keeps (states_of (instruction_at brain a)) (states_of (instruction_at brain b)) (bisimulation.onward a b holds))
@@ -62,7 +62,7 @@ stable_alike brain classes stable a b low high one =
     stable a low ∙ ap (λ s. redirected (slice_index classes) (instruction_at brain s)) one ∙ sym (stable b high)
 
 -- stable classes are a bisimulation
-classes-bisimulation : (brain : List Instr) (classes : List ℕ) → IsBrain brain → AreStable brain classes → IsBisimulation brain (same_class brain classes)
+classes-bisimulation : (brain : List Instr) (classes : List ℕ) → IsBrain brain → AreStable brain classes → IsBisimulation brain brain (same_class brain classes)
 classes-bisimulation brain classes is_brain stable = record {
   inside = λ a b holds. let it = same_class-says brain classes a b holds in (it.low, it.high);
   shape = λ a b holds.

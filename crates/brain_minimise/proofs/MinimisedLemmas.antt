@@ -124,7 +124,7 @@ module _ (old new : List Instr) (seen : List Bool) (classes : List ℕ) (numbers
   abbrev pulled_back : Relation → Relation
   pulled_back related a b = both related (new_number numbers a) (new_number numbers b)
 
-  pulled-bisimulation : (related : Relation) → IsBisimulation new related → IsBisimulation old (pulled_back related)
+  pulled-bisimulation : (related : Relation) → IsBisimulation new new related → IsBisimulation old old (pulled_back related)
   pulled-bisimulation related bisimulation = record {
     inside = λ a b holds.
         let it = both-says related (new_number numbers a) (new_number numbers b) holds in

@@ -1,4 +1,4 @@
--- Equivalent states of a brain (the task's neurology).
+-- Equivalent states of a brain, and what relates the states of two brains (the task's neurology).
 use Rattle.std.specs.Prelude.{◌≡◌, ℕ, ◌<◌, Bool, true, List, [], ◌∷◌, length}
 use Rattle.brain_read.specs.declared.instr.Instr.{Instr}
 use Rattle.brain_read.specs.Grammar.{states_of}
@@ -20,15 +20,15 @@ AreRelated related [] (b ∷ others) = ⊥
 AreRelated related (a ∷ states) [] = ⊥
 AreRelated related (a ∷ states) (b ∷ others) = (related a b ≡ true) × AreRelated related states others
 
--- related states are states of the brain, have the same kind and the same sight, condition, marker, side or bound,
--- and their successors are related place by place
-pub record IsBisimulation (brain : List Instr) (related : Relation) : Type 0 where
-  pub inside : (a b : ℕ) → related a b ≡ true → (a < length brain) × (b < length brain)
-  pub shape : (a b : ℕ) → related a b ≡ true → shape_of (instruction_at brain a) ≡ shape_of (instruction_at brain b)
-  pub onward : (a b : ℕ) → related a b ≡ true → AreRelated related (states_of (instruction_at brain a)) (states_of (instruction_at brain b))
+-- related states are a state of the first brain and one of the second, have the same kind and the same sight, condition, marker, side or
+-- bound, and their successors are related place by place
+pub record IsBisimulation (first second : List Instr) (related : Relation) : Type 0 where
+  pub inside : (a b : ℕ) → related a b ≡ true → (a < length first) × (b < length second)
+  pub shape : (a b : ℕ) → related a b ≡ true → shape_of (instruction_at first a) ≡ shape_of (instruction_at second b)
+  pub onward : (a b : ℕ) → related a b ≡ true → AreRelated related (states_of (instruction_at first a)) (states_of (instruction_at second b))
 
--- two states are equivalent: some bisimulation relates them
+-- two states of a brain are equivalent: some bisimulation of it and itself relates them
 pub record AreEquivalent (brain : List Instr) (a b : ℕ) : Type 0 where
   pub related : Relation
-  pub bisimulation : IsBisimulation brain related
+  pub bisimulation : IsBisimulation brain brain related
   pub holds : related a b ≡ true

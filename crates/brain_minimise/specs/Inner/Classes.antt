@@ -14,7 +14,7 @@ pub record AreClasses (brain : List Instr) (classes : List ℕ) : Type 0 where
   pub each : length classes ≡ length brain
   pub low : (state : ℕ) → state < length brain → slice_index classes state ≤ state
   pub own : (state : ℕ) → state < length brain → slice_index classes (slice_index classes state) ≡ slice_index classes state
-  pub all : (related : Relation) → IsBisimulation brain related → (a b : ℕ) → related a b ≡ true → slice_index classes a ≡ slice_index classes b
+  pub all : (related : Relation) → IsBisimulation brain brain related → (a b : ℕ) → related a b ≡ true → slice_index classes a ≡ slice_index classes b
 
 -- each state does as its class's least member
 abbrev pub AreStable : List Instr → List ℕ → Type 0
