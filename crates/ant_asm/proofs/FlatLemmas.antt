@@ -1,11 +1,10 @@
 -- Bodies and their items.
 use Rattle.std.proofs.Common.{◌≡◌, ℕ, zero, suc, ◌+◌, ◌<◌, ◌≤◌, List, [], ◌∷◌, ◌++◌, length, Some, refl, sym, ap, ap₂, ◌∙◌, subst, arith}
 use Rattle.std.proofs.lemmas.List.{length_push}
-use Rattle.std.specs.Prelude.{slice_get, slice_index_or, ◌==◌}
+use Rattle.std.specs.Prelude.{slice_get, slice_index_or, ◌==◌, Vec}
 use Rattle.std.specs.List.{AllByRecursion}
 use Rattle.std.proofs.lemmas.Bool.{cond-true, cond-false, eqb-true, eq-eqb, false_from_ne_true}
 use Rattle.std.proofs.lemmas.Option.{get_or_from_slice_get, same_Some}
-use Rattle.std.specs.Prelude.{Vec}
 use Rattle.std.specs.declared.alloc.Global.{Global}
 use Rattle.ant_asm.specs.declared.body.Body.{Body}
 use Rattle.ant_asm.specs.declared.body.Item.{Item}

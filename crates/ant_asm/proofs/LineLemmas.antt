@@ -13,8 +13,7 @@ use Rattle.brain_read.specs.declared.form.ConditionWord.{ConditionWord}
 use Rattle.line_tokens.specs.TokenLines.{TokenLine}
 use Rattle.brain_read.specs.Soundness.{IsSoundCondition}
 use Rattle.line_tokens.specs.Tokens.{has_bad_byte}
-use Rattle.brain_read.specs.Places.{sight_at, side_at, condition_word_at}
-use Rattle.brain_read.specs.Places.{form_at}
+use Rattle.brain_read.specs.Places.{sight_at, side_at, condition_word_at, form_at}
 use Rattle.brain_read.specs.Forms.{most_bound, form_words, forms, sight_words, side_words, condition_words, fields_of_condition, word_of_form, word_of_sight, word_of_side, word_of_condition}
 use Rattle.line_tokens.specs.Fields.{named}
 use Rattle.line_tokens.specs.Fields.LineField.{Word, Number}

@@ -1,5 +1,5 @@
 // A program expanded.
-ghost use Rattle.std.specs.Prelude.{◌≡◌, ℕ, List, ◌+◌, ◌<◌, ◌≤◌, ◌++◌, length, OnOk, IfOk, map, [], ◌∷◌, slice_index_or, slice_get, Some};
+ghost use Rattle.std.specs.Prelude.{◌≡◌, ℕ, List, ◌+◌, ◌<◌, ◌≤◌, ◌++◌, length, OnOk, IfOk, map, [], ◌∷◌};
 ghost use Rattle.ant_asm.specs.Program.{size_of};
 ghost use Rattle.ant_asm.specs.Places.{places_of};
 ghost use Rattle.ant_asm.specs.LabelGame.{instruction_by};

@@ -1,5 +1,5 @@
 // A program that is being read, line by line.
-ghost use Rattle.std.specs.Prelude.{◌≡◌, ◌⊎◌, ◌+◌, ◌∷◌, ◌++◌, [], ◌<◌, ◌≤◌, ℕ, List, length, map, OnOk, IfOk, IfErr, None, Ok, bytes_eq};
+ghost use Rattle.std.specs.Prelude.{◌≡◌, ◌+◌, ◌∷◌, [], ◌<◌, ◌≤◌, ℕ, List, length, OnOk, IfOk, IfErr, None, Ok, bytes_eq};
 ghost use Rattle.ant_base.specs.Shelf.{longest};
 ghost use Rattle.line_tokens.specs.TokenLines.{lines_with_tokens};
 ghost use Rattle.brain_read.specs.Forms.{IsInRange};

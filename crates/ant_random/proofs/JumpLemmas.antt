@@ -5,8 +5,7 @@ use Rattle.std.proofs.lemmas.Nat.{mul-mod_first, mul-mod_second, and_mask, field
 use Rattle.std.proofs.lemmas.Nat.Gcd.{dvd_of_mod-eq-zero}
 use Rattle.std.specs.Fn.{iterate}
 use Rattle.ant_random.specs.Stream.{state_at, random_at}
-use Rattle.ant_random.specs.Inner.Jump.{next_state}
-use Rattle.ant_random.specs.Inner.Jump.{landed}
+use Rattle.ant_random.specs.Inner.Jump.{next_state, landed}
 use Rattle.ant_random.specs.declared.jump.Jump.{Jump}
 
 -- a wrapped product and a wrapped sum are wrapped once

@@ -18,16 +18,8 @@ is_laden (Some ant) = ant.laden
 
 -- whether it is the condition Rock
 abbrev pub is_rock_condition : Cond → Bool
-is_rock_condition Friend = false
-is_rock_condition Foe = false
-is_rock_condition FriendWithFood = false
-is_rock_condition FoeWithFood = false
-is_rock_condition Food = false
 is_rock_condition Rock = true
-is_rock_condition (Marker i) = false
-is_rock_condition FoeMarker = false
-is_rock_condition Home = false
-is_rock_condition FoeHome = false
+is_rock_condition _ = false
 
 -- whether a clear cell meets a condition for an ant of this colour
 abbrev pub clear_meets : Cell → Cond → Colour → Bool

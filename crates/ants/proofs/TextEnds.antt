@@ -33,9 +33,8 @@ use Rattle.dump_print.specs.Content.{content_text}
 use Rattle.dump_print.specs.Texts.{cell_line, cells_text, dump_text, row_text, score_text, seed_text, stats_text}
 use Rattle.dump_print.specs.declared.totals.Totals.{Totals}
 use Rattle.line_tokens.specs.Fields.{LineField, field_text, further_text, line_text}
-use Rattle.match_run.specs.Counts.{counts_text, totals_of, whole_text}
+use Rattle.match_run.specs.Counts.{counts_text, totals_of, whole_text, both}
 use Rattle.match_run.specs.Run.{dumps_text, run_text, world_after}
-use Rattle.match_run.specs.Counts.{both}
 use Rattle.match_run.specs.Rest.{later_dumps, rest_text}
 use Rattle.match_save.specs.Resumed.{moment_of, rest_of}
 use Rattle.match_save.specs.Saved.{SavedValue, draft_of, save_text}

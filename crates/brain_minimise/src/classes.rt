@@ -1,5 +1,5 @@
 // Classes of states, refined until each state does as its class's least member.
-ghost use Rattle.std.specs.Prelude.{◌≡◌, ◌<◌, ◌↔◌, IsTrue, Some, None, length, slice_index, slice_index_or, slice_set, unwrap_or, IfOk, IfSome, IfNone};
+ghost use Rattle.std.specs.Prelude.{◌≡◌, ◌<◌, ◌↔◌, IsTrue, Some, None, length, slice_index_or, slice_set, unwrap_or, IfOk, IfSome, IfNone};
 ghost use Rattle.brain_minimise.specs.Inner.Classes.{AreClasses, AreStable, DoAlike, slack};
 
 use crate::redirect::redirect;

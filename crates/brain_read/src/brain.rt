@@ -1,5 +1,5 @@
 // A brain: a list of sound instructions.
-ghost use Rattle.std.specs.Prelude.{◌≡◌, ◌<◌, ◌≤◌, length, slice_get, Some, IfOk};
+ghost use Rattle.std.specs.Prelude.{◌≡◌, ◌<◌, length, slice_get, Some, IfOk};
 ghost use Rattle.brain_read.specs.Soundness.{IsSound, IsBrain};
 
 use crate::instr::Instr;

@@ -50,7 +50,7 @@ impl<T: Drop> From<AllocFailed<T>> for BrainFault {
 
 impl BrainFault {
     ghost use Rattle.std.specs.Prelude.{◌≡◌};
-    ghost use Rattle.brain_read.specs.Refusals.{refusal_at, fault_at};
+    ghost use Rattle.brain_read.specs.Refusals.{refusal_at};
 
     /// The fault of the line of this number, from 1, that was refused so: `BadByte` where the token has a bad byte, else the fault of the
     /// position.

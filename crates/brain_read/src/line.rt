@@ -117,6 +117,7 @@ fn turn(tokens: &mut Tokens) -> Result<Draft, Refusal>
     Ok(Draft::Turn { side, next })
 }
 
+// What follows the word Move.
 #[tactic(auto, unfolding(crate::specs::Reading::read_branches))]
 fn step(tokens: &mut Tokens) -> Result<Draft, Refusal>
     ensures step { reading.read_branches Move tokens.old ≡ as_read result }

@@ -5,13 +5,12 @@ ghost use Rattle.brain_read.specs.Soundness.{most_states};
 ghost use Rattle.line_tokens.specs.TokenLines.{lines_with_tokens};
 ghost use Rattle.brain_read.specs.Grammar.{IsBrainText};
 ghost use Rattle.brain_read.specs.Faulty.{IsBrainFault};
-ghost use Rattle.brain_read.specs.Answers.{IsFaultOf};
+ghost use Rattle.brain_read.specs.Answers.{IsFaultOf, AnswersBrain, AnswersFault};
 ghost use Rattle.brain_read.specs.declared.fault.BrainFault.{BrainFault};
 ghost use Rattle.brain_read.specs.declared.instr.Instr.{Instr};
 ghost use Rattle.line_tokens.specs.Inner.LineByLine.{judged_line, read_lines, reading_from};
 ghost use Rattle.brain_read.specs.Inner.Verdict.{brain_reader, settle_all, settle, read_text};
 ghost use Rattle.brain_read.specs.Inner.Answered.{placed_of, FailsAs, Gives, as_judged};
-ghost use Rattle.brain_read.specs.Answers.{AnswersBrain, AnswersFault};
 
 use crate::brain::{Brain, MOST_STATES};
 use crate::draft::Draft;

@@ -1,5 +1,5 @@
 // The states for which breaks ask, in a table for each colour.
-ghost use Rattle.std.specs.Prelude.{◌≡◌, ℕ, true, length, slice_index_or};
+ghost use Rattle.std.specs.Prelude.{◌≡◌, ℕ, true, slice_index_or};
 ghost use Rattle.std.specs.List.{All};
 ghost use Rattle.cell_world.specs.declared.ant.Colour.TheVariants.{Red, Black};
 ghost use Rattle.break_view.specs.declared.breaks.Break as breaks;

@@ -38,11 +38,9 @@ opening_cell t (Food n) = record floor { food = n }
 
 -- whether a cell of this kind is of a hill
 abbrev pub is_hill : Kind → Bool
-is_hill Rock = false
-is_hill Clear = false
 is_hill RedHill = true
 is_hill BlackHill = true
-is_hill (Food n) = false
+is_hill _ = false
 
 -- how many hill cells there are
 abbrev pub hill_count : List Kind → ℕ
@@ -61,18 +59,12 @@ opening width height kinds = record { width = width; height = height; ids = hill
 -- whether it is rock
 abbrev pub is_rock : Kind → Bool
 is_rock Rock = true
-is_rock Clear = false
-is_rock RedHill = false
-is_rock BlackHill = false
-is_rock (Food n) = false
+is_rock _ = false
 
 -- food is given from 1 to 9 particles
 abbrev pub IsFed : Kind → Type 0
-IsFed Rock = Unit {0}
-IsFed Clear = Unit {0}
-IsFed RedHill = Unit {0}
-IsFed BlackHill = Unit {0}
 IsFed (Food n) = (1 ≤ n) × (n ≤ 9)
+IsFed _ = Unit {0}
 
 -- the kind at a position, rock beyond the last
 abbrev pub kind_at : ℕ → List Kind → Pos → Kind

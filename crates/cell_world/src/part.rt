@@ -1,6 +1,6 @@
 // The parts of a cell, and sets of them.
-ghost use Rattle.std.specs.Prelude.{◌≡◌, ◌↔◌, true};
-ghost use Rattle.cell_world.specs.Parts.{Agree, CanPatch, has_part, no_parts, patched, with_part};
+ghost use Rattle.std.specs.Prelude.{◌≡◌, true};
+ghost use Rattle.cell_world.specs.Parts.{has_part, no_parts, with_part};
 
 use crate::cell::Cell;
 

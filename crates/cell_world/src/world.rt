@@ -34,9 +34,7 @@ pub struct World {
 }
 
 impl Model for World {
-    ghost use Rattle.std.specs.Prelude.{length};
-    ghost use Rattle.cell_world.specs.Grid.{Grid, IsWorld};
-    ghost use Rattle.cell_world.specs.Inner.Index.{IsIndex};
+    ghost use Rattle.cell_world.specs.Grid.{Grid};
 
     ghost Value = { Grid };
 

@@ -1,14 +1,12 @@
 -- What a command's words say.
-use Rattle.std.proofs.Common.{◌≡◌, ℕ, Bool, true, false, not, ◌||◌, cond, List, [], ◌∷◌, ◌++◌, map, Option, Some, None, is_some, bytes_eq, refl, sym, ap}
-use Rattle.std.proofs.Common.{◌∙◌, subst, ◌⊎◌, inl, inr, lit<}
+use Rattle.std.proofs.Common.{◌≡◌, ℕ, Bool, true, false, not, ◌||◌, cond, List, [], ◌∷◌, ◌++◌, map, Option, Some, None, is_some, bytes_eq, refl, sym, ap, ◌∙◌, subst, ◌⊎◌, inl, inr, lit<}
 use Rattle.std.specs.List.{Contains, flat_map, AllByRecursion}
 use Rattle.std.proofs.lemmas.Bool.{false≢true, or_from}
 use Rattle.std.proofs.lemmas.List.{append-nil, append_assoc}
 use Rattle.std.proofs.lemmas.Slice.Eq.{bytes_eq-Decides}
 use Rattle.command_words.specs.declared.command.GenShape.{GenShape}
 use Rattle.command_words.specs.declared.limits.NumberKind.{NumberKind}
-use Rattle.command_words.specs.declared.limits.NumberKind.TheVariants.{SeedNumber, RoundCount, WorkerCount, WindowSize, FoeCount, CorpseFood, RestRounds, SideLength}
-use Rattle.command_words.specs.declared.limits.NumberKind.TheVariants.{ElementCount}
+use Rattle.command_words.specs.declared.limits.NumberKind.TheVariants.{SeedNumber, RoundCount, WorkerCount, WindowSize, FoeCount, CorpseFood, RestRounds, SideLength, ElementCount}
 use Rattle.command_words.specs.declared.table.NameList.{NameList}
 use Rattle.command_words.specs.declared.table.NameList.TheVariants.{Worlds, Brains}
 use Rattle.command_words.specs.declared.slot.Slot.{Slot}
@@ -22,20 +20,14 @@ use Rattle.command_words.specs.declared.table.Choice.TheVariants.{Seed, Rounds, 
 use Rattle.command_words.specs.Limits.{number_in}
 use Rattle.command_words.specs.Slots.{fits, is_dumps, dumps_of, AreNames, DumpChoice}
 use Rattle.command_words.specs.Slots.DumpChoice.{NoDump}
-use Rattle.command_words.specs.Table.{word_of, places_of, choices_of, option_of, values_of, is_needed, keyword_of}
-use Rattle.command_words.specs.Table.{default_workers, default_window, default_surround, default_corpse, default_rest, default_side, default_rocks, default_blobs}
-use Rattle.command_words.specs.Command.{ResumeSetup, RunSetup, Given, given_words, joined, FitAll, IsOptionOf, IsGiven, IsCommandOf, PlainCommand, kind_in, first_word, value_given}
-use Rattle.command_words.specs.Command.{has_given}
-use Rattle.command_words.specs.Command.{number_needed, number_or, dumps_or_none, SaysSetup, SaysShape, SaysCup, SaysResume, one, Says}
+use Rattle.command_words.specs.Table.{word_of, places_of, choices_of, option_of, values_of, is_needed, keyword_of, default_workers, default_window, default_surround, default_corpse, default_rest, default_side, default_rocks, default_blobs}
+use Rattle.command_words.specs.Command.{ResumeSetup, RunSetup, Given, given_words, joined, FitAll, IsOptionOf, IsGiven, IsCommandOf, PlainCommand, kind_in, first_word, value_given, has_given, number_needed, number_or, dumps_or_none, SaysSetup, SaysShape, SaysCup, SaysResume, one, Says}
 use Rattle.command_words.specs.Command.PlainCommand.{ShowCommand, BrainCommand, MinimiseCommand, RunCommand, GenCommand, CupCommand, ViewCommand, WorkloadCommand, HelpCommand, VersionCommand, AsmCommand, SaveCommand, ResumeCommand}
-use Rattle.command_words.specs.Inner.Walk.{is_among, has_needed, rest_after, word_after, names_front, names_of, show_with, setup_with}
-use Rattle.command_words.specs.Inner.Walk.{setup_in, run_with, shape_with, shape_in, gen_with, cup_with, view_with, workload_with, command_in}
-use Rattle.command_words.specs.Inner.Walk.{resume_setup_in, resume_setup_with, resume_with, save_with}
+use Rattle.command_words.specs.Inner.Walk.{is_among, has_needed, rest_after, word_after, names_front, names_of, show_with, setup_with, setup_in, run_with, shape_with, shape_in, gen_with, cup_with, view_with, workload_with, command_in, resume_setup_in, resume_setup_with, resume_with, save_with}
 use Rattle.list_lemmas.proofs.Elements.{Contains-none, Contains-cases}
 use Rattle.command_words.proofs.ListLemmas.{list_all-at, list_all-each}
 use Rattle.command_words.proofs.TableLemmas.{option-not_first, same_option, bytes_eq-same, keyword-no_name}
-use Rattle.command_words.proofs.WalkSearch.{is_among-append, is_among-none, is_among-one, is_among-cons, rest_after-none, rest_after-cons, rest_after-first}
-use Rattle.command_words.proofs.WalkSearch.{rest_after-next, rest_after-unlike, names_front-run}
+use Rattle.command_words.proofs.WalkSearch.{is_among-append, is_among-none, is_among-one, is_among-cons, rest_after-none, rest_after-cons, rest_after-first, rest_after-next, rest_after-unlike, names_front-run}
 use Rattle.command_words.proofs.WalkAmong.{is_among-neither, is_among-fit, is_among-given, given-among, names-unlike, parts-unlike}
 use Rattle.command_words.proofs.WalkNames.{given-no_name}
 

@@ -1,6 +1,5 @@
 -- Going over words succeeds exactly on the beginnings of a command.
-use Rattle.std.proofs.Common.{◌≡◌, ◌≢◌, ℕ, ◌+◌, ◌<◌, suc, Bool, true, false, cond, List, [], ◌∷◌, ◌++◌, length, take, map, Option, Some, None, Result, Ok, Err}
-use Rattle.std.proofs.Common.{bytes_eq, refl, sym, ap, ◌∙◌, subst, arith}
+use Rattle.std.proofs.Common.{◌≡◌, ◌≢◌, ℕ, ◌+◌, ◌<◌, suc, Bool, true, false, cond, List, [], ◌∷◌, ◌++◌, length, take, map, Option, Some, None, Result, Ok, Err, bytes_eq, refl, sym, ap, ◌∙◌, subst, arith}
 use Rattle.std.specs.List.{Contains, flat_map, AllByRecursion}
 use Rattle.std.proofs.lemmas.Bool.{false≢true, or_from}
 use Rattle.std.proofs.lemmas.List.{append-nil, append_assoc, length_push}
@@ -18,8 +17,7 @@ use Rattle.list_lemmas.proofs.AllElements.{AllByRecursion-weaker}
 use Rattle.command_words.proofs.TableLemmas.{sample, sample-fits, choice_of-found, choice_of-known, choice_of-option, same_option-differs, bytes_eq-same}
 use Rattle.command_words.proofs.WalkSearch.{is_among-one, NoName}
 use Rattle.command_words.proofs.WalkAmong.{is_among-fewer, is_among-neither, is_among-fit}
-use Rattle.command_words.proofs.WalkNames.{MayBe, IsOpen, open-none, FitRest, rest-from_all, all-from_rest, Stops, RunsEnd, values-end, rest-stops, further, walk-same}
-use Rattle.command_words.proofs.WalkNames.{run-ends, walk-run, names-enough, stops-no_name, given-no_name, lacking, lacks_none, open-more}
+use Rattle.command_words.proofs.WalkNames.{MayBe, IsOpen, open-none, FitRest, rest-from_all, all-from_rest, Stops, RunsEnd, values-end, rest-stops, further, walk-same, run-ends, walk-run, names-enough, stops-no_name, given-no_name, lacking, lacks_none, open-more}
 
 -- a word may stand where the walk goes on
 pub stands : (o : Option (List Place)) (n : ℕ) (next : List Place → Result (List Place) ℕ) (later : List Place) → go_on o n next ≡ Ok later

@@ -1,28 +1,22 @@
 -- What holds of all words.
-use Rattle.std.proofs.Common.{◌≡◌, ◌≢◌, ℕ, ◌+◌, ◌<◌, ◌≤◌, Bool, true, false, cond, ◌&&◌, nat_le, codes, List, [], ◌∷◌, length, Option, Some, None, option_map, Result}
-use Rattle.std.proofs.Common.{Ok, Err, bytes_eq, refl, sym, ap, ◌∙◌, subst, ◌⊎◌, inl, inr, arith}
+use Rattle.std.proofs.Common.{◌≡◌, ◌≢◌, ℕ, ◌+◌, ◌<◌, ◌≤◌, Bool, true, false, cond, ◌&&◌, nat_le, codes, List, [], ◌∷◌, length, Option, Some, None, option_map, Result, Ok, Err, bytes_eq, refl, sym, ap, ◌∙◌, subst, ◌⊎◌, inl, inr, arith}
 use Rattle.std.specs.List.{Contains, AllByRecursion}
 use Rattle.std.proofs.lemmas.Bool.{cases_order, and_parts, leb-true, false≢true}
 use Rattle.std.proofs.lemmas.List.{append-nil}
 use Rattle.ant_base.specs.Number.{decimal_value, within}
 use Rattle.command_words.specs.declared.command.GenShape.{GenShape}
 use Rattle.command_words.specs.declared.limits.NumberKind.{NumberKind}
-use Rattle.command_words.specs.declared.limits.NumberKind.TheVariants.{SeedNumber, RoundCount, WorkerCount, WindowSize, FoeCount, CorpseFood, RestRounds, SideLength}
-use Rattle.command_words.specs.declared.limits.NumberKind.TheVariants.{ElementCount}
+use Rattle.command_words.specs.declared.limits.NumberKind.TheVariants.{SeedNumber, RoundCount, WorkerCount, WindowSize, FoeCount, CorpseFood, RestRounds, SideLength, ElementCount}
 use Rattle.command_words.specs.declared.table.Choice.{Choice}
 use Rattle.command_words.specs.declared.table.Choice.TheVariants.{Seed, Rounds, Dump, Workers, Window, Surround, Corpse, Rest, Stats, Far, Width, Height, Rocks, Blobs}
 use Rattle.command_words.specs.Limits.{least_of, most_of, number_in}
-use Rattle.command_words.specs.Table.{places_of, option_of}
-use Rattle.command_words.specs.Table.{default_workers, default_window, default_surround, default_corpse, default_rest, default_side, default_rocks, default_blobs}
+use Rattle.command_words.specs.Table.{places_of, option_of, default_workers, default_window, default_surround, default_corpse, default_rest, default_side, default_rocks, default_blobs}
 use Rattle.command_words.specs.Slots.{with_number, numbers_of, pieces_of, dumps_of, DumpChoice}
 use Rattle.command_words.specs.Slots.DumpChoice.{NoDump, EveryDump, ChosenDumps}
-use Rattle.command_words.specs.Command.{Given, NoneTwice, FitAll, ResumeSetup, RunSetup, PlainCommand, kind_in, first_word, joined, value_given, has_given, number_needed, number_or}
-use Rattle.command_words.specs.Command.{dumps_or_none}
-use Rattle.command_words.specs.Command.{SaysResume, SaysSetup, SaysShape, SaysCup, SaysView, Says, IsCommand, IsBeginning, IsRefusedAt}
+use Rattle.command_words.specs.Command.{Given, NoneTwice, FitAll, ResumeSetup, RunSetup, PlainCommand, kind_in, first_word, joined, value_given, has_given, number_needed, number_or, dumps_or_none, SaysResume, SaysSetup, SaysShape, SaysCup, SaysView, Says, IsCommand, IsBeginning, IsRefusedAt}
 use Rattle.command_words.specs.Command.PlainCommand.{ShowCommand, BrainCommand, MinimiseCommand, RunCommand, GenCommand, CupCommand, ViewCommand, WorkloadCommand, HelpCommand, VersionCommand, AsmCommand, SaveCommand, ResumeCommand}
 use Rattle.command_words.specs.Inner.Walk.{read_of}
-use Rattle.command_words.specs.Laws.{OneCommand, OneRefusedWord, NeverBoth, OneOfBoth, FrontBegins, AnyOrder, IsWithin, AreWithin, ResumeWithin, SetupWithin, ShapeWithin}
-use Rattle.command_words.specs.Laws.{CommandWithin, WithinLimits}
+use Rattle.command_words.specs.Laws.{OneCommand, OneRefusedWord, NeverBoth, OneOfBoth, FrontBegins, AnyOrder, IsWithin, AreWithin, ResumeWithin, SetupWithin, ShapeWithin, CommandWithin, WithinLimits}
 use Rattle.list_lemmas.proofs.Elements.{Contains-none, Contains-first, Contains-later, Contains-cases}
 use Rattle.command_words.proofs.TableLemmas.{same_option, same_option-differs, bytes_eq-same}
 use Rattle.command_words.proofs.ReadLemmas.{read-command, read-accepts, read-refuses, IsBeginning-front, IsBeginning-take}

@@ -2,8 +2,7 @@
 use Rattle.std.specs.Prelude.{ℕ, List, Option}
 use Rattle.ant_base.specs.Number.{number_within}
 use Rattle.command_words.specs.declared.limits.NumberKind.{NumberKind}
-use Rattle.command_words.specs.declared.limits.NumberKind.TheVariants.{SeedNumber, RoundCount, WorkerCount, WindowSize, FoeCount, CorpseFood, RestRounds, SideLength}
-use Rattle.command_words.specs.declared.limits.NumberKind.TheVariants.{ElementCount}
+use Rattle.command_words.specs.declared.limits.NumberKind.TheVariants.{SeedNumber, RoundCount, WorkerCount, WindowSize, FoeCount, CorpseFood, RestRounds, SideLength, ElementCount}
 
 -- the least number of a kind
 abbrev pub least_of : NumberKind → ℕ

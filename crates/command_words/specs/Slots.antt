@@ -1,6 +1,5 @@
 -- What the words at a place of a command may be.
-use Rattle.std.specs.Prelude.{◌≡◌, ◌≢◌, ℕ, ◌≤◌, nat_eq, nat_lt, ◌==◌, Bool, true, not, ◌&&◌, if◌then◌else◌}
-use Rattle.std.specs.Prelude.{List, [], ◌∷◌, length, Option, Some, None, option_map, is_some, codes}
+use Rattle.std.specs.Prelude.{◌≡◌, ◌≢◌, ℕ, ◌≤◌, nat_eq, nat_lt, ◌==◌, Bool, true, not, ◌&&◌, if◌then◌else◌, List, [], ◌∷◌, length, Option, Some, None, option_map, is_some, codes}
 use Rattle.std.specs.List.{AllByRecursion, starts_with, slice_split}
 use Rattle.std.specs.Str.{bytes_eq}
 use Rattle.command_words.specs.declared.limits.NumberKind.TheVariants.{RoundCount}

@@ -1,6 +1,6 @@
 // What a cell's line says of its content.
 ghost use Rattle.std.specs.Prelude.{decimal};
-ghost use Rattle.dump_print.specs.Content.{food_text, hill_text, digit_text, marks_text, ant_text, clear_text, content_text, colour_text, load_text, standing_ant_text};
+ghost use Rattle.dump_print.specs.Content.{food_text, hill_text, digit_text, marks_text, clear_text, content_text, colour_text, load_text, standing_ant_text};
 ghost use Rattle.hex_geometry.specs.Direction.{number_of};
 
 use ant_base::{Each, Failed, Layout, Parts, Sink, layout};

@@ -2,7 +2,7 @@
 use Rattle.std.proofs.Common.{◌≡◌, ◌+◌, ◌<◌, ◌≤◌, ℕ, zero, suc, Bool, true, false, not, ◌&&◌, ◌||◌, List, [], ◌∷◌, length, get_or, Option, Some, None, map, option_map, cond, slice_get, bytes_eq, nat_le, nat_lt, eqb, refl, sym, ap, ◌∙◌, IsTrue, arith, le-leb, leb-true, ltb-false, ltb-true}
 use Rattle.std.specs.List.{list_all}
 use Rattle.std.specs.Char.{to_ascii_lowercase, is_ascii_digit}
-use Rattle.std.specs.Str.{all_ascii_digits}
+use Rattle.std.specs.Str.{all_ascii_digits, str_to_ascii_lowercase, str_eq_ignore_ascii_case}
 use Rattle.std.specs.Str.Parse.{digits_value}
 use Rattle.std.proofs.lemmas.Bool.{and_parts, and_from, agree_below, agree_below_at, or_right, cond_both, not-true}
 use Rattle.std.proofs.lemmas.Option.{slice_get_within, get_or_from_slice_get}
@@ -10,7 +10,6 @@ use Rattle.std.proofs.lemmas.Slice.Eq.{bytes_eq-Decides}
 use Rattle.std.proofs.lemmas.Str.Parse.{digits_value_short}
 use Rattle.ant_base.proofs.Digits.{all_ascii_digits-IsNumeralModel}
 use Rattle.ant_base.specs.Number.{is_number, decimal_value, within, number_within}
-use Rattle.std.specs.Str.{str_to_ascii_lowercase, str_eq_ignore_ascii_case}
 use Rattle.word_table.specs.Words.{IsSameWord, are_distinct, word_place}
 use Rattle.word_table.proofs.Places.{word_place-found, word_place-only}
 use Rattle.line_tokens.specs.Tokens.{is_bad_byte, has_bad_byte}

@@ -6,13 +6,12 @@ use Rattle.std.specs.Str.{all_ascii_digits}
 use Rattle.std.proofs.lemmas.Bool.{and_parts, and_from}
 use Rattle.std.proofs.lemmas.Fmt.{digits_decimal, decimal_nonempty}
 use Rattle.ant_base.specs.Lines.{is_lf, has_no_lf}
-use Rattle.ant_base.proofs.Digits.{decimal_value-decimal}
+use Rattle.ant_base.proofs.Digits.{decimal_value-decimal, all_ascii_digits-IsNumeralModel}
 use Rattle.ant_base.proofs.Linewise.{has_no_lf-append}
 use Rattle.line_tokens.specs.Tokens.{has_byte, tokens_of}
 use Rattle.line_tokens.specs.Inner.Scan.{is_token_byte}
 use Rattle.line_tokens.specs.Fields.{LineField, SpellsAll, field_text, further_text, line_text}
 use Rattle.line_tokens.specs.Fields.LineField.{Word, Number}
-use Rattle.ant_base.proofs.Digits.{all_ascii_digits-IsNumeralModel}
 use Rattle.line_tokens.proofs.TokensLemmas.{plain, pieces, pieces-cons}
 
 -- whether a byte belongs to a token of a text's line

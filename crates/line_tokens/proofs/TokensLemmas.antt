@@ -1,8 +1,7 @@
 -- What a line has left, one token after another.
-use Rattle.std.proofs.Common.{◌≡◌, ◌+◌, ℕ, suc, Bool, true, false, not, ◌||◌, eqb, List, [], ◌∷◌, take, drop, filter, length, cond, refl, sym, ap, ◌∙◌, subst, one-add, eqb-true, arith}
+use Rattle.std.proofs.Common.{◌≡◌, ◌+◌, ℕ, suc, Bool, true, false, not, ◌||◌, eqb, List, [], ◌∷◌, take, drop, filter, length, cond, refl, sym, ap, ◌∙◌, subst, one-add, eqb-true, arith, ⊎_elim}
 use Rattle.std.specs.List.{prefix_len, slice_split, onto_first}
 use Rattle.std.proofs.lemmas.Bool.{or_cases, or_parts, not-true, not-false, false≢true}
-use Rattle.std.proofs.Common.{⊎_elim}
 use Rattle.ant_base.specs.Lines.{is_separator, after_separators}
 use Rattle.line_tokens.specs.Tokens.{begins_comment, before_comment, has_byte, tokens_of, has_token}
 use Rattle.line_tokens.specs.Inner.Scan.{is_token_byte, begins_token}

@@ -1,6 +1,5 @@
 // A game that is played window by window.
 ghost use Rattle.std.specs.Prelude.{◌≡◌, ◌-◌, ◌<◌, ◌≤◌, ◌^◌, ◌↔◌, IsTrue, OnOk, OnErr, true};
-ghost use Rattle.round_book.specs.Book.{FieldValue};
 ghost use Rattle.match_run.specs.Game.{CanGoOn, IsGame, IsRoundPlayed, IsRoundRefused, beginning, counted_on, game_at_round};
 ghost use Rattle.match_run.specs.Run.{most_rounds};
 

@@ -1,5 +1,5 @@
 // The windows of a round, played one after another.
-ghost use Rattle.std.specs.Prelude.{◌≡◌, ◌+◌, ◌-◌, ◌*◌, ◌<◌, ◌≤◌, ◌^◌, true};
+ghost use Rattle.std.specs.Prelude.{◌≡◌, ◌+◌, ◌-◌, ◌<◌, ◌≤◌, ◌^◌, true};
 ghost use Rattle.match_run.specs.Counts.{both};
 ghost use Rattle.match_run.specs.Game.{counted_on};
 ghost use Rattle.match_run.specs.Inner.Windows.{WindowsPlayed};

@@ -13,10 +13,9 @@ use Rattle.cell_world.specs.declared.ant.PlacedAnt.{PlacedAnt}
 use Rattle.cell_world.specs.declared.cell.Cell.{Cell}
 use Rattle.cell_world.specs.Cell.{HasMarksOfSix, cell_weight, is_ant, rock}
 use Rattle.cell_world.specs.Grid.{Grid, IsGround, cell_in, world_of}
-use Rattle.hex_geometry.specs.RowOrder.{index_of}
+use Rattle.hex_geometry.specs.RowOrder.{index_of, pos_at}
 use Rattle.cell_world.specs.Limits.{most_ants, most_weight}
 use Rattle.cell_world.specs.World.{weight}
-use Rattle.hex_geometry.specs.RowOrder.{pos_at}
 use Rattle.cell_world.proofs.GridLemmas.{cell_in-beyond, cell_in-column}
 use Rattle.hex_geometry.proofs.RowLemmas.{pos_at-index_of}
 use Rattle.cell_world.proofs.GridSums.{cell_in-pos_at, weight-list}

@@ -6,21 +6,15 @@ use Rattle.std.proofs.lemmas.Slice.Eq.{bytes_eq-Decides}
 use Rattle.brain_read.specs.declared.instr.Instr.{Instr}
 use Rattle.brain_read.specs.declared.instr.Instr.TheVariants.{Sense, Mark, Unmark, PickUp, Drop, Turn, Move, Flip}
 use Rattle.line_tokens.specs.Steps.{Read}
-use Rattle.line_tokens.specs.Fields.{field_text}
+use Rattle.line_tokens.specs.Fields.{field_text, SpellsAll, LineField}
 use Rattle.brain_read.specs.Forms.{fields_of}
-use Rattle.line_tokens.specs.Fields.{SpellsAll}
-use Rattle.line_tokens.specs.Fields.{LineField}
 use Rattle.line_tokens.specs.Fields.LineField.{Word, Number}
 use Rattle.brain_read.specs.Grammar.{states_of}
 use Rattle.brain_read.specs.Soundness.{most_states}
 use Rattle.line_tokens.specs.Tokens.{tokens_of}
 use Rattle.brain_read.specs.Reading.{read_line}
 use Rattle.brain_read.proofs.CanonicalLemmas.{tokens_of-line, sight_token, side_token, condition_printed}
-use Rattle.line_tokens.proofs.PrintedLemmas.{token}
-use Rattle.line_tokens.proofs.PrintedLemmas.{spelled_again}
-use Rattle.line_tokens.proofs.PrintedLemmas.{further_body}
-use Rattle.line_tokens.proofs.PrintedLemmas.{body}
-use Rattle.line_tokens.proofs.PrintedLemmas.{IsPrinted}
+use Rattle.line_tokens.proofs.PrintedLemmas.{token, spelled_again, further_body, body, IsPrinted}
 use Rattle.brain_read.proofs.FormsLemmas.{line_again, line_spelled}
 use Rattle.line_tokens.proofs.PlacesLemmas.{decimal_value-small}
 use Rattle.match_save.specs.Draft.{IsInstruction, IsProgram}

@@ -10,9 +10,8 @@ use Rattle.cell_world.specs.declared.ant.PlacedAnt.{PlacedAnt}
 use Rattle.cell_world.specs.declared.cell.Cell.{Cell}
 use Rattle.cell_world.specs.Cell.{holds_id, is_ant, rock}
 use Rattle.cell_world.specs.Grid.{Grid, IsWorld, cell_in, world_of}
-use Rattle.hex_geometry.specs.RowOrder.{index_of}
+use Rattle.hex_geometry.specs.RowOrder.{index_of, pos_at}
 use Rattle.cell_world.specs.World.{place_in}
-use Rattle.hex_geometry.specs.RowOrder.{pos_at}
 use Rattle.cell_world.proofs.Places.{place_in-found, place_in-nowhere}
 use Rattle.match_save.specs.Draft.{IdsRise}
 use Rattle.match_save.specs.declared.soil.Soil.{Soil}

@@ -10,11 +10,10 @@ use Rattle.cell_world.specs.declared.ant.PlacedAnt.{PlacedAnt}
 use Rattle.cell_world.specs.declared.cell.Cell.{Cell}
 use Rattle.cell_world.specs.Cell.{ant_weight, cell_weight, holds_id, is_ant}
 use Rattle.cell_world.specs.Grid.{Grid, IsWorld, cell_in, world_of}
-use Rattle.hex_geometry.specs.RowOrder.{index_of}
+use Rattle.hex_geometry.specs.RowOrder.{index_of, pos_at}
 use Rattle.cell_world.specs.Limits.{most_weight}
 use Rattle.cell_world.specs.Valid.{CanSet}
 use Rattle.cell_world.specs.World.{World, put, weight}
-use Rattle.hex_geometry.specs.RowOrder.{pos_at}
 use Rattle.cell_world.proofs.GridLemmas.{cell_in-column}
 use Rattle.cell_world.proofs.GridSums.{cell_in-pos_at}
 use Rattle.cell_world.proofs.Puts.{cases_pos, put_cell-other, put_cell-same}

@@ -11,12 +11,9 @@ use Rattle.cell_world.specs.declared.ant.PlacedAnt.{PlacedAnt}
 use Rattle.cell_world.specs.declared.cell.Cell.{Cell}
 use Rattle.cell_world.specs.Cell.{is_ant, rock}
 use Rattle.cell_world.specs.Grid.{Grid, IsWorld, cell_in, world_of}
-use Rattle.hex_geometry.specs.RowOrder.{index_of}
+use Rattle.hex_geometry.specs.RowOrder.{index_of, pos_at}
 use Rattle.cell_world.specs.World.{place_in}
-use Rattle.hex_geometry.specs.RowOrder.{pos_at}
-use Rattle.hex_geometry.proofs.RowLemmas.{index_of-early}
-use Rattle.hex_geometry.proofs.RowLemmas.{pos_at-index_of}
-use Rattle.hex_geometry.proofs.RowLemmas.{index_of-pos_at}
+use Rattle.hex_geometry.proofs.RowLemmas.{index_of-early, pos_at-index_of, index_of-pos_at}
 use Rattle.cell_world.proofs.Places.{place_in-found, place_in-holds, place_in-inside}
 use Rattle.cell_world.specs.declared.ant.Colour.{Colour}
 use Rattle.cell_world.specs.declared.ant.Colour.TheVariants.{Red, Black}

@@ -54,6 +54,7 @@ fn put_ant(world: &mut World, it: PlacedAnt) -> bool
             ..cell
         },
     );
+    // Called for its clause: what is put leaves a world.
     let _width = world.width();
     true
 }
@@ -66,6 +67,7 @@ pub fn put_ants(world: &mut World, ants: &[PlacedAnt]) -> bool
     requires light { weight (world_of world.old) + weight_of_ants ants.now ≤ most_weight }
     ensures { PutsAll world.old world.new ants.now result }
 {
+    // Called for its clause: the world keeps what every world keeps.
     let _width = world.width();
     for it in ants {
         if !put_ant(world, *it) {

@@ -1,5 +1,5 @@
 // The tokens of a line, with one space between them.
-ghost use Rattle.std.specs.Prelude.{◌≡◌, ◌+◌, ◌<◌, ◌≤◌, ◌^◌, length, ◌∷◌, not, ◌==◌, IfOk, IfSome};
+ghost use Rattle.std.specs.Prelude.{◌≡◌, ◌+◌, ◌<◌, ◌≤◌, length, ◌∷◌, not, ◌==◌, IfOk, IfSome};
 ghost use Rattle.ant_base.specs.Number.{within};
 ghost use Rattle.std.specs.List.{prefix_len};
 ghost use Rattle.std.specs.Str.{bytes_eq};
@@ -68,6 +68,7 @@ impl<'t> Fields<'t> {
     pub fn new(line: &'t [u8]) -> Self
         ensures { result ≡ record { number = 0; items = pieces line.now } }
     {
+        // Called for its clause: a line has fewer fields than the counter can count.
         let _most = most_pieces(line);
         Fields {
             rest: Some(line),

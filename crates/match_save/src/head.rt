@@ -1,5 +1,5 @@
 // The first lines: the numbers of a save.
-ghost use Rattle.std.specs.Prelude.{◌≡◌, ◌+◌, ◌-◌, ◌<◌, ◌≤◌, ◌^◌, length, codes, IfOk, IfSome};
+ghost use Rattle.std.specs.Prelude.{◌≡◌, ◌-◌, ◌<◌, ◌≤◌, IfOk, IfSome};
 ghost use Rattle.match_save.specs.Inner.Answered.{line_left};
 ghost use Rattle.match_save.specs.Inner.Readers.{one, whole};
 ghost use Rattle.match_save.specs.Inner.Reading.{counts_tokens, first_line, line_of, named_number_of, pieces, read_head, sheet_tokens, size_tokens, standing_parts};

@@ -1,5 +1,5 @@
 // The instructions of a brain.
-ghost use Rattle.std.specs.Prelude.{◌≡◌, ◌-◌, ◌<◌, ◌≤◌, length, map, option_map, take, IfOk};
+ghost use Rattle.std.specs.Prelude.{◌≡◌, ◌-◌, ◌<◌, length, map, option_map, take, IfOk};
 ghost use Rattle.std.specs.Str.{bytes_eq};
 ghost use Rattle.brain_read.specs.Canonical.{instruction_text};
 ghost use Rattle.brain_read.specs.Drafts.{drafted};

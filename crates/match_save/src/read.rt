@@ -1,5 +1,5 @@
 // Texts of saves read.
-ghost use Rattle.std.specs.Prelude.{◌≡◌, ◌≤◌, length, IfErr, IfOk};
+ghost use Rattle.std.specs.Prelude.{◌≤◌, length, IfErr, IfOk};
 ghost use Rattle.ant_base.specs.Shelf.{longest};
 ghost use Rattle.match_save.specs.declared.fault.SaveFault.{SaveFault};
 ghost use Rattle.match_save.specs.Answers.{AnswersFault, AnswersSaved, IsFaultOf};

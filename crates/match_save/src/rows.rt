@@ -1,5 +1,4 @@
 // Rows of cells.
-ghost use Rattle.std.specs.Prelude.{◌≡◌};
 ghost use Rattle.match_save.specs.Inner.Answered.{Fills, ReadsAs, RowFills, behind};
 ghost use Rattle.match_save.specs.Inner.Readers.{one};
 ghost use Rattle.match_save.specs.Inner.Reading.{read_rows, row_of};

@@ -1,7 +1,7 @@
 // The lines of a save, with their numbers.
-ghost use Rattle.std.specs.Prelude.{◌≡◌, ◌+◌, ◌<◌, ◌^◌, ◌≤◌, length, Ok, Err};
+ghost use Rattle.std.specs.Prelude.{◌≡◌, ◌+◌, ◌<◌, ◌^◌, length, Ok, Err};
 ghost use Rattle.ant_base.specs.Lines.{lines_of};
-ghost use Rattle.match_save.specs.Inner.Answered.{line_left, line_left_slice};
+ghost use Rattle.match_save.specs.Inner.Answered.{line_left_slice};
 ghost use Rattle.match_save.specs.Inner.Readers.{next_element};
 
 use crate::fault::RefusedLine;

@@ -1,15 +1,14 @@
 // The text of a save, pushed.
-ghost use Rattle.std.specs.Prelude.{◌≡◌, ◌+◌, ◌*◌, ◌<◌, ◌≤◌, [], ◌∷◌, List, ℕ, codes};
-ghost use Rattle.ant_base.specs.Layout.{numbered};
+ghost use Rattle.std.specs.Prelude.{◌≡◌, ◌+◌, ◌*◌, ◌<◌, [], ◌∷◌, ℕ};
 ghost use Rattle.ant_base.specs.Sink.{Pushed};
 ghost use Rattle.brain_read.specs.Canonical.{brain_text};
 ghost use Rattle.cell_world.specs.declared.cell.Cell.{Cell};
 ghost use Rattle.cell_world.specs.Grid.{cell_in};
 ghost use Rattle.cell_world.specs.Marks.{IsOfSix};
-ghost use Rattle.match_save.specs.Saved.{save_text, soil_of_cell};
-ghost use Rattle.match_save.specs.Text.{ant_tokens, food_byte, head_tokens, marks_byte, soil_byte};
+ghost use Rattle.match_save.specs.Saved.{save_text};
+ghost use Rattle.match_save.specs.Text.{ant_tokens, head_tokens};
 ghost use Rattle.match_save.specs.Inner.LineTexts.{lines_text, tokens_text};
-ghost use Rattle.match_save.specs.Inner.Written.{ant_text_at, black_byte, cell_food_byte, cells_written, food_text, food_text_at, ground_byte, program_text, red_byte, row_text, rows_text, with_power, written};
+ghost use Rattle.match_save.specs.Inner.Written.{ant_text_at, black_byte, cell_food_byte, cells_written, food_text_at, ground_byte, program_text, red_byte, row_text, with_power, written};
 
 use crate::head::Head;
 use crate::saved::Saved;

@@ -9,9 +9,8 @@ use Rattle.ant_turn.specs.Rounds.{Moment, after_turn, after_turns}
 use Rattle.ant_turn.proofs.KeptByRounds.{Keeps-after_turns}
 use Rattle.round_book.specs.declared.verdict.Verdict.{Verdict}
 use Rattle.round_book.specs.declared.verdict.Verdict.TheVariants.{Taken, Redone}
-use Rattle.round_book.specs.Machine.{AreDealt, AreLawful, CanSettle, Event, IsReached, State, dealt, first_state, happens, run, settled, taken, times}
+use Rattle.round_book.specs.Machine.{AreDealt, AreLawful, CanSettle, Event, IsReached, State, dealt, first_state, happens, run, settled, taken, times, IsLawful}
 use Rattle.round_book.specs.Machine.Event.{Draws, Puts, Settles}
-use Rattle.round_book.specs.Machine.{IsLawful}
 use Rattle.round_book.specs.Window.{Window, AreVerdicts, HoldsIn, IsPlayable, IsSound, IsVerdict, look_for, moment_before}
 
 -- a look that holds is worth its turn

@@ -1,15 +1,13 @@
 // A book: a window of turns that is being settled.
-ghost use Rattle.std.specs.Prelude.{◌≡◌, ◌+◌, ◌-◌, ◌*◌, ◌<◌, ◌≤◌, ◌^◌, [], ◌∷◌, ◌++◌, map, Option, Some, None, MatchOption};
+ghost use Rattle.std.specs.Prelude.{◌≡◌, ◌+◌, ◌-◌, ◌*◌, ◌<◌, ◌≤◌, ◌^◌, [], Option, Some, None, MatchOption};
 ghost use Rattle.std.specs.List.{AllByRecursion, count_by};
 ghost use Rattle.std.specs.Vec.{vec_capacity, vec_len};
 ghost use Rattle.cell_world.specs.Cell.{one_if};
 ghost use Rattle.cell_world.specs.Grid.{IsWorld, world_of};
 ghost use Rattle.cell_world.specs.Parts.{Agree};
-ghost use Rattle.cell_world.specs.World.{with_cells};
 ghost use Rattle.ant_turn.specs.Minds.{AreSound, Fits, minds_of};
 ghost use Rattle.spec_record.specs.Claims.{seen_cell, seen_parts, seen_place};
-ghost use Rattle.spec_record.specs.Patches.{patched_cells};
-ghost use Rattle.round_book.specs.Book.{AgreesUnwritten, BookValue, CanTake, HoldsInBook, IsCause, IsEnded, IsRedone, IsSameWindow, Settles, Wrote, moment_of};
+ghost use Rattle.round_book.specs.Book.{AgreesUnwritten, BookValue, CanTake, HoldsInBook, IsCause, IsEnded, IsRedone, IsSameWindow, Settles, moment_of};
 ghost use Rattle.round_book.specs.Counts.{is_taken_verdict};
 ghost use Rattle.round_book.specs.Inner.Kept.{IsWorkspaceReady};
 ghost use Rattle.round_book.specs.Inner.Workspace.{AreMarked, most_listed};

@@ -1,9 +1,8 @@
 // The writes of a look, set in a world.
-ghost use Rattle.std.specs.Prelude.{◌≡◌, true, [], ◌∷◌, if◌then◌else◌};
-ghost use Rattle.hex_geometry.specs.Position.{IsInside};
+ghost use Rattle.std.specs.Prelude.{◌≡◌, true, [], ◌∷◌};
 ghost use Rattle.cell_world.specs.Cell.{ant_weight, cell_weight};
 ghost use Rattle.cell_world.specs.Grid.{world_of};
-ghost use Rattle.cell_world.specs.Parts.{CanPatch, only, patched};
+ghost use Rattle.cell_world.specs.Parts.{only, patched};
 ghost use Rattle.cell_world.specs.World.{put, with_cells};
 ghost use Rattle.spec_record.specs.Patches.{patched_cells};
 ghost use Rattle.round_book.specs.Book.{CanPatchIn, CanTake};

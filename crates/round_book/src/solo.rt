@@ -1,5 +1,5 @@
 // A crew of one.
-ghost use Rattle.std.specs.Prelude.{◌≡◌, ◌-◌, ◌≤◌};
+ghost use Rattle.std.specs.Prelude.{◌≡◌, ◌-◌};
 
 use crate::alone::play_window;
 use crate::counts::Counts;

@@ -1,9 +1,9 @@
 // What a book works on.
-ghost use Rattle.std.specs.Prelude.{◌≡◌, ◌⊎◌, ◌↔◌, ◌+◌, ◌*◌, ◌<◌, ◌≤◌, max, Bool, true, false, List, [], ◌∷◌, length, slice_index_or, IfOk, OnOk};
+ghost use Rattle.std.specs.Prelude.{◌≡◌, ◌⊎◌, ◌↔◌, ◌+◌, ◌*◌, ◌<◌, ◌≤◌, max, true, false, [], ◌∷◌, length, IfOk, OnOk};
 ghost use Rattle.std.specs.List.{AllByRecursion, Contains};
 ghost use Rattle.std.specs.Vec.{vec_capacity, vec_len};
 ghost use Rattle.hex_geometry.specs.Position.{IsInside};
-ghost use Rattle.cell_world.specs.Grid.{Grid, IsWorld, world_of};
+ghost use Rattle.cell_world.specs.Grid.{IsWorld, world_of};
 ghost use Rattle.hex_geometry.specs.RowOrder.{index_of};
 ghost use Rattle.cell_world.specs.World.{with_cells};
 ghost use Rattle.spec_record.specs.Claims.{EachOnce, seen_place, seen_positions};

@@ -1,11 +1,8 @@
 // A board: the tickets, the book and the looks of a window, passed between threads.
-ghost use Rattle.std.specs.Prelude.{◌≡◌, ◌≢◌, ℕ, false, ◌+◌, ◌-◌, ◌<◌, ◌≤◌, ◌^◌, [], length, IfOk, OnOk};
+ghost use Rattle.std.specs.Prelude.{◌≡◌, ◌≢◌, ℕ, false, ◌+◌, ◌-◌, ◌<◌, ◌≤◌, IfOk};
 ghost use Rattle.std.specs.List.{AllByRecursion};
-ghost use Rattle.std.specs.Vec.{vec_capacity, vec_len};
 ghost use Rattle.round_book.specs.Book.{CanBegin, window_of};
 ghost use Rattle.round_book.specs.Machine.{times};
-ghost use Rattle.round_book.specs.Window.{IsPlayable};
-ghost use Rattle.round_workers.specs.Inner.BoardPlaces.{AreBare};
 ghost use Rattle.round_workers.specs.BoardPlays.{drew, views_joined, made_one, newcomer};
 ghost use Rattle.round_workers.specs.BoardRule.{turns_of};
 ghost use Rattle.round_workers.specs.BoardSeats.{IsSeatOf, basis_of, known};

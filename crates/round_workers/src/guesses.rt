@@ -1,6 +1,5 @@
 // At which random numbers the turns of a window are guessed to stand.
-ghost use Rattle.std.specs.Prelude.{◌≡◌, ◌+◌, ◌-◌, ◌<◌, ◌≤◌, ◌^◌, OnOk};
-ghost use Rattle.std.specs.Vec.{vec_capacity, vec_len};
+ghost use Rattle.std.specs.Prelude.{◌≡◌, ◌+◌, ◌-◌, ◌<◌, ◌≤◌, OnOk};
 ghost use Rattle.round_book.specs.Book.{CanBegin, window_of};
 ghost use Rattle.round_book.specs.Window.{guess_for, guesses_for};
 

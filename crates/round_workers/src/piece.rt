@@ -1,14 +1,13 @@
 // The looks of one worker.
-ghost use Rattle.std.specs.Prelude.{◌≡◌, ◌+◌, ◌-◌, ◌<◌, ◌≤◌, ◌^◌, ◌∷◌, [], ◌++◌, All, length, map, take, IfOk, OnOk};
+ghost use Rattle.std.specs.Prelude.{◌≡◌, ◌+◌, ◌-◌, ◌<◌, ◌≤◌, ◌^◌, ◌∷◌, [], ◌++◌, take, IfOk, OnOk};
 ghost use Rattle.std.specs.Vec.{vec_capacity, vec_len};
 ghost use Rattle.cell_world.specs.Cell.{one_if};
 ghost use Rattle.cell_world.specs.Grid.{world_of};
 ghost use Rattle.round_book.specs.Book.{CanBegin, window_of};
-ghost use Rattle.round_book.specs.Window.{guess_for};
 ghost use Rattle.spec_record.specs.Look.{look_of};
 ghost use Rattle.round_workers.specs.Crews.{IsCrewSize};
 ghost use Rattle.round_workers.specs.Inner.Pieces.{AreLooked, HasPieceRoom, IsGuessed, IsPieceDone, IsPieceReady, all_have_room, shares_among};
-ghost use Rattle.round_workers.specs.Inner.Shares.{if_any, looks_for, shares};
+ghost use Rattle.round_workers.specs.Inner.Shares.{if_any, shares};
 
 use crate::guesses::guess_on;
 use crate::share::{Share, Turns, share_of};

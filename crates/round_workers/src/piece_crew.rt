@@ -1,5 +1,5 @@
 // A crew whose looks are made in pieces.
-ghost use Rattle.std.specs.Prelude.{◌≡◌, ◌+◌, ◌-◌, ◌<◌, ◌≤◌, ◌^◌, All, map, min, IfOk, OnOk, OnErr};
+ghost use Rattle.std.specs.Prelude.{◌≡◌, ◌+◌, ◌-◌, ◌<◌, ◌^◌, All, map, min, IfOk, OnOk, OnErr};
 ghost use Rattle.round_book.specs.Book.{CanBegin, IsPlayed, window_of};
 ghost use Rattle.round_book.specs.Counts.{counts_of};
 ghost use Rattle.round_workers.specs.Crews.{IsCrewSize};

@@ -1,5 +1,5 @@
 // Which turns of a window each worker looks at.
-ghost use Rattle.std.specs.Prelude.{◌≡◌, ◌+◌, ◌*◌, ◌-◌, ◌/◌, ◌<◌, ◌≤◌, ◌^◌};
+ghost use Rattle.std.specs.Prelude.{◌≡◌, ◌+◌, ◌-◌, ◌<◌, ◌≤◌};
 ghost use Rattle.round_workers.specs.Crews.{most_workers};
 ghost use Rattle.round_workers.specs.Inner.Shares.{share_of};
 

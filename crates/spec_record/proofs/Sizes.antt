@@ -5,8 +5,7 @@ use Rattle.std.proofs.lemmas.Bool.{cases_Bool, cond-true, cond-false, or_left, o
 use Rattle.list_lemmas.proofs.AllElements.{AllByRecursion-append, AllByRecursion-weaker}
 use Rattle.hex_geometry.specs.declared.position.Pos.{Pos}
 use Rattle.hex_geometry.specs.Neighbourhood.{adjacent_pos}
-use Rattle.hex_geometry.specs.Position.{IsInner}
-use Rattle.hex_geometry.specs.Position.{same_pos}
+use Rattle.hex_geometry.specs.Position.{IsInner, same_pos}
 use Rattle.hex_geometry.proofs.Places.{same_pos_self}
 use Rattle.cell_world.specs.declared.ant.Ant.{Ant}
 use Rattle.cell_world.specs.declared.part.Part.TheVariants as part

@@ -4,7 +4,7 @@ ghost use Rattle.cell_world.specs.Grid.{world_of};
 ghost use Rattle.brain_read.specs.Soundness.{IsSound};
 ghost use Rattle.ant_turn.specs.Minds.{Fits, minds_of, mind_of};
 ghost use Rattle.ant_turn.specs.Turn.{instruction_at};
-ghost use Rattle.spec_record.specs.Guess.{ant_flips, flips, guess, guesses_of, is_flip};
+ghost use Rattle.spec_record.specs.Guess.{flips, guess, guesses_of, is_flip};
 
 use ant_turn::Brains;
 use brain_read::Instr;

@@ -1,5 +1,5 @@
 // The games of a cup, in their order.
-ghost use Rattle.std.specs.Prelude.{◌≡◌, ◌<◌, ◌≤◌, ◌++◌, IfOk};
+ghost use Rattle.std.specs.Prelude.{◌≡◌, ◌<◌, ◌++◌, IfOk};
 ghost use Rattle.tournament.specs.Games.{games_of, games_on, games_with, both_ways};
 
 use cell_world::Score;

@@ -1,5 +1,5 @@
 // A whole cup.
-ghost use Rattle.std.specs.Prelude.{◌≡◌, ◌≢◌, ℕ, ◌<◌, ◌≤◌, IfOk};
+ghost use Rattle.std.specs.Prelude.{◌≢◌, ℕ, ◌<◌, ◌≤◌, IfOk};
 ghost use Rattle.tournament.specs.Standing.{IsStandingOf};
 
 use crate::fork::play_together;

@@ -1,7 +1,6 @@
 // The text of a standing.
 ghost use Rattle.std.specs.Prelude.{◌<◌, All, length, slice_index_or};
 ghost use Rattle.ant_base.specs.Sink.{Pushed};
-ghost use Rattle.ant_base.specs.Layout.{◌+++◌};
 ghost use Rattle.tournament.specs.Inner.Blank.{blank};
 ghost use Rattle.tournament.specs.Text.{table_line_text, standing_text};
 

@@ -16,7 +16,7 @@ pub struct Words<T: AsStr, const N: usize> {
 }
 
 impl<T: AsStr, const N: usize> Model for Words<T, N> {
-    ghost use Rattle.std.specs.Prelude.{◌≡◌, ℕ, List, IsTrue, map, length};
+    ghost use Rattle.std.specs.Prelude.{ℕ, List, IsTrue, map};
     ghost use Rattle.word_table.specs.Words.{are_distinct};
 
     ghost Value = { List (List ℕ) };
@@ -56,6 +56,7 @@ impl<T: AsStr, const N: usize> Words<T, N> {
         self.words[i].as_str()
     }
 
+    // Where the text first stands in the table, in any case of its letters.
     fn place(&self, text: &[u8]) -> Option<usize>
         ensures place { result ≡ word_place self.now text.now }
         ensures below { IfSome result (λ i. i < N) }

@@ -15,10 +15,9 @@ use Rattle.cell_world.specs.Opening.{IsFed, hill_count, kind_at}
 use Rattle.world_read.specs.declared.fault.WorldFault.{WorldFault}
 use Rattle.world_read.specs.declared.fault.WorldFault.TheVariants.{BadWidth, BadHeight, MissingRow, BadCell, ShortRow, LongRow, ExtraRow, OpenRim, TooManyAnts, OutOfMemory}
 use Rattle.world_read.specs.Bytes.{byte_of, spelled}
-use Rattle.world_read.specs.Inner.Reading.{kind_of}
+use Rattle.world_read.specs.Inner.Reading.{kind_of, Rows, after_height, after_width, cell_of, rows_ended, first_size, is_open_at, limited, open_rim, plan_of, row_from, row_of, rows_from, with_cell, with_row}
 use Rattle.world_read.specs.Faulty.{BeginsWith, BeginsWithNoSize, HasRows, HasRowFault, HasSize, IsCellFault, HasWholeRows, IsNoCell, IsRowFault, IsWorldFault}
 use Rattle.world_read.specs.Grammar.{AreRows}
-use Rattle.world_read.specs.Inner.Reading.{Rows, after_height, after_width, cell_of, rows_ended, first_size, is_open_at, limited, open_rim, plan_of, row_from, row_of, rows_from, with_cell, with_row}
 use Rattle.world_read.proofs.BytesLemmas.{Spells, kind_of-byte_of}
 use Rattle.world_read.proofs.ScanLemmas.{IsInner-closed, first_of-none, is_open-closed, open_rim-known, rim-closed}
 use Rattle.world_read.proofs.RowReads.{IsRow, cell_of-known, row_from-known, rows_from-known}

@@ -11,9 +11,8 @@ use Rattle.cell_world.specs.Opening.{IsFed}
 use Rattle.world_read.specs.declared.fault.WorldFault.{WorldFault}
 use Rattle.world_read.specs.declared.fault.WorldFault.TheVariants.{MissingRow, BadCell, LongRow, ShortRow}
 use Rattle.world_read.specs.Bytes.{byte_of, spelled}
-use Rattle.world_read.specs.Inner.Reading.{kind_of}
+use Rattle.world_read.specs.Inner.Reading.{kind_of, Rows, cell_of, onto_row, row_from, row_of, rows_from, with_cell, with_row}
 use Rattle.world_read.specs.Grammar.{AreRows}
-use Rattle.world_read.specs.Inner.Reading.{Rows, cell_of, onto_row, row_from, row_of, rows_from, with_cell, with_row}
 use Rattle.world_read.proofs.BytesLemmas.{Spells, command_kind_of-known, kind_of-byte_of}
 
 -- kinds in front of a row are in front of all that follows

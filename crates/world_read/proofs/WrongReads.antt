@@ -13,11 +13,10 @@ use Rattle.cell_world.specs.Limits.{most_ants}
 use Rattle.cell_world.specs.Opening.{hill_count, kind_at}
 use Rattle.world_read.specs.declared.fault.WorldFault.{WorldFault}
 use Rattle.world_read.specs.declared.fault.WorldFault.TheVariants.{BadWidth, BadHeight, MissingRow, BadCell, ShortRow, LongRow, ExtraRow, OpenRim, TooManyAnts, OutOfMemory}
-use Rattle.world_read.specs.Inner.Reading.{kind_of}
+use Rattle.world_read.specs.Inner.Reading.{kind_of, after_height, after_width, cell_of, rows_ended, first_size, is_open_at, limited, onto_row, open_rim, plan_of, row_from, rows_from, size_of, with_cell, with_row}
 use Rattle.world_read.specs.Bytes.{spelled}
 use Rattle.world_read.specs.Faulty.{BeginsWithNoSize, HasExtraRow, HasNoHeight, HasOpenRim, HasRowFault, HasRows, HasTooManyAnts, IsCellFault, HasWholeRows, IsNoCell, IsRowFault, IsWorldFault}
 use Rattle.world_read.specs.Grammar.{Plan}
-use Rattle.world_read.specs.Inner.Reading.{after_height, after_width, cell_of, rows_ended, first_size, is_open_at, limited, onto_row, open_rim, plan_of, row_from, rows_from, size_of, with_cell, with_row}
 use Rattle.world_read.specs.Inner.Scan.{IsClosedBefore}
 use Rattle.world_read.proofs.BytesLemmas.{command_kind_of-known}
 use Rattle.world_read.proofs.ScanLemmas.{IsInner-closed, first_of-closed, is_open-closed, open_rim-closed, open_rim-first}

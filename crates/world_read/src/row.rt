@@ -1,7 +1,6 @@
 // One row of a world text.
 ghost use Rattle.std.specs.Prelude.{◌≡◌};
-ghost use Rattle.world_read.specs.Inner.Reading.{kind_of};
-ghost use Rattle.world_read.specs.Inner.Reading.{ReadsAs, cell_of, leaving, onto_row, row_of};
+ghost use Rattle.world_read.specs.Inner.Reading.{kind_of, ReadsAs, cell_of, leaving, onto_row, row_of};
 
 use crate::fault::WorldFault;
 use ant_base::is_separator;

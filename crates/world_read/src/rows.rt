@@ -2,7 +2,7 @@
 ghost use Rattle.std.specs.Prelude.{◌≡◌, Ok};
 ghost use Rattle.std.specs.List.{list_all};
 ghost use Rattle.ant_base.specs.Lines.{is_blank};
-ghost use Rattle.world_read.specs.Inner.Reading.{ReadsAs, Rows, leaving, rows_from, with_row};
+ghost use Rattle.world_read.specs.Inner.Reading.{ReadsAs, leaving, rows_from, with_row};
 
 use crate::fault::WorldFault;
 use crate::row::read_row;

@@ -1,5 +1,5 @@
 // World texts written.
-ghost use Rattle.std.specs.Prelude.{◌≡◌, ◌+◌, ◌*◌, ◌%◌, ◌<◌, ◌≤◌, ◌∷◌, [], ◌==◌, nat_lt, slice_index_or};
+ghost use Rattle.std.specs.Prelude.{◌≡◌, ◌+◌, ◌*◌, ◌%◌, ◌<◌, ◌≤◌, ◌∷◌, [], ◌==◌, slice_index_or};
 ghost use Rattle.ant_base.specs.Sink.{Pushed};
 ghost use Rattle.hex_geometry.specs.declared.position.Pos.{Pos};
 ghost use Rattle.cell_world.specs.declared.kind.Kind.TheVariants.{Rock};

@@ -2,7 +2,7 @@
 ghost use Rattle.std.specs.Prelude.{◌≡◌, ◌-◌, ◌≤◌, true, OnOk};
 ghost use Rattle.cell_world.specs.Grid.{world_of};
 ghost use Rattle.spec_record.specs.Guess.{guesses_of};
-ghost use Rattle.round_book.specs.Book.{CanBegin, IsSameWindow, StandsOn, window_of};
+ghost use Rattle.round_book.specs.Book.{CanBegin, IsSameWindow, StandsOn};
 
 use crate::tests::games::{Players, killing_field, killing_players};
 use cell_world::Part;

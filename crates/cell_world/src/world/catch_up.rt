@@ -1,11 +1,10 @@
 // A world brought up to another.
-ghost use Rattle.std.specs.Prelude.{◌≡◌, ◌⊎◌, ◌*◌, ℕ, ◌<◌, List, [], length, slice_index_or};
+ghost use Rattle.std.specs.Prelude.{◌≡◌, ◌*◌, ◌<◌, List, [], length};
 ghost use Rattle.std.specs.List.{Contains};
-ghost use Rattle.std.specs.Vec.{vec_len};
 ghost use Rattle.hex_geometry.specs.Position.{IsInside};
 ghost use Rattle.hex_geometry.specs.declared.position.Pos.{Pos};
-ghost use Rattle.cell_world.specs.Inner.CatchUp.{Catching, Followed, IsCaught};
-ghost use Rattle.cell_world.specs.Grid.{IsWorld, world_of};
+ghost use Rattle.cell_world.specs.Inner.CatchUp.{Catching, Followed};
+ghost use Rattle.cell_world.specs.Grid.{world_of};
 ghost use Rattle.hex_geometry.specs.RowOrder.{index_of};
 
 use crate::body::Body;
@@ -96,6 +95,7 @@ fn follow_tiles(
     ensures { (old : List Body) → Catching width tiles.old.items tiles.old.items others.now.items old bodies.now.items bodies.now.items places.now →
         Catching width tiles.old.items tiles.new.items others.now.items old bodies.now.items bodies.now.items [] }
 {
+    // Called for its clause: a list's length is a machine number.
     let _bodies = bodies.len();
     for p in places {
         let i = index_of(width, *p);

@@ -1,5 +1,5 @@
 // A world as a ground: its tiles in row order, changed together with the bodies of its ants.
-ghost use Rattle.std.specs.Prelude.{◌≡◌, length};
+ghost use Rattle.std.specs.Prelude.{length};
 ghost use Rattle.cell_world.specs.Grid.{world_of};
 ghost use Rattle.cell_world.specs.Inner.Bodies.{IsKnown, IsMadeBody, Moved};
 

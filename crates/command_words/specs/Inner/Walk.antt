@@ -1,14 +1,12 @@
 -- Reading words one after another.
 use denote.Ref.{Bor}
-use Rattle.std.specs.Prelude.{ℕ, ◌+◌, Bool, true, false, not, ◌||◌, ◌&&◌, nat_le, nat_lt, Option, Some, None, Result, Ok, Err, ok_or, if◌then◌else◌}
-use Rattle.std.specs.Prelude.{List, [], ◌∷◌, ◌++◌, length, take, drop, slice_get, find}
+use Rattle.std.specs.Prelude.{ℕ, ◌+◌, Bool, true, false, not, ◌||◌, ◌&&◌, nat_le, nat_lt, Option, Some, None, Result, Ok, Err, ok_or, if◌then◌else◌, List, [], ◌∷◌, ◌++◌, length, take, drop, slice_get, find}
 use Rattle.std.specs.List.{list_any, list_all}
 use Rattle.std.specs.Str.{bytes_eq}
 use Rattle.command_words.specs.declared.command.Command.{Command}
 use Rattle.command_words.specs.declared.command.Refused.{Refused}
 use Rattle.command_words.specs.declared.command.GenShape.{GenShape}
-use Rattle.command_words.specs.declared.limits.NumberKind.TheVariants.{SeedNumber, RoundCount, WorkerCount, WindowSize, FoeCount, CorpseFood, RestRounds, SideLength}
-use Rattle.command_words.specs.declared.limits.NumberKind.TheVariants.{ElementCount}
+use Rattle.command_words.specs.declared.limits.NumberKind.TheVariants.{SeedNumber, RoundCount, WorkerCount, WindowSize, FoeCount, CorpseFood, RestRounds, SideLength, ElementCount}
 use Rattle.command_words.specs.declared.table.NameList.{NameList}
 use Rattle.command_words.specs.declared.table.NameList.TheVariants.{Worlds, Brains}
 use Rattle.command_words.specs.declared.slot.Place.{Place}
@@ -18,8 +16,7 @@ use Rattle.command_words.specs.declared.table.CommandKind.TheVariants.{Show, Bra
 use Rattle.command_words.specs.declared.table.Choice.{Choice}
 use Rattle.command_words.specs.declared.table.Choice.TheVariants.{Seed, Rounds, Dump, Workers, Window, Surround, Corpse, Rest, Stats, Far, Width, Height, Rocks, Blobs}
 use Rattle.command_words.specs.Slots.{is_file_name, fits, DumpChoice}
-use Rattle.command_words.specs.Table.{kinds, word_of, places_of, choices_of, option_of, values_of, is_needed, keyword_of, fewest_names, most_names, must_differ}
-use Rattle.command_words.specs.Table.{default_workers, default_window, default_surround, default_corpse, default_rest, default_side, default_rocks, default_blobs}
+use Rattle.command_words.specs.Table.{kinds, word_of, places_of, choices_of, option_of, values_of, is_needed, keyword_of, fewest_names, most_names, must_differ, default_workers, default_window, default_surround, default_corpse, default_rest, default_side, default_rocks, default_blobs}
 use Rattle.command_words.specs.Command.{PlainCommand, ResumeSetup, RunSetup, first_word, number_needed, number_or, dumps_or_none}
 use Rattle.command_words.specs.Command.PlainCommand.{ShowCommand, BrainCommand, MinimiseCommand, RunCommand, GenCommand, CupCommand, ViewCommand, WorkloadCommand, HelpCommand, VersionCommand, AsmCommand, SaveCommand, ResumeCommand}
 use Rattle.command_words.specs.Words.{plain}

@@ -1,6 +1,5 @@
 // World texts with their worlds and faults, written out.
-ghost use Rattle.std.specs.Prelude.{◌≡◌, ◌≤◌, length};
-ghost use Rattle.world_read.specs.Opened.{IsOpeningWorld};
+ghost use Rattle.std.specs.Prelude.{length};
 
 use ant_base::{Calls, LONGEST, MemSink};
 use cell_world::World;

@@ -1,5 +1,5 @@
 -- What judging the lines of a save answers.
-use Rattle.std.specs.Prelude.{◌≡◌, List, length, Result, Ok, Err}
+use Rattle.std.specs.Prelude.{◌≡◌, List, length, Result, Ok, Err, ℕ}
 use Rattle.brain_read.specs.declared.instr.Instr.{Instr}
 use Rattle.brain_read.specs.Grammar.{StatesBelow}
 use Rattle.cell_world.specs.Grid.{Grid}
@@ -10,7 +10,6 @@ use Rattle.match_save.specs.Draft.{Draft}
 use Rattle.match_save.specs.Saved.{IsSaveText, SavedValue, saved_of}
 use Rattle.match_save.specs.State.{IsState, grid_of_draft}
 use Rattle.match_save.specs.Inner.State.{HasWorld}
-use Rattle.std.specs.Prelude.{ℕ}
 
 -- what is refused can't be had; out of memory says nothing
 abbrev pub Refutes : Type 0 → SaveFault → Type 0

@@ -1,13 +1,12 @@
 // A crew whose looks are made, and settled, by workers that pass a book.
-ghost use Rattle.std.specs.Prelude.{◌≡◌, ◌≢◌, ◌+◌, ◌-◌, ◌<◌, ◌≤◌, ◌^◌, ℕ, false, true, [], ◌∷◌, ◌++◌, All, length, min, slice_index_or, IfOk, OnOk, OnErr};
+ghost use Rattle.std.specs.Prelude.{◌≡◌, ◌≢◌, ◌+◌, ◌-◌, ◌<◌, ◌≤◌, ◌^◌, ℕ, false, [], ◌∷◌, ◌++◌, All, length, min, slice_index_or, IfOk, OnOk, OnErr};
 ghost use Rattle.std.specs.Vec.{vec_capacity, vec_len};
-ghost use Rattle.round_book.specs.Book.{IsLentFor, StandsFor};
+ghost use Rattle.round_book.specs.Book.{IsLentFor};
 ghost use Rattle.round_book.specs.Book as books;
 ghost use Rattle.round_book.specs.Counts.{counts_of};
 ghost use Rattle.round_book.specs.Window.{guesses_for};
 ghost use Rattle.round_workers.specs.declared.board.worker.Worker.{Worker};
 ghost use Rattle.round_workers.specs.Inner.BoardCrew.{AreLooks, HasWorked, IsBookOf, IsCrewStocked, IsHired, IsLaid, IsManned, IsRoom};
-ghost use Rattle.round_workers.specs.BoardPlays.{newcomer};
 ghost use Rattle.round_workers.specs.BoardSeats.{IsSeatOf, known, board_window};
 ghost use Rattle.round_workers.specs.BoardWorker.{turns_in};
 ghost use Rattle.round_workers.specs.Crews.{IsCrewSize, most_workers};

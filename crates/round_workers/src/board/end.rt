@@ -3,7 +3,6 @@ ghost use Rattle.std.specs.Prelude.{◌≡◌, ◌+◌, ◌-◌, ◌<◌, ◌≤
 ghost use Rattle.std.specs.Mem.Slots.{slots_filled, slots_items, slots_len};
 ghost use Rattle.std.specs.Vec.{vec_capacity, vec_len};
 ghost use Rattle.round_book.specs.Book.{StandsFor};
-ghost use Rattle.round_workers.specs.declared.board.view.BoardSlot.TheVariants.{Nothing};
 ghost use mathlib.Core.Option.{some};
 ghost use lib.ListN.{get_elem?};
 ghost use Rattle.round_book.specs.Machine.{times};

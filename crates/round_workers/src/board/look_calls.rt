@@ -1,7 +1,7 @@
 // The looks of a board: they are put and taken.
 //
 // Both are a step on the look's word, by which the seat gets the room of the look, and a second one, by which it gives the room back.
-ghost use Rattle.std.specs.Prelude.{◌≡◌, ◌≢◌, ◌+◌, ◌-◌, ◌<◌, ◌≤◌, ◌^◌, ◌∷◌, ℕ, true, false, Some, IfSome, IfNone, OnSome, MatchBool};
+ghost use Rattle.std.specs.Prelude.{◌≡◌, ◌+◌, ◌-◌, ◌<◌, ◌≤◌, ◌∷◌, true, false, Some, IfSome, IfNone, OnSome};
 ghost use Rattle.atomic_table.specs.Table.{rest};
 ghost use Rattle.round_book.specs.Book as books;
 ghost use Rattle.round_book.specs.Book.{IsLentFor, IsSameWindow, StandsFor, StandsOn};

@@ -1,6 +1,5 @@
 // Rooms on the heap, in which the book and the looks of a board lie.
-ghost use Rattle.std.specs.Prelude.{◌≡◌, ◌≢◌, ◌+◌, ◌<◌, ◌^◌, IfOk, Some, None};
-ghost use Rattle.cell_world.specs.Cell.{one_if};
+ghost use Rattle.std.specs.Prelude.{◌≡◌, ◌+◌, ◌<◌, ◌^◌, IfOk, Some, None};
 ghost use Rattle.cell_world.specs.Grid.{world_of};
 ghost use Rattle.spec_record.specs.Look.{look_of};
 

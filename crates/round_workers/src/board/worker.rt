@@ -1,12 +1,12 @@
 // Workers: who makes the looks of a window.
-ghost use Rattle.std.specs.Prelude.{◌≡◌, ◌+◌, ◌-◌, ◌<◌, ◌≤◌, ◌^◌, ℕ, true, false, length, IsSomeAnd};
+ghost use Rattle.std.specs.Prelude.{◌≡◌, ◌+◌, ◌-◌, ◌<◌, ◌≤◌, ℕ, true, false, length, IsSomeAnd};
 ghost use Rattle.std.specs.List.{AllByRecursion};
 ghost use Rattle.std.specs.Vec.{vec_capacity};
 ghost use Rattle.round_book.specs.Book.{IsLentFor, StandsFor};
 ghost use Rattle.round_book.specs.Machine.{times};
-ghost use Rattle.round_book.specs.Window.{guesses_for, look_for};
+ghost use Rattle.round_book.specs.Window.{guesses_for};
 ghost use Rattle.round_workers.specs.Inner.BookInHand.{CanSettle, HasSettled};
-ghost use Rattle.round_workers.specs.BoardSeats.{IsSeatOf, basis_of, known, board_window};
+ghost use Rattle.round_workers.specs.BoardSeats.{IsSeatOf, known, board_window};
 ghost use Rattle.round_workers.specs.BoardTotals.{late_among};
 ghost use Rattle.round_workers.specs.BoardWorker.{HasServed, IsWorker, turns_in};
 

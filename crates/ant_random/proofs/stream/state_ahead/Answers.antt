@@ -1,8 +1,7 @@
 use Rattle.std.proofs.Common.{◌≡◌, ℕ, ◌+◌, ◌%◌, ◌^◌, ap, ◌∙◌, arith}
 use Rattle.std.specs.Fn.{iterate}
 use Rattle.ant_random.specs.Stream.{state_at}
-use Rattle.ant_random.specs.Inner.Jump.{next_state}
-use Rattle.ant_random.specs.Inner.Jump.{landed}
+use Rattle.ant_random.specs.Inner.Jump.{next_state, landed}
 use Rattle.ant_random.proofs.JumpLemmas.{iterate-next_state, iterate_same, iterate_even, iterate_odd}
 use Rattle.ant_random.proofs.StepLemmas.{walked_none, walked_more}
 use Rattle.ant_random.proofs.stream.state_ahead.Goals as goal

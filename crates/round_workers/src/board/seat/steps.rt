@@ -19,7 +19,7 @@ ghost use Rattle.round_workers.specs.BoardPlays.{TellsTake, TellsTakeLook, drew,
 ghost use Rattle.round_workers.specs.BoardRule.{turns_of};
 ghost use Rattle.round_workers.specs.BoardSeats.{IsHandOf, IsSeatOf, basis_of, board_window, known, left_look};
 ghost use Rattle.round_workers.specs.BoardTotals.{once_below};
-ghost use Rattle.round_workers.specs.BoardView.{IsAtRest, first_seat, window_for};
+ghost use Rattle.round_workers.specs.BoardView.{first_seat, window_for};
 ghost use Rattle.round_workers.specs.Crews.{most_workers};
 
 use crate::board::end::{Ended, take_slot};
@@ -369,6 +369,7 @@ fn basis(field: &Field<'_>, from: u32, to: u32) -> Basis
 {
     let world = field.world();
     let brains = field.brains();
+    // Called for its clause: the world keeps what every world keeps.
     let _width = world.width();
     Basis {
         red: Snapshot::of(brains.red),

@@ -1,10 +1,9 @@
 -- one guess more
 use Rattle.std.proofs.Common.{◌≡◌, ℕ, append_assoc, add-one, ◌+◌, ◌-◌, ◌≤◌, List, [], ◌∷◌, ◌++◌, sym, ◌∙◌, ap, arith}
-use Rattle.cell_world.proofs.GridSums.{one_if-le_one}
+use Rattle.cell_world.proofs.GridSums.{one_if-le_one, one_if-byte}
 use Rattle.cell_world.specs.Grid.{world_of}
 use Rattle.cell_world.specs.Cell.{one_if}
 use Rattle.ant_turn.specs.Minds.{minds_of}
-use Rattle.cell_world.proofs.GridSums.{one_if-byte}
 use Rattle.spec_record.specs.Guess.{flips, guess, guesses_of}
 use Rattle.spec_record.proofs.FlipGuesses.{guess-first, guess-next, guesses_of-next}
 use Rattle.spec_record.proofs.guess.guesses.Goals as goal

@@ -1,8 +1,7 @@
 use Rattle.std.proofs.Common.{ap, refl}
-use Rattle.ant_asm.specs.Standing.{Draft}
+use Rattle.ant_asm.specs.Standing.{Draft, mapped}
 use Rattle.ant_asm.specs.Inner.Flat.{trees_of}
 use Rattle.ant_asm.proofs.OnAnswers.{on_both}
-use Rattle.ant_asm.specs.Standing.{mapped}
 use Rattle.ant_asm.specs.Inner.Reading.{seen}
 use Rattle.ant_asm.proofs.ProgramLemmas.{good-with, instruct-into}
 use Rattle.ant_asm.proofs.program.Program.instruct.Goals as goal

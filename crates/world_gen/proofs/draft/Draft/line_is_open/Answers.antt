@@ -2,8 +2,7 @@
 use Rattle.hex_geometry.specs.Position.{point_of}
 use Rattle.std.proofs.Common.{◌≡◌, ◌∙◌, ap, sym, arith, true, false, refl, subst}
 use Rattle.std.proofs.lemmas.Bool.{false≢true}
-use Rattle.world_gen.proofs.Lines.{line_more, open_here, step_none, step_on}
-use Rattle.world_gen.proofs.Lines.{open_neighbours}
+use Rattle.world_gen.proofs.Lines.{line_more, open_here, step_none, step_on, open_neighbours}
 use Rattle.world_gen.proofs.draft.Draft.line_is_open.Goals as goal
 use Rattle.world_gen.specs.Inner.Open.{LineIsOpen, is_unblocked}
 
