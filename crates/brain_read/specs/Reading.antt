@@ -6,7 +6,7 @@ use Rattle.brain_read.specs.declared.instr.Instr.TheVariants.{Sense, Mark, Unmar
 use Rattle.brain_read.specs.declared.form.Form.{Form}
 use Rattle.brain_read.specs.Forms.{form_words}
 use Rattle.brain_read.specs.Places.{form_at}
-use Rattle.line_tokens.specs.Steps.{Read, take_word, take_end}
+use Rattle.line_tokens.specs.Steps.{Read, ◌>>=◌, take_word, take_end}
 use Rattle.brain_read.specs.Steps.{take_sight, take_side, take_state, take_marker, take_bound, take_condition}
 
 -- what stands after `Sense`

@@ -3,7 +3,7 @@
 use Rattle.std.specs.Prelude.{ℕ, ◌+◌, List, length, Ok, Err}
 use Rattle.hex_geometry.specs.declared.direction.Side.{Side}
 use Rattle.hex_geometry.specs.declared.neighbourhood.Sight.{Sight}
-use Rattle.line_tokens.specs.Steps.{Step, take_word, take_number}
+use Rattle.line_tokens.specs.Steps.{Step, ◌>>=◌, take_word, take_number}
 use Rattle.brain_read.specs.declared.form.ConditionWord.{ConditionWord}
 use Rattle.brain_read.specs.declared.instr.Cond.{Cond}
 use Rattle.brain_read.specs.declared.instr.Cond.TheVariants.{Friend, Foe, FriendWithFood, FoeWithFood, Food, Rock, Marker, FoeMarker, Home, FoeHome}

@@ -1,7 +1,7 @@
 -- What is read of the tokens of a line, form by form.
 use Rattle.std.specs.Prelude.{ℕ, List, Ok}
 use Rattle.cell_world.specs.declared.ant.Colour.{Colour}
-use Rattle.line_tokens.specs.Steps.{Read, take_word, take_end}
+use Rattle.line_tokens.specs.Steps.{Read, ◌>>=◌, take_word, take_end}
 use Rattle.break_view.specs.declared.breaks.Break.{Break}
 use Rattle.break_view.specs.declared.breaks.Break.TheVariants.{Round, State, Stand, Food, Killed, Score}
 use Rattle.break_view.specs.declared.words.BreakWord.{BreakWord}

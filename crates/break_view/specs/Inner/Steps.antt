@@ -1,7 +1,7 @@
 -- One token after another: the positions of a break's line.
 use Rattle.std.specs.Prelude.{ℕ, List, Ok}
 use Rattle.cell_world.specs.declared.ant.Colour.{Colour}
-use Rattle.line_tokens.specs.Steps.{Step, take_word, take_number}
+use Rattle.line_tokens.specs.Steps.{Step, ◌>>=◌, take_word, take_number}
 use Rattle.break_view.specs.Forms.{most_number}
 use Rattle.break_view.specs.Inner.Places.{colour_words, colour_at}
 
