@@ -1,4 +1,4 @@
-"""What the gate costs: docs/gate_costs.txt from the log of a run, and the table of docs/DEFINITIONS.md from that file and the wrong bodies on disk."""
+"""What the gate costs: docs/gate_costs.txt from the log of a run, and the table of docs/GATE.md from that file and the wrong bodies on disk."""
 import glob
 import re
 

@@ -1,10 +1,11 @@
-"""docs/SPECIFICATION.md: exactly the definitions that the clauses of the top calls reach, in reading order.
+"""docs/SPECIFICATION.md and docs/specification/: exactly the definitions that the clauses of the top calls reach, a page a chapter.
 
-A chapter begins at the definitions that it is about, and has each definition that they reach and that no chapter before it has, from the top
-down: first a definition, and then what it names. The chapter of a command begins at its own equations.
+A chapter begins at the definitions that it is about, and has each definition that they reach and that no chapter before it has. On its page what a
+file defines is one block, below the blocks that it names. The chapter of a command begins at its own equations.
 """
 import re
 
+import shown
 from tree import CodeType, Contract, Unknown, left_of, pieces_of, words_of
 
 CRATE, CALLS = "ants", ("run_ants", "run_to_exit")
@@ -54,8 +55,8 @@ class Chapter:
         return sum(it.lines for it in self.definitions)
 
     @property
-    def anchor(self):
-        return re.sub(r"[^\w\- ]", "", self.title.lower()).replace(" ", "-")
+    def file(self):
+        return re.sub(r"[^\w\- ]", "", self.title.lower()).replace(" ", "-") + ".md"
 
 
 def words_in(text):
@@ -208,18 +209,20 @@ class Specification:
         return [sum(it.lines for it in chapter.definitions if id(it) in these) for chapter in self.chapters]
 
 
-def shown(it, files):
-    """A definition or a type with its link, its comment and its text."""
-    short = it.file if isinstance(it, CodeType) else it.module.file
-    place = "[%s:%d](../%s)" % (re.sub("^crates/", "", short), it.line, it.link)
-    says = ""
-    if not isinstance(it, CodeType) and short not in files:
-        files.add(short)
-        says = " " + it.module.says
-    if isinstance(it, CodeType):
-        return "**`%s`**, a type of the code: %s\n\n```rust\n%s\n```\n" % (it.name, place, "\n".join(it.text))
-    text = "\n".join(it.comment + it.text).rstrip()
-    return "**`%s`** %s%s\n\n```text\n%s\n```\n" % (it.name, place, says, text)
+def file_of(it):
+    return it.file if isinstance(it, CodeType) else it.module.file
+
+
+def blocks_of(tree, parts):
+    """The parts of a chapter file by file, each file below those that it names."""
+    files = {}
+    for it in parts:
+        files.setdefault(file_of(it), []).append(it)
+    below = {file: {file_of(other) for it in these for other in named(tree, it)} & set(files) - {file} for file, these in files.items()}
+    done = []
+    while len(done) < len(files):
+        done.append(next(it for it in files if it not in done and (below[it] <= set(done) or all(below[other] - set(done) for other in files if other not in done))))
+    return [(file, sorted(files[file], key=lambda it: it.line)) for file in done]
 
 
 def number(n):
@@ -239,50 +242,77 @@ def counts(spec):
     return contest, game, run, sum(lines)
 
 
-def page(spec):
-    out = ["# Specification", ""]
-    links = " and ".join("[%s](../%s)" % (it.name, it.link) for it in spec.calls)
+def introduction(spec):
+    links = " and ".join("[%s](../%s)" % (it.name, it.file) for it in spec.calls)
     contest, game, run, whole = counts(spec)
-    out.append(
-        "Made from the tree by `.ci/make-documents`; not edited by hand. These are exactly the definitions that the clauses of\n%s reach,\n"
-        "and the page of the headline, and no other: whoever believes them, and the types of the code that they name, knows what the program does. Each stands with its\n"
-        "comment and a link to its file; nothing here is code or proof. A definition comes first, and what it names after it.\n" % links
+    yield (
+        "Made from the tree by `.ci/make-documents`; not edited by hand. These are exactly the definitions that the clauses of %s reach, and the page of the headline, "
+        "and no other: whoever believes them, and the types of the code that they name, knows what the program does. Nothing on these pages is code or proof. A name leads to "
+        "where it is defined; what a definition names stands above it, or in a chapter that it leads to." % links
     )
-    out.append(
-        "The contest is %s lines without comments; a game from its files to its text %s; all that a `run` rests on, with words and endings, %s;\n"
-        "and all commands together %s.\n" % (number(contest), number(game), number(run), number(whole))
+    yield (
+        "The contest is %s lines without comments; a game from its files to its text %s; all that a `run` rests on, with words and endings, %s; and all commands together %s."
+        % (number(contest), number(game), number(run), number(whole))
     )
+
+
+def chapter_page(spec, linker, chapter, lines):
+    types = {it.name: it for it in spec.everything if isinstance(it, CodeType)}
+    parts = [("#", chapter.title), ("p", "%s Made from the tree by `.ci/make-documents`; not edited by hand. [All chapters](../SPECIFICATION.md), with how to read them." % lines)]
+    for file, these in blocks_of(spec.tree, chapter.parts):
+        says = "types of the code" if isinstance(these[0], CodeType) else these[0].module.says
+        parts.append(("p", "[%s](../../%s): %s" % (re.sub("^crates/", "", file), file, says)))
+        parts.append(("pre", "\n\n".join(linker.whole(it, it.text, types) for it in these)))
+    return shown.as_markdown(parts)
+
+
+def pages(spec):
+    """Each page with its text."""
+    chapters = ([spec.headline] if spec.headline else []) + spec.chapters
+    where = {id(it): chapter for chapter in chapters for it in chapter.parts}
+    spec.everything = [it for chapter in chapters for it in chapter.parts]
+    fields = {}
+    for it in spec.everything:
+        if isinstance(it, CodeType) or it.shape == "record":
+            for name in shown.members_of(it):
+                fields.setdefault(name, []).append(it)
+    for number_of, chapter in enumerate(chapters):
+        linker = shown.Linker(spec.tree, lambda it: where.get(id(it)) and ("" if where[id(it)] is chapter else where[id(it)].file) + "#" + shown.anchor(it), fields)
+        lines = headline_says(spec) if chapter is spec.headline else "%d definitions, %s lines. %s" % (len(chapter.definitions), number(chapter.lines), chapter.says)
+        yield "docs/specification/" + chapter.file, chapter_page(spec, linker, chapter, lines)
+    yield "docs/SPECIFICATION.md", index(spec)
+
+
+def headline_says(spec):
+    game, uncounted, words = spec.game_lines()
+    return (
+        "The law [%s](../../%s): the promise on one page of %d lines. It follows from the clauses, which is checked; so of the chapter on endings only what it names has to be read. "
+        "To believe `%s` for a `run` without `--stats`, read %s lines; `--stats` adds %s, and what the words mean (`%s`) %s."
+        % (LAW, spec.headline.law.file, spec.headline.lines, GAME, number(uncounted), number(game - uncounted), WORDS, number(words))
+    )
+
+
+def index(spec):
+    out = ["# Specification", ""]
+    for it in introduction(spec):
+        out += [it, ""]
     out.append(READING)
-    rows = []
+    rows = [["[%s](specification/%s)" % (spec.headline.title, spec.headline.file), str(len(spec.headline.definitions)), number(spec.headline.lines), str(len(spec.headline.types))]] if spec.headline else []
     for chapter in spec.chapters:
-        rows.append(["[%s](#%s)" % (chapter.title, chapter.anchor), str(len(chapter.definitions)), number(chapter.lines), str(len(chapter.types))])
+        rows.append(["[%s](specification/%s)" % (chapter.title, chapter.file), str(len(chapter.definitions)), number(chapter.lines), str(len(chapter.types))])
+    whole = counts(spec)[-1]
     rows.append(["all", str(sum(len(it.definitions) for it in spec.chapters)), number(whole), str(sum(len(it.types) for it in spec.chapters))])
     out.append(table(["chapter", "definitions", "lines", "types of the code"], rows))
-    out.append("Of each chapter a command needs so many lines, as far as its words, its files and its output lead there:\n")
+    out.append("Of each chapter but the headline, in this order, a command needs so many lines, as far as its words, its files and its output lead there:\n")
     numbered = ["%d" % (i + 1) for i in range(len(spec.chapters))]
     rows = []
     for constructor, word in spec.commands:
         row = spec.row(constructor)
         rows.append(["`%s`" % word] + [number(it) if it else "" for it in row] + [number(sum(row))])
     out.append(table(["command"] + numbered + ["all"], rows))
-    out.append("The chapters are numbered in their order. The clauses:\n")
+    out.append("## The clauses\n")
     for call in spec.calls:
         out.append("```text\n%s: %s\n```\n" % (call.name, call.clauses.strip()))
-    files = set()
-    if spec.headline:
-        game, uncounted, words = spec.game_lines()
-        out.append("## The headline\n")
-        out.append(
-            "The law [%s](../%s): the promise on one page of %d lines. It follows from the clauses, which is checked; so of the chapter on\n"
-            "endings only what it names has to be read. What `%s` rests on are %s lines, or %s without the counts of `--stats`, which are `%s` and what it alone names; and `%s`, which says what the\n"
-            "words mean, %s more.\n"
-            % (LAW, spec.headline.law.link, spec.headline.lines, GAME, number(game), number(uncounted), COUNTS, WORDS, number(words))
-        )
-        out += [shown(it, files) for it in spec.headline.parts]
-    for i, chapter in enumerate(spec.chapters):
-        out.append("## %s\n" % chapter.title)
-        out.append("Chapter %d: %d definitions, %s lines. %s\n" % (i + 1, len(chapter.definitions), number(chapter.lines), chapter.says))
-        out += [shown(it, files) for it in chapter.parts]
     return "\n".join(out).rstrip() + "\n"
 
 

@@ -1,0 +1,208 @@
+"""How definitions stand on a page: a file's as one block of HTML, in which each name leads to where it is defined.
+
+A page is a list of parts: ("#", text) is a heading, ("##", text) one below it, ("p", text) a paragraph with Markdown's links and backticks,
+("table", header, rows) a table, ("pre", html) a block. `as_markdown` and `as_html` write it.
+"""
+import html
+import re
+
+from tree import LANGUAGE, WORD, CodeType, Tree, Unknown, bound_in, goes_on, left_of, words_of
+
+TOKEN = re.compile(r'(?P<string>"(?:[^"\\]|\\.)*")|(?P<comment>--.*|//.*)|(?P<name>(?<![\w\'\-])%s)(?:\.(?P<member>%s))?|(?P<sign>[^\s\w(){}\[\],;."\']+)' % (WORD, WORD))
+# Signs of the language itself.
+PLAIN = set(": = → λ | _ - ? & < > ' -> => #".split())
+
+
+def anchor(it):
+    """The name of the place of a definition or a type on its page."""
+    crate = it.crate if isinstance(it, CodeType) else it.module.crate
+    return "%s-%s" % (crate, re.sub(r"[^\w]", lambda sign: "x%x" % ord(sign[0]), it.name))
+
+
+def members_of(it):
+    """Fields and constructors of a definition; fields and variants of a type of the code."""
+    if not isinstance(it, CodeType):
+        return it.members()
+    body = re.sub(r"//[^\n]*", "", "\n".join(it.text))
+    return re.findall(r"^    (?:pub )?(\w+)", body, re.M)
+
+
+def pieces_with_comments(lines):
+    """A definition's type and equations, or a record's head and fields, each as its lines with the comments above it."""
+    is_record = re.match(r"(?:pub )?(?:record|data) ", lines[0])
+    pieces, above = [], []
+    for line in lines:
+        if line.strip().startswith("--"):
+            above.append(line)
+        elif pieces and goes_on(line) and not (is_record and re.match(r"  \S", line)):
+            pieces[-1] += above + [line]
+            above = []
+        else:
+            pieces.append(above + [line])
+            above = []
+    if above:
+        pieces[-1] += above
+    return pieces
+
+
+class Linker:
+    """Puts links into the texts of definitions. `place` gives the address of a definition or type, or None where no page has it."""
+
+    def __init__(self, tree, place, fields):
+        self.tree, self.place, self.fields = tree, place, fields
+        self.library = {}  # each word of the library that was met, with a file that names it
+
+    def link(self, it, text):
+        at = self.place(it)
+        return '<a href="%s">%s</a>' % (at, html.escape(text)) if at else html.escape(text)
+
+    def block(self, lines, definition):
+        """The lines of a definition as HTML."""
+        out, outer = [], set()
+        module = definition.module
+        known = bound_in(definition.header, module) if definition.header else set()
+        is_record = bool(definition.shape)
+        for number, piece in enumerate(pieces_with_comments(lines)):
+            code = words_of("\n".join(line for line in piece if not line.strip().startswith("--")))
+            bound = known | outer
+            if is_record and number == 0:
+                these = {it for found in re.findall(r"[({]((?:%s )+): " % WORD, code) for it in found.split()}
+                outer |= these
+                bound = bound | these
+            elif is_record:
+                found = re.match(r"  (?:pub )?((?:%s )+): " % WORD, code)
+                bound = bound | bound_in("pub " + (code[found.end():] if found else code), module)
+                if found and definition.shape == "record":
+                    outer |= set(found[1].split())
+                bound |= set(found[1].split()) if found else set()
+            else:
+                bound = bound | bound_in(code, module)
+            out += [self.line(line, definition, bound) for line in piece]
+        return "\n".join(out)
+
+    def line(self, text, definition, bound):
+        out, last = [], 0
+        for it in TOKEN.finditer(text):
+            out.append(html.escape(text[last: it.start()]))
+            last = it.end()
+            if it["comment"]:
+                out.append("<i>%s</i>" % html.escape(it[0]))
+            elif it["string"]:
+                out.append(html.escape(it[0]))
+            elif it["sign"]:
+                out.append(self.sign(it["sign"], definition))
+            else:
+                out.append(self.name(it, text[it.start() - 1: it.start()], definition, bound))
+        return "".join(out) + html.escape(text[last:])
+
+    def sign(self, sign, definition):
+        module = definition.module
+        for name in list(module.definitions) + list(module.names):
+            if "◌" in name and sign in name.split("◌"):
+                it = module.definitions.get(name) or self.tree.resolve(*module.names[name], where=module.file)
+                if it is not None:
+                    return self.link(it, sign)
+        if sign not in PLAIN:
+            self.library.setdefault(sign, module.file)
+        return html.escape(sign)
+
+    def name(self, it, before, definition, bound):
+        module, name, member = definition.module, it["name"], it["member"]
+        tail = "." + self.field(member) if member else ""
+        if name in module.aliases:
+            found = self.tree.resolve(module.aliases[name], member or name, module.file)
+            return self.link(found, it[0])
+        if before == ".":
+            return self.field(name) + tail
+        if name == definition.name:
+            at = html.escape(name) if definition.shape else '<b id="%s">%s</b>' % (anchor(definition), html.escape(name))
+            return at + tail
+        if name in bound or name in LANGUAGE:
+            return html.escape(name) + tail
+        if name in module.names:
+            found = self.tree.resolve(*module.names[name], where=module.file)
+            if found is None:
+                self.library.setdefault(module.names[name][1], module.file)
+                return html.escape(name) + tail
+            return self.link(found, name) + tail
+        found = module.definitions.get(name) or Tree.constructed(module, name)
+        if found is not None:
+            return self.link(found, name) + tail
+        if any(name in known.split("◌") for known in list(module.names) + list(module.definitions)):
+            self.library.setdefault(name, module.file)  # a word of an operator, as `if`
+            return html.escape(name) + tail
+        if name in self.fields:
+            return self.field(name) + tail
+        raise Unknown("%s: %s of %s leads nowhere" % (module.file, name, definition.name))
+
+    def field(self, name):
+        """A field leads to the one record that has it, if there is one."""
+        owners = self.fields.get(name, [])
+        return self.link(owners[0], name) if len(owners) == 1 else html.escape(name)
+
+    def whole(self, it, lines, types):
+        """A definition with its comment, or a type, as HTML; its name is a place to which links lead."""
+        if isinstance(it, CodeType):
+            return self.type_block(it, lines, types)
+        text = self.block(lines, it)
+        if it.shape:
+            text = re.sub(r"\b(record|data) %s\b" % re.escape(it.name), r'\1 <b id="%s">%s</b>' % (anchor(it), it.name), text, count=1)
+        comment = "".join("<i>%s</i>\n" % html.escape(line) for line in it.comment)
+        # the name's own place is where its type is told, and not in each equation
+        marked = '<b id="%s">' % anchor(it)
+        first, found, rest = text.partition(marked)
+        return comment + first + found + re.sub(re.escape(marked) + r"([^<]*)</b>", r"\1", rest)
+
+    def type_block(self, it, lines, known):
+        """The lines of a type of the code as HTML."""
+        out = []
+        for line in lines:
+            code, slashes, says = line.partition("//")
+            code = re.sub(r"\b[A-Z]\w*", lambda found: self.link(known[found[0]], found[0]) if found[0] in known and found[0] != it.name else found[0], html.escape(code))
+            code = re.sub(r"\b(enum|struct) %s\b" % it.name, r'\1 <b id="%s">%s</b>' % (anchor(it), it.name), code)
+            out.append(code + ("<i>%s</i>" % html.escape(slashes + says) if slashes else ""))
+        return "\n".join(out)
+
+
+def inline(text):
+    """A paragraph's links and backticks as HTML."""
+    text = html.escape(text, quote=False)
+    text = re.sub(r"`([^`]*)`", r"<code>\1</code>", text)
+    text = re.sub(r"\*\*([^*]+)\*\*", r"<b>\1</b>", text)
+    return re.sub(r"\[([^\]]*)\]\(([^)\s]*)\)", r'<a href="\2">\1</a>', text)
+
+
+def as_markdown(parts):
+    out = []
+    for kind, *said in parts:
+        if kind == "table":
+            header, rows = said
+            out.append("\n".join("| " + " | ".join(row) + " |" for row in [header, ["---"] * len(header)] + rows))
+        elif kind == "pre":
+            out.append("<pre>\n%s\n</pre>" % said[0])
+        elif kind == "p":
+            out.append(said[0])
+        else:
+            out.append("%s %s" % (kind, said[0]))
+    return "\n\n".join(out) + "\n"
+
+
+STYLE = "body{max-width:75em;margin:2em auto;padding:0 1em;font:16px/1.5 sans-serif}pre{background:#f6f6f4;padding:.8em;overflow-x:auto;line-height:1.35}" \
+    "pre i{color:#567;font-style:normal}pre a{color:inherit;text-decoration:underline dotted}b:target{background:#fe9}td,th{text-align:left;padding:.2em .8em;vertical-align:top}"
+
+
+def as_html(parts, title):
+    out = ["<!DOCTYPE html>", '<html lang="en">', '<meta charset="utf-8">', "<title>%s</title>" % html.escape(title), "<style>%s</style>" % STYLE]
+    for kind, *said in parts:
+        if kind == "table":
+            rows = ["<tr>%s</tr>" % "".join("<%s>%s</%s>" % (tag, inline(it), tag) for it in row) for tag, row in [("th", said[0])] + [("td", row) for row in said[1]]]
+            out.append("<table>\n%s\n</table>" % "\n".join(rows))
+        elif kind == "pre":
+            out.append("<pre>\n%s\n</pre>" % said[0])
+        elif kind == "p":
+            out.append("<p>%s</p>" % inline(said[0]))
+        else:
+            level = len(kind)
+            name = re.sub(r"[^\w\- ]", "", said[0].lower()).replace(" ", "-")
+            out.append('<h%d id="%s">%s</h%d>' % (level, name, inline(said[0]), level))
+    return "\n".join(out) + "\n</html>\n"
