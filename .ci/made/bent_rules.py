@@ -1,6 +1,6 @@
-"""docs/BENT_RULES.md, from docs/bent_rules.txt: each bent rule with what refuses it, and links to these.
+"""docs/BENT_RULES.md, a summary of docs/bent_rules.txt, in which each bent rule stands with what refuses it and how it was tried.
 
-A row is `- BEND | REFUSED BY; REFUSED BY; ..`, where each is one of
+A row is `- BEND | REFUSED BY; REFUSED BY; .. | HOW`, where each of the middle is one of
 
     lemma NAME of CRATE and N more      lemmas NAME, NAME of CRATE      law NAME of CRATE
     tests in FILE, TABLE                test NAME of CRATE              tests of CRATE
@@ -8,10 +8,11 @@ A row is `- BEND | REFUSED BY; REFUSED BY; ..`, where each is one of
 """
 import re
 
-from tree import Unknown, anchor_of, crates, exists, read, source_files
+from tree import Unknown, crates, exists, read, source_files
 
 FILE = "docs/bent_rules.txt"
 EXAMPLES = {"RULES": "docs/RULES.md", "README": "README.md"}
+HOW = {"place": "in place", "copy": "in a copy", "code": "with its code", "read": "read off"}
 
 
 class Evidence:
@@ -22,19 +23,17 @@ class Evidence:
         self.names = [it.name for it in crates()]
         for crate in self.names:
             for file in source_files("crates/%s/proofs" % crate, ".antt"):
-                for number, line in enumerate(read(file).split("\n"), 1):
+                for line in read(file).split("\n"):
                     found = re.match(r"(?:pub |abbrev |unfoldable )*([^\s:]+) :", line)
                     if found:
-                        self.lemmas.setdefault((crate, found[1]), (file, number))
+                        self.lemmas.setdefault((crate, found[1]), file)
             for file in source_files("crates/%s/src" % crate, ".rt"):
                 self.texts[file] = read(file)
-                for number, line in enumerate(self.texts[file].split("\n"), 1):
-                    found = re.match(r"\s*(?:pub )?fn (\w+)", line)
-                    if found:
-                        self.functions.setdefault((crate, found[1]), (file, number))
+                for name in re.findall(r"^\s*(?:pub )?fn (\w+)", self.texts[file], re.M):
+                    self.functions.setdefault((crate, name), file)
 
-    def example(self, name, section):
-        """The heading of a section that has at least one example."""
+    def check_example(self, name, section):
+        """A section has to have at least one example."""
         inside, has = False, False
         for line in read(EXAMPLES[name]).split("\n"):
             heading = re.match(r"#+ (.*)", line)
@@ -43,67 +42,81 @@ class Evidence:
             has = has or inside and line.startswith("$ ")
         if not has:
             raise Unknown("%s: %s has no section %s with an example" % (FILE, EXAMPLES[name], section))
-        path = EXAMPLES[name][len("docs/"):] if EXAMPLES[name].startswith("docs/") else "../" + EXAMPLES[name]
-        return "[%s, %s](%s#%s)" % (name, section, path, anchor_of(section))
 
-    def test_file(self, name):
+    def check_table(self, name, table):
         found = [it for it in self.texts if it.endswith("/" + name) and "test" in it]
         found = [it for it in found if it.startswith("crates/ants/")] or found
         if len(found) != 1:
             raise Unknown("%s: %d files of tests are called %s" % (FILE, len(found), name))
-        return found[0]
+        if table and not re.search(r"\b%s\b" % table, self.texts[found[0]]):
+            raise Unknown("%s: no table %s in %s" % (FILE, table, found[0]))
 
-    def named(self, where, crate, name, what):
+    def check_named(self, where, crate, name, what):
         if crate not in self.names:
             raise Unknown("%s: there is no crate %s" % (FILE, crate))
         if (crate, name) not in where:
             raise Unknown("%s: %s has no %s %s" % (FILE, crate, what, name))
-        return "[`%s`](../%s#L%d)" % ((name,) + where[crate, name])
 
-    def shown(self, text):
-        """One thing that refuses a bend, with links; Unknown where it isn't there."""
-        text, colon, remark = text.partition(": ")
-        tail = colon + remark
-        words = text.replace("`", "")
+    def kind(self, text):
+        """What sort of thing refuses a bend; Unknown where it isn't there."""
+        words = text.partition(": ")[0].replace("`", "")
         it = re.fullmatch(r"lemmas? (.+) of (\w+)( and \d+ more)?", words)
         if it:
-            links = [self.named(self.lemmas, it[2], name, "lemma") for name in it[1].split(", ")]
-            return "%s %s of `%s`%s%s" % ("lemma" if len(links) == 1 else "lemmas", ", ".join(links), it[2], it[3] or "", tail)
+            for name in it[1].split(", "):
+                self.check_named(self.lemmas, it[2], name, "lemma")
+            return "lemma"
         it = re.fullmatch(r"(law|test) (\w+) of (\w+)", words)
         if it:
-            return "%s %s of `%s`%s" % (it[1], self.named(self.functions, it[3], it[2], it[1]), it[3], tail)
+            self.check_named(self.functions, it[3], it[2], it[1])
+            return it[1]
         it = re.fullmatch(r"tests in ([\w/]+\.rt)(?:, (\w+))?", words)
         if it:
-            file = self.test_file(it[1])
-            if it[2] and not re.search(r"\b%s\b" % it[2], self.texts[file]):
-                raise Unknown("%s: no table %s in %s" % (FILE, it[2], file))
-            return "tests in [`%s`](../%s)%s%s" % (it[1], file, ", `%s`" % it[2] if it[2] else "", tail)
+            self.check_table(it[1], it[2])
+            return "test"
         it = re.fullmatch(r"tests of (\w+)", words)
         if it:
             if not exists("crates/%s/src/tests.rt" % it[1]) and not any(file.startswith("crates/%s/" % it[1]) and "test" in file for file in self.texts):
                 raise Unknown("%s: %s has no tests" % (FILE, it[1]))
-            return "tests of `%s`%s" % (it[1], tail)
-        it = re.fullmatch(r"(RULES|README), (.+)", text)
+            return "test"
+        it = re.fullmatch(r"(RULES|README), (.+)", text.partition(": ")[0])
         if it:
-            return self.example(it[1], it[2]) + tail
+            self.check_example(it[1], it[2])
+            return "example"
         raise Unknown("%s: what is `%s`?" % (FILE, text))
 
 
-def page():
-    evidence, rows, out = Evidence(), 0, []
-    inside = False
+def rows():
+    """Each row's section, what kinds of things refuse it, and how it was tried."""
+    evidence, section = Evidence(), None
     for number, line in enumerate(read(FILE).split("\n"), 1):
-        if line.startswith("- "):
-            bend, bar, refused = line[2:].partition(" | ")
-            if not bar:
-                raise Unknown("%s:%d: a row is a bend, a bar and what refuses it" % (FILE, number))
-            if not inside:
-                out += ["| bend | what refuses it |", "|---|---|"]
-            inside = True
-            rows += 1
-            out.append("| %s | %s |" % (bend, "; ".join(evidence.shown(it) for it in refused.split("; "))))
-        else:
-            inside = False
-            out.append(line)
-    text = "\n".join(out).rstrip() + "\n"
-    return text.replace("COUNT", str(rows), 1)
+        if line.startswith("## "):
+            section = line[3:]
+        elif line.startswith("- "):
+            parts = line[2:].split(" | ")
+            if len(parts) != 3 or parts[2] not in HOW:
+                raise Unknown("%s:%d: a row is a bend, what refuses it, and one of %s" % (FILE, number, ", ".join(HOW)))
+            yield section, {evidence.kind(it) for it in parts[1].split("; ")}, parts[2]
+
+
+def page():
+    found, sections = list(rows()), []
+    for section, _, _ in found:
+        if section not in sections:
+            sections.append(section)
+    kinds = ("lemma", "law", "test", "example")
+    out = [
+        "# Bent rules",
+        "",
+        "Made from [bent_rules.txt](bent_rules.txt), which has the rows, by `.ci/make-documents`; not edited by hand. Code is proved against definitions. A definition that is wrong together with its",
+        "code would be proved as well, and only a value from outside both can refuse it: a computed lemma, a row of a test, or an example of RULES that is run. So %d rules were bent, or it was read what would refuse the bent one, and" % len(found),
+        "each has what refuses it in its row. How it was tried: in place, in the definitions themselves; in a copy of them, whose values were computed; with its code, in a copy of both, or the code alone;",
+        "or not bent, but read off the law or the rows, whose values were worked by hand.",
+        "",
+        "| rules | bends | " + " | ".join("by a " + it if it != "example" else "by an example" for it in kinds) + " | " + " | ".join(HOW.values()) + " |",
+        "|" + "---|" * (2 + len(kinds) + len(HOW)),
+    ]
+    for section in sections + ["all"]:
+        these = [it for it in found if section in (it[0], "all")]
+        counts = [len(these)] + [sum(kind in it[1] for it in these) for kind in kinds] + [sum(it[2] == how for it in these) for how in HOW]
+        out.append("| %s | %s |" % (section, " | ".join(str(it) if it else "" for it in counts)))
+    return "\n".join(out) + "\n"
