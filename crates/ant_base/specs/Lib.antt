@@ -1,4 +1,5 @@
 pub mod Calls
+pub mod FaultText
 pub mod Faults
 pub mod Fetched
 pub mod Inner

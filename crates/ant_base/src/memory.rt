@@ -1,19 +1,31 @@
-// Want of memory.
+// Want of memory, as every crate of the simulator answers it.
+use crate::{Failed, Layout, Sink, show};
 use std::alloc::{AllocError, AllocFailed};
 use std::error::Error;
 use std::fmt;
 
-/// Memory could not be had. The refused call changed nothing, but where its entry says otherwise.
+/// Memory could not be had. What the refused call was lent is as before, but where its entry says otherwise.
 #[derive(Clone, Copy, Debug, PartialEq, Eq)]
 pub struct OutOfMemory;
 
-impl fmt::Display for OutOfMemory {
-    ghost use Rattle.std.specs.Prelude.{Some, codes};
+impl Layout for OutOfMemory {
+    ghost use Rattle.ant_base.specs.FaultText.{memory_text};
 
-    ghost output = { λ _. Some (codes "out of memory") };
+    ghost text = { λ _. memory_text };
+
+    fn push_to<K: Sink>(&self, sink: &mut K) -> Result<(), Failed> {
+        "out of memory".push_to(sink)
+    }
+}
+
+impl fmt::Display for OutOfMemory {
+    ghost use Rattle.std.specs.Prelude.{Some};
+    ghost use Rattle.ant_base.specs.FaultText.{memory_text};
+
+    ghost output = { λ _. Some memory_text };
 
     fn fmt<W: fmt::Write>(&self, f: &mut fmt::Formatter<W>) -> fmt::Result {
-        write!(f, "out of memory")
+        show(self, f)
     }
 }
 

@@ -41,6 +41,16 @@ pub fn read_number_within(text: &[u8], least: u64, most: u64) -> Option<u64>
     }
 }
 
+/// The same as a u32, within bounds that are: the value of 1 to 10 decimal digits that lies between `least` and `most`, both included; `None`
+/// exactly where the text isn't 1 to 10 digits or its value lies outside (the contest's files).
+pub fn read_u32_within(text: &[u8], least: u32, most: u32) -> Option<u32>
+    ensures value { result ≡ number_within least most text.now }
+    ensures bounds { IfSome result (λ n. (least ≤ n) × (n ≤ most)) }
+{
+    let number = read_number_within(text, u64::from(least), u64::from(most))?;
+    u32::try_from(number).ok()
+}
+
 /// Pushes the decimal text of n, from 0 to 18,446,744,073,709,551,615, without leading zeros. At `Failed` a prefix of it was appended, and
 /// the count of faults rose.
 pub fn push_number<K: Sink>(sink: &mut K, n: u64) -> Result<(), Failed>

@@ -2,7 +2,10 @@
 ghost use Rattle.std.specs.Prelude.{◌≡◌};
 ghost use Rattle.ant_base.specs.Shelf.{ShelfState, Fetches};
 
+use crate::{Failed, Layout, OutOfMemory, Sink, show};
 use std::alloc::{AllocError, AllocFailed, Global};
+use std::error::Error;
+use std::fmt;
 
 /// The length of the longest content that a shelf answers, in bytes; no text that is read is longer.
 pub const LONGEST: usize = 4_194_304;
@@ -17,6 +20,33 @@ pub enum FetchFault {
     /// Memory could not be had.
     OutOfMemory,
 }
+
+impl Layout for FetchFault {
+    ghost use Rattle.ant_base.specs.FaultText.{fetch_fault_text};
+
+    ghost text = { fetch_fault_text };
+
+    fn push_to<K: Sink>(&self, sink: &mut K) -> Result<(), Failed> {
+        match self {
+            FetchFault::Failed => "not read".push_to(sink),
+            FetchFault::TooLong => "too long".push_to(sink),
+            FetchFault::OutOfMemory => OutOfMemory.push_to(sink),
+        }
+    }
+}
+
+impl fmt::Display for FetchFault {
+    ghost use Rattle.std.specs.Prelude.{Some};
+    ghost use Rattle.ant_base.specs.FaultText.{fetch_fault_text};
+
+    ghost output = { λ fault. Some (fetch_fault_text fault) };
+
+    fn fmt<W: fmt::Write>(&self, f: &mut fmt::Formatter<W>) -> fmt::Result {
+        show(self, f)
+    }
+}
+
+impl Error for FetchFault {}
 
 impl From<AllocError> for FetchFault {
     ghost use Rattle.ant_base.specs.declared.shelf.FetchFault.TheVariants.{OutOfMemory};

@@ -1,9 +1,36 @@
 // Where output goes.
 ghost use Rattle.ant_base.specs.Sink.{SinkState, Pushed};
 
+use crate::{Layout, show};
+use std::error::Error;
+use std::fmt;
+
 /// A push that failed. The sink took a prefix of the piece, and its count of faults rose.
 #[derive(Clone, Copy, Debug, PartialEq, Eq)]
 pub struct Failed;
+
+impl Layout for Failed {
+    ghost use Rattle.ant_base.specs.FaultText.{failed_text};
+
+    ghost text = { λ _. failed_text };
+
+    fn push_to<K: Sink>(&self, sink: &mut K) -> Result<(), Failed> {
+        "output failed".push_to(sink)
+    }
+}
+
+impl fmt::Display for Failed {
+    ghost use Rattle.std.specs.Prelude.{Some};
+    ghost use Rattle.ant_base.specs.FaultText.{failed_text};
+
+    ghost output = { λ _. Some failed_text };
+
+    fn fmt<W: fmt::Write>(&self, f: &mut fmt::Formatter<W>) -> fmt::Result {
+        show(self, f)
+    }
+}
+
+impl Error for Failed {}
 
 /// Where output goes.
 pub trait Sink {

@@ -17,3 +17,4 @@ pub use Rattle.ant_base.specs.Sink
 pub use Rattle.line_tokens.specs.Fields
 pub use Rattle.line_tokens.specs.Steps as LineTokensSteps
 pub use Rattle.line_tokens.specs.TokenLines
+pub mod FaultText

@@ -1,11 +1,13 @@
 // A brain: a list of sound instructions.
 ghost use Rattle.std.specs.Prelude.{◌≡◌, ◌<◌, length, slice_get, Some, IfOk};
+ghost use Rattle.std.specs.Slice.Iter.{iter_rest};
 ghost use Rattle.brain_read.specs.Soundness.{IsSound, IsBrain};
 
 use crate::instr::Instr;
 use hex_geometry::OutOfMemory;
 use std::alloc::Global;
 use std::marker::Model;
+use std::slice;
 
 /// The largest number of instructions of a brain, and so of its states (the task's neurology).
 pub const MOST_STATES: usize = 10_000;
@@ -66,11 +68,31 @@ impl Brain {
         self.list[state as usize]
     }
 
+    /// Its instructions, from that of state 0 on (the task's neurology).
+    pub fn iter(&self) -> slice::Iter<'_, Instr>
+        ensures instructions { iter_rest result ≡ self.now }
+        ensures brain { IsBrain self.now }
+    {
+        self.list.iter()
+    }
+
     // The instructions, by state.
     pub(crate) fn instructions(&self) -> &[Instr]
         ensures list { result.now ≡ self.now }
         ensures brain { IsBrain self.now }
     {
         self.list.as_slice()
+    }
+}
+
+impl<'b> IntoIterator for &'b Brain {
+    type Item = &'b Instr;
+
+    type IntoIter = slice::Iter<'b, Instr>;
+
+    ghost into_iter_gives = { λ brain it. iter_rest it ≡ brain.now };
+
+    fn into_iter(self) -> Self::IntoIter {
+        self.iter()
     }
 }

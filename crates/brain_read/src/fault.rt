@@ -1,6 +1,9 @@
 // What can be wrong with a text.
-use line_tokens::{LineFault, Refusal};
+use ant_base::{AtLine, Failed, Layout, OutOfMemory, Sink, layout, show};
+use line_tokens::{BAD_BYTE, LineFault, Refusal};
 use std::alloc::{AllocError, AllocFailed};
+use std::error::Error;
+use std::fmt;
 
 /// The fault of a text that is no brain's: the first line at fault, with its first position at fault; where no line is at fault, `Empty` or
 /// `NoSuchState`. Lines are counted from 1, lines without a token included.
@@ -25,6 +28,44 @@ pub enum BrainFault {
     /// Memory could not be had; it says nothing of the text.
     OutOfMemory,
 }
+
+impl Layout for BrainFault {
+    ghost use Rattle.brain_read.specs.FaultText.{brain_fault_text};
+
+    ghost text = { brain_fault_text };
+
+    fn push_to<K: Sink>(&self, sink: &mut K) -> Result<(), Failed> {
+        match *self {
+            BrainFault::BadByte { line } => AtLine(line, BAD_BYTE).push_to(sink),
+            BrainFault::UnknownWord { line } => AtLine(line, LineFault::UnknownWord).push_to(sink),
+            BrainFault::MissingToken { line } => AtLine(line, LineFault::MissingToken).push_to(
+                sink,
+            ),
+            BrainFault::BadNumber { line } => AtLine(line, LineFault::BadNumber).push_to(sink),
+            BrainFault::ExtraToken { line } => AtLine(line, LineFault::ExtraToken).push_to(sink),
+            BrainFault::TooMany { line } => AtLine(line, "too many instructions").push_to(sink),
+            BrainFault::Empty => "no instruction".push_to(sink),
+            BrainFault::NoSuchState { line, state } => AtLine(
+                line,
+                layout!("no such state ", state),
+            ).push_to(sink),
+            BrainFault::OutOfMemory => OutOfMemory.push_to(sink),
+        }
+    }
+}
+
+impl fmt::Display for BrainFault {
+    ghost use Rattle.std.specs.Prelude.{Some};
+    ghost use Rattle.brain_read.specs.FaultText.{brain_fault_text};
+
+    ghost output = { λ fault. Some (brain_fault_text fault) };
+
+    fn fmt<W: fmt::Write>(&self, f: &mut fmt::Formatter<W>) -> fmt::Result {
+        show(self, f)
+    }
+}
+
+impl Error for BrainFault {}
 
 impl From<AllocError> for BrainFault {
     ghost use Rattle.std.specs.Prelude.{◌≡◌};

@@ -1,5 +1,5 @@
 -- The world as a function from positions to cells (the task's geography).
-use Rattle.std.specs.Prelude.{ℕ, ◌+◌, ◌*◌, Bool, if◌then◌else◌, Option, Some, None, suc, zero}
+use Rattle.std.specs.Prelude.{ℕ, ◌+◌, ◌*◌, Bool, if◌then◌else◌, List, [], ◌∷◌, Option, Some, None, suc, zero}
 use Rattle.hex_geometry.specs.declared.position.Pos.{Pos}
 use Rattle.hex_geometry.specs.Position.{same_pos}
 use Rattle.hex_geometry.specs.RowOrder.{pos_at}
@@ -59,3 +59,12 @@ place_in w t = first_of w.width (λ p. holds_id t (w.cells p)) (area w)
 -- what a world weighs: the sum over its cells
 unfoldable pub weight : World → ℕ
 weight w = total cell_weight w
+
+-- so many cells of a world in row order, each with its position, of which the first is number n
+abbrev pub cells_from : World → ℕ → ℕ → List (Pos × Cell)
+cells_from w n zero = []
+cells_from w n (suc left) = (pos_at w.width n, w.cells (pos_at w.width n)) ∷ cells_from w (suc n) left
+
+-- all cells of a world in row order, each with its position (the task's geography)
+unfoldable pub placed_cells : World → List (Pos × Cell)
+placed_cells w = cells_from w 0 (area w)

@@ -42,4 +42,4 @@ pub use opening_laws::{hills_are_manned, plans_open};
 pub use part::{Part, Parts};
 pub use part_laws::{cells_are_parts, patches_change_nothing, patches_settle, patches_take_parts};
 pub use score::Score;
-pub use world::World;
+pub use world::{Cells, World};

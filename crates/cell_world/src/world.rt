@@ -15,9 +15,12 @@ use std::alloc::Global;
 use std::marker::Model;
 
 mod catch_up;
+mod cells;
 mod counts;
 mod ground;
 mod resting;
+
+pub use cells::Cells;
 
 /// A world (the task's geography, chemistry and biology).
 ///

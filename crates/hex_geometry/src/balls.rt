@@ -3,8 +3,8 @@ ghost use Rattle.hex_geometry.specs.Distance.{HasBall, ListsBall};
 ghost use Rattle.hex_geometry.specs.Inner.BallRows.{IsBallRow, column_count, first_column, line};
 ghost use Rattle.std.specs.Prelude.{◌≡◌, ◌+◌, ◌*◌, ◌++◌, IfOk, OnOk, vec_len};
 
-use crate::memory::OutOfMemory;
 use crate::position::Pos;
+use ant_base::OutOfMemory;
 use std::alloc::Global;
 
 /// The positions at distance at most `radius` from `centre`, each once, in row order: row by row from the top, each row from the left

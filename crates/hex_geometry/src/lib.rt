@@ -8,7 +8,7 @@
 //! positions of a world and their numbers in row order lead to each other, and that its rim is all but its inner positions. Nothing here but
 //! the list of a ball takes memory.
 //!
-//! It stands on lemmas alone.
+//! It stands on the want of memory of `ant_base`, and on lemmas.
 //!
 //! What names no section of the contest's task is this project's own.
 #![tactic(auto)]
@@ -20,10 +20,10 @@ mod distances;
 mod grid;
 mod grid_laws;
 mod laws;
-mod memory;
 mod neighbourhood;
 mod position;
 
+pub use ant_base::OutOfMemory;
 pub use balls::ball;
 pub use direction::{Dir, Side, turned};
 pub use distance_laws::{balls_are_counted, distance_is_metric, steps_change_by_one};
@@ -31,6 +31,5 @@ pub use distances::distance;
 pub use grid::{index_of, is_on_rim, pos_at};
 pub use grid_laws::{rim_is_outermost, rows_are_numbered};
 pub use laws::{neighbours_are_mutual, neighbours_are_the_tables, turns_go_round};
-pub use memory::OutOfMemory;
 pub use neighbourhood::{Sight, adjacent, neighbours, sensed};
 pub use position::Pos;

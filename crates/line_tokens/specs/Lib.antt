@@ -1,3 +1,4 @@
+pub mod FaultText
 pub mod Faulty
 pub mod Fields
 pub mod Inner

@@ -15,5 +15,5 @@ mod refusal;
 mod tokens;
 
 pub use bytes::has_bad_byte;
-pub use refusal::{LineFault, Refusal};
+pub use refusal::{BAD_BYTE, LineFault, Refusal};
 pub use tokens::Tokens;

@@ -2,7 +2,7 @@
 use Rattle.std.specs.Prelude.{◌≡◌, ℕ, Result, IfOk, OnOk, OnErr}
 use Rattle.std.specs.Fn.{Called, Mut}
 use Rattle.std.specs.Borrow.{MutBor}
-use Rattle.hex_geometry.specs.declared.memory.OutOfMemory.{OutOfMemory}
+use Rattle.ant_base.specs.declared.memory.OutOfMemory.{OutOfMemory}
 use Rattle.round_book.specs.declared.counts.Counts.{Counts}
 use Rattle.round_book.specs.declared.field.Field.{Field}
 use Rattle.round_book.specs.Book.{CanBegin, FieldValue, IsPlayed, window_of}

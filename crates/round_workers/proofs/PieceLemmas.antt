@@ -1,5 +1,5 @@
 -- Pieces of a window, and their looks in order.
-use Rattle.hex_geometry.specs.declared.memory.OutOfMemory.{OutOfMemory}
+use Rattle.ant_base.specs.declared.memory.OutOfMemory.{OutOfMemory}
 use Rattle.std.proofs.Common.{Result, Ok, Err, OnOk, slice_set, take_all, ◌≡◌, ℕ, zero, suc, add-one, ◌+◌, ◌-◌, ◌<◌, ◌≤◌, ◌^◌, ◌++◌, Bool, true, false, nat_eq, List, [], ◌∷◌, length, get_or, take, drop, map, All, refl, sym, ◌∙◌, ap, ap₂, subst, arith}
 use Rattle.std.proofs.lemmas.Bool.{eqb-false, eqb-true}
 use Rattle.std.proofs.lemmas.List.{length-append, map-append, take_more_set}

@@ -1,5 +1,5 @@
 -- Pieces of a list of games: where they begin, and what they are together.
-use Rattle.hex_geometry.specs.declared.memory.OutOfMemory.{OutOfMemory}
+use Rattle.ant_base.specs.declared.memory.OutOfMemory.{OutOfMemory}
 use Rattle.std.proofs.Common.{Result, Ok, Err, Vec, IfOk, OnOk, ◌≡◌, ◌≢◌, ℕ, suc, ◌+◌, ◌-◌, ◌<◌, ◌≤◌, Bool, true, false, List, [], ◌∷◌, ◌++◌, ◌==◌, length, get_or, take, drop, map, All, append-nil, refl, sym, ◌∙◌, ap, arith}
 use Rattle.std.specs.Bool.{OnFalse}
 use Rattle.std.proofs.Math.Dec.{eqb-suc-zero}

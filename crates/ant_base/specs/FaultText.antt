@@ -1,0 +1,23 @@
+-- What the faults say (this project's own).
+use Rattle.std.specs.Prelude.{ℕ, List, codes, decimal}
+use Rattle.ant_base.specs.Layout.{◌+++◌}
+use Rattle.ant_base.specs.declared.shelf.FetchFault.{FetchFault}
+use Rattle.ant_base.specs.declared.shelf.FetchFault.TheVariants.{Failed, TooLong, OutOfMemory}
+
+-- what is said of a line, which is counted from 1
+abbrev pub line_says : ℕ → List ℕ → List ℕ
+line_says line says = codes "line " +++ decimal line +++ codes ": " +++ says
+
+-- what is said where memory could not be had
+abbrev pub memory_text : List ℕ
+memory_text = codes "out of memory"
+
+-- what is said of a push that failed
+abbrev pub failed_text : List ℕ
+failed_text = codes "output failed"
+
+-- why the content of a name was not fetched
+abbrev pub fetch_fault_text : FetchFault → List ℕ
+fetch_fault_text Failed = codes "not read"
+fetch_fault_text TooLong = codes "too long"
+fetch_fault_text OutOfMemory = memory_text
