@@ -1,7 +1,7 @@
 """docs/GLOSSARY.md, docs/LEMMAS.md and docs/GATE.md: the words that are coined here, the lemmas that other crates cite, what the gate costs."""
 from crate_tables import lemma_table
 from gate_costs import cost_table
-from tree import Unknown, read
+from tree import Unknown, crates, read
 
 
 def cell(text):
@@ -24,8 +24,23 @@ def lemma_page():
     return "# Lemmas that other crates cite\n\nThe files of `proofs/`, all of them. Made from the tree by `.ci/make-documents`.\n\n" + lemma_table()
 
 
+def planted_table():
+    """The rows of docs/planted.txt."""
+    names = [it.name for it in crates()]
+    lines = ["| crate | functions | refused | not run | by hand | refused | what passed the proofs, and what catches it |", "|---|---|---|---|---|---|---|"]
+    for number, line in enumerate(read("docs/planted.txt").split("\n"), 1):
+        if line and not line.startswith("#"):
+            cells = [it.strip() for it in line.split("|")]
+            if len(cells) != 7 or cells[0] not in names:
+                raise Unknown("docs/planted.txt:%d: not a crate with six cells" % number)
+            lines.append("| `%s` | %s |" % (cells[0], " | ".join(cells[1:])))
+    return "\n".join(lines) + "\n"
+
+
 def gate_page():
     return (
-        "# What the gate costs\n\nProcessor seconds of `rt ci`, made by `.ci/make-documents` from `docs/gate_costs.txt`, which says how they were measured. A tilde marks the time of\n"
+        "# The gate\n\nMade by `.ci/make-documents` from `docs/gate_costs.txt`, `docs/planted.txt` and the wrong bodies on disk.\n\n## What it costs\n\nProcessor seconds of `rt ci`; `docs/gate_costs.txt` says how they were measured. A tilde marks the time of\n"
         "the proof that wrong bodies begin with, where the first one's was not measured.\n\n" + cost_table()
+        + "\n## Bugs that were planted\n\n`rt plant` tries wrong bodies of a function against its clauses: in how many functions, how many bodies were refused, how many were not run for want of time. By hand: bugs in the real\n"
+        "code, one at a time. A body that answers out of memory in place of its work passes every clause, as memory is free; tests call each such function once where there is memory.\n\n" + planted_table()
     )
