@@ -15,3 +15,4 @@ pub use Rattle.brain_read.specs.Forms
 pub use Rattle.brain_read.specs.Soundness
 pub use Rattle.line_tokens.specs.TokenLines
 pub use Rattle.word_table.specs.Words
+pub mod FaultText

@@ -1,6 +1,11 @@
 // What can be wrong with a text.
+use ant_base::{AtLine, Failed, Layout, Sink, show};
+use brain_read::BrainFault;
 use hex_geometry::OutOfMemory;
+use line_tokens::{BAD_BYTE, LineFault};
 use std::alloc::{AllocError, AllocFailed};
+use std::error::Error;
+use std::fmt;
 
 /// The fault of a text that is no labelled program's: the first line at fault; where no line is, a block without an end, no item, or a label
 /// that its body doesn't have. Lines are counted from 1, lines without a token included.
@@ -37,6 +42,45 @@ pub enum AsmFault {
     /// Memory could not be had; it says nothing of the text.
     OutOfMemory,
 }
+
+impl Layout for AsmFault {
+    ghost use Rattle.ant_asm.specs.FaultText.{asm_fault_text};
+
+    ghost text = { asm_fault_text };
+
+    fn push_to<K: Sink>(&self, sink: &mut K) -> Result<(), Failed> {
+        match *self {
+            AsmFault::BadByte { line } => AtLine(line, BAD_BYTE).push_to(sink),
+            AsmFault::UnknownWord { line } => AtLine(line, LineFault::UnknownWord).push_to(sink),
+            AsmFault::MissingToken { line } => AtLine(line, LineFault::MissingToken).push_to(sink),
+            AsmFault::BadNumber { line } => AtLine(line, LineFault::BadNumber).push_to(sink),
+            AsmFault::ExtraToken { line } => AtLine(line, LineFault::ExtraToken).push_to(sink),
+            AsmFault::BadName { line } => AtLine(line, "bad name").push_to(sink),
+            AsmFault::Misplaced { line } => AtLine(line, "misplaced").push_to(sink),
+            AsmFault::Twice { line } => AtLine(line, "name taken").push_to(sink),
+            AsmFault::NoBlock { line } => AtLine(line, "no such block").push_to(sink),
+            AsmFault::WrongCount { line } => AtLine(line, "wrong number of labels").push_to(sink),
+            AsmFault::TooMany { line } => AtLine(line, "too many").push_to(sink),
+            AsmFault::EmptyBlock { line } => AtLine(line, "empty block").push_to(sink),
+            AsmFault::Empty => BrainFault::Empty.push_to(sink),
+            AsmFault::NoLabel { line } => AtLine(line, "no such label").push_to(sink),
+            AsmFault::OutOfMemory => OutOfMemory.push_to(sink),
+        }
+    }
+}
+
+impl fmt::Display for AsmFault {
+    ghost use Rattle.std.specs.Prelude.{Some};
+    ghost use Rattle.ant_asm.specs.FaultText.{asm_fault_text};
+
+    ghost output = { λ fault. Some (asm_fault_text fault) };
+
+    fn fmt<W: fmt::Write>(&self, f: &mut fmt::Formatter<W>) -> fmt::Result {
+        show(self, f)
+    }
+}
+
+impl Error for AsmFault {}
 
 impl From<AllocError> for AsmFault {
     ghost use Rattle.std.specs.Prelude.{◌≡◌};

@@ -1,4 +1,3 @@
 pub mod Cups
 pub mod Plans
 pub mod Reading
-pub mod Words

@@ -31,7 +31,7 @@ use crate::stop::{CommandStop, Ended};
 use crate::view::{ViewedGame, view};
 use crate::workload::workload;
 use ant_base::{Gate, Layout, Shelf, Sink, layout};
-use command_words::{Command, is_far_run, read_words, read_words_without_far};
+use command_words::{Command, Refused, is_far_run, read_words, read_words_without_far};
 use match_run::OutOfMemory;
 use round_book::{Counts, Crew, Field, Led};
 use round_workers::BoardCrew;
@@ -319,7 +319,7 @@ fn report_word<E: Sink>(word: usize, err: &mut E) -> Status
     ensures reports { GotLine (E.state err.old) (E.state err.new) (word_line word) }
     ensures status { result ≡ Status.Words }
 {
-    let _ = layout!("ants: word ", word, " refused\n").push_to(err);
+    let _ = layout!("ants: ", Refused { word }, "\n").push_to(err);
     Status::Words
 }
 

@@ -1,19 +1,19 @@
 // How a run ended, why a command stopped, and the line that says so.
 ghost use Rattle.std.specs.Prelude.{◌≡◌};
-ghost use Rattle.ants.specs.FaultLines.{file_fault_text, brain_fault_text, break_fault_text, labelled_fault_text, world_fault_text, ending_by, plain_ending, reason_of, reason_text, fault_line, status_of, save_fault_text};
+ghost use Rattle.ants.specs.FaultLines.{file_fault_text, ending_by, plain_ending, reason_of, reason_text, fault_line, status_of};
 ghost use Rattle.ants.specs.Inner.Plans.{play_ending};
 ghost use Rattle.ants.specs.Inner.Reading.{ending_of, push_ending};
-ghost use Rattle.ants.specs.Inner.Words.{text_of_words};
 
 use crate::status::Status;
 use ant_asm::AsmFault;
-use ant_base::{Failed, Layout, Sink, layout};
+use ant_base::{Failed, FetchFault, Layout, Sink, layout};
 use brain_read::BrainFault;
 use break_view::BreakFault;
 use cell_world::Score;
 use match_run::{OutOfMemory, PlayFault};
 use match_save::SaveFault;
 use std::alloc::AllocFailed;
+use world_gen::GenFault;
 use world_read::WorldFault;
 
 /// Why a file was refused.
@@ -132,142 +132,19 @@ impl From<PlayFault> for CommandStop<'_> {
     }
 }
 
-/// What a file's fault says: words alone, or words with numbers.
-#[derive(Clone, Copy)]
-pub enum FaultWords {
-    /// These words.
-    Alone(&'static str),
-    /// The number of a line, and these words.
-    AtLine(u32, &'static str),
-    /// The number of a row, and these words.
-    AtRow(u16, &'static str),
-    /// A bad cell in this row and column.
-    BadCell(u16, u16),
-    /// A rim that is open at this place.
-    OpenRim(u16, u16),
-    /// These words, and a number after them.
-    NumberAfter(&'static str, u32),
-    /// A line that names a state which isn't there.
-    NoSuchState(u32, u64),
-}
-
-impl Layout for FaultWords {
-    ghost use Rattle.ants.specs.Inner.Words.{text_of_words};
-
-    ghost text = { text_of_words };
+impl Layout for FileFault {
+    ghost text = { file_fault_text };
 
     fn push_to<K: Sink>(&self, sink: &mut K) -> Result<(), Failed> {
         match *self {
-            FaultWords::Alone(words) => words.push_to(sink),
-            FaultWords::AtLine(line, words) => layout!("line ", line, words).push_to(sink),
-            FaultWords::AtRow(row, words) => layout!("row ", row, words).push_to(sink),
-            FaultWords::BadCell(row, column) => {
-                layout!("row ", row, ": bad cell at column ", column).push_to(sink)
-            }
-            FaultWords::OpenRim(x, y) => layout!("rim open at (", x, ", ", y, ")").push_to(sink),
-            FaultWords::NumberAfter(words, number) => layout!(words, number).push_to(sink),
-            FaultWords::NoSuchState(line, state) => {
-                layout!("line ", line, ": no such state ", state).push_to(sink)
-            }
+            FileFault::TooLong => FetchFault::TooLong.push_to(sink),
+            FileFault::World(fault) => fault.push_to(sink),
+            FileFault::Brain(fault) => fault.push_to(sink),
+            FileFault::Breaks(fault) => fault.push_to(sink),
+            FileFault::Labelled(fault) => fault.push_to(sink),
+            FileFault::Save(fault) => fault.push_to(sink),
+            FileFault::AlreadyAt(round) => layout!("already at round ", round).push_to(sink),
         }
-    }
-}
-
-// What a world's fault says.
-fn world_words(fault: WorldFault) -> FaultWords
-    ensures { text_of_words result ≡ world_fault_text fault }
-{
-    match fault {
-        WorldFault::BadWidth => FaultWords::Alone("bad width"),
-        WorldFault::BadHeight => FaultWords::Alone("bad height"),
-        WorldFault::MissingRow { row } => FaultWords::AtRow(row, ": missing"),
-        WorldFault::BadCell { row, column } => FaultWords::BadCell(row, column),
-        WorldFault::ShortRow { row } => FaultWords::AtRow(row, ": short"),
-        WorldFault::LongRow { row } => FaultWords::AtRow(row, ": long"),
-        WorldFault::ExtraRow => FaultWords::Alone("extra row"),
-        WorldFault::OpenRim { x, y } => FaultWords::OpenRim(x, y),
-        WorldFault::TooManyAnts { count } => FaultWords::NumberAfter("too many ants, ", count),
-        WorldFault::OutOfMemory => FaultWords::Alone("out of memory"),
-    }
-}
-
-// What a brain's fault says.
-fn brain_words(fault: BrainFault) -> FaultWords
-    ensures { text_of_words result ≡ brain_fault_text fault }
-{
-    match fault {
-        BrainFault::BadByte { line } => FaultWords::AtLine(line, ": bad byte"),
-        BrainFault::UnknownWord { line } => FaultWords::AtLine(line, ": unknown word"),
-        BrainFault::MissingToken { line } => FaultWords::AtLine(line, ": missing token"),
-        BrainFault::BadNumber { line } => FaultWords::AtLine(line, ": bad number"),
-        BrainFault::ExtraToken { line } => FaultWords::AtLine(line, ": extra token"),
-        BrainFault::TooMany { line } => FaultWords::AtLine(line, ": too many instructions"),
-        BrainFault::Empty => FaultWords::Alone("no instruction"),
-        BrainFault::NoSuchState { line, state } => FaultWords::NoSuchState(line, state),
-        BrainFault::OutOfMemory => FaultWords::Alone("out of memory"),
-    }
-}
-
-// What the fault of a file of breaks says.
-fn break_words(fault: BreakFault) -> FaultWords
-    ensures { text_of_words result ≡ break_fault_text fault }
-{
-    match fault {
-        BreakFault::UnknownWord { line } => FaultWords::AtLine(line, ": unknown word"),
-        BreakFault::MissingToken { line } => FaultWords::AtLine(line, ": missing token"),
-        BreakFault::BadNumber { line } => FaultWords::AtLine(line, ": bad number"),
-        BreakFault::ExtraToken { line } => FaultWords::AtLine(line, ": extra token"),
-        BreakFault::TooMany { line } => FaultWords::AtLine(line, ": too many breaks"),
-        BreakFault::OutOfMemory => FaultWords::Alone("out of memory"),
-    }
-}
-
-// What the fault of a labelled program says.
-fn labelled_words(fault: AsmFault) -> FaultWords
-    ensures { text_of_words result ≡ labelled_fault_text fault }
-{
-    match fault {
-        AsmFault::BadByte { line } => FaultWords::AtLine(line, ": bad byte"),
-        AsmFault::UnknownWord { line } => FaultWords::AtLine(line, ": unknown word"),
-        AsmFault::MissingToken { line } => FaultWords::AtLine(line, ": missing token"),
-        AsmFault::BadNumber { line } => FaultWords::AtLine(line, ": bad number"),
-        AsmFault::ExtraToken { line } => FaultWords::AtLine(line, ": extra token"),
-        AsmFault::BadName { line } => FaultWords::AtLine(line, ": bad name"),
-        AsmFault::Misplaced { line } => FaultWords::AtLine(line, ": misplaced"),
-        AsmFault::Twice { line } => FaultWords::AtLine(line, ": name taken"),
-        AsmFault::NoBlock { line } => FaultWords::AtLine(line, ": no such block"),
-        AsmFault::WrongCount { line } => FaultWords::AtLine(line, ": wrong number of labels"),
-        AsmFault::TooMany { line } => FaultWords::AtLine(line, ": too many"),
-        AsmFault::EmptyBlock { line } => FaultWords::AtLine(line, ": empty block"),
-        AsmFault::Empty => FaultWords::Alone("no instruction"),
-        AsmFault::NoLabel { line } => FaultWords::AtLine(line, ": no such label"),
-        AsmFault::OutOfMemory => FaultWords::Alone("out of memory"),
-    }
-}
-
-// What a save's fault says.
-fn save_words(fault: SaveFault) -> FaultWords
-    ensures { text_of_words result ≡ save_fault_text fault }
-{
-    match fault {
-        SaveFault::BadLine { line } => FaultWords::AtLine(line, ": not a save"),
-        SaveFault::BadState => FaultWords::Alone("no valid state"),
-        SaveFault::OutOfMemory => FaultWords::Alone("out of memory"),
-    }
-}
-
-// What a file's fault says.
-fn file_words(fault: FileFault) -> FaultWords
-    ensures { text_of_words result ≡ file_fault_text fault }
-{
-    match fault {
-        FileFault::TooLong => FaultWords::Alone("too long"),
-        FileFault::World(fault) => world_words(fault),
-        FileFault::Brain(fault) => brain_words(fault),
-        FileFault::Breaks(fault) => break_words(fault),
-        FileFault::Labelled(fault) => labelled_words(fault),
-        FileFault::Save(fault) => save_words(fault),
-        FileFault::AlreadyAt(round) => FaultWords::NumberAfter("already at round ", round),
     }
 }
 
@@ -280,11 +157,11 @@ impl Layout for StopWords<'_> {
 
     fn push_to<K: Sink>(&self, sink: &mut K) -> Result<(), Failed> {
         match self.0 {
-            CommandStop::Read(name) => layout!(name, ": not read").push_to(sink),
-            CommandStop::Write => "output failed".push_to(sink),
-            CommandStop::Input(name, fault) => layout!(name, ": ", file_words(fault)).push_to(sink),
-            CommandStop::NoRoom(element) => layout!("no room for element ", element).push_to(sink),
-            CommandStop::Memory => "out of memory".push_to(sink),
+            CommandStop::Read(name) => layout!(name, ": ", FetchFault::Failed).push_to(sink),
+            CommandStop::Write => Failed.push_to(sink),
+            CommandStop::Input(name, fault) => layout!(name, ": ", fault).push_to(sink),
+            CommandStop::NoRoom(element) => GenFault::NoRoom { element }.push_to(sink),
+            CommandStop::Memory => OutOfMemory.push_to(sink),
         }
     }
 }

@@ -22,3 +22,4 @@ pub use Rattle.dump_print.specs.Texts as DumpPrintTexts
 pub use Rattle.hex_geometry.specs.Position
 pub use Rattle.line_tokens.specs.Steps
 pub use Rattle.match_run.specs.Run
+pub mod FaultText

@@ -2,8 +2,11 @@
 ghost use Rattle.std.specs.Prelude.{◌≡◌};
 ghost use Rattle.break_view.specs.Inner.Verdict.{fault_at};
 
+use ant_base::{AtLine, Failed, Layout, OutOfMemory, Sink, show};
 use line_tokens::LineFault;
 use std::alloc::{AllocError, AllocFailed};
+use std::error::Error;
+use std::fmt;
 
 /// The fault of a text that is no list of breaks: the first line at fault, with its first position at fault. Lines are counted from 1,
 /// lines without a token included.
@@ -22,6 +25,38 @@ pub enum BreakFault {
     /// Memory could not be had; it says nothing of the text.
     OutOfMemory,
 }
+
+impl Layout for BreakFault {
+    ghost use Rattle.break_view.specs.FaultText.{break_fault_text};
+
+    ghost text = { break_fault_text };
+
+    fn push_to<K: Sink>(&self, sink: &mut K) -> Result<(), Failed> {
+        match *self {
+            BreakFault::UnknownWord { line } => AtLine(line, LineFault::UnknownWord).push_to(sink),
+            BreakFault::MissingToken { line } => AtLine(line, LineFault::MissingToken).push_to(
+                sink,
+            ),
+            BreakFault::BadNumber { line } => AtLine(line, LineFault::BadNumber).push_to(sink),
+            BreakFault::ExtraToken { line } => AtLine(line, LineFault::ExtraToken).push_to(sink),
+            BreakFault::TooMany { line } => AtLine(line, "too many breaks").push_to(sink),
+            BreakFault::OutOfMemory => OutOfMemory.push_to(sink),
+        }
+    }
+}
+
+impl fmt::Display for BreakFault {
+    ghost use Rattle.std.specs.Prelude.{Some};
+    ghost use Rattle.break_view.specs.FaultText.{break_fault_text};
+
+    ghost output = { λ fault. Some (break_fault_text fault) };
+
+    fn fmt<W: fmt::Write>(&self, f: &mut fmt::Formatter<W>) -> fmt::Result {
+        show(self, f)
+    }
+}
+
+impl Error for BreakFault {}
 
 impl From<AllocError> for BreakFault {
     ghost use Rattle.std.specs.Prelude.{◌≡◌};

@@ -2,6 +2,7 @@ pub mod Limits
 pub mod Table
 pub mod Slots
 pub mod Command
+pub mod FaultText
 pub mod Far
 pub mod Words
 pub mod Laws

@@ -15,6 +15,7 @@ mod limits;
 mod numbers;
 mod pieces;
 mod read;
+mod refused;
 mod slot;
 mod table;
 mod values;

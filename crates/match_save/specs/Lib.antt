@@ -31,3 +31,4 @@ pub use Rattle.match_run.specs.Dumps
 pub use Rattle.match_run.specs.Game
 pub use Rattle.match_run.specs.Play
 pub use Rattle.match_run.specs.Run
+pub mod FaultText

@@ -1,8 +1,11 @@
 // Why a text is no save.
 ghost use Rattle.std.specs.Prelude.{◌≡◌};
 
+use ant_base::{AtLine, Failed, Layout, Sink, show};
 use hex_geometry::OutOfMemory;
 use std::alloc::{AllocError, AllocFailed};
+use std::error::Error;
+use std::fmt;
 
 /// Why a text was not read as a save (this project's own).
 #[derive(Clone, Copy, Debug, PartialEq, Eq)]
@@ -17,6 +20,33 @@ pub enum SaveFault {
     /// Memory could not be had.
     OutOfMemory,
 }
+
+impl Layout for SaveFault {
+    ghost use Rattle.match_save.specs.FaultText.{save_fault_text};
+
+    ghost text = { save_fault_text };
+
+    fn push_to<K: Sink>(&self, sink: &mut K) -> Result<(), Failed> {
+        match *self {
+            SaveFault::BadLine { line } => AtLine(line, "not a save").push_to(sink),
+            SaveFault::BadState => "no valid state".push_to(sink),
+            SaveFault::OutOfMemory => OutOfMemory.push_to(sink),
+        }
+    }
+}
+
+impl fmt::Display for SaveFault {
+    ghost use Rattle.std.specs.Prelude.{Some};
+    ghost use Rattle.match_save.specs.FaultText.{save_fault_text};
+
+    ghost output = { λ fault. Some (save_fault_text fault) };
+
+    fn fmt<W: fmt::Write>(&self, f: &mut fmt::Formatter<W>) -> fmt::Result {
+        show(self, f)
+    }
+}
+
+impl Error for SaveFault {}
 
 // The number of a line that isn't in its form.
 #[derive(Clone, Copy)]

@@ -1,7 +1,7 @@
 -- Lists of the cells of an element.
 use Rattle.hex_geometry.specs.Position.{HasNeighbours, Point, point_of}
 use Rattle.hex_geometry.specs.declared.direction.Dir.{Dir}
-use Rattle.hex_geometry.specs.declared.memory.OutOfMemory.{OutOfMemory}
+use Rattle.ant_base.specs.declared.memory.OutOfMemory.{OutOfMemory}
 use Rattle.hex_geometry.specs.declared.position.Pos.{Pos}
 use Rattle.std.proofs.Common.{◌≡◌, List, sym, subst, Vec, Global, Ok, Err, Result, IfOk}
 use Rattle.std.specs.Prelude.{Contains}

@@ -12,3 +12,4 @@ pub use Rattle.cell_world.specs.Limits
 pub use Rattle.cell_world.specs.Opening
 pub use Rattle.hex_geometry.specs.Position
 pub use Rattle.hex_geometry.specs.RowOrder
+pub mod FaultText

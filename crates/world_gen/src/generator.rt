@@ -8,10 +8,13 @@ use crate::cells::cells_of;
 use crate::draft::Draft;
 use crate::element::Element;
 use crate::shape::Shape;
+use ant_base::{Failed, Layout, Sink, layout, show};
 use ant_random::Stream;
 use cell_world::World;
 use hex_geometry::OutOfMemory;
 use std::alloc::Global;
+use std::error::Error;
+use std::fmt;
 
 /// Why no world was generated.
 #[derive(Clone, Copy, Debug, PartialEq, Eq)]
@@ -24,6 +27,32 @@ pub enum GenFault {
     /// There was no memory.
     OutOfMemory,
 }
+
+impl Layout for GenFault {
+    ghost use Rattle.world_gen.specs.FaultText.{gen_fault_text};
+
+    ghost text = { gen_fault_text };
+
+    fn push_to<K: Sink>(&self, sink: &mut K) -> Result<(), Failed> {
+        match *self {
+            GenFault::NoRoom { element } => layout!("no room for element ", element).push_to(sink),
+            GenFault::OutOfMemory => OutOfMemory.push_to(sink),
+        }
+    }
+}
+
+impl fmt::Display for GenFault {
+    ghost use Rattle.std.specs.Prelude.{Some};
+    ghost use Rattle.world_gen.specs.FaultText.{gen_fault_text};
+
+    ghost output = { λ fault. Some (gen_fault_text fault) };
+
+    fn fmt<W: fmt::Write>(&self, f: &mut fmt::Formatter<W>) -> fmt::Result {
+        show(self, f)
+    }
+}
+
+impl Error for GenFault {}
 
 impl From<OutOfMemory> for GenFault {
     ghost use Rattle.world_gen.specs.declared.generator.GenFault.TheVariants.{OutOfMemory};

@@ -12,3 +12,4 @@ pub use Rattle.ant_base.specs.Sink
 pub use Rattle.cell_world.specs.Grid
 pub use Rattle.cell_world.specs.Limits
 pub use Rattle.cell_world.specs.Opening
+pub mod FaultText

@@ -1,8 +1,11 @@
 // Why a text is no world.
 ghost use Rattle.std.specs.Prelude.{◌≡◌};
 
+use ant_base::{Failed, Layout, Sink, layout, show};
 use hex_geometry::OutOfMemory;
 use std::alloc::{AllocError, AllocFailed};
+use std::error::Error;
+use std::fmt;
 
 /// Why a text was not read as a world, the first in this order. Rows and columns are counted from 0.
 #[derive(Clone, Copy, Debug, PartialEq, Eq)]
@@ -50,6 +53,57 @@ pub enum WorldFault {
     /// Memory could not be had.
     OutOfMemory,
 }
+
+// What is said of a row.
+#[derive(Clone, Copy)]
+struct AtRow<A>(u16, A);
+
+impl<A: Layout + Copy> Layout for AtRow<A> {
+    ghost use Rattle.world_read.specs.FaultText.{row_says};
+
+    ghost text = { λ said. row_says said.0 (A.text said.1) };
+
+    fn push_to<K: Sink>(&self, sink: &mut K) -> Result<(), Failed> {
+        layout!("row ", self.0, ": ", self.1).push_to(sink)
+    }
+}
+
+impl Layout for WorldFault {
+    ghost use Rattle.world_read.specs.FaultText.{world_fault_text};
+
+    ghost text = { world_fault_text };
+
+    fn push_to<K: Sink>(&self, sink: &mut K) -> Result<(), Failed> {
+        match *self {
+            WorldFault::BadWidth => "bad width".push_to(sink),
+            WorldFault::BadHeight => "bad height".push_to(sink),
+            WorldFault::MissingRow { row } => AtRow(row, "missing").push_to(sink),
+            WorldFault::BadCell { row, column } => AtRow(
+                row,
+                layout!("bad cell at column ", column),
+            ).push_to(sink),
+            WorldFault::ShortRow { row } => AtRow(row, "short").push_to(sink),
+            WorldFault::LongRow { row } => AtRow(row, "long").push_to(sink),
+            WorldFault::ExtraRow => "extra row".push_to(sink),
+            WorldFault::OpenRim { x, y } => layout!("rim open at (", x, ", ", y, ")").push_to(sink),
+            WorldFault::TooManyAnts { count } => layout!("too many ants, ", count).push_to(sink),
+            WorldFault::OutOfMemory => OutOfMemory.push_to(sink),
+        }
+    }
+}
+
+impl fmt::Display for WorldFault {
+    ghost use Rattle.std.specs.Prelude.{Some};
+    ghost use Rattle.world_read.specs.FaultText.{world_fault_text};
+
+    ghost output = { λ fault. Some (world_fault_text fault) };
+
+    fn fmt<W: fmt::Write>(&self, f: &mut fmt::Formatter<W>) -> fmt::Result {
+        show(self, f)
+    }
+}
+
+impl Error for WorldFault {}
 
 impl From<AllocError> for WorldFault {
     ghost use Rattle.world_read.specs.declared.fault.WorldFault.TheVariants.{OutOfMemory};
