@@ -8,9 +8,10 @@ ghost use Rattle.far_crew.specs.Inner.Cells.{all_parts};
 
 use cell_world::{Cell, Colour, Marks, Part, Parts, World};
 use hex_geometry::Pos;
+use spec_record::Sighting;
 
 // Whether a world holds at each position the cell that was read there.
-pub(crate) fn are_cells_same(world: &World, reads: &[(Pos, Parts, Cell)]) -> bool
+pub(crate) fn are_cells_same(world: &World, reads: &[Sighting]) -> bool
     ensures { (result ≡ true) ↔ AllByRecursion (λ read. (world_of world.now).cells (seen_place read) ≡ seen_cell read) reads.now }
 {
     let mut rest = reads;

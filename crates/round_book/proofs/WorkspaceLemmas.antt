@@ -111,10 +111,10 @@ AreMarked-same grid new marked written cells same before = record {
   height = ap (λ (w : World). w.height) same
 
 -- a workspace that is ready stays so when it gets more room
-pub ready-reserved : (world : Grid) (old new : Workspace) → IsWorkspaceReady world old → new.world ≡ old.world → new.marked.items ≡ old.marked.items → new.written.items ≡ old.written.items → new.verdicts.items ≡ old.verdicts.items → IsWorkspaceReady world new
-ready-reserved world old new ready same marked written verdicts = record {
-  same = same ∙ ready.same;
-  marks = subst (λ (marks : List Bool). AreMarked world marks []) (sym marked) ready.marks;
+pub ready-reserved : (world : Grid) (old new : Workspace) → IsWorkspaceReady world old → new ≡ record old { written = new.written; verdicts = new.verdicts } → new.written.items ≡ old.written.items → new.verdicts.items ≡ old.verdicts.items → IsWorkspaceReady world new
+ready-reserved world old new ready rest written verdicts = record {
+  same = ap (λ (w : Workspace). w.world) rest ∙ ready.same;
+  marks = subst (λ (w : Workspace). AreMarked world w.marked.items []) (sym rest) ready.marks;
   none_written = written ∙ ready.none_written;
   no_verdicts = verdicts ∙ ready.no_verdicts;
 }

@@ -13,11 +13,12 @@ ghost use Rattle.std.specs.List.{AllByRecursion};
 
 use cell_world::{Ant, Cell, Ground, Part, Parts, World};
 use hex_geometry::Pos;
+use spec_record::Sighting;
 
 // Sets the named parts of each write: of one alone at once; of more first where that doesn't raise the weight of the cell, then at the others, so that the world is
 // light enough at every step.
 #[inline(always)]
-pub(crate) fn set_writes(world: &mut World, writes: &[(Pos, Parts, Cell)])
+pub(crate) fn set_writes(world: &mut World, writes: &[Sighting])
     requires once { EachOnce (seen_positions writes.now) }
     requires may { CanTake (world_of world.old) writes.now }
     ensures { world_of world.new ≡ with_cells (world_of world.old) (patched_cells (world_of world.old).cells writes.now) }
@@ -32,7 +33,7 @@ pub(crate) fn set_writes(world: &mut World, writes: &[(Pos, Parts, Cell)])
 
 // Sets the named parts of a write that is the only one. Most turns write what their ant is about and nothing else.
 #[inline(always)]
-fn set_one(world: &mut World, write: &(Pos, Parts, Cell))
+fn set_one(world: &mut World, write: &Sighting)
     requires { CanTake (world_of world.old) (write.now ∷ []) }
     ensures { world_of world.new ≡ with_cells (world_of world.old) (patched_cells (world_of world.old).cells (write.now ∷ [])) }
 {
@@ -75,7 +76,7 @@ fn set_posture(world: &mut World, p: Pos, source: &Cell)
 
 // Sets the named parts of a write that is the only one, whichever they are.
 #[inline(never)]
-fn set_parts(world: &mut World, write: &(Pos, Parts, Cell))
+fn set_parts(world: &mut World, write: &Sighting)
     requires { CanTake (world_of world.old) (write.now ∷ []) }
     ensures { world_of world.new ≡ with_cells (world_of world.old) (patched_cells (world_of world.old).cells (write.now ∷ [])) }
 {
@@ -85,7 +86,7 @@ fn set_parts(world: &mut World, write: &(Pos, Parts, Cell))
 }
 
 // Sets those writes that raise the weight of their cell, or those that don't.
-fn set_pass(world: &mut World, writes: &[(Pos, Parts, Cell)], heavier: bool)
+fn set_pass(world: &mut World, writes: &[Sighting], heavier: bool)
     requires once { EachOnce (seen_positions writes.now) }
     requires each { AllByRecursion (CanPatchIn (world_of world.old)) writes.now }
     requires set { CanSetPass heavier (world_of world.old) writes.now }
@@ -98,7 +99,7 @@ fn set_pass(world: &mut World, writes: &[(Pos, Parts, Cell)], heavier: bool)
 
 // Sets a write, if it is one of the pass.
 #[inline]
-fn set_in_pass(world: &mut World, write: &(Pos, Parts, Cell), heavier: bool)
+fn set_in_pass(world: &mut World, write: &Sighting, heavier: bool)
     requires patch { CanPatchIn (world_of world.old) write.now }
     requires set { CanSetInPass heavier (world_of world.old) write.now }
     ensures { world_of world.new ≡ with_pass heavier (world_of world.old) write.now }

@@ -15,8 +15,9 @@ ghost use Rattle.round_book.specs.Inner.Workspace.{AreMarked, most_listed};
 
 use crate::passes::set_writes;
 use crate::verdict::{Cause, Verdict};
-use cell_world::{Cell, Parts, World};
+use cell_world::World;
 use hex_geometry::{OutOfMemory, Pos, index_of};
+use spec_record::Sighting;
 use std::alloc::Global;
 
 // A world, which of its cells were written since it was lent, as marks and as a list, and what came of the turns so far.
@@ -43,8 +44,7 @@ impl Workspace {
 
     // Takes room for the positions that so many turns write, seven each and no more than there are cells, and for their verdicts.
     pub(crate) fn reserve(&mut self, turns: u32) -> Result<(), OutOfMemory>
-        ensures world { self.new.world ≡ self.old.world }
-        ensures marked { self.new.marked.items ≡ self.old.marked.items }
+        ensures rest { self.new ≡ record self.old { written = self.new.written; verdicts = self.new.verdicts } }
         ensures written { self.new.written.items ≡ self.old.written.items }
         ensures verdicts { self.new.verdicts.items ≡ self.old.verdicts.items }
         ensures write_room { OnOk result (most_listed self.new.world (vec_len self.new.written) (7 * turns) ≤ vec_capacity self.new.written) }
@@ -59,10 +59,8 @@ impl Workspace {
     // cells are counted only where that is too small.
     #[inline]
     fn reserve_written(&mut self, more: usize) -> Result<(), OutOfMemory>
-        ensures world { self.new.world ≡ self.old.world }
-        ensures marked { self.new.marked.items ≡ self.old.marked.items }
+        ensures rest { self.new ≡ record self.old { written = self.new.written } }
         ensures written { self.new.written.items ≡ self.old.written.items }
-        ensures verdicts { self.new.verdicts ≡ self.old.verdicts }
         ensures room { OnOk result (most_listed self.new.world (vec_len self.new.written) more ≤ vec_capacity self.new.written) }
         ensures no_more { OnOk result (vec_capacity self.new.written ≡ max (vec_capacity self.old.written) (vec_len self.old.written + most_listed self.old.world 0 more)) }
     {
@@ -77,9 +75,7 @@ impl Workspace {
     // Takes room for so many verdicts more.
     #[inline]
     fn reserve_verdicts(&mut self, more: usize) -> Result<(), OutOfMemory>
-        ensures world { self.new.world ≡ self.old.world }
-        ensures marked { self.new.marked ≡ self.old.marked }
-        ensures written { self.new.written ≡ self.old.written }
+        ensures rest { self.new ≡ record self.old { verdicts = self.new.verdicts } }
         ensures verdicts { self.new.verdicts.items ≡ self.old.verdicts.items }
         ensures room { OnOk result (vec_len self.new.verdicts + more ≤ vec_capacity self.new.verdicts) }
     {
@@ -118,10 +114,9 @@ impl Workspace {
         requires marks { AreMarked self.old.world self.old.marked.items self.old.written.items }
         requires inside { IsInside self.old.world.width self.old.world.height p }
         requires room { most_listed self.old.world (vec_len self.old.written) 1 ≤ vec_capacity self.old.written }
+        ensures rest { self.new ≡ record self.old { marked = self.new.marked; written = self.new.written } }
         ensures marks { AreMarked self.new.world self.new.marked.items self.new.written.items }
         ensures written { (q : Pos) → Contains self.new.written.items q ↔ (Contains self.old.written.items q ⊎ (q ≡ p)) }
-        ensures world { self.new.world ≡ self.old.world }
-        ensures verdicts { self.new.verdicts ≡ self.old.verdicts }
         ensures capacity { vec_capacity self.new.written ≡ vec_capacity self.old.written }
         ensures length { vec_len self.new.written ≤ vec_len self.old.written + 1 }
     {
@@ -135,7 +130,7 @@ impl Workspace {
     // The first part, in the order of the reads, that was read and is another now. Most looks read no cell that was written, so the marks of
     // all are asked first, and the others are a call.
     #[inline(always)]
-    pub(crate) fn first_change(&self, reads: &[(Pos, Parts, Cell)]) -> Option<Cause>
+    pub(crate) fn first_change(&self, reads: &[Sighting]) -> Option<Cause>
         requires marks { AreMarked self.now.world self.now.marked.items self.now.written.items }
         requires unwritten { AllByRecursion (AgreesIfUnwritten self.now.written.items (world_of self.now.world).cells) reads.now }
         ensures { Changes reads.now (world_of self.now.world).cells result }
@@ -148,7 +143,7 @@ impl Workspace {
 
     // Whether none of the cells that were read was written.
     #[inline(always)]
-    fn none_marked(&self, reads: &[(Pos, Parts, Cell)]) -> bool
+    fn none_marked(&self, reads: &[Sighting]) -> bool
         requires { AreMarked self.now.world self.now.marked.items self.now.written.items }
         ensures { result ≡ true → AllByRecursion (IsUnwritten self.now.written.items) reads.now }
     {
@@ -162,7 +157,7 @@ impl Workspace {
 
     // The first part, in the order of the reads, that was read and is another now. It compares the written cells alone.
     #[inline(never)]
-    fn first_difference(&self, reads: &[(Pos, Parts, Cell)]) -> Option<Cause>
+    fn first_difference(&self, reads: &[Sighting]) -> Option<Cause>
         requires marks { AreMarked self.now.world self.now.marked.items self.now.written.items }
         requires unwritten { AllByRecursion (AgreesIfUnwritten self.now.written.items (world_of self.now.world).cells) reads.now }
         ensures { Changes reads.now (world_of self.now.world).cells result }
@@ -178,7 +173,7 @@ impl Workspace {
 
     // The same of one position.
     #[inline(always)]
-    fn change(&self, read: &(Pos, Parts, Cell)) -> Option<Cause>
+    fn change(&self, read: &Sighting) -> Option<Cause>
         requires marks { AreMarked self.now.world self.now.marked.items self.now.written.items }
         requires unwritten { AgreesIfUnwritten self.now.written.items (world_of self.now.world).cells read.now }
         ensures { Changes (read.now ∷ []) (world_of self.now.world).cells result }
@@ -192,7 +187,7 @@ impl Workspace {
 
     // The same of one position, which is compared. Few are, so it is a call.
     #[inline(never)]
-    fn difference_at(&self, read: &(Pos, Parts, Cell)) -> Option<Cause>
+    fn difference_at(&self, read: &Sighting) -> Option<Cause>
         requires { IsInside self.now.world.width self.now.world.height (seen_place read.now) }
         ensures { Changes (read.now ∷ []) (world_of self.now.world).cells result }
     {
@@ -203,7 +198,7 @@ impl Workspace {
 
     // Sets the named parts of writes, and marks their cells.
     #[inline(always)]
-    pub(crate) fn write(&mut self, writes: &[(Pos, Parts, Cell)])
+    pub(crate) fn write(&mut self, writes: &[Sighting])
         requires marks { AreMarked self.old.world self.old.marked.items self.old.written.items }
         requires once { EachOnce (seen_positions writes.now) }
         requires writes { CanTake (world_of self.old.world) writes.now }
@@ -222,14 +217,13 @@ impl Workspace {
 
     // Marks the cells of writes.
     #[inline(always)]
-    fn mark_all(&mut self, writes: &[(Pos, Parts, Cell)])
+    fn mark_all(&mut self, writes: &[Sighting])
         requires marks { AreMarked self.old.world self.old.marked.items self.old.written.items }
         requires inside { AllByRecursion (λ write. IsInside self.old.world.width self.old.world.height (seen_place write)) writes.now }
         requires room { most_listed self.old.world (vec_len self.old.written) (length writes.now) ≤ vec_capacity self.old.written }
-        ensures world { self.new.world ≡ self.old.world }
+        ensures rest { self.new ≡ record self.old { marked = self.new.marked; written = self.new.written } }
         ensures marks { AreMarked self.new.world self.new.marked.items self.new.written.items }
         ensures written { Wrote self.old.written.items (seen_positions writes.now) self.new.written.items }
-        ensures verdicts { self.new.verdicts ≡ self.old.verdicts }
         ensures capacity { vec_capacity self.new.written ≡ vec_capacity self.old.written }
         ensures length { vec_len self.new.written ≤ vec_len self.old.written + length writes.now }
     {

@@ -21,5 +21,5 @@ pub use look_laws::{
     turns_write_alone,
 };
 pub use own_look::{look, look_by, look_into};
-pub use record::Look;
+pub use record::{Look, Sighting};
 pub use trail::Trail;

@@ -12,6 +12,7 @@ ghost use Rattle.spec_record.specs.Inner.Sightings.{all_sighted, sighted, sighti
 ghost use Rattle.spec_record.specs.Reads.{ant_and_food, load_and_food, whole_ant};
 ghost use Rattle.spec_record.specs.Trail.{trail_world};
 
+use crate::record::Sighting;
 use crate::sightings::{is_same, note};
 use crate::trail::Trail;
 use arrayvec::ArrayVec;
@@ -29,7 +30,7 @@ pub(crate) struct Step {
 // Notes that it is read whose ants decide the checks around `q`, when the ant of `p`, which alone is noted, went there. A mark for each cell near
 // `q` tells those that are noted, so that nothing is searched.
 #[inline]
-pub(crate) fn note_checks(list: &mut ArrayVec<(Pos, Parts, Cell), 19>, base: &World, p: Pos, q: Pos)
+pub(crate) fn note_checks(list: &mut ArrayVec<Sighting, 19>, base: &World, p: Pos, q: Pos)
     requires inner { IsInner base.now.width base.now.height q }
     requires near { HasNeighbours q }
     requires beside { IsWithin 1 q p }
@@ -50,7 +51,7 @@ pub(crate) fn note_checks(list: &mut ArrayVec<(Pos, Parts, Cell), 19>, base: &Wo
 // Where an ant other than that of `p` is on `r`, which is beside `q`, notes that it is read who is on the neighbours.
 #[inline]
 fn note_beyond(
-    list: &mut ArrayVec<(Pos, Parts, Cell), 19>,
+    list: &mut ArrayVec<Sighting, 19>,
     seen: &mut [bool],
     base: &World,
     p: Pos,
@@ -71,7 +72,7 @@ fn note_beyond(
 
 // Notes that it is read who is on the neighbours of `r`, which is `q` or beside it.
 fn note_neighbours(
-    list: &mut ArrayVec<(Pos, Parts, Cell), 19>,
+    list: &mut ArrayVec<Sighting, 19>,
     seen: &mut [bool],
     base: &World,
     q: Pos,
@@ -93,13 +94,7 @@ fn note_neighbours(
 
 // Notes that it is read who is on `r`, which is near `q`.
 #[inline]
-fn note_who(
-    list: &mut ArrayVec<(Pos, Parts, Cell), 19>,
-    seen: &mut [bool],
-    base: &World,
-    q: Pos,
-    r: Pos,
-)
+fn note_who(list: &mut ArrayVec<Sighting, 19>, seen: &mut [bool], base: &World, q: Pos, r: Pos)
     requires near { IsWithin 2 q r }
     requires inside { IsInside base.now.width base.now.height r }
     requires seen { AreSeen q seen.old list.old.items }
@@ -126,7 +121,7 @@ fn number_near(q: Pos, r: Pos) -> usize
 
 // Whether no ant of this colour is on the cells that were seen.
 #[inline]
-pub(crate) fn are_none_of(colour: Colour, list: &[(Pos, Parts, Cell)]) -> bool
+pub(crate) fn are_none_of(colour: Colour, list: &[Sighting]) -> bool
     ensures { result ≡ true → AreNoneOf colour list.now }
 {
     for (_, _, cell) in list {
@@ -177,8 +172,8 @@ fn has_ant(cell: &Cell) -> bool
 
 // Notes what is read and written of the killed around the cell to which an ant went, when its turn was executed on the trail.
 pub(crate) fn note_fallen(
-    reads: &mut ArrayVec<(Pos, Parts, Cell), 19>,
-    writes: &mut ArrayVec<(Pos, Parts, Cell), 7>,
+    reads: &mut ArrayVec<Sighting, 19>,
+    writes: &mut ArrayVec<Sighting, 7>,
     base: &World,
     trail: &Trail<'_>,
     step: Step,
@@ -206,8 +201,8 @@ pub(crate) fn note_fallen(
 // The same of one cell.
 #[inline]
 fn note_if_fallen(
-    reads: &mut ArrayVec<(Pos, Parts, Cell), 19>,
-    writes: &mut ArrayVec<(Pos, Parts, Cell), 7>,
+    reads: &mut ArrayVec<Sighting, 19>,
+    writes: &mut ArrayVec<Sighting, 7>,
     base: &World,
     trail: &Trail<'_>,
     step: Step,

@@ -9,14 +9,18 @@ use std::marker::Model;
 
 mod fill;
 
+/// A position that a turn reads or writes, the parts of its cell that it reads or writes, and the cell: of the base where it is read, after
+/// the turn where it is written.
+pub type Sighting = (Pos, Parts, Cell);
+
 /// A look at the turn of one ant.
 #[derive(Drop)]
 pub struct Look {
     turn: u32,
     guess: u64,
     drew: bool,
-    reads: ArrayVec<(Pos, Parts, Cell), 19>,
-    writes: ArrayVec<(Pos, Parts, Cell), 7>,
+    reads: ArrayVec<Sighting, 19>,
+    writes: ArrayVec<Sighting, 7>,
     killed: ArrayVec<u32, 7>,
 }
 
@@ -64,7 +68,7 @@ impl Look {
 
     /// The positions that the turn reads, each once, with the parts that it reads there and the cell of the base.
     #[inline]
-    pub fn reads(&self) -> &ArrayVec<(Pos, Parts, Cell), 19>
+    pub fn reads(&self) -> &ArrayVec<Sighting, 19>
         ensures reads { result.now.items ≡ self.now.reads }
         ensures once { EachOnce (seen_positions self.now.reads) }
     {
@@ -73,7 +77,7 @@ impl Look {
 
     /// The positions that the turn writes, each once, with the parts that it writes there and the cell after the turn.
     #[inline]
-    pub fn writes(&self) -> &ArrayVec<(Pos, Parts, Cell), 7>
+    pub fn writes(&self) -> &ArrayVec<Sighting, 7>
         ensures writes { result.now.items ≡ self.now.writes }
         ensures once { EachOnce (seen_positions self.now.writes) }
     {

@@ -4,6 +4,7 @@ ghost use Rattle.hex_geometry.specs.Position.{same_pos};
 ghost use Rattle.cell_world.specs.Parts.{union, with_part, has_part};
 ghost use Rattle.spec_record.specs.Inner.Sightings as sighting;
 
+use crate::record::Sighting;
 use arrayvec::ArrayVec;
 use cell_world::{Cell, Part, Parts};
 use hex_geometry::Pos;
@@ -19,7 +20,7 @@ pub(crate) struct Seen<'c> {
 // Notes these parts of the cell at `p`: where the position is in the list the parts go there, else it comes last.
 #[inline]
 pub(crate) fn note<const N: usize>(
-    list: &mut ArrayVec<(Pos, Parts, Cell), N>,
+    list: &mut ArrayVec<Sighting, N>,
     p: Pos,
     parts: Parts,
     cell: Cell,
@@ -39,7 +40,7 @@ pub(crate) fn note<const N: usize>(
 // Makes a list that of these parts of the cell at `p` alone, in the room that it has.
 #[inline]
 pub(crate) fn note_alone<const N: usize>(
-    list: &mut ArrayVec<(Pos, Parts, Cell), N>,
+    list: &mut ArrayVec<Sighting, N>,
     p: Pos,
     parts: Parts,
     cell: Cell,
@@ -57,11 +58,7 @@ pub(crate) fn note_alone<const N: usize>(
 
 // Makes a list that of what was seen first, and then of what was seen second, maybe at the same position.
 #[inline]
-pub(crate) fn note_two(
-    list: &mut ArrayVec<(Pos, Parts, Cell), 19>,
-    first: Seen<'_>,
-    second: Seen<'_>,
-)
+pub(crate) fn note_two(list: &mut ArrayVec<Sighting, 19>, first: Seen<'_>, second: Seen<'_>)
     ensures { list.new.items ≡ sighting.sighted ((first.entry.at, first.entry.parts, first.entry.cell.now) ∷ []) (second.entry.at, second.entry.parts, second.entry.cell.now) }
 {
     if is_same(first.at, second.at) {
@@ -79,7 +76,7 @@ pub(crate) fn note_two(
 
 // At which number a position is in the list, or how long the list is.
 #[inline]
-fn number_of(list: &[(Pos, Parts, Cell)], p: Pos) -> usize
+fn number_of(list: &[Sighting], p: Pos) -> usize
     ensures { result ≡ sighting.seen_number p list.now }
 {
     let mut number = 0;

@@ -16,7 +16,7 @@ invariant_of-self c = let had = c.reserve.ensures in record {
   fits = c.self.invariant.fits;
   sound = c.self.invariant.sound;
   ready = λ work is. let same : c.reserve.new.self ≡ work = same_Some c.reserve.new.self work is in
-      subst (IsWorkspaceReady c.self.inside.world) same (ready-reserved c.self.inside.world c.in-Some.kept c.reserve.new.self (c.self.invariant.ready c.in-Some.kept c.in-Some.is) had.world had.marked had.written had.verdicts);
+      subst (IsWorkspaceReady c.self.inside.world) same (ready-reserved c.self.inside.world c.in-Some.kept c.reserve.new.self (c.self.invariant.ready c.in-Some.kept c.in-Some.is) had.rest had.written had.verdicts);
 }
 
 pub returns-in_err-reserve-clause-world : goal.returns-in_err-reserve-clause-world
@@ -34,7 +34,7 @@ over-requires-clause-ready c =
     let same : c.reserve.new.self ≡ c.in-Some-take.work = same_Some c.reserve.new.self c.in-Some-take.work (sym c.take.ensures.value ∙ c.in-Some-take.is) in
     subst (λ (w : Workspace). IsWorkspaceReady w.world w) same
     (ready-own c.self.inside.world c.reserve.new.self
-    (ready-reserved c.self.inside.world c.in-Some.kept c.reserve.new.self (c.self.invariant.ready c.in-Some.kept c.in-Some.is) had.world had.marked had.written had.verdicts))
+    (ready-reserved c.self.inside.world c.in-Some.kept c.reserve.new.self (c.self.invariant.ready c.in-Some.kept c.in-Some.is) had.rest had.written had.verdicts))
 
 pub over-requires-clause-lasting : goal.over-requires-clause-lasting
 over-requires-clause-lasting c = subst (λ (f : FieldValue). f.place + (c.args.to - c.args.from) < 2 ^ 63) (sym c.self.view_is) c.requires.lasting
