@@ -203,8 +203,12 @@ impl Workspace {
         requires once { EachOnce (seen_positions writes.now) }
         requires writes { CanTake (world_of self.old.world) writes.now }
         requires room { most_listed self.old.world (vec_len self.old.written) (length writes.now) ≤ vec_capacity self.old.written }
+
+        // the world is the one with the writes, of the same size
         ensures world { world_of self.new.world ≡ with_cells (world_of self.old.world) (patched_cells (world_of self.old.world).cells writes.now) }
         ensures cells { self.new.world.width * self.new.world.height ≡ self.old.world.width * self.old.world.height }
+
+        // their cells are marked and listed, without new memory
         ensures marks { AreMarked self.new.world self.new.marked.items self.new.written.items }
         ensures written { Wrote self.old.written.items (seen_positions writes.now) self.new.written.items }
         ensures verdicts { self.new.verdicts ≡ self.old.verdicts }

@@ -63,11 +63,17 @@ pub fn look_into(
     requires fit { Fits (world_of base.now) (minds_of brains) }
     requires id { id < base.now.ids }
     requires place { stream.old.place + 1 < 2 ^ 63 }
+
+    // there is room for it
     requires next { at ≤ vec_len looks.old }
     requires room { at < vec_capacity looks.old }
+
+    // the look is there, and the others are as they were
     ensures made { take (at + 1) looks.new.items ≡ take at looks.old.items ++ look_of (minds_of brains.entry) stream.old.seed
         (world_of base.now) stream.old.place id ∷ [] }
     ensures behind { drop (at + 1) looks.new.items ≡ drop (at + 1) looks.old.items }
+
+    // the stream goes on only where the turn draws; the list keeps its memory
     ensures stream { stream.new ≡ record stream.old {
       place = stream.old.place + one_if
           (look_of (minds_of brains.entry) stream.old.seed (world_of base.now) stream.old.place id).drew;

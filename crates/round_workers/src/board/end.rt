@@ -38,12 +38,18 @@ impl Board {
     pub fn close(self, seat: Seat) -> Closed
         requires board { IsSeatOf self seat }
         requires first { (known seat).number ≡ 0 }
+
+        // all went into it, so that it knows of each event
         requires whole { (k : ℕ) → k ≤ (known seat).made → 1 ≤ times k (known seat).parts }
         requires opened { (known seat).opened ≡ true }
         requires free { (known seat).holds ≡ false }
+
+        // what the workers did comes to a window, played
         ensures book { StandsFor (board_window self) result.book }
         ensures drawn { (k : ℕ) → times k (known seat).drawn ≡ once_below k result.drawn }
         ensures reached { Way (board_window self) (IsWhereClosed (board_window self) result.drawn (known seat).put) }
+
+        // the looks that nobody took
         ensures turns { length result.looks.items ≡ (basis_of self).to - (basis_of self).from }
         ensures looks { (k : ℕ) → k < (basis_of self).to - (basis_of self).from
             → slice_index_or result.looks.items k None ≡ left_look (board_window self) (known seat) k }

@@ -69,11 +69,17 @@ impl Board {
     )
         requires board { IsSeatOf self.now seat.old }
         requires field { IsLentFor field.now (board_window self.now) }
+
+        // the seat drew the ticket, and put no look of it
         requires ticket { ticket < turns_of (basis_of self.now) }
         requires drew { 1 ≤ times ticket (known seat.old).drawn }
         requires unput { times ticket (known seat.old).put ≡ 0 }
+
+        // the stream stands at the guess of its turn
         requires seed { stream.old.seed ≡ (board_window self.now).seed }
         requires guess { stream.old.place ≡ guess_for (board_window self.now) ((basis_of self.now).from + ticket) }
+
+        // the look is put
         ensures board { IsSeatOf self.now seat.new }
         ensures put { known seat.new ≡ has_put (known seat.old) ticket }
         ensures seed { stream.new.seed ≡ stream.old.seed }

@@ -43,13 +43,19 @@ impl Worker {
         requires board { IsSeatOf board.now self.old.seat }
         requires opened { (known self.old.seat).opened ≡ true }
         requires early { AllByRecursion (λ k. k < turns_in (board_window board.now)) (known self.old.seat).drawn }
+
+        // what it works with
         requires field { IsLentFor field.now (board_window board.now) }
         requires guesses { guesses.now ≡ guesses_for (board_window board.now) }
         requires room { turns_in (board_window board.now) ≤ vec_capacity self.old.made }
+
+        // it stays the worker that it was
         ensures number { self.new.number ≡ self.old.number }
         ensures board { IsSeatOf board.now self.new.seat }
         ensures seat_number { (known self.new.seat).number ≡ (known self.old.seat).number }
         ensures opened { (known self.new.seat).opened ≡ true }
+
+        // its work is done: no turn is left to be drawn, and each that it drew was put and tried
         ensures late { 1 ≤ late_among (turns_in (board_window board.now)) (known self.new.seat).drawn }
         ensures put { (k : ℕ) → k < turns_in (board_window board.now) → times k (known self.new.seat).put ≡ times k (known self.new.seat).drawn }
         ensures room { vec_capacity self.new.made ≡ vec_capacity self.old.made }
@@ -94,10 +100,14 @@ fn serve<G: Gate>(
     requires worker { IsWorker (known seat.old) made.old.items }
     requires opened { (known seat.old).opened ≡ true }
     requires early { AllByRecursion (λ k. k < turns_in (board_window task.now.board.now)) (known seat.old).drawn }
+
+    // what it works with
     requires seed { stream.old.seed ≡ (board_window task.now.board.now).seed }
     requires field { IsLentFor task.now.field.now (board_window task.now.board.now) }
     requires guesses { task.now.guesses.now ≡ guesses_for (board_window task.now.board.now) }
     requires room { turns_in (board_window task.now.board.now) ≤ vec_capacity made.old }
+
+    // all that the next draw needs holds again
     ensures board { IsSeatOf task.now.board.now seat.new }
     ensures worker { IsWorker (known seat.new) made.new.items }
     ensures served { HasServed (turns_in (board_window task.now.board.now)) (known seat.old) (known seat.new) result }

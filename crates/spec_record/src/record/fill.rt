@@ -146,10 +146,14 @@ impl Look {
         requires id { id < base.now.ids }
         requires place { stream.old.place + 1 < 2 ^ 63 }
         requires valid { Valid (world_of base.now) }
+
+        // the actor is the ant of this id, where it stands, and acts
         requires found { place_in (world_of base.now) id ≡ Some actor.place }
         requires own { actor.cell.now ≡ (world_of base.now).cells actor.place }
         requires holds { ((world_of base.now).cells actor.place).ant ≡ Some actor.ant.now }
         requires ready { actor.ant.now.resting ≡ 0 }
+
+        // what was recorded before counts for nothing
         ensures look { self.new ≡ look_of (minds_of brains.entry) stream.old.seed (world_of base.now) stream.old.place id }
         ensures stream { stream.new ≡ record stream.old { place = stream.old.place + one_if self.new.drew } }
     {
@@ -175,12 +179,18 @@ impl Look {
     )
         requires place { stream.old.place + 1 < 2 ^ 63 }
         requires valid { Valid (world_of base.now) }
+
+        // its cell is none of the border, so there is a cell on each side to sense
         requires inner { IsInner base.now.width base.now.height actor.place }
         requires near { HasNeighbours actor.place }
         requires own { actor.cell.now ≡ (world_of base.now).cells actor.place }
+
+        // its instruction keeps it there
         requires sound { (states : ℕ) × IsSound states instruction }
         requires stays { destination (world_of base.now).cells actor.place actor.ant.now instruction ≡ None }
         requires reads_once { EachOnce (seen_positions (staying_reads (world_of base.now).cells actor.place actor.ant.now instruction)) }
+
+        // it is the same by any sheet, since nothing dies where no ant moves
         ensures look { (sheet : Sheet) →
             let outcome = turn.execute sheet stream.old.seed (world_of base.now).cells stream.old.place actor.entry.place actor.entry.ant.now instruction in
             self.new ≡ look_with id stream.old.place outcome
@@ -301,16 +311,24 @@ impl Look {
     fn record_fight(&mut self, base: &World, trail: &Trail<'_>, step: Step)
         requires reads { self.old.reads ≡ calm_reads (world_of base.now).cells step.from step.to }
         requires writes { self.old.writes ≡ [] }
+
+        // both cells are in both worlds
         requires inside { IsInside base.now.width base.now.height step.from }
         requires inner { IsInner base.now.width base.now.height step.to }
         requires near { HasNeighbours step.to }
         requires wide { (trail_world trail.now).width ≡ base.now.width }
         requires high { (trail_world trail.now).height ≡ base.now.height }
+
+        // all that is noted has room, each position once
         requires reads_room { length (going_reads (world_of base.now).cells (trail_world trail.now).cells step.from step.to) ≤ 19 }
         requires reads_once { EachOnce (seen_positions (going_reads (world_of base.now).cells (trail_world trail.now).cells step.from step.to)) }
         requires writes_once { EachOnce (seen_positions (going_writes (world_of base.now).cells (trail_world trail.now).cells step.from step.to)) }
         requires writes_room { length (going_writes (world_of base.now).cells (trail_world trail.now).cells step.from step.to) ≤ 7 }
+
+        // where none is killed, nobody is searched for
         requires spared { self.old.killed ≡ [] → fallen (world_of base.now).cells (trail_world trail.now).cells step.from step.to ≡ [] }
+
+        // the turn, its draw and who was killed were recorded before
         ensures { self.new ≡ record self.old {
           reads = going_reads (world_of base.now).cells (trail_world trail.now).cells step.from step.to;
           writes = going_writes (world_of base.now).cells (trail_world trail.now).cells step.from step.to;
