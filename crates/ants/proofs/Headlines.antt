@@ -1,17 +1,20 @@
 -- What a status says follows from the record that each run meets.
-use Rattle.std.proofs.Common.{◌≡◌, inl, inr, ℕ, List, [], ◌∷◌, Ok, sym, ◌∙◌, ap, subst, arith}
+use Rattle.std.proofs.Common.{◌≡◌, inl, inr, ℕ, Bool, List, [], ◌∷◌, Ok, sym, ◌∙◌, ap, subst, arith}
 use Rattle.ant_base.specs.Fetched.{Fetched}
 use Rattle.ant_base.specs.Shelf.{FetchesEach}
 use Rattle.ant_base.specs.Sink.{NothingWaits, PushedAll}
 use Rattle.command_words.proofs.WordLaws as words_laws
 use Rattle.command_words.specs.Command.{IsCommand, PlainCommand, RunSetup}
 use Rattle.command_words.specs.Command.PlainCommand.{RunCommand}
-use Rattle.match_run.specs.Counts.{whole_text}
+use Rattle.ant_turn.specs.Rounds.{start_of}
+use Rattle.cell_world.specs.Grid.{world_of}
+use Rattle.dump_print.specs.declared.totals.Totals.{Totals}
+use Rattle.match_run.specs.Counts.{counts_text, totals_of, whole_text}
 use Rattle.match_run.specs.Run.{run_text}
 use Rattle.ants.specs.Files.{AreAccepted, FileContent, IsAccepted}
 use Rattle.ants.specs.Files.FileContent.{BrainContent, BreakContent, WorldContent, LabelledContent, SaveContent}
-use Rattle.ants.specs.Headline.{Headline, NamesTheReason, NamesTheWord, PrintsItsOutput, PrintsTheGame, KeepsPromise}
-use Rattle.ants.specs.Outputs.{IsJobText, brain_file, game_files, match_output, world_file}
+use Rattle.ants.specs.Headline.{Headline, NamesTheReason, NamesTheWord, PrintsItsOutput, PrintsTheGame, TellsItsCounts, KeepsPromise}
+use Rattle.ants.specs.Outputs.{IsJobText, brain_file, game_files, match_output, minds_named, world_file}
 use Rattle.ants.specs.Outside.{Outside}
 use Rattle.ants.specs.Endings.{IsDone}
 use Rattle.ants.specs.Run.{Ends, Reports}
@@ -42,17 +45,22 @@ printed words before after it = record {
   silent = it.reports;
 }
 
+-- the game and its counts
+abbrev PrintsAll : List ℕ → List ℕ → List ℕ → RunSetup → Outside → Outside → Type 0
+PrintsAll world red black setup before after = (game : PrintsTheGame world red black setup before after) × TellsItsCounts world red black setup before after game
+
 -- the game of a world and two brains that were accepted
 game_of : (world red black : List ℕ) (setup : RunSetup) (before after : Outside) (a b c : Fetched) (fetches : List Fetched) (first second third : FileContent) (text : List ℕ) → FetchesEach before.shelf after.shelf (a ∷ b ∷ c ∷ fetches)
     → IsAccepted (world_file world) a first → IsAccepted (brain_file red) b second → IsAccepted (brain_file black) c third → fetches ≡ [] → text ≡ match_output setup first second third → PushedAll before.out after.out text
-    → NothingWaits after.out.waiting → after.err ≡ before.err → PrintsTheGame world red black setup before after
+    → NothingWaits after.out.waiting → after.err ≡ before.err → PrintsAll world red black setup before after
 unfolding match_output whole_text run_text
 game_of world red black setup before after a b c fetches (WorldContent grid) (BrainContent one) (BrainContent two) text fetched x y z last is written flushed silent =
     let got : List ℕ → List ℕ → Fetched = λ name bytes. record { name = name; answer = Ok bytes } in
     let same : a ∷ b ∷ c ∷ fetches ≡ got world x.bytes ∷ got red y.bytes ∷ got black z.bytes ∷ [] =
     ap (λ (f : Fetched). f ∷ b ∷ c ∷ fetches) x.got ∙ ap (λ (f : Fetched). got world x.bytes ∷ f ∷ c ∷ fetches) y.got
     ∙ ap (λ (f : Fetched). got world x.bytes ∷ got red y.bytes ∷ f ∷ fetches) z.got ∙ ap (λ (more : List Fetched). got world x.bytes ∷ got red y.bytes ∷ got black z.bytes ∷ more) last in
-    record {
+    let totals : Totals = totals_of (minds_named setup one two) setup.seed setup.window (start_of (world_of grid)) setup.rounds in
+    let game : PrintsTheGame world red black setup before after = record {
       world_bytes = x.bytes;
       red_bytes = y.bytes;
       black_bytes = z.bytes;
@@ -63,10 +71,13 @@ game_of world red black setup before after a b c fetches (WorldContent grid) (Br
       is_red = y.reads;
       black_brain = two;
       is_black = z.reads;
+      counts = counts_text setup.stats totals;
+      uncounted = λ off. ap (λ (stats : Bool). counts_text stats totals) off;
       written = subst (PushedAll before.out after.out) is written;
       flushed = flushed;
       silent = silent;
-    }
+    } in
+    (game, record { told = refl })
 game_of world red black setup before after a b c fetches (WorldContent grid) (BrainContent one) (WorldContent third) text fetched x y z last is written flushed silent = absurd z.reads
 game_of world red black setup before after a b c fetches (WorldContent grid) (BrainContent one) (BreakContent third) text fetched x y z last is written flushed silent = absurd z.reads
 game_of world red black setup before after a b c fetches (WorldContent grid) (BrainContent one) (LabelledContent made places) text fetched x y z last is written flushed silent = absurd z.reads
@@ -82,7 +93,7 @@ game_of world red black setup before after a b c fetches (SaveContent made) seco
 
 game_done : (world red black : List ℕ) (setup : RunSetup) (before after : Outside) (fetches : List Fetched) (contents : List FileContent) (text : List ℕ) → FetchesEach before.shelf after.shelf fetches
     → AreAccepted (game_files world red black) fetches contents → IsJobText (RunCommand world red black setup) contents text → PushedAll before.out after.out text
-    → NothingWaits after.out.waiting → after.err ≡ before.err → PrintsTheGame world red black setup before after
+    → NothingWaits after.out.waiting → after.err ≡ before.err → PrintsAll world red black setup before after
 game_done world red black setup before after fetches [] text fetched are is written flushed silent = absurd is
 game_done world red black setup before after fetches (first ∷ []) text fetched are is written flushed silent = absurd is
 game_done world red black setup before after fetches (first ∷ second ∷ []) text fetched are is written flushed silent = absurd is
@@ -93,7 +104,7 @@ game_done world red black setup before after (a ∷ b ∷ c ∷ fetches) (first 
     game_of world red black setup before after a b c fetches first second third text fetched are.0 are.1.0 are.1.1.0 are.1.1.1.0 is written flushed silent
 game_done world red black setup before after fetches (first ∷ second ∷ third ∷ next ∷ more) text fetched are is written flushed silent = absurd is
 
-game : (words : List (List ℕ)) (before after : Outside) → HasEnded words before after Done → (world red black : List ℕ) (setup : RunSetup) → IsCommand words (RunCommand world red black setup) → PrintsTheGame world red black setup before after
+game : (words : List (List ℕ)) (before after : Outside) → HasEnded words before after Done → (world red black : List ℕ) (setup : RunSetup) → IsCommand words (RunCommand world red black setup) → PrintsAll world red black setup before after
 game words before after it world red black setup is =
     let done : IsDone (RunCommand world red black setup) before after it.fetches =
     subst (λ (command : PlainCommand). IsDone command before after it.fetches) (words_laws.one_command words it.ends.command (RunCommand world red black setup) it.ends.is_command is) it.ends.done in

@@ -1,7 +1,7 @@
 -- The promise on one page, to be read from the top down. Each run of `run_to_exit` ends with one of six statuses, and each status says what was
 -- fetched, accepted and written (this project's own). `IsRunTo` is what the call that `main` makes ensures; the law `headline` says that all
 -- below follows from it.
-use Rattle.std.specs.Prelude.{◌≡◌, ◌⊎◌, ℕ, ◌+◌, List, [], ◌∷◌, Ok}
+use Rattle.std.specs.Prelude.{◌≡◌, ◌⊎◌, ℕ, ◌+◌, false, List, [], ◌∷◌, Ok}
 use Rattle.ant_base.specs.Fetched.{Fetched}
 use Rattle.ant_base.specs.Layout.{◌+++◌}
 use Rattle.ant_base.specs.Shelf.{FetchesEach}
@@ -62,15 +62,21 @@ pub record PrintsTheGame (world red black : List ℕ) (setup : RunSetup) (before
   pub black_brain : List Instr
   pub is_black : IsBrainText black_bytes black_brain
   -- the output got the line of the seed, the dump of the world after each chosen round from 0 to the last, the score of the world after the
-  -- last, and the counts where they are asked for, and nothing else
+  -- last, and nothing else but the counts, of which there are none where they aren't asked for
+  pub counts : List ℕ
+  pub uncounted : setup.stats ≡ false → counts ≡ []
   pub written : PushedAll before.out after.out (
       (seed_text setup.seed
       +++ dumps_text (minds_named setup red_brain black_brain) setup.seed (chosen_rounds setup.dumps) (world_of start) (setup.rounds + 1)
       +++ score_text (score_of (world_after (minds_named setup red_brain black_brain) setup.seed (world_of start) setup.rounds)))
-      +++ counts_text setup.stats (totals_of (minds_named setup red_brain black_brain) setup.seed setup.window (start_of (world_of start)) setup.rounds)
-      )
+      +++ counts)
   pub flushed : NothingWaits after.out.waiting
   pub silent : after.err ≡ before.err
+
+-- the counts of a game that was printed are those of its turns, in windows of the size that the words name
+pub record TellsItsCounts (world red black : List ℕ) (setup : RunSetup) (before after : Outside) (game : PrintsTheGame world red black setup before after) : Type 0 where
+  pub told : game.counts ≡ counts_text setup.stats
+      (totals_of (minds_named setup game.red_brain game.black_brain) setup.seed setup.window (start_of (world_of game.start)) setup.rounds)
 
 -- status 2: the words are no command, and the errors got the line of the first word that is refused; nothing was fetched or written
 pub record NamesTheWord (words : List (List ℕ)) (before after : Outside) : Type 0 where
@@ -94,7 +100,7 @@ pub record NamesTheReason (words : List (List ℕ)) (before after : Outside) (re
 pub record KeepsPromise (words : List (List ℕ)) (before after : Outside) (number : ℕ) : Type 0 where
   pub printed : number ≡ 0 → PrintsItsOutput words before after
   pub game : number ≡ 0 → (world red black : List ℕ) (setup : RunSetup) → IsCommand words (RunCommand world red black setup)
-      → PrintsTheGame world red black setup before after
+      → (printed_game : PrintsTheGame world red black setup before after) × TellsItsCounts world red black setup before after printed_game
   pub no_command : number ≡ 2 → NamesTheWord words before after
   pub not_read : number ≡ 3 → (name : List ℕ) × NamesTheReason words before after (AtFile name)
   pub output_failed : number ≡ 4 → NamesTheReason words before after AtOutput
