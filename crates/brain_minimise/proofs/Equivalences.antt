@@ -25,36 +25,40 @@ alike_by brain classes related bisimulation keeps a b holds =
     redirected-same (slice_index classes) (slice_index classes) (instruction_at brain a) (instruction_at brain b) (bisimulation.shape a b holds)
     (map-related related (slice_index classes) keeps (states_of (instruction_at brain a)) (states_of (instruction_at brain b)) (bisimulation.onward a b holds))
 
--- whether two states of a brain are of one class
-pub same_class : List Instr → List ℕ → Relation
-same_class brain classes a b = nat_lt a (length brain) && (nat_lt b (length brain) && (slice_index classes a == slice_index classes b))
+-- whether a number below n and one below m have the same name
+pub same_name : (n m : ℕ) (f g : ℕ → ℕ) → Relation
+same_name n m f g a b = nat_lt a n && (nat_lt b m && (f a == g b))
 
-same_class-true : (brain : List Instr) (classes : List ℕ) (a b : ℕ) → a < length brain → b < length brain → slice_index classes a ≡ slice_index classes b → same_class brain classes a b ≡ true
-unfolding same_class
-same_class-true brain classes a b low high one =
-    and_from (nat_lt a (length brain)) _ (lt-ltb a (length brain) low) (and_from (nat_lt b (length brain)) _ (lt-ltb b (length brain) high) (eq-eqb _ _ one))
+pub same_name-true : (n m : ℕ) (f g : ℕ → ℕ) (a b : ℕ) → a < n → b < m → f a ≡ g b → same_name n m f g a b ≡ true
+unfolding same_name
+same_name-true n m f g a b low high one =
+    and_from (nat_lt a n) _ (lt-ltb a n low) (and_from (nat_lt b m) _ (lt-ltb b m high) (eq-eqb _ _ one))
 
 -- what the test says
-record SameClass (brain : List Instr) (classes : List ℕ) (a b : ℕ) : Type 0 where
-  pub low : a < length brain
-  pub high : b < length brain
-  pub one : slice_index classes a ≡ slice_index classes b
+pub record SameName (n m : ℕ) (f g : ℕ → ℕ) (a b : ℕ) : Type 0 where
+  pub low : a < n
+  pub high : b < m
+  pub one : f a ≡ g b
 
-same_class-says : (brain : List Instr) (classes : List ℕ) (a b : ℕ) → same_class brain classes a b ≡ true → SameClass brain classes a b
-unfolding same_class
-same_class-says brain classes a b holds =
-    let both = and_parts (nat_lt a (length brain)) (nat_lt b (length brain) && (slice_index classes a == slice_index classes b)) holds in
-    let more = and_parts (nat_lt b (length brain)) (slice_index classes a == slice_index classes b) both.1 in
-    record { low = ltb-true a (length brain) both.0; high = ltb-true b (length brain) more.0; one = eqb-true (slice_index classes a) (slice_index classes b) more.1 }
+pub same_name-says : (n m : ℕ) (f g : ℕ → ℕ) (a b : ℕ) → same_name n m f g a b ≡ true → SameName n m f g a b
+unfolding same_name
+same_name-says n m f g a b holds =
+    let both = and_parts (nat_lt a n) (nat_lt b m && (f a == g b)) holds in
+    let more = and_parts (nat_lt b m) (f a == g b) both.1 in
+    record { low = ltb-true a n both.0; high = ltb-true b m more.0; one = eqb-true (f a) (g b) more.1 }
 
--- lists of states of the same classes are related
-classes-related : (brain : List Instr) (classes : List ℕ) (states others : List ℕ) → map (slice_index classes) states ≡ map (slice_index classes) others → AllByRecursion (λ state. state < length brain) states → AllByRecursion (λ state. state < length brain) others →
-    AreRelated (same_class brain classes) states others
-classes-related brain classes [] [] same low high = tt
-classes-related brain classes [] (b ∷ others) same low high = absurd (cc)
-classes-related brain classes (a ∷ states) [] same low high = absurd (cc)
-classes-related brain classes (a ∷ states) (b ∷ others) same low high =
-    (same_class-true brain classes a b low.0 high.0 (cc), classes-related brain classes states others (cc) low.1 high.1)
+-- lists with the same names are related
+pub names-related : (n m : ℕ) (f g : ℕ → ℕ) (states others : List ℕ) → map f states ≡ map g others → AllByRecursion (λ state. state < n) states → AllByRecursion (λ state. state < m) others →
+    AreRelated (same_name n m f g) states others
+names-related n m f g [] [] same low high = tt
+names-related n m f g [] (b ∷ others) same low high = absurd (cc)
+names-related n m f g (a ∷ states) [] same low high = absurd (cc)
+names-related n m f g (a ∷ states) (b ∷ others) same low high =
+    (same_name-true n m f g a b low.0 high.0 (cc), names-related n m f g states others (cc) low.1 high.1)
+
+-- whether two states of a brain are of one class
+abbrev same_class : List Instr → List ℕ → Relation
+same_class brain classes = same_name (length brain) (length brain) (slice_index classes) (slice_index classes)
 
 -- states of one stable class do alike
 pub stable_alike : (brain : List Instr) (classes : List ℕ) → AreStable brain classes → (a b : ℕ) → a < length brain → b < length brain → slice_index classes a ≡ slice_index classes b → DoAlike brain classes a b
@@ -64,13 +68,13 @@ stable_alike brain classes stable a b low high one =
 -- stable classes are a bisimulation
 classes-bisimulation : (brain : List Instr) (classes : List ℕ) → IsBrain brain → AreStable brain classes → IsBisimulation brain brain (same_class brain classes)
 classes-bisimulation brain classes is_brain stable = record {
-  inside = λ a b holds. let it = same_class-says brain classes a b holds in (it.low, it.high);
+  inside = λ a b holds. let it = same_name-says (length brain) (length brain) (slice_index classes) (slice_index classes) a b holds in (it.low, it.high);
   shape = λ a b holds.
-      let it = same_class-says brain classes a b holds in
+      let it = same_name-says (length brain) (length brain) (slice_index classes) (slice_index classes) a b holds in
       shape-from (slice_index classes) (slice_index classes) (instruction_at brain a) (instruction_at brain b) (stable_alike brain classes stable a b it.low it.high it.one);
   onward = λ a b holds.
-      let it = same_class-says brain classes a b holds in
-      classes-related brain classes (states_of (instruction_at brain a)) (states_of (instruction_at brain b))
+      let it = same_name-says (length brain) (length brain) (slice_index classes) (slice_index classes) a b holds in
+      names-related (length brain) (length brain) (slice_index classes) (slice_index classes) (states_of (instruction_at brain a)) (states_of (instruction_at brain b))
       (states-from (slice_index classes) (slice_index classes) (instruction_at brain a) (instruction_at brain b) (stable_alike brain classes stable a b it.low it.high it.one))
       (successors-below brain a is_brain it.low) (successors-below brain b is_brain it.high);
 }
@@ -80,7 +84,7 @@ pub class-equivalent : (brain : List Instr) (classes : List ℕ) → IsBrain bra
 class-equivalent brain classes is_brain stable a b low high one = record {
   related = same_class brain classes;
   bisimulation = classes-bisimulation brain classes is_brain stable;
-  holds = same_class-true brain classes a b low high one;
+  holds = same_name-true (length brain) (length brain) (slice_index classes) (slice_index classes) a b low high one;
 }
 
 -- and equivalent states are of one class

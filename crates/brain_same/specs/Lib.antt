@@ -1,0 +1,6 @@
+pub mod Answers
+pub mod Difference
+pub mod Inner
+pub mod Text
+pub use Rattle.ant_base.specs.Sink
+pub use Rattle.brain_read.specs.Soundness

@@ -1,0 +1,1 @@
+// Laws of brains that are the same.

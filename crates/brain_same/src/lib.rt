@@ -1,0 +1,17 @@
+//! Whether two brains are the same but for the numbers of their states.
+//!
+//! Two brains are the same where a bisimulation relates state 0 of the one to state 0 of the other: then no ant can tell them apart, and
+//! each game is the same but for states; that is a law of this crate. Where they aren't, [`compare`] says by how few answers that shows,
+//! and at which two states. What names no section of the contest's task is this project's own. It stands on `brain_read`, and on the
+//! definitions of `brain_minimise` and of `ant_turn`.
+#![tactic(auto)]
+
+mod classes;
+mod comparison;
+mod instruction;
+mod laws;
+mod search;
+
+pub use comparison::{Comparison, Found};
+pub use hex_geometry::OutOfMemory;
+pub use search::compare;
