@@ -486,7 +486,7 @@ def bound_in(piece, module):
         head = left.split()[0]
         words = re.findall(r"(?<![\w'.\-])(%s)(?![\w'.])" % WORD, left if head not in module.definitions else left.partition(" ")[2])
         bound |= {it for it in words if not it[:1].isupper() or not (it in module.names or Tree.constructed(module, it) or it in module.definitions)}
-    for these in re.findall(r"λ ((?:\S+ )*?\S+)\. ", piece + " "):
+    for these in re.findall(r"λ ((?:\S+ )*?\S+)\.\s", piece + " "):
         bound |= set(these.split())
     for these in re.findall(r"[({]((?:%s )+): " % WORD, piece):
         bound |= set(these.split())

@@ -21,27 +21,23 @@ class Words:
 
     def __init__(self, folder="crates/command_words/specs"):
         texts = [read(file) for file in source_files(folder, ".antt") if "/Inner/" not in file]
-        word_of = dict(only(texts, r'^word_of (\w+) = codes "([^"]+)"'))
-        option_of = dict(only(texts, r'^option_of (\w+) = codes "([^"]+)"'))
-        keyword_of = dict(only(texts, r'^keyword_of (\w+) = codes "([^"]+)"'))
+        rows = {kind: (word, choices) for kind, word, choices in only(texts, r'^row_of (\w+) = command_row \(codes "([^"]+)"\).* (\[\]|\([^()]*\))$')}
+        options = only(texts, r'^option_row (\w+) = (needed|free|flag)_option \(codes "([^"]+)"\)(?: \(Number (\w+)\))?')
         kinds = only(texts, r"^kinds = (.*) ∷ \[\]$")[0].split(" ∷ ")
-        choices = dict(only(texts, r"^choices_of (\w+) = (.*)$"))
-        values = dict(only(texts, r"^values_of (\w+) = (.*)$"))
-        needed = dict(only(texts, r"^is_needed (\w+) = (true|false)"))
         least, most = dict(only(texts, r"^least_of (\w+) = (\d+)")), dict(only(texts, r"^most_of (\w+) = (\d+)"))
         defaults = dict(only(texts, r"^(default_\w+) = (\d+)"))
-        default_of = {choice: defaults[name] for name, choice in only(texts, r"number_or (default_\w+) \w+ \(value_given (\w+) ")}
+        default_of = {choice: defaults[name] for name, choice in only(texts, r"number_or (default_\w+) \w+ \(a\.value (\w+)\)")}
+        word_of = {choice: word for choice, _, word, _ in options}
         self.commands = {}
         for kind in kinds:
-            these = [it for it in choices[kind].split(" ∷ ") if it != "[]"]
-            self.commands[word_of[kind]] = [option_of[it] for it in these]
-        self.keywords = list(keyword_of.values())
+            word, choices = rows[kind]
+            self.commands[word] = [word_of[it] for it in choices.strip("()").split(" ∷ ") if it != "[]"]
+        self.keywords = list(dict(only(texts, r'^keyword_of (\w+) = codes "([^"]+)"')).values())
         self.options = {}
-        for choice, option in option_of.items():
-            kind = re.match(r"Word \(Number (\w+)\)", values[choice])
-            limits = "%s to %s" % (number(least[kind[1]]), number(most[kind[1]])) if kind else None
-            default = "needed" if needed[choice] == "true" else number(default_of[choice]) if choice in default_of else None
-            self.options[option] = (limits, default)
+        for choice, form, word, kind in options:
+            limits = "%s to %s" % (number(least[kind]), number(most[kind])) if kind else None
+            default = "needed" if form == "needed" else number(default_of[choice]) if choice in default_of else None
+            self.options[word] = (limits, default)
 
 
 def missing(page, words, line_of):

@@ -9,7 +9,7 @@ use Rattle.brain_read.specs.declared.instr.Instr.{Instr}
 use Rattle.break_view.specs.Texts.{view_of}
 use Rattle.cell_world.specs.Grid.{Grid, world_of}
 use Rattle.command_words.specs.Command.PlainCommand.{ShowCommand, BrainCommand, MinimiseCommand, RunCommand, GenCommand, CupCommand, ViewCommand, WorkloadCommand, HelpCommand, VersionCommand, AsmCommand, SaveCommand, ResumeCommand}
-use Rattle.command_words.specs.Laws.{ShapeWithin}
+use Rattle.command_words.specs.Command.{ShapeWithin}
 use Rattle.command_words.specs.declared.command.GenShape.{GenShape}
 use Rattle.tournament.proofs.SortedLines.{has_standing}
 use Rattle.tournament.specs.Text.{standing_text}

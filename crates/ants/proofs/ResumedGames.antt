@@ -9,8 +9,7 @@ use Rattle.brain_read.specs.Forms.{HasBound, IsInRange}
 use Rattle.brain_read.specs.Grammar.{AreLines, IsBrainText}
 use Rattle.brain_read.proofs.SoundnessLemmas.{brain_of}
 use Rattle.cell_world.specs.Grid.{Grid, world_of}
-use Rattle.command_words.specs.Command.{RunSetup}
-use Rattle.command_words.specs.Laws.{SetupWithin}
+use Rattle.command_words.specs.Command.{RunSetup, SetupWithin}
 use Rattle.dump_print.specs.Texts.{seed_text}
 use Rattle.line_tokens.specs.TokenLines.{TokenLine, lines_with_tokens}
 use Rattle.match_run.specs.Counts.{whole_text}

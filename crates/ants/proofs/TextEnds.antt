@@ -26,9 +26,8 @@ use Rattle.cell_world.specs.declared.cell.Cell.{Cell}
 use Rattle.cell_world.specs.declared.kind.Kind.{Kind}
 use Rattle.cell_world.specs.declared.kind.Kind.TheVariants.{Rock}
 use Rattle.cell_world.specs.declared.score.Score.{Score}
-use Rattle.command_words.specs.Command.{ResumeSetup, RunSetup}
+use Rattle.command_words.specs.Command.{CupWithin, ResumeSetup, RunSetup}
 use Rattle.command_words.specs.Command.PlainCommand.{ShowCommand, BrainCommand, MinimiseCommand, RunCommand, GenCommand, CupCommand, ViewCommand, WorkloadCommand, HelpCommand, VersionCommand, AsmCommand, SaveCommand, ResumeCommand}
-use Rattle.command_words.specs.Laws.{CupWithin}
 use Rattle.dump_print.specs.Content.{content_text}
 use Rattle.dump_print.specs.Texts.{cell_line, cells_text, dump_text, row_text, score_text, seed_text, stats_text}
 use Rattle.dump_print.specs.declared.totals.Totals.{Totals}

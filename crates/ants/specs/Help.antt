@@ -43,6 +43,7 @@ file_lines =
     +++ codes "      merges equivalent states of a brain, and keeps what state 0 leads to\n"
     +++ codes "  asm FILE\n"
     +++ codes "      prints the brain of a program with labels and blocks\n"
+    +++ codes "  help\n"
     +++ codes "  --help\n"
     +++ codes "      prints this page\n"
     +++ codes "  --version\n"

@@ -18,9 +18,8 @@ use Rattle.cell_world.specs.Score.{score_of}
 use Rattle.cell_world.specs.Valid.{Valid}
 use Rattle.cell_world.specs.declared.ant.Colour.{Colour}
 use Rattle.cell_world.specs.declared.kind.Kind.{Kind}
-use Rattle.command_words.specs.Command.{PlainCommand, ResumeSetup, RunSetup}
+use Rattle.command_words.specs.Command.{CommandWithin, PlainCommand, ResumeSetup, RunSetup}
 use Rattle.command_words.specs.Command.PlainCommand.{RunCommand, CupCommand, ResumeCommand, SaveCommand, WorkloadCommand}
-use Rattle.command_words.specs.Laws.{CommandWithin}
 use Rattle.command_words.specs.Slots.DumpChoice.{NoDump}
 use Rattle.dump_print.specs.Texts.{seed_text}
 use Rattle.match_run.specs.Run.{dumps_text}

@@ -1,10 +1,11 @@
 // The command `cup`.
 ghost use Rattle.std.specs.Prelude.{◌≡◌, ◌≤◌, length, IfOk};
 ghost use Rattle.command_words.specs.Command.PlainCommand.{CupCommand};
-ghost use Rattle.command_words.specs.Laws.{CupWithin, IsWithin};
+ghost use Rattle.command_words.specs.Command.{CupWithin};
+ghost use Rattle.command_words.specs.Limits.{IsWithin};
+ghost use Rattle.command_words.specs.Words.{texts};
 ghost use Rattle.command_words.specs.declared.limits.NumberKind.TheVariants.{WorkerCount};
 ghost use Rattle.command_words.specs.Slots.{AllDiffer};
-ghost use Rattle.command_words.specs.Words.{texts};
 ghost use Rattle.match_run.specs.Run.{most_rounds};
 ghost use Rattle.tournament.specs.Standing.{IsStandingOf};
 ghost use Rattle.ants.specs.Inner.Cups.{AreReady, CanBePlayed};
@@ -17,25 +18,11 @@ use ant_base::{Shelf, Sink};
 use ant_turn::{Brains, Sheet};
 use brain_read::Brain;
 use cell_world::{Score, World};
+use command_words::CupEntry;
 use match_run::{OutOfMemory, play_score};
 use std::alloc::Global;
 use std::thread::Threads;
 use tournament::{Names, Referee, Standing, play_all, push_standing};
-
-/// What the words of a cup say.
-#[derive(Clone, Copy)]
-pub struct Entry<'w> {
-    /// The names of the worlds' files, 1 to 16.
-    pub worlds: &'w [String],
-    /// The names of the brains' files, 2 to 16, no two the same.
-    pub brains: &'w [String],
-    /// The seed of each game.
-    pub seed: u32,
-    /// The rounds of each game, at most 1,000,000.
-    pub rounds: u32,
-    /// The workers, 1 to 16.
-    pub workers: u32,
-}
 
 // What the files of a cup were read as.
 #[derive(Drop)]
@@ -75,7 +62,7 @@ impl Referee for Games<'_> {
 // The files of a cup, in the order in which its words name them.
 fn roster_of<'w, S: Shelf>(
     alloc: Global,
-    entry: Entry<'w>,
+    entry: CupEntry<'w>,
     shelf: &mut S,
 ) -> Result<Roster, CommandStop<'w>>
     ensures { ReadsFiles (S.state shelf.old) (S.state shelf.new) (cup_files (texts entry.entry.worlds.now) (texts entry.entry.brains.now))
@@ -128,7 +115,7 @@ fn names_of(alloc: Global, words: &[String]) -> Result<Names, OutOfMemory>
 pub fn cup<'w, R: Threads + Sync, S: Shelf, K: Sink>(
     rt: &R,
     alloc: Global,
-    entry: Entry<'w>,
+    entry: CupEntry<'w>,
     shelf: &mut S,
     out: &mut K,
 ) -> Result<(), CommandStop<'w>>

@@ -1,14 +1,14 @@
 // The command `run` with `--far`: workers that stand by for the whole game.
 ghost use Rattle.std.specs.Prelude.{◌≡◌};
 ghost use Rattle.command_words.specs.Command.PlainCommand.{RunCommand};
-ghost use Rattle.command_words.specs.Laws.{SetupWithin};
-ghost use Rattle.command_words.specs.Words.{plain_setup};
+ghost use Rattle.command_words.specs.Command.{SetupWithin, plain_setup};
 ghost use Rattle.ants.specs.Inner.Plans.{CanPlay};
 ghost use Rattle.ants.specs.Inner.Reading.{CarriesOut, ending_of};
 
-use crate::run::{AskedGame, FileNames, PlannedGame, planned_game, run_by};
+use crate::run::{PlannedGame, planned_game, run_by};
 use crate::stop::CommandStop;
 use ant_base::{Gate, Shelf, Sink};
+use command_words::{AskedGame, FileNames};
 use far_crew::{Errand, with_far};
 use round_book::Crew;
 use std::alloc::Global;

@@ -1,6 +1,6 @@
 // The command `gen`.
 ghost use Rattle.command_words.specs.Command.PlainCommand.{GenCommand};
-ghost use Rattle.command_words.specs.Laws.{ShapeWithin};
+ghost use Rattle.command_words.specs.Command.{ShapeWithin};
 ghost use Rattle.world_gen.specs.Generated.{IsShape};
 ghost use Rattle.ants.specs.Inner.Reading.{CarriesOut, ending_of};
 ghost use Rattle.ants.specs.Inner.Plans.{IsGenerating};

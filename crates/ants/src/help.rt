@@ -76,6 +76,7 @@ impl Layout for FileLines {
             "      merges equivalent states of a brain, and keeps what state 0 leads to\n",
             "  asm FILE\n",
             "      prints the brain of a program with labels and blocks\n",
+            "  help\n",
             "  --help\n",
             "      prints this page\n",
             "  --version\n",

@@ -1,9 +1,10 @@
 // The whole program, over any shelf and any sinks.
 ghost use Rattle.std.specs.Prelude.{◌≡◌, ◌↔◌};
 ghost use Rattle.command_words.specs.Far.{words_without_far};
-ghost use Rattle.command_words.specs.Laws.{CommandWithin, IsWithin};
+ghost use Rattle.command_words.specs.Command.{CommandWithin, plain};
+ghost use Rattle.command_words.specs.Limits.{IsWithin};
+ghost use Rattle.command_words.specs.Words.{texts};
 ghost use Rattle.command_words.specs.declared.limits.NumberKind.TheVariants.{WorkerCount};
-ghost use Rattle.command_words.specs.Words.{plain, texts};
 ghost use Rattle.round_book.specs.Book.{CanBegin};
 ghost use Rattle.round_book.specs.Led.{IsWindow};
 ghost use Rattle.ants.specs.Inner.Plans.{workers_named};
@@ -17,18 +18,18 @@ ghost use Rattle.std.specs.Process.{exit_status};
 
 use crate::asm::asm;
 use crate::brain::brain;
-use crate::cup::{Entry, cup};
+use crate::cup::cup;
 use crate::far::run_far;
 use crate::generate::gen_world;
 use crate::help::{help, version};
 use crate::minimise::minimise;
 use crate::resume::resume;
-use crate::run::{AskedGame, FileNames, run};
+use crate::run::run;
 use crate::save::save;
 use crate::show::show;
 use crate::status::Status;
 use crate::stop::{CommandStop, Ended};
-use crate::view::{ViewedGame, view};
+use crate::view::view;
 use crate::workload::workload;
 use ant_base::{Gate, Layout, Shelf, Sink, layout};
 use command_words::{Command, Refused, is_far_run, read_words, read_words_without_far};
@@ -40,8 +41,14 @@ use std::process::ExitCode;
 use std::sync::Wait;
 use std::thread::Threads;
 
-// Carries out a command by a crew, where it plays in windows.
-fn carry_out_by<'w, R: Threads + Sync, C: Crew, S: Shelf, K: Sink>(
+// Who calls whom, from `main` down. The words are read once, by the one that knows `--far` or by the one that doesn't:
+//
+//     run_to_exit > run_ants > run_here > read_and_carry_out > carry_out > dispatch > the command's own function
+//                            > read_and_carry_out_far > carry_out_far > run_far, for a run
+//                                                                     > carry_out, for all else
+
+// Hands a command to its own function, with a crew, if it plays in windows.
+fn dispatch<'w, R: Threads + Sync, C: Crew, S: Shelf, K: Sink>(
     rt: &R,
     alloc: Global,
     crew: &mut C,
@@ -58,47 +65,9 @@ fn carry_out_by<'w, R: Threads + Sync, C: Crew, S: Shelf, K: Sink>(
         Command::Brain { file } => brain(alloc, file, shelf, out),
         Command::Minimise { file } => minimise(alloc, file, shelf, out),
         Command::Gen { seed, shape } => gen_world(alloc, seed, shape, shelf, out),
-        Command::Run {
-            world,
-            red,
-            black,
-            options,
-        } => {
-            let names = FileNames { world, red, black };
-            run(alloc, crew, AskedGame { names, options }, shelf, out)
-        }
-        Command::Cup {
-            worlds,
-            brains,
-            seed,
-            rounds,
-            workers,
-        } => {
-            let entry = Entry {
-                worlds,
-                brains,
-                seed,
-                rounds,
-                workers,
-            };
-            cup(rt, alloc, entry, shelf, out)
-        }
-        Command::View {
-            world,
-            red,
-            black,
-            breaks,
-            seed,
-            rounds,
-        } => {
-            let asked = ViewedGame {
-                names: FileNames { world, red, black },
-                breaks,
-                seed,
-                rounds,
-            };
-            view(alloc, asked, shelf, out)
-        }
+        Command::Run(game) => run(alloc, crew, game, shelf, out),
+        Command::Cup(entry) => cup(rt, alloc, entry, shelf, out),
+        Command::View(game) => view(alloc, game, shelf, out),
         Command::Workload {
             seed,
             rounds,
@@ -107,15 +76,7 @@ fn carry_out_by<'w, R: Threads + Sync, C: Crew, S: Shelf, K: Sink>(
         Command::Help => help(shelf, out),
         Command::Version => version(shelf, out),
         Command::Asm { file } => asm(alloc, file, shelf, out),
-        Command::Save {
-            world,
-            red,
-            black,
-            options,
-        } => {
-            let names = FileNames { world, red, black };
-            save(alloc, crew, AskedGame { names, options }, shelf, out)
-        }
+        Command::Save(game) => save(alloc, crew, game, shelf, out),
         Command::Resume {
             save: name,
             options,
@@ -130,8 +91,8 @@ fn workers_in(command: &Command<'_>) -> u32
     ensures within { IsWithin WorkerCount result }
 {
     match command {
-        Command::Run { options, .. } => options.workers,
-        Command::Save { options, .. } => options.workers,
+        Command::Run(game) => game.options.workers,
+        Command::Save(game) => game.options.workers,
         Command::Resume { options, .. } => options.workers,
         Command::Workload { workers, .. } => *workers,
         _ => 1,
@@ -140,7 +101,7 @@ fn workers_in(command: &Command<'_>) -> u32
 
 // Carries out a command, whose numbers and names are within their limits. A crew takes no memory before its first window, so that each
 // command may have one.
-fn carry_out_command<'w, R: Threads + Sync, S: Shelf, K: Sink, G: Gate>(
+fn carry_out<'w, R: Threads + Sync, S: Shelf, K: Sink, G: Gate>(
     rt: &R,
     alloc: Global,
     command: Command<'w>,
@@ -158,11 +119,11 @@ fn carry_out_command<'w, R: Threads + Sync, S: Shelf, K: Sink, G: Gate>(
             ensures { IsWindow result field.entry.now from to field.exit.now }
         { board.window(alloc, field, from, to) },
     );
-    carry_out_by(rt, alloc, &mut crew, command, shelf, out)
+    dispatch(rt, alloc, &mut crew, command, shelf, out)
 }
 
 // Carries out the command that the words are, where `--far` is no option.
-fn carry_out_here<'w, R: Threads + Sync, S: Shelf, K: Sink, G: Gate>(
+fn read_and_carry_out<'w, R: Threads + Sync, S: Shelf, K: Sink, G: Gate>(
     rt: &R,
     alloc: Global,
     words: &'w [String],
@@ -173,13 +134,13 @@ fn carry_out_here<'w, R: Threads + Sync, S: Shelf, K: Sink, G: Gate>(
     ensures { CarriesOutWords (words_without_far (texts words.now)) (S.state shelf.old) (S.state shelf.new) (K.state out.old) (K.state out.new) (plain_ending result) }
 {
     match read_words_without_far(words) {
-        Ok(command) => Ended::after(carry_out_command(rt, alloc, command, shelf, out, gate)),
+        Ok(command) => Ended::after(carry_out(rt, alloc, command, shelf, out, gate)),
         Err(refused) => Ended::RefusedWord(refused.word),
     }
 }
 
 // Carries out a command by standing workers, where it is a run.
-fn carry_out_far_command<'w, R: Threads + Wait + Sync, S: Shelf, K: Sink, G: Gate>(
+fn carry_out_far<'w, R: Threads + Wait + Sync, S: Shelf, K: Sink, G: Gate>(
     rt: &R,
     alloc: Global,
     command: Command<'w>,
@@ -191,21 +152,13 @@ fn carry_out_far_command<'w, R: Threads + Wait + Sync, S: Shelf, K: Sink, G: Gat
     ensures { CarriesOut (plain command.entry) (S.state shelf.old) (S.state shelf.new) (K.state out.old) (K.state out.new) (ending_of result) }
 {
     match command {
-        Command::Run {
-            world,
-            red,
-            black,
-            options,
-        } => {
-            let names = FileNames { world, red, black };
-            run_far(rt, alloc, AskedGame { names, options }, shelf, out, gate)
-        }
-        other => carry_out_command(rt, alloc, other, shelf, out, gate),
+        Command::Run(game) => run_far(rt, alloc, game, shelf, out, gate),
+        other => carry_out(rt, alloc, other, shelf, out, gate),
     }
 }
 
 // Carries out the command that the words are, by standing workers where it is a run.
-fn carry_out_far<'w, R: Threads + Wait + Sync, S: Shelf, K: Sink, G: Gate>(
+fn read_and_carry_out_far<'w, R: Threads + Wait + Sync, S: Shelf, K: Sink, G: Gate>(
     rt: &R,
     alloc: Global,
     words: &'w [String],
@@ -216,7 +169,7 @@ fn carry_out_far<'w, R: Threads + Wait + Sync, S: Shelf, K: Sink, G: Gate>(
     ensures { CarriesOutWords (texts words.now) (S.state shelf.old) (S.state shelf.new) (K.state out.old) (K.state out.new) (plain_ending result) }
 {
     match read_words(words) {
-        Ok(command) => Ended::after(carry_out_far_command(rt, alloc, command, shelf, out, gate)),
+        Ok(command) => Ended::after(carry_out_far(rt, alloc, command, shelf, out, gate)),
         Err(refused) => Ended::RefusedWord(refused.word),
     }
 }
@@ -264,7 +217,7 @@ pub fn run_here<R: Threads + Sync, S: Shelf, K: Sink, E: Sink, G: Gate>(
         (outside_of (S.state shelf.new) (K.state out.new) (E.state err.new)) result }
     ensures read { NeverUnread (words_without_far (texts words.now)) (outside_of (S.state shelf.old) (K.state out.old) (E.state err.old)) result }
 {
-    let ended = carry_out_here(rt, alloc, words, shelf, out, gate);
+    let ended = read_and_carry_out(rt, alloc, words, shelf, out, gate);
     report(ended, err)
 }
 
@@ -297,7 +250,7 @@ pub fn run_ants<R: Threads + Wait + Sync, S: Shelf, K: Sink, E: Sink, G: Gate>(
     if !is_far_run(words) {
         return run_here(rt, alloc, words, shelf, out, err, gate);
     }
-    let ended = carry_out_far(rt, alloc, words, shelf, out, gate);
+    let ended = read_and_carry_out_far(rt, alloc, words, shelf, out, gate);
     report(ended, err)
 }
 

@@ -2,8 +2,7 @@
 ghost use Rattle.std.specs.Prelude.{◌≡◌, ◌≤◌, ◌∷◌, [], length};
 ghost use Rattle.ant_base.specs.Shelf.{longest};
 ghost use Rattle.command_words.specs.Command.PlainCommand.{ResumeCommand};
-ghost use Rattle.command_words.specs.Laws.{ResumeWithin};
-ghost use Rattle.command_words.specs.Words.{plain_resume};
+ghost use Rattle.command_words.specs.Command.{ResumeWithin, plain_resume};
 ghost use Rattle.ants.specs.Files.FileContent.{SaveContent};
 ghost use Rattle.ants.specs.Files.FileKind.{SaveFile};
 ghost use Rattle.ants.specs.Inner.Reading.{CarriesOut, ReadsFiles, ReadsText, ending_of, outcome_of, save_reason};

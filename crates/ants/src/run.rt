@@ -3,9 +3,8 @@ ghost use Rattle.std.specs.Prelude.{◌≡◌, IfOk, false};
 ghost use Rattle.ant_turn.specs.Minds.{Fits};
 ghost use Rattle.cell_world.specs.Grid.{world_of};
 ghost use Rattle.command_words.specs.Command.PlainCommand.{RunCommand};
-ghost use Rattle.command_words.specs.Command.{RunSetup};
-ghost use Rattle.command_words.specs.Laws.{SetupWithin};
-ghost use Rattle.command_words.specs.Words.{plain_dumps, plain_setup};
+ghost use Rattle.command_words.specs.Command.{RunSetup, SetupWithin, plain_setup};
+ghost use Rattle.command_words.specs.Words.{plain_dumps};
 ghost use Rattle.match_run.specs.Dumps.{chooses};
 ghost use Rattle.match_run.specs.Play.{PushedBy};
 ghost use Rattle.ants.specs.Inner.Plans.{CanPlay, IsPlanned, Plans, minds_in, setting_contents, text_in};
@@ -18,25 +17,10 @@ use ant_base::{Shelf, Sink};
 use ant_turn::{Brains, Sheet};
 use brain_read::Brain;
 use cell_world::World;
-use command_words::{DumpWord, Numbers, RunOptions};
+use command_words::{AskedGame, DumpWord, FileNames, Numbers, RunOptions};
 use match_run::{Dumps, OutOfMemory, Plan, PlayFault, Rounds, play, play_alone};
 use round_book::Crew;
 use std::alloc::Global;
-
-// The names of the files of a game.
-#[derive(Clone, Copy)]
-pub struct FileNames<'w> {
-    pub world: &'w str,
-    pub red: &'w str,
-    pub black: &'w str,
-}
-
-// The game that the words ask for: its files, and what they say of it.
-#[derive(Drop)]
-pub struct AskedGame<'w> {
-    pub names: FileNames<'w>,
-    pub options: RunOptions<'w>,
-}
 
 // What the files of a game were read as.
 #[derive(Drop)]

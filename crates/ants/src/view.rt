@@ -9,25 +9,13 @@ ghost use Rattle.match_run.specs.Run.{most_rounds};
 ghost use Rattle.ants.specs.Inner.Reading.{CarriesOut, ending_of};
 
 use crate::files::read_file;
-use crate::run::{FileNames, Setting, setting_of};
+use crate::run::{Setting, setting_of};
 use crate::stop::{CommandStop, after_push};
 use ant_base::{Failed, Shelf, Sink};
 use ant_turn::{Brains, Sheet};
 use break_view::{Breaks, find_stop, push_view};
+use command_words::ViewedGame;
 use std::alloc::Global;
-
-/// The game whose view the words ask for.
-#[derive(Clone, Copy)]
-pub struct ViewedGame<'w> {
-    /// The names of the game's files.
-    pub names: FileNames<'w>,
-    /// The name of the breaks' file.
-    pub breaks: &'w str,
-    /// The seed.
-    pub seed: u32,
-    /// The rounds, at most 1,000,000.
-    pub rounds: u32,
-}
 
 // Plays a game to its first stop, and pushes its view.
 fn push_stop<K: Sink>(

@@ -1,5 +1,5 @@
 // Classes of states that are to be the same, joined two at a time.
-ghost use Rattle.std.specs.Prelude.{◌≡◌, ◌<◌, ◌≤◌, length, map, slice_index, IfOk};
+ghost use Rattle.std.specs.Prelude.{◌≡◌, ◌<◌, length, map, IfOk};
 ghost use Rattle.brain_same.specs.Inner.Classes.{AreApart, IsJoined, renamed};
 
 use hex_geometry::OutOfMemory;

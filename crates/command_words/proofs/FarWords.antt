@@ -4,46 +4,35 @@ use Rattle.std.specs.Prelude.{min}
 use Rattle.std.specs.declared.alloc.Global.{Global}
 use Rattle.std.specs.List.{flat_map, list_any, take-map, AllByRecursion}
 use Rattle.std.specs.Str.{bytes_eq}
-use Rattle.ant_base.specs.Number.{decimal_value}
 use Rattle.std.proofs.lemmas.Bool.{cases_Bool, and_parts, cond-true, cond-false, false≢true}
 use Rattle.std.proofs.lemmas.List.{append-nil, append_assoc, length-append, length-map, take-append-le, take_all}
 use Rattle.std.proofs.lemmas.Slice.Eq.{bytes_eq-Decides}
 use Rattle.command_words.specs.declared.slot.Slot.{Slot}
-use Rattle.command_words.specs.declared.slot.Slot.TheVariants.{FileName, Number, Dumps, Keyword}
+use Rattle.command_words.specs.declared.slot.Slot.TheVariants.{FileName}
 use Rattle.command_words.specs.declared.slot.Place.{Place}
 use Rattle.command_words.specs.declared.slot.Place.TheVariants.{Word, Names}
-use Rattle.command_words.specs.declared.table.NameList.TheVariants.{Worlds, Brains}
 use Rattle.command_words.specs.declared.table.CommandKind.{CommandKind}
-use Rattle.command_words.specs.declared.table.CommandKind.TheVariants.{Show, Brain, Minimise, Run, Gen, Cup, View, Workload, Help, Version, Asm, Save, Resume}
-use Rattle.command_words.specs.declared.table.Choice.{Choice}
-use Rattle.command_words.specs.declared.table.Choice.TheVariants.{Seed, Rounds, Dump, Workers, Window, Surround, Corpse, Rest, Stats, Far, Width, Height, Rocks, Blobs}
-use Rattle.command_words.specs.Command.{FitAll, Given, IsBeginning, IsCommand, IsOptionOf, IsRefusedAt, PlainCommand, given_words, joined, kind_in}
+use Rattle.command_words.specs.declared.table.CommandKind.TheVariants.{Run}
+use Rattle.command_words.specs.declared.table.Choice.TheVariants.{Far}
+use Rattle.command_words.specs.Command.{FitAll, Given, IsBeginning, IsCommand, IsOptionOf, IsRefusedAt, PlainCommand, given_words, joined}
 use Rattle.command_words.specs.Far.{RefusesFar, is_far_run, word_without_far, words_without_far}
-use Rattle.command_words.specs.Slots.{FitsPlace, dumps_of, fits, is_dumps, is_file_name}
+use Rattle.command_words.specs.Slots.{FitsPlace, fits, is_file_name}
 use Rattle.command_words.specs.Table.{option_of, places_of, values_of, word_of}
 use Rattle.command_words.specs.Words.{texts}
 use Rattle.command_words.specs.Inner.Fronts.{words_before}
 use Rattle.list_lemmas.proofs.AllElements.{AllByRecursion-append}
+use Rattle.command_words.proofs.TableLemmas.{command-byte, empty-unfit, has_byte, option-byte}
 use Rattle.command_words.proofs.ReadLemmas.{IsBeginning-take}
 use Rattle.command_words.proofs.WalkSteps.{texts-front, texts-past, texts-rest}
 use Rattle.command_words.proofs.WalkNames.{all-between}
 
 -- a word has a byte
 abbrev IsSome : List ℕ → Type 0
-IsSome [] = ⊥
-IsSome (byte ∷ word) = Unit {0}
-
-empty-unfit : (slot : Slot) → fits slot [] ≡ false
-unfolding is_file_name is_dumps dumps_of decimal_value
-empty-unfit FileName = refl
-empty-unfit (Number kind) = refl
-empty-unfit Dumps = refl
-empty-unfit (Keyword Worlds) = refl
-empty-unfit (Keyword Brains) = refl
+IsSome word = has_byte word ≡ true
 
 fits-some : (slot : Slot) (word : List ℕ) → fits slot word ≡ true → IsSome word
-fits-some slot [] fit = false≢true (sym (empty-unfit slot) ∙ fit)
-fits-some slot (byte ∷ word) fit = tt
+fits-some slot [] fit = absurd (false≢true (sym (empty-unfit slot) ∙ fit))
+fits-some slot (byte ∷ word) fit = refl
 
 name-some : (name : List ℕ) → is_file_name name ≡ true → IsSome name
 name-some name is = fits-some FileName name is
@@ -64,53 +53,22 @@ joined-some [] (part ∷ parts) fit = absurd fit
 joined-some (place ∷ places) [] fit = absurd fit
 joined-some (place ∷ places) (part ∷ parts) fit = AllByRecursion-append IsSome part (joined parts) (place-some place part fit.0) (joined-some places parts fit.1)
 
-option-some : (choice : Choice) → IsSome (option_of choice)
-option-some Seed = tt
-option-some Rounds = tt
-option-some Dump = tt
-option-some Workers = tt
-option-some Window = tt
-option-some Surround = tt
-option-some Corpse = tt
-option-some Rest = tt
-option-some Stats = tt
-option-some Far = tt
-option-some Width = tt
-option-some Height = tt
-option-some Rocks = tt
-option-some Blobs = tt
-
-first-some : (kind : CommandKind) → IsSome (word_of kind)
-first-some Show = tt
-first-some Brain = tt
-first-some Minimise = tt
-first-some Run = tt
-first-some Gen = tt
-first-some Cup = tt
-first-some View = tt
-first-some Workload = tt
-first-some Help = tt
-first-some Version = tt
-first-some Asm = tt
-first-some Save = tt
-first-some Resume = tt
-
 given-some : (kind : CommandKind) (given : List Given) → AllByRecursion (IsOptionOf kind) given → AllByRecursion IsSome (flat_map given_words given)
 given-some kind [] options = tt
 given-some kind (one ∷ more) options =
-    AllByRecursion-append IsSome (given_words one) (flat_map given_words more) (option-some one.choice, joined-some (values_of one.choice) one.values options.0.fit) (given-some kind more options.1)
+    AllByRecursion-append IsSome (given_words one) (flat_map given_words more) (option-byte one.choice, joined-some (values_of one.choice) one.values options.0.fit) (given-some kind more options.1)
 
 -- no word of a command is empty
 command-some : (words : List (List ℕ)) (command : PlainCommand) → IsCommand words command → AllByRecursion IsSome words
 command-some words command is =
     subst (AllByRecursion IsSome) (sym is.form.whole) (
-      first-some (kind_in command),
+      command-byte is.kind,
       AllByRecursion-append IsSome (joined is.front) (flat_map given_words is.given)
-          (joined-some (places_of (kind_in command)) is.front is.form.places) (given-some (kind_in command) is.given is.form.options),
+          (joined-some (places_of is.kind) is.front is.form.places) (given-some is.kind is.given is.form.options),
     )
 
 no_empty : (front back : List (List ℕ)) (command : PlainCommand) → ¬ IsCommand (front ++ [] ∷ back) command
-no_empty front back command is = all-between IsSome front [] back (command-some (front ++ [] ∷ back) command is)
+no_empty front back command is = false≢true (all-between IsSome front [] back (command-some (front ++ [] ∷ back) command is))
 
 not_begun : (front : List (List ℕ)) → ¬ IsBeginning (front ++ [] ∷ [])
 not_begun front is = no_empty front is.more is.command (subst (λ (words : List (List ℕ)). IsCommand words is.command) (append_assoc front ([] ∷ []) is.more) is.whole)

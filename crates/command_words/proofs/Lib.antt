@@ -1,6 +1,7 @@
 -- The table: each row once.
 pub mod PiecesLemmas
 pub mod ListLemmas
+pub mod EveryValue
 pub mod TableLemmas
 -- Words walked over, one after another.
 pub mod WalkSearch
@@ -10,6 +11,7 @@ pub mod WalkNames
 pub mod WalkShapes
 pub mod WalkCompletions
 -- Commands read, and the word that is refused.
+pub mod AnswersLemmas
 pub mod CommandLemmas
 pub mod ReadLemmas
 pub mod FarWords

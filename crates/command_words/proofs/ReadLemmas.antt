@@ -8,26 +8,25 @@ use Rattle.command_words.specs.declared.table.CommandKind.TheVariants.{Show}
 use Rattle.command_words.specs.declared.command.Command.{Command}
 use Rattle.command_words.specs.declared.command.Refused.{Refused}
 use Rattle.command_words.specs.Table.{kinds, word_of, places_of}
-use Rattle.command_words.specs.Command.{Given, given_words, joined, IsCommandOf, PlainCommand, kind_in, IsCommand, IsBeginning, IsRefusedAt}
-use Rattle.command_words.specs.Inner.Walk.{command_kind_of, walk, has_needed, is_finished, command_in, finish, read_kind, read_of, plain_result}
-use Rattle.command_words.specs.Words.{plain}
+use Rattle.command_words.specs.Command.{Given, given_words, joined, IsCommandOf, PlainCommand, IsCommand, IsBeginning, IsRefusedAt, answers_in, command_in, plain}
+use Rattle.command_words.specs.Inner.Walk.{command_kind_of, walk, has_needed, is_finished, finish, read_kind, read_of, plain_result}
 use Rattle.command_words.proofs.TableLemmas.{command_kind_of-word, command_kind_of-found, command_kind_of-known}
-use Rattle.command_words.proofs.WalkNames.{open-none, all-from_rest, places-end}
+use Rattle.command_words.proofs.WalkNames.{open-none, all-from_rest, places-run}
 use Rattle.command_words.proofs.WalkShapes.{walk-accepts, walk-front, walk-stops}
 use Rattle.command_words.proofs.WalkCompletions.{Extends, walk-extends, command-walks}
-use Rattle.command_words.proofs.CommandLemmas.{command_in-says, command-says, has_needed-command, needed-given}
+use Rattle.command_words.proofs.AnswersLemmas.{has_needed-command, needed-given, words_of}
+use Rattle.command_words.proofs.CommandLemmas.{words-say}
 
 -- words that are a command are read as it
 pub read-command : (words : List (List ℕ)) (command : PlainCommand) → IsCommand words command → read_of words ≡ Ok command
 read-command words command is =
-    let kind = kind_in command in
-    let rest = joined is.front ++ flat_map given_words is.given in
-    let all = word_of kind ∷ rest in
+    let kind = is.kind in
+    let all = words_of kind is.front is.given in
     ap read_of is.form.whole
     ∙ ap (read_kind all) (command_kind_of-word kind is.form.known)
     ∙ ap (finish kind all) (command-walks kind is.front is.given words is.form)
-    ∙ ap (λ b. cond b (ok_or (command_in kind all) (length all + 1)) (Err (length all + 1))) (has_needed-command kind is.front is.given words is.form)
-    ∙ ap (λ o. ok_or o (length all + 1)) (command_in-says command is.front is.given is.form.places is.form.options is.says)
+    ∙ ap (λ b. cond b (ok_or (command_in kind (answers_in kind all)) (length all + 1)) (Err (length all + 1))) (has_needed-command kind is.front is.given words is.form)
+    ∙ ap (λ o. ok_or o (length all + 1)) (ap (λ ws. command_in kind (answers_in kind ws)) (sym is.form.whole) ∙ is.says)
 
 -- words of a command's form are a command
 record SomeCommand (words : List (List ℕ)) : Type 0 where
@@ -36,23 +35,15 @@ record SomeCommand (words : List (List ℕ)) : Type 0 where
 
 of_form : (kind : CommandKind) (front : List (List (List ℕ))) (given : List Given) (words : List (List ℕ)) → IsCommandOf kind front given words → SomeCommand words
 of_form kind front given words form =
-    let said = command-says kind front given words form in
-    record {
-      command = said.command;
-      is = record {
-        front = front;
-        given = given;
-        form = subst (λ k. IsCommandOf k front given words) (sym said.of_kind) form;
-        says = said.says;
-      };
-    }
+    let said = words-say kind front given words form in
+    record { command = said.value; is = record { kind = kind; front = front; given = given; form = form; says = said.is } }
 
 -- words that the walk accepts whole, with each option that is needed, are a command
 accepted : (kind : CommandKind) → Contains kinds kind → (rest : List (List ℕ)) → walk kind rest (places_of kind) [] (word_of kind ∷ []) ≡ Ok []
     → has_needed kind (word_of kind ∷ rest) ≡ true
     → SomeCommand (word_of kind ∷ rest)
 accepted kind known rest walked has =
-    let ext = walk-accepts kind rest (places_of kind) [] (word_of kind ∷ []) [] (places-end kind) (open-none (places_of kind)) walked in
+    let ext = walk-accepts kind rest (places_of kind) [] (word_of kind ∷ []) [] (places-run kind) (open-none (places_of kind)) walked in
     let shape = ext.rest in
     let fit = all-from_rest (places_of kind) shape.front shape.places in
     let eq : rest ≡ joined shape.front ++ flat_map given_words shape.given =
@@ -82,9 +73,9 @@ all-said true o number command e = (refl, said o number command e)
 all-said false o number command e = (let no : ⊥ = cc in absurd no)
 
 finish-read : (kind : CommandKind) (words : List (List ℕ)) (r : Result (List Place) ℕ) (command : PlainCommand) → finish kind words r ≡ Ok command
-    → (r ≡ Ok []) × (has_needed kind words ≡ true) × (command_in kind words ≡ Some command)
+    → (r ≡ Ok []) × (has_needed kind words ≡ true) × (command_in kind (answers_in kind words) ≡ Some command)
 finish-read kind words (Err number) command e = (let no : ⊥ = cc in absurd no)
-finish-read kind words (Ok []) command e = (let both = all-said (has_needed kind words) (command_in kind words) (length words + 1) command e in (refl, both.0, both.1))
+finish-read kind words (Ok []) command e = (let both = all-said (has_needed kind words) (command_in kind (answers_in kind words)) (length words + 1) command e in (refl, both.0, both.1))
 finish-read kind words (Ok (place ∷ places)) command e = (let no : ⊥ = cc in absurd no)
 
 -- what is read is the command
@@ -140,7 +131,7 @@ record BeginsAs (word : List ℕ) (rest : List (List ℕ)) : Type 0 where
 begins-walks : (word : List ℕ) (rest : List (List ℕ)) → IsBeginning (word ∷ rest) → BeginsAs word rest
 begins-walks word rest is =
     let form = is.whole.form in
-    let kind = kind_in is.command in
+    let kind = is.whole.kind in
     let others = joined is.whole.front ++ flat_map given_words is.whole.given in
     let whole : word ∷ (rest ++ is.more) ≡ word_of kind ∷ others = form.whole in
     let same : word ≡ word_of kind = cc in
@@ -220,7 +211,7 @@ last-refused false o last number e = cc
 finish-refused : (kind : CommandKind) (words : List (List ℕ)) (r : Result (List Place) ℕ) (number : ℕ) → finish kind words r ≡ Err number
     → (r ≡ Err number) ⊎ ((due : List Place) × (r ≡ Ok due) × (length words + 1 ≡ number))
 finish-refused kind words (Err other) number e = (let same : other ≡ number = cc in inl (ap Err same))
-finish-refused kind words (Ok due) number e = inr (due, refl, last-refused (is_finished kind due words) (command_in kind words) (length words + 1) number e)
+finish-refused kind words (Ok due) number e = inr (due, refl, last-refused (is_finished kind due words) (command_in kind (answers_in kind words)) (length words + 1) number e)
 
 -- the number that is read is that of the refused word
 pub read-refuses : (words : List (List ℕ)) (number : ℕ) → read_of words ≡ Err number → IsRefusedAt words number

@@ -1,23 +1,29 @@
--- What holds of each command, each option and each list of the tables.
-use Rattle.std.proofs.Common.{◌≡◌, ◌≢◌, ℕ, Bool, true, false, not, List, [], ◌∷◌, Option, Some, find, codes, cond, bytes_eq, refl, sym, ap, ◌∙◌, ◌⊎◌, inl, inr, lit<}
-use Rattle.std.specs.List.{Contains, list_all}
-use Rattle.std.proofs.lemmas.Bool.{not-true, false≢true, false_from_ne_true}
+-- What holds of each command, each option and each list of the tables. Each fact computes over the whole table, so that a new row needs no line here.
+use denote.Enum.Bare.{sameb, same_true}
+use Rattle.std.proofs.Common.{◌≡◌, ◌≢◌, ℕ, Bool, true, false, not, ◌&&◌, ◌||◌, List, [], ◌∷◌, ◌++◌, Some, find, is_some, codes, cond, bytes_eq, refl, sym, ap, ◌∙◌, ◌⊎◌, inl, inr}
+use Rattle.std.specs.List.{Contains, flat_map, list_all}
+use Rattle.std.proofs.lemmas.Bool.{not-true, false≢true, false_from_ne_true, or_cases}
 use Rattle.std.proofs.lemmas.Slice.Eq.{bytes_eq-Decides}
 use Rattle.ant_base.specs.Number.{decimal_value}
-use Rattle.command_words.specs.declared.limits.NumberKind.TheVariants.{SeedNumber, RoundCount, WorkerCount, WindowSize, FoeCount, CorpseFood, RestRounds, SideLength, ElementCount}
+use Rattle.command_words.specs.contracts.limits.NumberKind as number
+use Rattle.command_words.specs.contracts.table.Choice as option
+use Rattle.command_words.specs.contracts.table.CommandKind as command
+use Rattle.command_words.specs.declared.limits.NumberKind.{NumberKind}
 use Rattle.command_words.specs.declared.table.NameList.{NameList}
 use Rattle.command_words.specs.declared.table.NameList.TheVariants.{Worlds, Brains}
 use Rattle.command_words.specs.declared.slot.Slot.{Slot}
 use Rattle.command_words.specs.declared.slot.Slot.TheVariants.{FileName, Number, Dumps, Keyword}
+use Rattle.command_words.specs.declared.slot.Place.{Place}
+use Rattle.command_words.specs.declared.slot.Place.TheVariants.{Word, Names}
 use Rattle.command_words.specs.declared.table.CommandKind.{CommandKind}
-use Rattle.command_words.specs.declared.table.CommandKind.TheVariants.{Show, Brain, Minimise, Run, Gen, Cup, View, Workload, Help, Version, Asm, Save, Resume}
 use Rattle.command_words.specs.declared.table.Choice.{Choice}
-use Rattle.command_words.specs.declared.table.Choice.TheVariants.{Seed, Rounds, Dump, Workers, Window, Surround, Corpse, Rest, Stats, Far, Width, Height, Rocks, Blobs}
+use Rattle.command_words.specs.Limits.{number_in}
 use Rattle.command_words.specs.Slots.{fits, is_file_name, is_dumps, dumps_of}
-use Rattle.command_words.specs.Table.{kinds, word_of, choices_of, option_of, keyword_of}
+use Rattle.command_words.specs.Table.{kinds, word_of, places_of, choices_of, option_of, values_of, keyword_of}
 use Rattle.command_words.specs.Inner.Walk.{command_kind_of, choice_of}
 use Rattle.list_lemmas.proofs.Elements.{Contains-none, Contains-cases}
-use Rattle.command_words.proofs.ListLemmas.{list_all-at, find-passes, find-Contains}
+use Rattle.command_words.proofs.EveryValue.{each-passes}
+use Rattle.command_words.proofs.ListLemmas.{find-passes, find-Contains}
 
 pub bytes_eq-same : (word : List ℕ) → bytes_eq word word ≡ true
 bytes_eq-same word = (bytes_eq-Decides word word).1 refl
@@ -36,83 +42,44 @@ find-word {X = X} word same (other ∷ list) x has =
     go false e (inr later) rest = rest later
     go false e (inl here) rest = absurd (false≢true (sym e ∙ ap (λ o. bytes_eq (word o) (word x)) here ∙ bytes_eq-same (word x)))
 
--- each option, whether it is known or not
-choices : List Choice
-choices = Seed ∷ Rounds ∷ Dump ∷ Workers ∷ Window ∷ Surround ∷ Corpse ∷ Rest ∷ Stats ∷ Far ∷ Width ∷ Height ∷ Rocks ∷ Blobs ∷ []
+-- the options of all commands
+abbrev choices : List Choice
+choices = flat_map choices_of kinds
 
-choices-all : (choice : Choice) → Contains choices choice
-unfolding choices
-choices-all Seed = (0, lit< tt, refl)
-choices-all Rounds = (1, lit< tt, refl)
-choices-all Dump = (2, lit< tt, refl)
-choices-all Workers = (3, lit< tt, refl)
-choices-all Window = (4, lit< tt, refl)
-choices-all Surround = (5, lit< tt, refl)
-choices-all Corpse = (6, lit< tt, refl)
-choices-all Rest = (7, lit< tt, refl)
-choices-all Stats = (8, lit< tt, refl)
-choices-all Far = (9, lit< tt, refl)
-choices-all Width = (10, lit< tt, refl)
-choices-all Height = (11, lit< tt, refl)
-choices-all Rocks = (12, lit< tt, refl)
-choices-all Blobs = (13, lit< tt, refl)
+-- what all options pass, and all commands
+each_option : (p : Choice → Bool) → list_all p choices ≡ true → (choice : Choice) → p choice ≡ true
+each_option p passes choice = each-passes option.the_type tt choices refl p passes choice
 
--- the option of a word
-option_named : List ℕ → Option Choice
-unfolding choices
-option_named word = find (λ choice. bytes_eq (option_of choice) word) choices
+each_command : (p : CommandKind → Bool) → list_all p kinds ≡ true → (kind : CommandKind) → p kind ≡ true
+each_command p passes kind = each-passes command.the_type tt kinds refl p passes kind
 
-option_named-word : (choice : Choice) → option_named (option_of choice) ≡ Some choice
-unfolding option_named choices
-option_named-word Seed = refl
-option_named-word Rounds = refl
-option_named-word Dump = refl
-option_named-word Workers = refl
-option_named-word Window = refl
-option_named-word Surround = refl
-option_named-word Corpse = refl
-option_named-word Rest = refl
-option_named-word Stats = refl
-option_named-word Far = refl
-option_named-word Width = refl
-option_named-word Height = refl
-option_named-word Rocks = refl
-option_named-word Blobs = refl
+-- two that are one, or have two words
+abbrev options_apart : Choice → Choice → Bool
+options_apart a b = not (bytes_eq (option_of a) (option_of b)) || sameb option.the_type a b
+
+abbrev commands_apart : CommandKind → CommandKind → Bool
+commands_apart a b = not (bytes_eq (word_of a) (word_of b)) || sameb command.the_type a b
 
 -- two options have two words
 pub same_option : (a b : Choice) → bytes_eq (option_of a) (option_of b) ≡ true → a ≡ b
 same_option a b e =
-    let same = (bytes_eq-Decides (option_of a) (option_of b)).0 e in
-    let both : Some a ≡ Some b = sym (option_named-word a) ∙ ap option_named same ∙ option_named-word b in cc
+    let apart = each_option (options_apart a) (each_option (λ a. list_all (options_apart a) choices) refl a) b in
+    elim (or_cases (not (bytes_eq (option_of a) (option_of b))) (sameb option.the_type a b) apart) [
+      | inl differ ↦ absurd (false≢true (sym (not-true (bytes_eq (option_of a) (option_of b)) differ) ∙ e))
+      | inr same ↦ same_true option.the_type tt a b same
+    ]
 
 pub same_option-differs : (a b : Choice) → a ≢ b → bytes_eq (option_of a) (option_of b) ≡ false
 same_option-differs a b differ = false_from_ne_true (bytes_eq (option_of a) (option_of b)) (λ e. differ (same_option a b e))
 
--- the command of a word, known or not
-kind_named : List ℕ → Option CommandKind
-kind_named word = find (λ kind. bytes_eq (word_of kind) word) (Show ∷ Brain ∷ Minimise ∷ Run ∷ Gen ∷ Cup ∷ View ∷ Workload ∷ Help ∷ Version ∷ Asm ∷ Save ∷ Resume ∷ [])
-
-kind_named-word : (kind : CommandKind) → kind_named (word_of kind) ≡ Some kind
-unfolding kind_named
-kind_named-word Show = refl
-kind_named-word Brain = refl
-kind_named-word Minimise = refl
-kind_named-word Run = refl
-kind_named-word Gen = refl
-kind_named-word Cup = refl
-kind_named-word View = refl
-kind_named-word Workload = refl
-kind_named-word Help = refl
-kind_named-word Version = refl
-kind_named-word Asm = refl
-kind_named-word Save = refl
-kind_named-word Resume = refl
-
 -- two commands have two words
 same_kind : (a b : CommandKind) → bytes_eq (word_of a) (word_of b) ≡ true → a ≡ b
 same_kind a b e =
-    let same = (bytes_eq-Decides (word_of a) (word_of b)).0 e in
-    let both : Some a ≡ Some b = sym (kind_named-word a) ∙ ap kind_named same ∙ kind_named-word b in cc
+    let apart = each_command (commands_apart a) (each_command (λ a. list_all (commands_apart a) kinds) refl a) b in
+    elim (or_cases (not (bytes_eq (word_of a) (word_of b))) (sameb command.the_type a b) apart) [
+      | inl differ ↦ absurd (false≢true (sym (not-true (bytes_eq (word_of a) (word_of b)) differ) ∙ e))
+      | inr same ↦ same_true command.the_type tt a b same
+    ]
 
 -- a word that fits each slot
 pub sample : Slot → List ℕ
@@ -121,23 +88,28 @@ sample (Number kind) = codes "5"
 sample Dumps = codes "all"
 sample (Keyword list) = keyword_of list
 
+-- the kinds of number that places ask for
+abbrev numbers_at : List Place → List NumberKind
+numbers_at [] = []
+numbers_at (Word (Number kind) ∷ places) = kind ∷ numbers_at places
+numbers_at (place ∷ places) = numbers_at places
+
+abbrev numbers : List NumberKind
+numbers = flat_map (λ kind. numbers_at (places_of kind)) kinds ++ flat_map (λ choice. numbers_at (values_of choice)) choices
+
+five_fits : (kind : NumberKind) → is_some (number_in kind (codes "5")) ≡ true
+unfolding decimal_value
+five_fits kind = each-passes number.the_type tt numbers refl (λ kind. is_some (number_in kind (codes "5"))) refl kind
+
 pub sample-fits : (slot : Slot) → fits slot (sample slot) ≡ true
 unfolding sample is_file_name is_dumps dumps_of decimal_value
 sample-fits FileName = refl
-sample-fits (Number SeedNumber) = refl
-sample-fits (Number RoundCount) = refl
-sample-fits (Number WorkerCount) = refl
-sample-fits (Number WindowSize) = refl
-sample-fits (Number FoeCount) = refl
-sample-fits (Number CorpseFood) = refl
-sample-fits (Number RestRounds) = refl
-sample-fits (Number SideLength) = refl
-sample-fits (Number ElementCount) = refl
+sample-fits (Number kind) = five_fits kind
 sample-fits Dumps = refl
 sample-fits (Keyword list) = bytes_eq-same (keyword_of list)
 
 no_option_fits : (slot : Slot) → list_all (λ choice. not (fits slot (option_of choice))) choices ≡ true
-unfolding choices is_file_name is_dumps dumps_of decimal_value
+unfolding is_file_name is_dumps dumps_of decimal_value
 no_option_fits FileName = refl
 no_option_fits (Number kind) = refl
 no_option_fits Dumps = refl
@@ -147,7 +119,21 @@ no_option_fits (Keyword Brains) = refl
 -- no option's word fits a slot
 pub option-unfit : (slot : Slot) (choice : Choice) → fits slot (option_of choice) ≡ false
 option-unfit slot choice =
-    not-true (fits slot (option_of choice)) (list_all-at (λ choice. not (fits slot (option_of choice))) choices choice (no_option_fits slot) (choices-all choice))
+    not-true (fits slot (option_of choice)) (each_option (λ choice. not (fits slot (option_of choice))) (no_option_fits slot) choice)
+
+-- nor does a word without a byte
+pub empty-unfit : (slot : Slot) → fits slot [] ≡ false
+unfolding is_file_name is_dumps dumps_of decimal_value
+empty-unfit FileName = refl
+empty-unfit (Number kind) = refl
+empty-unfit Dumps = refl
+empty-unfit (Keyword Worlds) = refl
+empty-unfit (Keyword Brains) = refl
+
+-- a list's word
+abbrev pub is_keyword : Slot → Bool
+is_keyword (Keyword list) = true
+is_keyword slot = false
 
 -- no list's word is a file name
 pub keyword-no_name : (list : NameList) → is_file_name (keyword_of list) ≡ false
@@ -155,27 +141,71 @@ unfolding is_file_name
 keyword-no_name Worlds = refl
 keyword-no_name Brains = refl
 
-no_option_first : (kind : CommandKind) → list_all (λ choice. not (bytes_eq (word_of kind) (option_of choice))) choices ≡ true
-unfolding choices
-no_option_first Show = refl
-no_option_first Brain = refl
-no_option_first Minimise = refl
-no_option_first Run = refl
-no_option_first Gen = refl
-no_option_first Cup = refl
-no_option_first View = refl
-no_option_first Workload = refl
-no_option_first Help = refl
-no_option_first Version = refl
-no_option_first Asm = refl
-no_option_first Save = refl
-no_option_first Resume = refl
+-- no list's word is that of an option
+pub keyword-not_option : (list : NameList) (choice : Choice) → bytes_eq (option_of choice) (keyword_of list) ≡ false
+keyword-not_option Worlds choice = not-true (bytes_eq (option_of choice) (keyword_of Worlds)) (each_option (λ choice. not (bytes_eq (option_of choice) (keyword_of Worlds))) refl choice)
+keyword-not_option Brains choice = not-true (bytes_eq (option_of choice) (keyword_of Brains)) (each_option (λ choice. not (bytes_eq (option_of choice) (keyword_of Brains))) refl choice)
+
+-- nor that of a command
+pub keyword-not_first : (list : NameList) (kind : CommandKind) → bytes_eq (word_of kind) (keyword_of list) ≡ false
+keyword-not_first Worlds kind = not-true (bytes_eq (word_of kind) (keyword_of Worlds)) (each_command (λ kind. not (bytes_eq (word_of kind) (keyword_of Worlds))) refl kind)
+keyword-not_first Brains kind = not-true (bytes_eq (word_of kind) (keyword_of Brains)) (each_command (λ kind. not (bytes_eq (word_of kind) (keyword_of Brains))) refl kind)
+
+-- nor does it fit another slot
+pub keyword-unfit : (list : NameList) (slot : Slot) → is_keyword slot ≡ false → fits slot (keyword_of list) ≡ false
+unfolding is_dumps dumps_of decimal_value
+keyword-unfit list FileName other = keyword-no_name list
+keyword-unfit Worlds (Number kind) other = refl
+keyword-unfit Brains (Number kind) other = refl
+keyword-unfit Worlds Dumps other = refl
+keyword-unfit Brains Dumps other = refl
+keyword-unfit list (Keyword same) other = absurd (false≢true (sym other))
 
 -- no option's word is a command's first word
 pub option-not_first : (kind : CommandKind) (choice : Choice) → bytes_eq (word_of kind) (option_of choice) ≡ false
 option-not_first kind choice =
     not-true (bytes_eq (word_of kind) (option_of choice))
-    (list_all-at (λ choice. not (bytes_eq (word_of kind) (option_of choice))) choices choice (no_option_first kind) (choices-all choice))
+    (each_option (λ choice. not (bytes_eq (word_of kind) (option_of choice)))
+    (each_command (λ kind. list_all (λ choice. not (bytes_eq (word_of kind) (option_of choice))) choices) refl kind) choice)
+
+-- a word has a byte
+abbrev pub has_byte : List ℕ → Bool
+has_byte [] = false
+has_byte (byte ∷ word) = true
+
+pub command-byte : (kind : CommandKind) → has_byte (word_of kind) ≡ true
+command-byte kind = each_command (λ kind. has_byte (word_of kind)) refl kind
+
+pub option-byte : (choice : Choice) → has_byte (option_of choice) ≡ true
+option-byte choice = each_option (λ choice. has_byte (option_of choice)) refl choice
+
+-- the places end, or go on with a list's word
+abbrev pub stops : List Place → Bool
+stops [] = true
+stops (Word slot ∷ places) = is_keyword slot
+stops (Names list ∷ places) = false
+
+-- names are followed by a list's word, or by no place
+abbrev pub runs_end : List Place → Bool
+runs_end [] = true
+runs_end (Word slot ∷ places) = runs_end places
+runs_end (Names list ∷ places) = stops places && runs_end places
+
+pub places-end : (kind : CommandKind) → runs_end (places_of kind) ≡ true
+places-end kind = each_command (λ kind. runs_end (places_of kind)) refl kind
+
+-- an option has one word behind its own, or none, and no list
+abbrev pub is_short : List Place → Bool
+is_short [] = true
+is_short (Word slot ∷ []) = not (is_keyword slot)
+is_short (Word slot ∷ place ∷ places) = false
+is_short (Names list ∷ places) = false
+
+pub values-short : (choice : Choice) → is_short (values_of choice) ≡ true
+values-short choice = each_option (λ choice. is_short (values_of choice)) refl choice
+
+pub values-end : (choice : Choice) → runs_end (values_of choice) ≡ true
+values-end choice = each_option (λ choice. runs_end (values_of choice)) refl choice
 
 -- each known command is found by its first word
 pub command_kind_of-word : (kind : CommandKind) → Contains kinds kind → command_kind_of (word_of kind) ≡ Some kind

@@ -11,8 +11,7 @@ use Rattle.command_words.specs.declared.table.CommandKind.{CommandKind}
 use Rattle.command_words.specs.declared.table.Choice.{Choice}
 use Rattle.command_words.specs.Slots.{is_file_name, fits, FitsPlace}
 use Rattle.command_words.specs.Table.{option_of, values_of}
-use Rattle.command_words.specs.Command.{Given, given_words, joined, FitAll, IsOptionOf, IsGiven}
-use Rattle.command_words.specs.Inner.Walk.{is_among}
+use Rattle.command_words.specs.Command.{Given, given_words, joined, FitAll, IsOptionOf, IsGiven, is_among}
 use Rattle.command_words.proofs.WalkSearch.{is_among-append, is_among-none, is_among-one, is_among-cons, Unlike, is_among-unlike}
 use Rattle.list_lemmas.proofs.AllElements.{AllByRecursion-append, AllByRecursion-weaker}
 use Rattle.list_lemmas.proofs.Elements.{Contains-none, Contains-first, Contains-later, Contains-cases}

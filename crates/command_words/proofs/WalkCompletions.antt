@@ -17,7 +17,7 @@ use Rattle.command_words.proofs.TableLemmas.{option-not_first, same_option, byte
 use Rattle.command_words.proofs.WalkSearch.{is_among-one}
 use Rattle.command_words.proofs.WalkAmong.{is_among-neither, is_among-fit}
 use Rattle.command_words.proofs.WalkShapes.{IsNew, sample_part, samples-fit, walk-accepts, walk-places, walk-options}
-use Rattle.command_words.proofs.WalkNames.{open-none, rest-from_all, all-from_rest, places-end, given-no_name}
+use Rattle.command_words.proofs.WalkNames.{open-none, rest-from_all, all-from_rest, places-run, given-no_name}
 
 -- the options that are given
 abbrev chosen : List Given → List Choice
@@ -104,7 +104,7 @@ pub record Extends (kind : CommandKind) (words : List (List ℕ)) : Type 0 where
 pub walk-extends : (kind : CommandKind) → Contains kinds kind → (words : List (List ℕ)) (later : List Place)
     → walk kind words (places_of kind) [] (word_of kind ∷ []) ≡ Ok later → Extends kind (word_of kind ∷ words)
 walk-extends kind known words later e =
-    let ext = walk-accepts kind words (places_of kind) [] (word_of kind ∷ []) later (places-end kind) (open-none (places_of kind)) e in
+    let ext = walk-accepts kind words (places_of kind) [] (word_of kind ∷ []) later (places-run kind) (open-none (places_of kind)) e in
     let rest = ext.rest in
     let all = complete kind rest.given (choices_of kind) (λ choice has. has) rest.options rest.once in
     record {
@@ -140,6 +140,6 @@ all-new kind places front (g ∷ given) fit = (
 pub command-walks : (kind : CommandKind) (front : List (List (List ℕ))) (given : List Given) (words : List (List ℕ)) → IsCommandOf kind front given words
     → walk kind (joined front ++ flat_map given_words given) (places_of kind) [] (word_of kind ∷ []) ≡ Ok []
 command-walks kind front given words form =
-    walk-places kind (places_of kind) [] front (flat_map given_words given) (word_of kind ∷ []) (places-end kind) (rest-from_all (places_of kind) front form.places)
+    walk-places kind (places_of kind) [] front (flat_map given_words given) (word_of kind ∷ []) (places-run kind) (rest-from_all (places_of kind) front form.places)
     (given-no_name given)
     ∙ walk-options kind given (word_of kind ∷ joined front) form.options form.once (all-new kind (places_of kind) front given form.places)

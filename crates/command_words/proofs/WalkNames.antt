@@ -6,20 +6,19 @@ use Rattle.std.proofs.lemmas.List.{append-nil, append_assoc, length-append, leng
 use Rattle.std.proofs.lemmas.Slice.Eq.{bytes_eq-Decides}
 use Rattle.command_words.specs.declared.table.NameList.{NameList}
 use Rattle.command_words.specs.declared.table.NameList.TheVariants.{Worlds, Brains}
+use Rattle.command_words.specs.declared.slot.Slot.{Slot}
 use Rattle.command_words.specs.declared.slot.Slot.TheVariants.{FileName, Number, Dumps, Keyword}
 use Rattle.command_words.specs.declared.slot.Place.{Place}
 use Rattle.command_words.specs.declared.slot.Place.TheVariants.{Word, Names}
 use Rattle.command_words.specs.declared.table.CommandKind.{CommandKind}
-use Rattle.command_words.specs.declared.table.CommandKind.TheVariants.{Show, Brain, Minimise, Run, Gen, Cup, View, Workload, Help, Version, Asm, Save, Resume}
 use Rattle.command_words.specs.declared.table.Choice.{Choice}
-use Rattle.command_words.specs.declared.table.Choice.TheVariants.{Seed, Rounds, Dump, Workers, Window, Surround, Corpse, Rest, Stats, Far, Width, Height, Rocks, Blobs}
-use Rattle.command_words.specs.Slots.{is_file_name, AllDiffer, AreNames, FitsPlace}
+use Rattle.command_words.specs.Slots.{fits, is_file_name, AllDiffer, AreNames, FitsPlace}
 use Rattle.command_words.specs.Table.{places_of, values_of, keyword_of, fewest_names, most_names, must_differ}
-use Rattle.command_words.specs.Command.{Given, given_words, joined, FitAll}
-use Rattle.command_words.specs.Inner.Walk.{is_among, has_enough, is_repeated, may_follow, closed, due_after, names_after, go_on, walk}
+use Rattle.command_words.specs.Command.{Given, given_words, is_among, joined, FitAll}
+use Rattle.command_words.specs.Inner.Walk.{has_enough, is_repeated, may_follow, closed, due_after, names_after, go_on, walk}
 use Rattle.command_words.proofs.WalkSearch.{is_among-none, is_among-cons, is_among-next, NoName}
 use Rattle.list_lemmas.proofs.AllElements.{AllByRecursion-push}
-use Rattle.command_words.proofs.TableLemmas.{option-unfit, keyword-no_name}
+use Rattle.command_words.proofs.TableLemmas.{is_keyword, keyword-no_name, option-unfit, places-end, runs_end, stops, values-end}
 
 -- some words may be the first names of a list
 pub record MayBe (list : NameList) (names : List (List ℕ)) : Type 0 where
@@ -67,11 +66,13 @@ all-from_rest (Names list ∷ places) (part ∷ parts) fit = (fit.0, fit.1)
 -- the places end, or go on with a list's word
 abbrev pub Stops : List Place → Type 0
 Stops [] = Unit {0}
-Stops (Word FileName ∷ places) = ⊥
-Stops (Word (Number kind) ∷ places) = ⊥
-Stops (Word Dumps ∷ places) = ⊥
-Stops (Word (Keyword list) ∷ places) = Unit {0}
+Stops (Word slot ∷ places) = is_keyword slot ≡ true
 Stops (Names list ∷ places) = ⊥
+
+Stops-from : (places : List Place) → stops places ≡ true → Stops places
+Stops-from [] e = tt
+Stops-from (Word slot ∷ places) e = e
+Stops-from (Names list ∷ places) e = false≢true e
 
 -- names are followed by a list's word, or by no place
 abbrev pub RunsEnd : List Place → Type 0
@@ -79,36 +80,18 @@ RunsEnd [] = Unit {0}
 RunsEnd (Word slot ∷ places) = RunsEnd places
 RunsEnd (Names list ∷ places) = Stops places × RunsEnd places
 
-pub places-end : (kind : CommandKind) → RunsEnd (places_of kind)
-places-end Show = tt
-places-end Brain = tt
-places-end Minimise = tt
-places-end Run = tt
-places-end Gen = tt
-places-end Cup = (tt, (tt, tt))
-places-end View = tt
-places-end Workload = tt
-places-end Help = tt
-places-end Version = tt
-places-end Asm = tt
-places-end Save = tt
-places-end Resume = tt
+RunsEnd-from : (places : List Place) → runs_end places ≡ true → RunsEnd places
+RunsEnd-from [] e = tt
+RunsEnd-from (Word slot ∷ places) e = RunsEnd-from places e
+RunsEnd-from (Names list ∷ places) e =
+    let parts = and_parts (stops places) (runs_end places) e in
+    (Stops-from places parts.0, RunsEnd-from places parts.1)
 
-pub values-end : (choice : Choice) → RunsEnd (values_of choice)
-values-end Seed = tt
-values-end Rounds = tt
-values-end Dump = tt
-values-end Workers = tt
-values-end Window = tt
-values-end Surround = tt
-values-end Corpse = tt
-values-end Rest = tt
-values-end Stats = tt
-values-end Far = tt
-values-end Width = tt
-values-end Height = tt
-values-end Rocks = tt
-values-end Blobs = tt
+pub places-run : (kind : CommandKind) → RunsEnd (places_of kind)
+places-run kind = RunsEnd-from (places_of kind) (places-end kind)
+
+pub values-run : (choice : Choice) → RunsEnd (values_of choice)
+values-run choice = RunsEnd-from (values_of choice) (values-end choice)
 
 pub rest-stops : (places : List Place) (names : List (List ℕ)) (parts : List (List (List ℕ))) → Stops places → FitRest places names parts → FitAll places parts
 rest-stops [] names [] stops fit = tt
@@ -209,8 +192,11 @@ pub names-enough : (list : NameList) (names : List (List ℕ)) → AreNames list
 names-enough list names are = le-leb (fewest_names list) (length names) are.enough
 
 -- what is a list's word is no name
-pub keyword-ends : (list : NameList) (word : List ℕ) → bytes_eq word (keyword_of list) ≡ true → is_file_name word ≡ false
-keyword-ends list word same = ap is_file_name ((bytes_eq-Decides word (keyword_of list)).0 same) ∙ keyword-no_name list
+pub keyword-ends : (slot : Slot) (word : List ℕ) → is_keyword slot ≡ true → fits slot word ≡ true → is_file_name word ≡ false
+keyword-ends FileName word is same = absurd (false≢true is)
+keyword-ends (Number kind) word is same = absurd (false≢true is)
+keyword-ends Dumps word is same = absurd (false≢true is)
+keyword-ends (Keyword list) word is same = ap is_file_name ((bytes_eq-Decides word (keyword_of list)).0 same) ∙ keyword-no_name list
 
 -- the words of places that stop names begin with no name
 pub stops-no_name : (due : List Place) (parts : List (List (List ℕ))) (words : List (List ℕ)) → Stops due → FitAll due parts → NoName words
@@ -218,12 +204,9 @@ pub stops-no_name : (due : List Place) (parts : List (List (List ℕ))) (words :
 stops-no_name [] [] words stops fit no_name = no_name
 stops-no_name [] (part ∷ parts) words stops fit no_name = elim fit [ ]
 stops-no_name (place ∷ due) [] words stops fit no_name = elim fit [ ]
-stops-no_name (Word FileName ∷ due) (part ∷ parts) words stops fit no_name = elim stops [ ]
-stops-no_name (Word (Number kind) ∷ due) (part ∷ parts) words stops fit no_name = elim stops [ ]
-stops-no_name (Word Dumps ∷ due) (part ∷ parts) words stops fit no_name = elim stops [ ]
-stops-no_name (Word (Keyword list) ∷ due) ([] ∷ parts) words stops fit no_name = elim fit.0 [ ]
-stops-no_name (Word (Keyword list) ∷ due) ((word ∷ []) ∷ parts) words stops fit no_name = keyword-ends list word fit.0
-stops-no_name (Word (Keyword list) ∷ due) ((word ∷ other ∷ more) ∷ parts) words stops fit no_name = elim fit.0 [ ]
+stops-no_name (Word slot ∷ due) ([] ∷ parts) words stops fit no_name = elim fit.0 [ ]
+stops-no_name (Word slot ∷ due) ((word ∷ []) ∷ parts) words stops fit no_name = keyword-ends slot word stops fit.0
+stops-no_name (Word slot ∷ due) ((word ∷ other ∷ more) ∷ parts) words stops fit no_name = elim fit.0 [ ]
 stops-no_name (Names list ∷ due) (part ∷ parts) words stops fit no_name = elim stops [ ]
 
 -- options begin with no name

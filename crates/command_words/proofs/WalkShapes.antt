@@ -11,13 +11,13 @@ use Rattle.command_words.specs.declared.table.CommandKind.{CommandKind}
 use Rattle.command_words.specs.declared.table.Choice.{Choice}
 use Rattle.command_words.specs.Slots.{is_file_name, fits, AreNames}
 use Rattle.command_words.specs.Table.{choices_of, option_of, values_of}
-use Rattle.command_words.specs.Command.{Given, given_words, joined, FitAll, IsOptionOf, NoneTwice}
-use Rattle.command_words.specs.Inner.Walk.{choice_of, is_among, has_enough, may_follow, closed, reached, due_after_option, due_after, names_after, go_on, walk}
+use Rattle.command_words.specs.Command.{Given, given_words, joined, FitAll, IsOptionOf, NoneTwice, is_among}
+use Rattle.command_words.specs.Inner.Walk.{choice_of, has_enough, may_follow, closed, reached, due_after_option, due_after, names_after, go_on, walk}
 use Rattle.list_lemmas.proofs.AllElements.{AllByRecursion-weaker}
 use Rattle.command_words.proofs.TableLemmas.{sample, sample-fits, choice_of-found, choice_of-known, choice_of-option, same_option-differs, bytes_eq-same}
 use Rattle.command_words.proofs.WalkSearch.{is_among-one, NoName}
 use Rattle.command_words.proofs.WalkAmong.{is_among-fewer, is_among-neither, is_among-fit}
-use Rattle.command_words.proofs.WalkNames.{MayBe, IsOpen, open-none, FitRest, rest-from_all, all-from_rest, Stops, RunsEnd, values-end, rest-stops, further, walk-same, run-ends, walk-run, names-enough, stops-no_name, given-no_name, lacking, lacks_none, open-more}
+use Rattle.command_words.proofs.WalkNames.{MayBe, IsOpen, open-none, FitRest, rest-from_all, all-from_rest, Stops, RunsEnd, values-run, rest-stops, further, walk-same, run-ends, walk-run, names-enough, stops-no_name, given-no_name, lacking, lacks_none, open-more}
 
 -- a word may stand where the walk goes on
 pub stands : (o : Option (List Place)) (n : ℕ) (next : List Place → Result (List Place) ℕ) (later : List Place) → go_on o n next ≡ Ok later
@@ -193,7 +193,7 @@ accepts-option kind words rest_of names before word later e =
     let option = stands-option (choice_of kind word) (is_among word before) go.0 go.1 in
     let here = choice_of-found kind word option.0 option.1 in
     let walked : walk kind words (values_of option.0) [] (before ++ word ∷ []) ≡ Ok later = ap (λ due. walk kind words due [] (before ++ word ∷ [])) option.3 ∙ go.2 in
-    let ext = rest_of (values_of option.0) [] (before ++ word ∷ []) later (values-end option.0) (open-none (values_of option.0)) walked in
+    let ext = rest_of (values_of option.0) [] (before ++ word ∷ []) later (values-run option.0) (open-none (values_of option.0)) walked in
     let fresh : is_among (option_of option.0) before ≡ false = ap (λ w. is_among w before) (sym here) ∙ option.2 in
     record {
       more = ext.more;
@@ -319,7 +319,7 @@ walk-options kind (g ∷ given) before options once new =
     let next : List Place → Result (List Place) ℕ = λ later. walk kind words later [] (before ++ option_of g.choice ∷ []) in
     ap (λ o. go_on (due_after_option o (is_among (option_of g.choice) before)) (length before + 1) next) (choice_of-option kind g.choice options.0.known)
     ∙ ap (λ b. go_on (due_after_option (Some g.choice) b) (length before + 1) next) new.0
-    ∙ walk-places kind (values_of g.choice) [] g.values (flat_map given_words given) (before ++ option_of g.choice ∷ []) (values-end g.choice)
+    ∙ walk-places kind (values_of g.choice) [] g.values (flat_map given_words given) (before ++ option_of g.choice ∷ []) (values-run g.choice)
     (rest-from_all (values_of g.choice) g.values options.0.fit) (given-no_name given)
     ∙ walk-options kind given ((before ++ option_of g.choice ∷ []) ++ joined g.values) options.1 once.1
     (still-new before g.choice g.values (values_of g.choice) given options.0.fit once.0 new.1)

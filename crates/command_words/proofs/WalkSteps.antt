@@ -7,7 +7,8 @@ use Rattle.command_words.specs.declared.slot.Place.{Place}
 use Rattle.command_words.specs.declared.slot.Place.TheVariants.{Word, Names}
 use Rattle.command_words.specs.declared.table.CommandKind.{CommandKind}
 use Rattle.command_words.specs.Slots.{is_file_name}
-use Rattle.command_words.specs.Inner.Walk.{is_among, rest_after, names_front, reached, due_after, names_after, takes_names, go_on, walk}
+use Rattle.command_words.specs.Command.{is_among, rest_after, names_front}
+use Rattle.command_words.specs.Inner.Walk.{reached, due_after, names_after, takes_names, go_on, walk}
 use Rattle.command_words.specs.Words.{texts}
 use Rattle.command_words.proofs.WalkSearch.{is_among-none, is_among-first, is_among-next, rest_after-none, rest_after-first, rest_after-next}
 

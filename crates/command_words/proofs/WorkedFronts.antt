@@ -1,8 +1,8 @@
 -- Words that are fronts of a command's own words, refused at their word.
 use Rattle.std.proofs.Common.{codes, refl}
 use Rattle.ant_base.specs.Number.{decimal_value}
-use Rattle.command_words.specs.Command.{IsRefusedAt}
-use Rattle.command_words.specs.Inner.Walk.{command_kind_of, choice_of, is_among, rest_after}
+use Rattle.command_words.specs.Command.{IsRefusedAt, is_among, rest_after}
+use Rattle.command_words.specs.Inner.Walk.{command_kind_of, choice_of}
 use Rattle.command_words.specs.Slots.{dumps_of, is_dumps, is_file_name}
 use Rattle.command_words.proofs.ReadLemmas.{read-refuses}
 use Rattle.command_words.proofs.WorkedLines.{words_of}

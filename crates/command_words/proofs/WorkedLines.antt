@@ -5,10 +5,10 @@ use Rattle.ant_base.specs.Number.{decimal_value}
 use Rattle.command_words.specs.declared.command.GenShape.{GenShape}
 use Rattle.command_words.specs.Slots.{is_file_name, is_dumps, dumps_of, DumpChoice}
 use Rattle.command_words.specs.Slots.DumpChoice.{NoDump, EveryDump, ChosenDumps}
-use Rattle.command_words.specs.Command.{ResumeSetup, RunSetup, IsCommand, IsRefusedAt}
+use Rattle.command_words.specs.Command.{ResumeSetup, RunSetup, IsCommand, IsRefusedAt, is_among, rest_after}
 use Rattle.command_words.specs.Far.{words_without_far}
-use Rattle.command_words.specs.Command.PlainCommand.{ShowCommand, BrainCommand, MinimiseCommand, RunCommand, GenCommand, CupCommand, WorkloadCommand, AsmCommand, SaveCommand}
-use Rattle.command_words.specs.Inner.Walk.{command_kind_of, choice_of, is_among, rest_after}
+use Rattle.command_words.specs.Command.PlainCommand.{ShowCommand, BrainCommand, MinimiseCommand, RunCommand, GenCommand, CupCommand, WorkloadCommand, HelpCommand, AsmCommand, SaveCommand}
+use Rattle.command_words.specs.Inner.Walk.{command_kind_of, choice_of}
 use Rattle.command_words.proofs.ReadLemmas.{read-accepts, read-refuses}
 
 -- the words of a line with one space between each two
@@ -165,6 +165,19 @@ help_command = read-accepts (words_of (codes "--help")) HelpCommand refl
 pub version_command : IsCommand (words_of (codes "--version")) VersionCommand
 unfolding command_kind_of choice_of is_among rest_after is_file_name is_dumps dumps_of decimal_value
 version_command = read-accepts (words_of (codes "--version")) VersionCommand refl
+
+-- the word without dashes asks for the commands too
+pub help_word : IsCommand (words_of (codes "help")) HelpCommand
+unfolding command_kind_of choice_of is_among rest_after is_file_name is_dumps dumps_of decimal_value
+help_word = read-accepts (words_of (codes "help")) HelpCommand refl
+
+pub help_word_alone : IsRefusedAt (words_of (codes "help run")) 2
+unfolding command_kind_of choice_of is_among rest_after is_file_name is_dumps dumps_of decimal_value
+help_word_alone = read-refuses (words_of (codes "help run")) 2 refl
+
+pub help_spelled_otherwise : IsRefusedAt (words_of (codes "Help")) 1
+unfolding command_kind_of choice_of is_among rest_after is_file_name is_dumps dumps_of decimal_value
+help_spelled_otherwise = read-refuses (words_of (codes "Help")) 1 refl
 
 -- they stand alone, and behind no other command
 pub help_alone : IsRefusedAt (words_of (codes "--help run")) 2

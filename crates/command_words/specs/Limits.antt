@@ -1,5 +1,5 @@
 -- The numbers that words may say, a row a kind.
-use Rattle.std.specs.Prelude.{ℕ, List, Option}
+use Rattle.std.specs.Prelude.{ℕ, ◌≤◌, List, Option}
 use Rattle.ant_base.specs.Number.{number_within}
 use Rattle.command_words.specs.declared.limits.NumberKind.{NumberKind}
 use Rattle.command_words.specs.declared.limits.NumberKind.TheVariants.{SeedNumber, RoundCount, WorkerCount, WindowSize, FoeCount, CorpseFood, RestRounds, SideLength, ElementCount}
@@ -31,3 +31,7 @@ most_of ElementCount = 255
 -- the number of a kind that a word says: 1 to 10 decimal digits, within the kind's limits
 abbrev pub number_in : NumberKind → List ℕ → Option ℕ
 number_in kind word = number_within (least_of kind) (most_of kind) word
+
+-- a number is within the limits of its kind
+abbrev pub IsWithin : NumberKind → ℕ → Type 0
+IsWithin kind number = (least_of kind ≤ number) × (number ≤ most_of kind)

@@ -1,118 +1,108 @@
 -- The commands, their options and their lists of names, a row each.
 use Rattle.std.specs.Prelude.{ℕ, Bool, true, false, List, [], ◌∷◌, codes}
-use Rattle.command_words.specs.declared.limits.NumberKind.TheVariants.{SeedNumber, RoundCount, WorkerCount, WindowSize, FoeCount, CorpseFood, RestRounds, SideLength, ElementCount}
+use Rattle.command_words.specs.declared.limits.NumberKind.{NumberKind}
+use Rattle.command_words.specs.declared.limits.NumberKind.TheVariants.{SeedNumber, RoundCount, WorkerCount}
 use Rattle.command_words.specs.declared.table.NameList.{NameList}
 use Rattle.command_words.specs.declared.table.NameList.TheVariants.{Worlds, Brains}
-use Rattle.command_words.specs.declared.slot.Slot.TheVariants.{FileName, Number, Dumps, Keyword}
+use Rattle.command_words.specs.declared.slot.Slot.{Slot}
+use Rattle.command_words.specs.declared.slot.Slot.TheVariants.{FileName, Number, Keyword}
 use Rattle.command_words.specs.declared.slot.Place.{Place}
 use Rattle.command_words.specs.declared.slot.Place.TheVariants.{Word, Names}
 use Rattle.command_words.specs.declared.table.CommandKind.{CommandKind}
-use Rattle.command_words.specs.declared.table.CommandKind.TheVariants.{Show, Brain, Minimise, Run, Gen, Cup, View, Workload, Help, Version, Asm, Save, Resume}
+use Rattle.command_words.specs.declared.table.CommandKind.TheVariants.{Show, Brain, Minimise, Run, Gen, Cup, View, Workload, Help, HelpWord, Version, Asm, Save, Resume}
 use Rattle.command_words.specs.declared.table.Choice.{Choice}
 use Rattle.command_words.specs.declared.table.Choice.TheVariants.{Seed, Rounds, Dump, Workers, Window, Surround, Corpse, Rest, Stats, Far, Width, Height, Rocks, Blobs}
 
+-- a command: its first word, what stands after that, and its options, which follow in any order
+pub record CommandRow : Type 0 where
+  pub word : List ℕ
+  pub places : List Place
+  pub choices : List Choice
+
+abbrev pub command_row : List ℕ → List Place → List Choice → CommandRow
+command_row word places choices = record { word = word; places = places; choices = choices }
+
+-- a place for a number, the place of one file, those of a game's files, and those of a cup's lists
+abbrev pub number_place : NumberKind → Place
+number_place kind = Word (Number kind)
+
+abbrev pub one_file : List Place
+one_file = Word FileName ∷ []
+
+abbrev pub game_places : List Place
+game_places = Word FileName ∷ Word FileName ∷ Word FileName ∷ []
+
+abbrev pub cup_places : List Place
+cup_places = Word (Keyword Worlds) ∷ Names Worlds ∷ Word (Keyword Brains) ∷ Names Brains ∷ []
+
 -- all commands that are known
 abbrev pub kinds : List CommandKind
-kinds = Show ∷ Brain ∷ Minimise ∷ Run ∷ Gen ∷ Cup ∷ View ∷ Workload ∷ Help ∷ Version ∷ Asm ∷ Save ∷ Resume ∷ []
+kinds = Show ∷ Brain ∷ Minimise ∷ Run ∷ Gen ∷ Cup ∷ View ∷ Workload ∷ Help ∷ HelpWord ∷ Version ∷ Asm ∷ Save ∷ Resume ∷ []
 
--- a command's first word
+abbrev pub row_of : CommandKind → CommandRow
+row_of Show = command_row (codes "show") (Word FileName ∷ number_place SeedNumber ∷ []) []
+row_of Brain = command_row (codes "brain") one_file []
+row_of Minimise = command_row (codes "minimise") one_file []
+row_of Run = command_row (codes "run") game_places (Seed ∷ Rounds ∷ Dump ∷ Workers ∷ Window ∷ Surround ∷ Corpse ∷ Rest ∷ Stats ∷ Far ∷ [])
+row_of Gen = command_row (codes "gen") (number_place SeedNumber ∷ []) (Width ∷ Height ∷ Rocks ∷ Blobs ∷ [])
+row_of Cup = command_row (codes "cup") cup_places (Seed ∷ Rounds ∷ Workers ∷ [])
+row_of View = command_row (codes "view") (Word FileName ∷ game_places) (Seed ∷ Rounds ∷ [])
+row_of Workload = command_row (codes "workload") (number_place SeedNumber ∷ number_place RoundCount ∷ number_place WorkerCount ∷ []) []
+row_of Help = command_row (codes "--help") [] []
+row_of HelpWord = command_row (codes "help") [] []
+row_of Version = command_row (codes "--version") [] []
+row_of Asm = command_row (codes "asm") one_file []
+row_of Save = command_row (codes "save") game_places (Seed ∷ Rounds ∷ Workers ∷ Window ∷ Surround ∷ Corpse ∷ Rest ∷ [])
+row_of Resume = command_row (codes "resume") one_file (Rounds ∷ Dump ∷ Workers ∷ Stats ∷ [])
+
 abbrev pub word_of : CommandKind → List ℕ
-word_of Show = codes "show"
-word_of Brain = codes "brain"
-word_of Minimise = codes "minimise"
-word_of Run = codes "run"
-word_of Gen = codes "gen"
-word_of Cup = codes "cup"
-word_of View = codes "view"
-word_of Workload = codes "workload"
-word_of Help = codes "--help"
-word_of Version = codes "--version"
-word_of Asm = codes "asm"
-word_of Save = codes "save"
-word_of Resume = codes "resume"
+word_of kind = (row_of kind).word
 
--- what stands after a command's first word
 abbrev pub places_of : CommandKind → List Place
-places_of Show = Word FileName ∷ Word (Number SeedNumber) ∷ []
-places_of Brain = Word FileName ∷ []
-places_of Minimise = Word FileName ∷ []
-places_of Run = Word FileName ∷ Word FileName ∷ Word FileName ∷ []
-places_of Gen = Word (Number SeedNumber) ∷ []
-places_of Cup = Word (Keyword Worlds) ∷ Names Worlds ∷ Word (Keyword Brains) ∷ Names Brains ∷ []
-places_of View = Word FileName ∷ Word FileName ∷ Word FileName ∷ Word FileName ∷ []
-places_of Workload = Word (Number SeedNumber) ∷ Word (Number RoundCount) ∷ Word (Number WorkerCount) ∷ []
-places_of Help = []
-places_of Version = []
-places_of Asm = Word FileName ∷ []
-places_of Save = Word FileName ∷ Word FileName ∷ Word FileName ∷ []
-places_of Resume = Word FileName ∷ []
+places_of kind = (row_of kind).places
 
--- the options of a command that are known, which follow in any order
 abbrev pub choices_of : CommandKind → List Choice
-choices_of Show = []
-choices_of Brain = []
-choices_of Minimise = []
-choices_of Run = Seed ∷ Rounds ∷ Dump ∷ Workers ∷ Window ∷ Surround ∷ Corpse ∷ Rest ∷ Stats ∷ Far ∷ []
-choices_of Gen = Width ∷ Height ∷ Rocks ∷ Blobs ∷ []
-choices_of Cup = Seed ∷ Rounds ∷ Workers ∷ []
-choices_of View = Seed ∷ Rounds ∷ []
-choices_of Workload = []
-choices_of Help = []
-choices_of Version = []
-choices_of Asm = []
-choices_of Save = Seed ∷ Rounds ∷ Workers ∷ Window ∷ Surround ∷ Corpse ∷ Rest ∷ []
-choices_of Resume = Rounds ∷ Dump ∷ Workers ∷ Stats ∷ []
+choices_of kind = (row_of kind).choices
 
--- an option's word
+-- an option: its word, what stands after that, and whether a command that has the option needs it
+pub record OptionRow : Type 0 where
+  pub word : List ℕ
+  pub values : List Place
+  pub needed : Bool
+
+abbrev pub needed_option : List ℕ → Slot → OptionRow
+needed_option word slot = record { word = word; values = Word slot ∷ []; needed = true }
+
+abbrev pub free_option : List ℕ → Slot → OptionRow
+free_option word slot = record { word = word; values = Word slot ∷ []; needed = false }
+
+abbrev pub flag_option : List ℕ → OptionRow
+flag_option word = record { word = word; values = []; needed = false }
+
+abbrev pub option_row : Choice → OptionRow
+option_row Seed = needed_option (codes "--seed") (Number SeedNumber)
+option_row Rounds = needed_option (codes "--rounds") (Number RoundCount)
+option_row Dump = free_option (codes "--dump") Dumps
+option_row Workers = free_option (codes "--workers") (Number WorkerCount)
+option_row Window = free_option (codes "--window") (Number WindowSize)
+option_row Surround = free_option (codes "--surround") (Number FoeCount)
+option_row Corpse = free_option (codes "--corpse") (Number CorpseFood)
+option_row Rest = free_option (codes "--rest") (Number RestRounds)
+option_row Stats = flag_option (codes "--stats")
+option_row Far = flag_option (codes "--far")
+option_row Width = free_option (codes "--width") (Number SideLength)
+option_row Height = free_option (codes "--height") (Number SideLength)
+option_row Rocks = free_option (codes "--rocks") (Number ElementCount)
+option_row Blobs = free_option (codes "--blobs") (Number ElementCount)
+
 abbrev pub option_of : Choice → List ℕ
-option_of Seed = codes "--seed"
-option_of Rounds = codes "--rounds"
-option_of Dump = codes "--dump"
-option_of Workers = codes "--workers"
-option_of Window = codes "--window"
-option_of Surround = codes "--surround"
-option_of Corpse = codes "--corpse"
-option_of Rest = codes "--rest"
-option_of Stats = codes "--stats"
-option_of Far = codes "--far"
-option_of Width = codes "--width"
-option_of Height = codes "--height"
-option_of Rocks = codes "--rocks"
-option_of Blobs = codes "--blobs"
+option_of choice = (option_row choice).word
 
--- what stands after an option's word
 abbrev pub values_of : Choice → List Place
-values_of Seed = Word (Number SeedNumber) ∷ []
-values_of Rounds = Word (Number RoundCount) ∷ []
-values_of Dump = Word Dumps ∷ []
-values_of Workers = Word (Number WorkerCount) ∷ []
-values_of Window = Word (Number WindowSize) ∷ []
-values_of Surround = Word (Number FoeCount) ∷ []
-values_of Corpse = Word (Number CorpseFood) ∷ []
-values_of Rest = Word (Number RestRounds) ∷ []
-values_of Stats = []
-values_of Far = []
-values_of Width = Word (Number SideLength) ∷ []
-values_of Height = Word (Number SideLength) ∷ []
-values_of Rocks = Word (Number ElementCount) ∷ []
-values_of Blobs = Word (Number ElementCount) ∷ []
+values_of choice = (option_row choice).values
 
--- whether a command that has this option needs it
 abbrev pub is_needed : Choice → Bool
-is_needed Seed = true
-is_needed Rounds = true
-is_needed Dump = false
-is_needed Workers = false
-is_needed Window = false
-is_needed Surround = false
-is_needed Corpse = false
-is_needed Rest = false
-is_needed Stats = false
-is_needed Far = false
-is_needed Width = false
-is_needed Height = false
-is_needed Rocks = false
-is_needed Blobs = false
+is_needed choice = (option_row choice).needed
 
 -- what holds where a number's option isn't given
 abbrev pub default_workers : ℕ

@@ -22,16 +22,7 @@ pub enum Command<'w> {
         file: &'w str,
     },
     /// `run WORLD RED BLACK`, and its options
-    Run {
-        /// the name of the world's file
-        world: &'w str,
-        /// the name of the red brain's file
-        red: &'w str,
-        /// the name of the black brain's file
-        black: &'w str,
-        /// what its options say
-        options: RunOptions<'w>,
-    },
+    Run(AskedGame<'w>),
     /// `gen SEED`, and its options
     Gen {
         /// the seed of the random numbers, from 0 to 4,294,967,295
@@ -40,33 +31,9 @@ pub enum Command<'w> {
         shape: GenShape,
     },
     /// `cup --worlds NAMES --brains NAMES`, and its options
-    Cup {
-        /// the names of the worlds' files, 1 to 16
-        worlds: &'w [String],
-        /// the names of the brains' files, 2 to 16, no two the same
-        brains: &'w [String],
-        /// the seed of each game's random numbers, from 0 to 4,294,967,295
-        seed: u32,
-        /// how many rounds each game has, from 0 to 1,000,000
-        rounds: u32,
-        /// how many workers play, from 1 to 16
-        workers: u32,
-    },
+    Cup(CupEntry<'w>),
     /// `view WORLD RED BLACK BREAKS`, and its options
-    View {
-        /// the name of the world's file
-        world: &'w str,
-        /// the name of the red brain's file
-        red: &'w str,
-        /// the name of the black brain's file
-        black: &'w str,
-        /// the name of the file of breaks
-        breaks: &'w str,
-        /// the seed of the random numbers, from 0 to 4,294,967,295
-        seed: u32,
-        /// how many rounds are played, from 0 to 1,000,000
-        rounds: u32,
-    },
+    View(ViewedGame<'w>),
     /// `workload SEED ROUNDS WORKERS`
     Workload {
         /// the seed of the world and of the game, from 0 to 4,294,967,295
@@ -76,17 +43,8 @@ pub enum Command<'w> {
         /// how many workers play, from 1 to 16
         workers: u32,
     },
-    /// `save WORLD RED BLACK`, and its options
-    Save {
-        /// the name of the world's file
-        world: &'w str,
-        /// the name of the red brain's file
-        red: &'w str,
-        /// the name of the black brain's file
-        black: &'w str,
-        /// what its options say: those of `run`, with no dumps and no counts
-        options: RunOptions<'w>,
-    },
+    /// `save WORLD RED BLACK`, and its options: those of `run`, with no dumps and no counts
+    Save(AskedGame<'w>),
     /// `resume SAVE`, and its options
     Resume {
         /// the name of the save's file
@@ -94,7 +52,7 @@ pub enum Command<'w> {
         /// what its options say
         options: ResumeOptions<'w>,
     },
-    /// `--help`
+    /// `--help`, or `help`
     Help,
     /// `--version`
     Version,
@@ -103,6 +61,54 @@ pub enum Command<'w> {
         /// the name of the labelled program's file
         file: &'w str,
     },
+}
+
+/// The names of the files of a game.
+#[derive(Clone, Copy)]
+pub struct FileNames<'w> {
+    /// the name of the world's file
+    pub world: &'w str,
+    /// the name of the red brain's file
+    pub red: &'w str,
+    /// the name of the black brain's file
+    pub black: &'w str,
+}
+
+/// A game that is played, saved or not.
+#[derive(Drop)]
+pub struct AskedGame<'w> {
+    /// the names of its files
+    pub names: FileNames<'w>,
+    /// what its options say
+    pub options: RunOptions<'w>,
+}
+
+/// A game of which a view is wanted.
+#[derive(Clone, Copy)]
+pub struct ViewedGame<'w> {
+    /// the names of its files
+    pub names: FileNames<'w>,
+    /// the name of the file of breaks
+    pub breaks: &'w str,
+    /// the seed of the random numbers, from 0 to 4,294,967,295
+    pub seed: u32,
+    /// how many rounds are played, from 0 to 1,000,000
+    pub rounds: u32,
+}
+
+/// The entry of a cup: who plays whom, and where.
+#[derive(Clone, Copy)]
+pub struct CupEntry<'w> {
+    /// the names of the worlds' files, 1 to 16
+    pub worlds: &'w [String],
+    /// the names of the brains' files, 2 to 16, no two the same
+    pub brains: &'w [String],
+    /// the seed of each game's random numbers, from 0 to 4,294,967,295
+    pub seed: u32,
+    /// how many rounds each game has, from 0 to 1,000,000
+    pub rounds: u32,
+    /// how many workers play, from 1 to 16
+    pub workers: u32,
 }
 
 /// What the options of `run` say, or what holds where they aren't given.

@@ -1,16 +1,16 @@
 // The option `--far`, to a reader that doesn't know it.
 ghost use Rattle.std.specs.Prelude.{IfErr, IfOk, min, true, ◌≡◌};
-ghost use Rattle.command_words.specs.Command.{IsCommand, IsRefusedAt, PlainCommand};
+ghost use Rattle.command_words.specs.Command.{IsCommand, IsRefusedAt, PlainCommand, plain};
 ghost use Rattle.command_words.specs.Inner.Fronts.{words_before};
 ghost use Rattle.command_words.specs.Far.{is_far_run, words_without_far};
-ghost use Rattle.command_words.specs.Words.{plain, texts};
+ghost use Rattle.command_words.specs.Words.{texts};
 
 use crate::read::read_words;
 use crate::walk::is_among;
 use crate::{Choice, Command, CommandKind, Refused};
 
 /// Whether the first word is `run`, and `--far` stands among the others, right or wrong.
-#[tactic(auto, unfolding(crate::specs::Inner::Walk::is_among))]
+#[tactic(auto, unfolding(crate::specs::Command::is_among))]
 pub fn is_far_run(words: &[String]) -> bool
     ensures { result ≡ is_far_run (texts words.now) }
 {

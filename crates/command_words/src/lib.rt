@@ -21,7 +21,10 @@ mod table;
 mod values;
 mod walk;
 
-pub use command::{Command, GenShape, Refused, ResumeOptions, RunOptions};
+pub use command::{
+    AskedGame, Command, CupEntry, FileNames, GenShape, Refused, ResumeOptions, RunOptions,
+    ViewedGame,
+};
 pub use dumps::DumpWord;
 pub use far::{is_far_run, read_words_without_far};
 pub use laws::{

@@ -1,9 +1,9 @@
 // The command that the words are.
 ghost use Rattle.std.specs.Prelude.{IfErr, IfOk, option_map, ◌≡◌};
-ghost use Rattle.command_words.specs.Command.{IsCommand, IsRefusedAt, PlainCommand, number_or};
-ghost use Rattle.command_words.specs.Inner.Walk.{command_in, plain_result, read_of, resume_setup_in, setup_in, shape_in, word_after};
+ghost use Rattle.command_words.specs.Command.{IsCommand, IsRefusedAt, PlainCommand, answers_in, command_in, number_or, plain, plain_resume, plain_setup, resume_in, setup_in, shape_in};
+ghost use Rattle.command_words.specs.Inner.Walk.{names_in, plain_names, plain_result, read_of, word_after};
 ghost use Rattle.command_words.specs.Table.{default_workers};
-ghost use Rattle.command_words.specs.Words.{plain, plain_resume, plain_setup, texts};
+ghost use Rattle.command_words.specs.Words.{texts};
 
 use crate::table::{
     DEFAULT_BLOBS, DEFAULT_CORPSE, DEFAULT_REST, DEFAULT_ROCKS, DEFAULT_SIDE, DEFAULT_SURROUND,
@@ -14,8 +14,8 @@ use crate::values::{
 };
 use crate::walk::{is_among, is_finished, kind_of, walk};
 use crate::{
-    Choice, Command, CommandKind, GenShape, NameList, NumberKind, Refused, ResumeOptions,
-    RunOptions,
+    AskedGame, Choice, Command, CommandKind, CupEntry, FileNames, GenShape, NameList, NumberKind,
+    Refused, ResumeOptions, RunOptions, ViewedGame,
 };
 
 /// The command that the program's words are, without the program's own name. Refused exactly where they are none, at the first word,
@@ -51,7 +51,7 @@ fn read<'w>(words: &'w [String]) -> Result<Command<'w>, Refused>
 
 // The command that the words say, after its first word.
 fn command_in<'w>(kind: CommandKind, words: &'w [String]) -> Option<Command<'w>>
-    ensures { option_map plain result ≡ command_in kind (texts words.now) }
+    ensures { option_map plain result ≡ command_in kind (answers_in kind (texts words.now)) }
 {
     match kind {
         CommandKind::Show => show_in(words),
@@ -64,14 +64,14 @@ fn command_in<'w>(kind: CommandKind, words: &'w [String]) -> Option<Command<'w>>
         CommandKind::Workload => workload_in(words),
         CommandKind::Save => save_in(words),
         CommandKind::Resume => resume_in(words),
-        CommandKind::Help => Some(Command::Help),
+        CommandKind::Help | CommandKind::HelpWord => Some(Command::Help),
         CommandKind::Version => Some(Command::Version),
         CommandKind::Asm => asm_in(words),
     }
 }
 
 fn show_in<'w>(words: &'w [String]) -> Option<Command<'w>>
-    ensures { option_map plain result ≡ command_in CommandKind.Show (texts words.now) }
+    ensures { option_map plain result ≡ command_in CommandKind.Show (answers_in CommandKind.Show (texts words.now)) }
 {
     let world = word_at(words, 1)?;
     let seed = number_needed(NumberKind::SeedNumber, word_at(words, 2))?;
@@ -79,44 +79,47 @@ fn show_in<'w>(words: &'w [String]) -> Option<Command<'w>>
 }
 
 fn brain_in<'w>(words: &'w [String]) -> Option<Command<'w>>
-    ensures { option_map plain result ≡ command_in CommandKind.Brain (texts words.now) }
+    ensures { option_map plain result ≡ command_in CommandKind.Brain (answers_in CommandKind.Brain (texts words.now)) }
 {
     let file = word_at(words, 1)?;
     Some(Command::Brain { file })
 }
 
 fn minimise_in<'w>(words: &'w [String]) -> Option<Command<'w>>
-    ensures { option_map plain result ≡ command_in CommandKind.Minimise (texts words.now) }
+    ensures { option_map plain result ≡ command_in CommandKind.Minimise (answers_in CommandKind.Minimise (texts words.now)) }
 {
     let file = word_at(words, 1)?;
     Some(Command::Minimise { file })
 }
 
 fn asm_in<'w>(words: &'w [String]) -> Option<Command<'w>>
-    ensures { option_map plain result ≡ command_in CommandKind.Asm (texts words.now) }
+    ensures { option_map plain result ≡ command_in CommandKind.Asm (answers_in CommandKind.Asm (texts words.now)) }
 {
     let file = word_at(words, 1)?;
     Some(Command::Asm { file })
 }
 
 fn run_in<'w>(words: &'w [String]) -> Option<Command<'w>>
-    ensures { option_map plain result ≡ command_in CommandKind.Run (texts words.now) }
+    ensures { option_map plain result ≡ command_in CommandKind.Run (answers_in CommandKind.Run (texts words.now)) }
+{
+    let names = names_in(words)?;
+    let options = options_in(words)?;
+    Some(Command::Run(AskedGame { names, options }))
+}
+
+// The names of the files of a game.
+fn names_in<'w>(words: &'w [String]) -> Option<FileNames<'w>>
+    ensures { option_map plain_names result ≡ names_in (texts words.now) }
 {
     let world = word_at(words, 1)?;
     let red = word_at(words, 2)?;
     let black = word_at(words, 3)?;
-    let options = options_in(words)?;
-    Some(Command::Run {
-        world,
-        red,
-        black,
-        options,
-    })
+    Some(FileNames { world, red, black })
 }
 
 // What the options of `run` say.
 fn options_in<'w>(words: &'w [String]) -> Option<RunOptions<'w>>
-    ensures { option_map plain_setup result ≡ setup_in (texts words.now) }
+    ensures { option_map plain_setup result ≡ setup_in (answers_in CommandKind.Run (texts words.now)) }
 {
     let seed = number_needed(NumberKind::SeedNumber, word_after(Choice::Seed, words))?;
     let rounds = number_needed(NumberKind::RoundCount, word_after(Choice::Rounds, words))?;
@@ -170,7 +173,7 @@ fn workers_in(words: &[String]) -> Option<u32>
 }
 
 fn gen_in<'w>(words: &'w [String]) -> Option<Command<'w>>
-    ensures { option_map plain result ≡ command_in CommandKind.Gen (texts words.now) }
+    ensures { option_map plain result ≡ command_in CommandKind.Gen (answers_in CommandKind.Gen (texts words.now)) }
 {
     let seed = number_needed(NumberKind::SeedNumber, word_at(words, 1))?;
     let shape = shape_in(words)?;
@@ -179,7 +182,7 @@ fn gen_in<'w>(words: &'w [String]) -> Option<Command<'w>>
 
 // What the options of `gen` say.
 fn shape_in(words: &[String]) -> Option<GenShape>
-    ensures { result ≡ shape_in (texts words.now) }
+    ensures { result ≡ shape_in (answers_in CommandKind.Gen (texts words.now)) }
 {
     let width = side_or(DEFAULT_SIDE, NumberKind::SideLength, Choice::Width, words)?;
     let height = side_or(DEFAULT_SIDE, NumberKind::SideLength, Choice::Height, words)?;
@@ -204,43 +207,39 @@ fn shape_in(words: &[String]) -> Option<GenShape>
 }
 
 fn cup_in<'w>(words: &'w [String]) -> Option<Command<'w>>
-    ensures { option_map plain result ≡ command_in CommandKind.Cup (texts words.now) }
+    ensures { option_map plain result ≡ command_in CommandKind.Cup (answers_in CommandKind.Cup (texts words.now)) }
 {
     let worlds = names_of(NameList::Worlds, words);
     let brains = names_of(NameList::Brains, words);
     let seed = number_needed(NumberKind::SeedNumber, word_after(Choice::Seed, words))?;
     let rounds = number_needed(NumberKind::RoundCount, word_after(Choice::Rounds, words))?;
     let workers = workers_in(words)?;
-    Some(Command::Cup {
+    Some(Command::Cup(CupEntry {
         worlds,
         brains,
         seed,
         rounds,
         workers,
-    })
+    }))
 }
 
 fn view_in<'w>(words: &'w [String]) -> Option<Command<'w>>
-    ensures { option_map plain result ≡ command_in CommandKind.View (texts words.now) }
+    ensures { option_map plain result ≡ command_in CommandKind.View (answers_in CommandKind.View (texts words.now)) }
 {
-    let world = word_at(words, 1)?;
-    let red = word_at(words, 2)?;
-    let black = word_at(words, 3)?;
+    let names = names_in(words)?;
     let breaks = word_at(words, 4)?;
     let seed = number_needed(NumberKind::SeedNumber, word_after(Choice::Seed, words))?;
     let rounds = number_needed(NumberKind::RoundCount, word_after(Choice::Rounds, words))?;
-    Some(Command::View {
-        world,
-        red,
-        black,
+    Some(Command::View(ViewedGame {
+        names,
         breaks,
         seed,
         rounds,
-    })
+    }))
 }
 
 fn workload_in<'w>(words: &'w [String]) -> Option<Command<'w>>
-    ensures { option_map plain result ≡ command_in CommandKind.Workload (texts words.now) }
+    ensures { option_map plain result ≡ command_in CommandKind.Workload (answers_in CommandKind.Workload (texts words.now)) }
 {
     let seed = number_needed(NumberKind::SeedNumber, word_at(words, 1))?;
     let rounds = number_needed(NumberKind::RoundCount, word_at(words, 2))?;
@@ -253,22 +252,15 @@ fn workload_in<'w>(words: &'w [String]) -> Option<Command<'w>>
 }
 
 fn save_in<'w>(words: &'w [String]) -> Option<Command<'w>>
-    ensures { option_map plain result ≡ command_in CommandKind.Save (texts words.now) }
+    ensures { option_map plain result ≡ command_in CommandKind.Save (answers_in CommandKind.Save (texts words.now)) }
 {
-    let world = word_at(words, 1)?;
-    let red = word_at(words, 2)?;
-    let black = word_at(words, 3)?;
+    let names = names_in(words)?;
     let options = options_in(words)?;
-    Some(Command::Save {
-        world,
-        red,
-        black,
-        options,
-    })
+    Some(Command::Save(AskedGame { names, options }))
 }
 
 fn resume_in<'w>(words: &'w [String]) -> Option<Command<'w>>
-    ensures { option_map plain result ≡ command_in CommandKind.Resume (texts words.now) }
+    ensures { option_map plain result ≡ command_in CommandKind.Resume (answers_in CommandKind.Resume (texts words.now)) }
 {
     let save = word_at(words, 1)?;
     let options = resume_options_in(words)?;
@@ -277,7 +269,7 @@ fn resume_in<'w>(words: &'w [String]) -> Option<Command<'w>>
 
 // What the options of `resume` say.
 fn resume_options_in<'w>(words: &'w [String]) -> Option<ResumeOptions<'w>>
-    ensures { option_map plain_resume result ≡ resume_setup_in (texts words.now) }
+    ensures { option_map plain_resume result ≡ resume_in (answers_in CommandKind.Resume (texts words.now)) }
 {
     let rounds = number_needed(NumberKind::RoundCount, word_after(Choice::Rounds, words))?;
     let dumps = dumps_or_none(word_after(Choice::Dump, words))?;

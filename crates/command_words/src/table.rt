@@ -1,5 +1,5 @@
 // The commands, their options and their lists of names, a row each.
-ghost use Rattle.std.specs.Prelude.{◌≡◌};
+ghost use Rattle.std.specs.Prelude.{◌≡◌, true, false};
 ghost use Rattle.command_words.specs.Table.{choices_of, fewest_names, is_needed, keyword_of, kinds, must_differ, option_of, places_of, values_of, word_of};
 
 use crate::{NumberKind, Place, Slot};
@@ -25,6 +25,8 @@ pub enum CommandKind {
     Workload,
     /// `--help`: the commands
     Help,
+    /// `help`: the same command
+    HelpWord,
     /// `--version`: which program this is
     Version,
     /// `asm FILE`: the brain of a labelled program
@@ -110,6 +112,7 @@ pub(crate) fn kinds() -> &'static [CommandKind]
         CommandKind::View,
         CommandKind::Workload,
         CommandKind::Help,
+        CommandKind::HelpWord,
         CommandKind::Version,
         CommandKind::Asm,
         CommandKind::Save,
@@ -117,178 +120,249 @@ pub(crate) fn kinds() -> &'static [CommandKind]
     ]
 }
 
+// A command: its first word, what stands after that, and the options that may follow.
+#[derive(Clone, Copy)]
+struct CommandRow {
+    word: &'static str,
+    places: &'static [Place],
+    choices: &'static [Choice],
+}
+
+const FILE: Place = Place::Word(Slot::FileName);
+
+const SEED: Place = Place::Word(Slot::Number(NumberKind::SeedNumber));
+
 impl CommandKind {
+    fn row(self) -> CommandRow
+        ensures word { result.word.now ≡ word_of self }
+        ensures places { result.places.now ≡ places_of self }
+        ensures choices { result.choices.now ≡ choices_of self }
+    {
+        match self {
+            CommandKind::Show => CommandRow {
+                word: "show",
+                places: &[FILE, SEED],
+                choices: &[],
+            },
+            CommandKind::Brain => CommandRow {
+                word: "brain",
+                places: &[FILE],
+                choices: &[],
+            },
+            CommandKind::Minimise => CommandRow {
+                word: "minimise",
+                places: &[FILE],
+                choices: &[],
+            },
+            CommandKind::Run => CommandRow {
+                word: "run",
+                places: &[FILE, FILE, FILE],
+                choices: &[
+                    Choice::Seed,
+                    Choice::Rounds,
+                    Choice::Dump,
+                    Choice::Workers,
+                    Choice::Window,
+                    Choice::Surround,
+                    Choice::Corpse,
+                    Choice::Rest,
+                    Choice::Stats,
+                    Choice::Far,
+                ],
+            },
+            CommandKind::Gen => CommandRow {
+                word: "gen",
+                places: &[SEED],
+                choices: &[Choice::Width, Choice::Height, Choice::Rocks, Choice::Blobs],
+            },
+            CommandKind::Cup => CommandRow {
+                word: "cup",
+                places: &[
+                    Place::Word(Slot::Keyword(NameList::Worlds)),
+                    Place::Names(NameList::Worlds),
+                    Place::Word(Slot::Keyword(NameList::Brains)),
+                    Place::Names(NameList::Brains),
+                ],
+                choices: &[Choice::Seed, Choice::Rounds, Choice::Workers],
+            },
+            CommandKind::View => CommandRow {
+                word: "view",
+                places: &[FILE, FILE, FILE, FILE],
+                choices: &[Choice::Seed, Choice::Rounds],
+            },
+            CommandKind::Workload => CommandRow {
+                word: "workload",
+                places: &[
+                    SEED,
+                    Place::Word(Slot::Number(NumberKind::RoundCount)),
+                    Place::Word(Slot::Number(NumberKind::WorkerCount)),
+                ],
+                choices: &[],
+            },
+            CommandKind::Help => CommandRow {
+                word: "--help",
+                places: &[],
+                choices: &[],
+            },
+            CommandKind::HelpWord => CommandRow {
+                word: "help",
+                places: &[],
+                choices: &[],
+            },
+            CommandKind::Version => CommandRow {
+                word: "--version",
+                places: &[],
+                choices: &[],
+            },
+            CommandKind::Asm => CommandRow {
+                word: "asm",
+                places: &[FILE],
+                choices: &[],
+            },
+            CommandKind::Save => CommandRow {
+                word: "save",
+                places: &[FILE, FILE, FILE],
+                choices: &[
+                    Choice::Seed,
+                    Choice::Rounds,
+                    Choice::Workers,
+                    Choice::Window,
+                    Choice::Surround,
+                    Choice::Corpse,
+                    Choice::Rest,
+                ],
+            },
+            CommandKind::Resume => CommandRow {
+                word: "resume",
+                places: &[FILE],
+                choices: &[Choice::Rounds, Choice::Dump, Choice::Workers, Choice::Stats],
+            },
+        }
+    }
+
     pub(crate) fn word(self) -> &'static str
         ensures { result.now ≡ word_of self }
     {
-        match self {
-            CommandKind::Show => "show",
-            CommandKind::Brain => "brain",
-            CommandKind::Minimise => "minimise",
-            CommandKind::Run => "run",
-            CommandKind::Gen => "gen",
-            CommandKind::Cup => "cup",
-            CommandKind::View => "view",
-            CommandKind::Workload => "workload",
-            CommandKind::Save => "save",
-            CommandKind::Resume => "resume",
-            CommandKind::Help => "--help",
-            CommandKind::Version => "--version",
-            CommandKind::Asm => "asm",
-        }
+        self.row().word
     }
 
     // What stands after its first word.
     pub(crate) fn places(self) -> &'static [Place]
         ensures { result.now ≡ places_of self }
     {
-        match self {
-            CommandKind::Show => &[
-                Place::Word(Slot::FileName),
-                Place::Word(Slot::Number(NumberKind::SeedNumber)),
-            ],
-            CommandKind::Brain => &[Place::Word(Slot::FileName)],
-            CommandKind::Minimise => &[Place::Word(Slot::FileName)],
-            CommandKind::Run => &[
-                Place::Word(Slot::FileName),
-                Place::Word(Slot::FileName),
-                Place::Word(Slot::FileName),
-            ],
-            CommandKind::Gen => &[Place::Word(Slot::Number(NumberKind::SeedNumber))],
-            CommandKind::Cup => &[
-                Place::Word(Slot::Keyword(NameList::Worlds)),
-                Place::Names(NameList::Worlds),
-                Place::Word(Slot::Keyword(NameList::Brains)),
-                Place::Names(NameList::Brains),
-            ],
-            CommandKind::View => &[
-                Place::Word(Slot::FileName),
-                Place::Word(Slot::FileName),
-                Place::Word(Slot::FileName),
-                Place::Word(Slot::FileName),
-            ],
-            CommandKind::Workload => &[
-                Place::Word(Slot::Number(NumberKind::SeedNumber)),
-                Place::Word(Slot::Number(NumberKind::RoundCount)),
-                Place::Word(Slot::Number(NumberKind::WorkerCount)),
-            ],
-            CommandKind::Save => &[
-                Place::Word(Slot::FileName),
-                Place::Word(Slot::FileName),
-                Place::Word(Slot::FileName),
-            ],
-            CommandKind::Resume => &[Place::Word(Slot::FileName)],
-            CommandKind::Help => &[],
-            CommandKind::Version => &[],
-            CommandKind::Asm => &[Place::Word(Slot::FileName)],
-        }
+        self.row().places
     }
 
     // The options that are known, and may follow.
     pub(crate) fn choices(self) -> &'static [Choice]
         ensures { result.now ≡ choices_of self }
     {
-        match self {
-            CommandKind::Show => &[],
-            CommandKind::Brain => &[],
-            CommandKind::Minimise => &[],
-            CommandKind::Run => &[
-                Choice::Seed,
-                Choice::Rounds,
-                Choice::Dump,
-                Choice::Workers,
-                Choice::Window,
-                Choice::Surround,
-                Choice::Corpse,
-                Choice::Rest,
-                Choice::Stats,
-                Choice::Far,
-            ],
-            CommandKind::Gen => &[Choice::Width, Choice::Height, Choice::Rocks, Choice::Blobs],
-            CommandKind::Cup => &[Choice::Seed, Choice::Rounds, Choice::Workers],
-            CommandKind::View => &[Choice::Seed, Choice::Rounds],
-            CommandKind::Workload => &[],
-            CommandKind::Save => &[
-                Choice::Seed,
-                Choice::Rounds,
-                Choice::Workers,
-                Choice::Window,
-                Choice::Surround,
-                Choice::Corpse,
-                Choice::Rest,
-            ],
-            CommandKind::Resume => &[Choice::Rounds, Choice::Dump, Choice::Workers, Choice::Stats],
-            CommandKind::Help => &[],
-            CommandKind::Version => &[],
-            CommandKind::Asm => &[],
-        }
+        self.row().choices
+    }
+}
+
+// An option: its word, what stands after that, and whether a command that has the option needs it.
+#[derive(Clone, Copy)]
+struct OptionRow {
+    word: &'static str,
+    values: &'static [Place],
+    needed: bool,
+}
+
+fn needed(word: &'static str, values: &'static [Place]) -> OptionRow
+    ensures { (result.word.now ≡ word.now) × (result.values.now ≡ values.now) × (result.needed ≡ true) }
+{
+    OptionRow {
+        word,
+        values,
+        needed: true,
+    }
+}
+
+fn free(word: &'static str, values: &'static [Place]) -> OptionRow
+    ensures { (result.word.now ≡ word.now) × (result.values.now ≡ values.now) × (result.needed ≡ false) }
+{
+    OptionRow {
+        word,
+        values,
+        needed: false,
     }
 }
 
 impl Choice {
+    fn row(self) -> OptionRow
+        ensures word { result.word.now ≡ option_of self }
+        ensures values { result.values.now ≡ values_of self }
+        ensures needed { result.needed ≡ is_needed self }
+    {
+        match self {
+            Choice::Seed => needed("--seed", &[SEED]),
+            Choice::Rounds => {
+                needed(
+                    "--rounds",
+                    &[Place::Word(Slot::Number(NumberKind::RoundCount))],
+                )
+            }
+            Choice::Dump => free("--dump", &[Place::Word(Slot::Dumps)]),
+            Choice::Workers => free(
+                "--workers",
+                &[Place::Word(Slot::Number(NumberKind::WorkerCount))],
+            ),
+            Choice::Window => free(
+                "--window",
+                &[Place::Word(Slot::Number(NumberKind::WindowSize))],
+            ),
+            Choice::Surround => free(
+                "--surround",
+                &[Place::Word(Slot::Number(NumberKind::FoeCount))],
+            ),
+            Choice::Corpse => free(
+                "--corpse",
+                &[Place::Word(Slot::Number(NumberKind::CorpseFood))],
+            ),
+            Choice::Rest => free(
+                "--rest",
+                &[Place::Word(Slot::Number(NumberKind::RestRounds))],
+            ),
+            Choice::Stats => free("--stats", &[]),
+            Choice::Far => free("--far", &[]),
+            Choice::Width => free(
+                "--width",
+                &[Place::Word(Slot::Number(NumberKind::SideLength))],
+            ),
+            Choice::Height => free(
+                "--height",
+                &[Place::Word(Slot::Number(NumberKind::SideLength))],
+            ),
+            Choice::Rocks => free(
+                "--rocks",
+                &[Place::Word(Slot::Number(NumberKind::ElementCount))],
+            ),
+            Choice::Blobs => free(
+                "--blobs",
+                &[Place::Word(Slot::Number(NumberKind::ElementCount))],
+            ),
+        }
+    }
+
     pub(crate) fn word(self) -> &'static str
         ensures { result.now ≡ option_of self }
     {
-        match self {
-            Choice::Seed => "--seed",
-            Choice::Rounds => "--rounds",
-            Choice::Dump => "--dump",
-            Choice::Workers => "--workers",
-            Choice::Window => "--window",
-            Choice::Surround => "--surround",
-            Choice::Corpse => "--corpse",
-            Choice::Rest => "--rest",
-            Choice::Stats => "--stats",
-            Choice::Far => "--far",
-            Choice::Width => "--width",
-            Choice::Height => "--height",
-            Choice::Rocks => "--rocks",
-            Choice::Blobs => "--blobs",
-        }
+        self.row().word
     }
 
     // What stands after its word.
     pub(crate) fn values(self) -> &'static [Place]
         ensures { result.now ≡ values_of self }
     {
-        match self {
-            Choice::Seed => &[Place::Word(Slot::Number(NumberKind::SeedNumber))],
-            Choice::Rounds => &[Place::Word(Slot::Number(NumberKind::RoundCount))],
-            Choice::Dump => &[Place::Word(Slot::Dumps)],
-            Choice::Workers => &[Place::Word(Slot::Number(NumberKind::WorkerCount))],
-            Choice::Window => &[Place::Word(Slot::Number(NumberKind::WindowSize))],
-            Choice::Surround => &[Place::Word(Slot::Number(NumberKind::FoeCount))],
-            Choice::Corpse => &[Place::Word(Slot::Number(NumberKind::CorpseFood))],
-            Choice::Rest => &[Place::Word(Slot::Number(NumberKind::RestRounds))],
-            Choice::Stats => &[],
-            Choice::Far => &[],
-            Choice::Width => &[Place::Word(Slot::Number(NumberKind::SideLength))],
-            Choice::Height => &[Place::Word(Slot::Number(NumberKind::SideLength))],
-            Choice::Rocks => &[Place::Word(Slot::Number(NumberKind::ElementCount))],
-            Choice::Blobs => &[Place::Word(Slot::Number(NumberKind::ElementCount))],
-        }
+        self.row().values
     }
 
     // Whether a command that has this option needs it.
     pub(crate) fn is_needed(self) -> bool
         ensures { result ≡ is_needed self }
     {
-        match self {
-            Choice::Seed => true,
-            Choice::Rounds => true,
-            Choice::Dump => false,
-            Choice::Workers => false,
-            Choice::Window => false,
-            Choice::Surround => false,
-            Choice::Corpse => false,
-            Choice::Rest => false,
-            Choice::Stats => false,
-            Choice::Far => false,
-            Choice::Width => false,
-            Choice::Height => false,
-            Choice::Rocks => false,
-            Choice::Blobs => false,
-        }
+        self.row().needed
     }
 }
 

@@ -1,7 +1,7 @@
 // Looking for what the words say.
 ghost use Rattle.std.specs.Prelude.{option_copied, option_map, slice_get, ◌<◌, ◌≡◌};
-ghost use Rattle.command_words.specs.Command.{dumps_or_none, number_needed, number_or};
-ghost use Rattle.command_words.specs.Inner.Walk.{names_front, names_of, rest_after, word_after};
+ghost use Rattle.command_words.specs.Command.{dumps_or_none, names_front, number_needed, number_or, rest_after};
+ghost use Rattle.command_words.specs.Inner.Walk.{names_of, word_after};
 ghost use Rattle.command_words.specs.Limits.{most_of};
 ghost use Rattle.command_words.specs.Words.{plain_dumps, texts};
 

@@ -1,6 +1,7 @@
 // Going over the words one after another.
 ghost use Rattle.std.specs.Prelude.{[], length, option_copied, ◌<◌, ◌≡◌, drop, if◌then◌else◌, take, ◌+◌};
-ghost use Rattle.command_words.specs.Inner.Walk.{choice_of, closed, due_after, due_after_option, has_enough, has_needed, is_among, is_finished, is_repeated, command_kind_of, may_follow, plain_walk, reached, takes_names, walk};
+ghost use Rattle.command_words.specs.Inner.Walk.{choice_of, closed, due_after, due_after_option, has_enough, has_needed, is_finished, is_repeated, command_kind_of, may_follow, plain_walk, reached, takes_names, walk};
+ghost use Rattle.command_words.specs.Command.{is_among};
 ghost use Rattle.command_words.specs.Table.{places_of};
 ghost use Rattle.command_words.specs.Words.{texts};
 

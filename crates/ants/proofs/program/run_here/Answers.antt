@@ -10,12 +10,12 @@ use Rattle.ants.proofs.program.run_here.Goals as goal
 pub returns : goal.returns
 returns g c =
     let run : IsRun (words_without_far (texts c.args.words.now)) (outside_of (g.S.Shelf.state c.args.shelf.now) (g.K.Sink.state c.args.out.now) (g.E.Sink.state c.args.err.now))
-    (outside_of (g.S.Shelf.state c.carry_out_here-ended.new.shelf) (g.K.Sink.state c.carry_out_here-ended.new.out) (g.E.Sink.state c.report.new.err)) c.report.result =
+    (outside_of (g.S.Shelf.state c.read_and_carry_out-ended.new.shelf) (g.K.Sink.state c.read_and_carry_out-ended.new.out) (g.E.Sink.state c.report.new.err)) c.report.result =
     record {
-      fetches = c.carry_out_here-ended.ensures.fetches;
-      fetched = c.carry_out_here-ended.ensures.fetched;
-      ending = plain_ending c.carry_out_here-ended.result;
-      ends = c.carry_out_here-ended.ensures.ends _ _;
+      fetches = c.read_and_carry_out-ended.ensures.fetches;
+      fetched = c.read_and_carry_out-ended.ensures.fetched;
+      ending = plain_ending c.read_and_carry_out-ended.result;
+      ends = c.read_and_carry_out-ended.ensures.ends _ _;
       reports = c.report.ensures.reports;
       is_status = c.report.ensures.status;
     } in

@@ -1,7 +1,7 @@
 -- the file was accepted, and its game went on
 use Rattle.std.proofs.Common.{ℕ, Bool, ◌∷◌, [], ap, refl, subst}
 use Rattle.command_words.specs.Command.PlainCommand.{ResumeCommand}
-use Rattle.command_words.specs.Words.{plain_resume}
+use Rattle.command_words.specs.Command.{plain_resume}
 use Rattle.match_run.specs.Play.{PushedBy}
 use Rattle.match_save.specs.Resumed.{rest_of}
 use Rattle.ants.specs.Files.FileContent.{SaveContent}

@@ -2,7 +2,7 @@
 use Rattle.std.proofs.Common.{◌≡◌, subst}
 use Rattle.std.specs.Prelude.{IsErrAnd}
 use Rattle.command_words.specs.Command.PlainCommand.{SaveCommand}
-use Rattle.command_words.specs.Words.{plain_setup}
+use Rattle.command_words.specs.Command.{plain_setup}
 use Rattle.ants.specs.declared.stop.CommandStop.{CommandStop}
 use Rattle.ants.proofs.Readings.{carries_wanting}
 use Rattle.ants.proofs.save.save.Goals as goal

@@ -3,10 +3,10 @@ use Rattle.std.specs.Prelude.{String, min}
 use Rattle.std.specs.declared.alloc.Global.{Global}
 use Rattle.std.proofs.lemmas.List.{length-map}
 use Rattle.command_words.specs.declared.table.Choice.TheVariants.{Far}
-use Rattle.command_words.specs.Command.{IsCommand, IsRefusedAt}
+use Rattle.command_words.specs.Command.{IsCommand, IsRefusedAt, plain}
 use Rattle.command_words.specs.Far.{words_without_far}
 use Rattle.command_words.specs.Table.{option_of}
-use Rattle.command_words.specs.Words.{plain, texts}
+use Rattle.command_words.specs.Words.{texts}
 use Rattle.command_words.specs.Inner.Fronts.{words_before}
 use Rattle.command_words.proofs.FarWords.{refused-after_command, refused-earlier}
 use Rattle.command_words.proofs.far.refused_far.Goals as goal

@@ -1,5 +1,5 @@
 use Rattle.std.proofs.Common.{◌≡◌, ◌++◌, take, drop}
-use Rattle.command_words.specs.Inner.Walk.{names_front}
+use Rattle.command_words.specs.Command.{names_front}
 use Rattle.command_words.specs.Words.{texts}
 use Rattle.command_words.proofs.values.names_front.Given as goal
 

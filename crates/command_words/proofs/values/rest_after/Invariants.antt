@@ -1,5 +1,5 @@
 use Rattle.std.proofs.Common.{◌≡◌, drop}
-use Rattle.command_words.specs.Inner.Walk.{rest_after}
+use Rattle.command_words.specs.Command.{rest_after}
 use Rattle.command_words.specs.Words.{texts}
 use Rattle.command_words.proofs.values.rest_after.Given as goal
 

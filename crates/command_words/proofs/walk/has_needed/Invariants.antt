@@ -1,7 +1,8 @@
 use Rattle.std.proofs.Common.{◌≡◌, not, ◌||◌, drop}
 use Rattle.std.specs.List.{list_all}
 use Rattle.command_words.specs.Table.{option_of, is_needed}
-use Rattle.command_words.specs.Inner.Walk.{is_among, has_needed}
+use Rattle.command_words.specs.Command.{is_among}
+use Rattle.command_words.specs.Inner.Walk.{has_needed}
 use Rattle.command_words.specs.Words.{texts}
 use Rattle.command_words.proofs.walk.has_needed.Given as goal
 

@@ -1,5 +1,5 @@
 use Rattle.std.proofs.Common.{◌≡◌, drop}
-use Rattle.command_words.specs.Inner.Walk.{is_among}
+use Rattle.command_words.specs.Command.{is_among}
 use Rattle.command_words.specs.Words.{texts}
 use Rattle.command_words.proofs.walk.is_among.Given as goal
 
