@@ -7,7 +7,7 @@ use Rattle.command_words.specs.Slots.{is_file_name, is_dumps, dumps_of, DumpChoi
 use Rattle.command_words.specs.Slots.DumpChoice.{NoDump, EveryDump, ChosenDumps}
 use Rattle.command_words.specs.Command.{ResumeSetup, RunSetup, IsCommand, IsRefusedAt, is_among, rest_after}
 use Rattle.command_words.specs.Far.{words_without_far}
-use Rattle.command_words.specs.Command.PlainCommand.{ShowCommand, BrainCommand, MinimiseCommand, RunCommand, GenCommand, CupCommand, WorkloadCommand, HelpCommand, AsmCommand, SaveCommand}
+use Rattle.command_words.specs.Command.PlainCommand.{ShowCommand, BrainCommand, MinimiseCommand, RunCommand, GenCommand, CupCommand, ViewCommand, WorkloadCommand, HelpCommand, VersionCommand, AsmCommand, SaveCommand, ResumeCommand}
 use Rattle.command_words.specs.Inner.Walk.{command_kind_of, choice_of}
 use Rattle.command_words.proofs.ReadLemmas.{read-accepts, read-refuses}
 

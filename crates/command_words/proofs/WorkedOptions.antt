@@ -4,7 +4,7 @@ use Rattle.ant_base.specs.Number.{decimal_value}
 use Rattle.command_words.specs.Slots.{is_file_name, is_dumps, dumps_of}
 use Rattle.command_words.specs.Slots.DumpChoice.{NoDump}
 use Rattle.command_words.specs.Command.{IsCommand, IsRefusedAt, RunSetup, is_among, rest_after}
-use Rattle.command_words.specs.Command.PlainCommand.{CupCommand, GenCommand, ViewCommand, WorkloadCommand}
+use Rattle.command_words.specs.Command.PlainCommand.{BrainCommand, CupCommand, GenCommand, RunCommand, ViewCommand, WorkloadCommand}
 use Rattle.command_words.specs.Inner.Walk.{command_kind_of, choice_of, read_of}
 use Rattle.command_words.proofs.ReadLemmas.{read-accepts, read-refuses}
 use Rattle.command_words.proofs.WorkedLines.{words_of}
