@@ -1,6 +1,5 @@
 -- What the search comes to: the first pair whose instructions differ is where the brains first differ, and where none is left they are the same.
-use Rattle.std.proofs.Common.{◌≡◌, ◌≢◌, ◌⊎◌, inl, inr, ℕ, zero, suc, ◌+◌, ◌<◌, ◌≤◌, Bool, true, List, [], ◌∷◌, ◌++◌, length, map, slice_index, Option, Some, unwrap_or, refl, sym, ap, ap₂, ◌∙◌, subst, arith}
-use Rattle.std.specs.Prelude.{option_map}
+use Rattle.std.proofs.Common.{◌≡◌, inl, inr, ℕ, zero, suc, ◌+◌, ◌<◌, ◌≤◌, Bool, List, [], ◌∷◌, ◌++◌, length, map, slice_index, Some, unwrap_or, refl, sym, ap, ap₂, ◌∙◌, subst, arith}
 use Rattle.std.specs.List.{Contains}
 use Rattle.std.proofs.lemmas.Bool.{cases_lt}
 use Rattle.list_lemmas.proofs.Elements.{Contains-cases, Contains-first, Contains-none}
@@ -10,15 +9,13 @@ use Rattle.brain_read.specs.Soundness.{IsBrain}
 use Rattle.ant_turn.specs.Renumber.{redirected}
 use Rattle.ant_turn.specs.Turn.{instruction_at}
 use Rattle.brain_minimise.specs.Equivalence.{IsBisimulation, shape_of}
-use Rattle.brain_minimise.proofs.Equivalences.{SameName, names-related, same_name, same_name-says, same_name-true}
+use Rattle.brain_minimise.proofs.Equivalences.{names-related, same_name, same_name-says, same_name-true}
 use Rattle.brain_minimise.proofs.RedirectedLemmas.{shape-from, states-from, successors-below}
 use Rattle.brain_same.specs.declared.search.Pair.{Pair}
-use Rattle.brain_same.specs.Answers.{led_to, next_by}
-use Rattle.brain_same.specs.Difference.{AreSame, IsComparison, IsFirstDifference, TellsApart, found_of}
-use Rattle.brain_same.specs.Difference.IsComparison.{IsSame, IsDifferent}
-use Rattle.brain_same.specs.declared.comparison.Comparison.TheVariants.{Same, Different}
+use Rattle.brain_same.specs.Answers.{next_by}
+use Rattle.brain_same.specs.Difference.{AreSame, IsFirstDifference, TellsApart}
 use Rattle.brain_same.proofs.AnswersLemmas.{IsNoLater-number, alike-next, last-shape, led-more, number, number_from, number_from-append, number_from-least, number_from-lower, redirected-alike, shapes_along}
-use Rattle.brain_same.proofs.SearchLemmas.{Front, Lead, Searches, Searching, entry, of_both, of_both-first, of_both-second, one-inside, other-inside, one_after, other_after}
+use Rattle.brain_same.proofs.SearchLemmas.{Front, Lead, Searches, Searching, entry, of_both, of_both-first, of_both-second, one-inside, one_after, other_after}
 use Rattle.brain_same.proofs.SearchLemmas.IsExplained.{ByEarlier, ByLater}
 
 module _ (first second : List Instr) (sound : IsBrain first) (too : IsBrain second) (classes : List ℕ) (done waiting : List (List Bool)) (searches : Searches first second classes done waiting) where

@@ -1,5 +1,5 @@
 -- Classes of states, each with a name, and two of them joined.
-use Rattle.std.specs.Prelude.{◌≡◌, ◌≢◌, ◌⊎◌, ℕ, ◌+◌, ◌<◌, ◌==◌, Bool, true, false, List, [], ◌∷◌, length, slice_index, if◌then◌else◌}
+use Rattle.std.specs.Prelude.{◌≡◌, ◌⊎◌, ℕ, ◌+◌, ◌<◌, ◌==◌, Bool, true, false, List, [], ◌∷◌, length, slice_index, if◌then◌else◌}
 
 -- each of so many states is a class of its own, which has its number as name
 pub record AreApart (count : ℕ) (classes : List ℕ) : Type 0 where

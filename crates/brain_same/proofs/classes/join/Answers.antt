@@ -1,4 +1,4 @@
-use Rattle.std.proofs.Common.{◌≡◌, slice_index, refl, arith}
+use Rattle.std.proofs.Common.{slice_index, refl, arith}
 use Rattle.brain_same.specs.Inner.Classes.IsJoined.{WereTwo, WereOne}
 use Rattle.brain_same.proofs.ClassesLemmas.{AreJoined-first, AreJoined-second}
 use Rattle.brain_same.proofs.classes.join.Goals as goal

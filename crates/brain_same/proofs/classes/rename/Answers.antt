@@ -1,4 +1,4 @@
-use Rattle.std.proofs.Common.{◌≡◌, ◌<◌, length, slice_index, sym, arith}
+use Rattle.std.proofs.Common.{slice_index, sym, arith}
 use Rattle.std.proofs.lemmas.Grind.{get_or_default_zero}
 use Rattle.std.proofs.lemmas.List.Edits.{map_over_more}
 use Rattle.brain_same.specs.Inner.Classes.{renamed}

@@ -1,11 +1,10 @@
-use Rattle.std.proofs.Common.{◌≡◌, ◌+◌, ◌*◌, ◌<◌, List, [], ◌∷◌, length, sym, ap, ◌∙◌, subst, arith}
+use Rattle.std.proofs.Common.{◌+◌, ◌*◌, ◌<◌, List, length, sym, subst, arith}
 use Rattle.std.proofs.lemmas.Bool.{both_ways}
 use Rattle.brain_same.specs.declared.search.Pair.{Pair}
-use Rattle.brain_same.specs.Difference.{IsComparison}
 use Rattle.brain_same.specs.Difference.IsComparison.{IsSame, IsDifferent}
 use Rattle.brain_same.specs.Inner.Classes.{total}
 use Rattle.brain_same.proofs.ComparisonLemmas.{AreSame-searched, IsFirstDifference-front}
-use Rattle.brain_same.proofs.SearchLemmas.{Front-few, Front-inside, Front-taken, Searching, Searching-on, Searching-start, step-work}
+use Rattle.brain_same.proofs.SearchLemmas.{Front-few, Front-inside, Front-taken, Searching-on, Searching-start, step-work}
 use Rattle.brain_same.proofs.search.search.Goals as goal
 
 pub loop-pair-init : goal.loop-pair-init
