@@ -26,7 +26,6 @@ use Rattle.ant_turn.specs.Turn.{instruction_at}
 use Rattle.ant_turn.proofs.RenumberedTurns.{after_rounds-renumbered}
 use Rattle.brain_minimise.specs.Match.{DiffersInStates, IsMatchingAnt, game}
 use Rattle.brain_minimise.specs.Minimised.{IsMinimised, new_number}
-use Rattle.brain_minimise.specs.Reach.IsReachable.{Start}
 use Rattle.brain_minimise.proofs.MinimisedLemmas.{successors-reached}
 use Rattle.brain_minimise.proofs.Numbers.{number-inside}
 use Rattle.brain_minimise.proofs.Ranks.{zero-number}
@@ -47,16 +46,15 @@ cond-either true x y z first second = first
 cond-either false x y z first second = second
 
 -- state 0 stays state 0
-zero-stays : (old new : List Instr) (numbers : List (Option ℕ)) (side own : Colour) → IsMinimised old new numbers → side_states (new_number numbers) side own 0 ≡ 0
-zero-stays old new numbers side own minimised =
-    cond-either (same_colour side own) (state_number (new_number numbers) 0) 0 0 (ap (λ o. unwrap_or o 0) (zero-number old new numbers minimised)) refl
+zero-stays : (numbers : Numbers) (side own : Colour) → numbers 0 ≡ Some 0 → side_states numbers side own 0 ≡ 0
+zero-stays numbers side own zero = cond-either (same_colour side own) (state_number numbers 0) 0 0 (ap (λ o. unwrap_or o 0) zero) refl
 
 -- an ant whose state stays
 same_ant : (f : Colour → ℕ → ℕ) (o : Option Ant) → ((ant : Ant) → o ≡ Some ant → f ant.colour ant.state ≡ ant.state) → option_map (renumbered_ant f) o ≡ o
 same_ant f None stays = refl
 same_ant f (Some ant) stays = ap (λ (n : ℕ). let same : Ant = record ant { state = n } in Some same) (stays ant refl)
 
-module _ (minds : Minds) (side : Colour) (brain : List Instr) (numbers : List (Option ℕ)) (seed width height : ℕ) (kinds : List Kind) (r : ℕ) (minimised : IsMinimised (mind_of minds side) brain numbers) where
+module _ (minds : Minds) (side : Colour) (brain : List Instr) (numbers : Numbers) (seed width height : ℕ) (kinds : List Kind) (r : ℕ) (carries : Carries numbers (mind_of minds side) brain) (zero : numbers 0 ≡ Some 0) where
   -- the world at the start
   abbrev start : World
   start = world_of (opening width height kinds)
@@ -66,28 +64,32 @@ module _ (minds : Minds) (side : Colour) (brain : List Instr) (numbers : List (O
   starts p ant is = ap (λ (a : Ant). a.state) (opening-new width height kinds p ant is)
 
   -- so it is the same renumbered
-  start-renumbered : renumbered_moment (new_number numbers) side (start_of start) ≡ start_of start
+  start-renumbered : renumbered_moment numbers side (start_of start) ≡ start_of start
   start-renumbered =
       ap (λ cells. start_of (with_cells start cells)) (fun_ext λ p.
       ap (λ (o : Option Ant). let cell : Cell = record (start.cells p) { ant = o } in cell)
-      (same_ant (side_states (new_number numbers) side) (start.cells p).ant (λ ant is.
-      let zero : ant.state ≡ 0 = starts p ant is in
-      ap (side_states (new_number numbers) side ant.colour) zero ∙ zero-stays (mind_of minds side) brain numbers side ant.colour minimised ∙ sym zero)))
+      (same_ant (side_states numbers side) (start.cells p).ant (λ ant is.
+      let none : ant.state ≡ 0 = starts p ant is in
+      ap (side_states numbers side ant.colour) none ∙ zero-stays numbers side ant.colour zero ∙ sym none)))
 
   -- and each ant's state has a number
-  start-numbered : AreNumbered (new_number numbers) side start
-  start-numbered = record {
-    each = λ p ant is _. subst (λ state. IsSome (new_number numbers state)) (sym (starts p ant is)) (minimised.kept 0 Start);
-  }
+  start-numbered : AreNumbered numbers side start
+  start-numbered = record { each = λ p ant is _. subst (λ state. IsSome (numbers state)) (sym (starts p ant is)) (subst IsSome (sym zero) refl) }
 
-  -- the games are alike
-  pub game-minimised : game (with_mind minds side brain) seed width height kinds r ≡ renumbered_moment (new_number numbers) side (game minds seed width height kinds r)
-  game-minimised =
+  -- the game with a brain to which the numbers carry this side's brain, state 0 to state 0, is the game renumbered
+  pub game-carried : game (with_mind minds side brain) seed width height kinds r ≡ renumbered_moment numbers side (game minds seed width height kinds r)
+  game-carried =
       ap (λ (m : Moment). after_rounds (with_mind minds side brain) seed m r) (sym start-renumbered)
-      ∙ after_rounds-renumbered (new_number numbers) side minds brain seed (start_of start) r (Carries-minimised (mind_of minds side) brain numbers minimised) start-numbered
+      ∙ after_rounds-renumbered numbers side minds brain seed (start_of start) r carries start-numbered
+
+-- so is that with the minimised brain
+pub game-minimised : (minds : Minds) (side : Colour) (brain : List Instr) (numbers : List (Option ℕ)) (seed width height : ℕ) (kinds : List Kind) (r : ℕ) → IsMinimised (mind_of minds side) brain numbers →
+    game (with_mind minds side brain) seed width height kinds r ≡ renumbered_moment (new_number numbers) side (game minds seed width height kinds r)
+game-minimised minds side brain numbers seed width height kinds r minimised =
+    game-carried minds side brain (new_number numbers) seed width height kinds r (Carries-minimised (mind_of minds side) brain numbers minimised) (zero-number (mind_of minds side) brain numbers minimised)
 
 -- renumbering changes no score
-score_of-renumbered : (numbers : Numbers) (side : Colour) (w : World) → score_of (renumbered numbers side w) ≡ score_of w
+pub score_of-renumbered : (numbers : Numbers) (side : Colour) (w : World) → score_of (renumbered numbers side w) ≡ score_of w
 unfolding score_of hill_food_of
 score_of-renumbered numbers side w = refl
 
@@ -99,7 +101,7 @@ score-minimised minds side brain numbers seed width height kinds r minimised =
     ∙ score_of-renumbered (new_number numbers) side (game minds seed width height kinds r).world
 
 -- the other side's states stay
-others-stay : (numbers : Numbers) (side own : Colour) (state : ℕ) → own ≢ side → side_states numbers side own state ≡ state
+pub others-stay : (numbers : Numbers) (side own : Colour) (state : ℕ) → own ≢ side → side_states numbers side own state ≡ state
 others-stay numbers Red Red state other = absurd (other refl)
 others-stay numbers Red Black state other = refl
 others-stay numbers Black Red state other = refl

@@ -120,7 +120,7 @@ next_by-redirected f (Flip bound taken unmet) true = refl
 next_by-redirected f (Flip bound taken unmet) false = refl
 
 -- two options that are both there, or both not
-data AreBoth (o p : Option ℕ) : Type 0 where
+pub data AreBoth (o p : Option ℕ) : Type 0 where
   Neither : o ≡ None → p ≡ None → AreBoth o p
   Both : (a b : ℕ) → o ≡ Some a → p ≡ Some b → AreBoth o p
 
@@ -138,7 +138,7 @@ to_zero _ = 0
 next_by-shape : (x y : Instr) (met : Bool) → shape_of x ≡ shape_of y → option_map to_zero (next_by x met) ≡ option_map to_zero (next_by y met)
 next_by-shape x y met same = sym (next_by-redirected to_zero x met) ∙ ap (λ z. next_by z met) same ∙ next_by-redirected to_zero y met
 
-AreBoth-shape : (x y : Instr) (met : Bool) → shape_of x ≡ shape_of y → AreBoth (next_by x met) (next_by y met)
+pub AreBoth-shape : (x y : Instr) (met : Bool) → shape_of x ≡ shape_of y → AreBoth (next_by x met) (next_by y met)
 AreBoth-shape x y met same = AreBoth-mapped to_zero (next_by x met) (next_by y met) (next_by-shape x y met same)
 
 -- what is alike of both successors is alike of what may be there
@@ -151,7 +151,7 @@ alike-next f g x y met same each =
     ]
 
 -- an instruction of this shape with these successors
-abbrev filled_by : Instr → Option ℕ → Option ℕ → Instr
+abbrev pub filled_by : Instr → Option ℕ → Option ℕ → Instr
 filled_by (Sense sight taken unmet condition) o p = Sense sight (unwrap_or o 0) (unwrap_or p 0) condition
 filled_by (Mark i next) o p = Mark i (unwrap_or o 0)
 filled_by (Unmark i next) o p = Unmark i (unwrap_or o 0)

@@ -4,3 +4,9 @@ pub mod AnswersLemmas
 -- The search, and what it comes to.
 pub mod SearchLemmas
 pub mod ComparisonLemmas
+-- What it is to be the same, and games.
+pub mod SameLaws
+pub mod PairedBrains
+pub mod SameGames
+-- Worked values.
+pub mod Worked

@@ -1,1 +1,36 @@
 // Laws of brains that are the same.
+ghost use Rattle.brain_same.specs.Games.{BothPlaySame, PlaysSame};
+ghost use Rattle.brain_same.specs.Laws.{MinimisedIsSame, OneComparison, SameIsEquivalence, SameIsNotApart};
+
+/// A law: to be the same is an equivalence: each brain is the same as itself, and what is the same as another is so the other way round
+/// and through a third.
+pub fn same_is_equivalence()
+    ensures { SameIsEquivalence }
+{}
+
+/// A law: a brain is the same as its minimised one.
+pub fn minimised_is_same()
+    ensures { MinimisedIsSame }
+{}
+
+/// A law: where brains are the same no list of answers tells them apart.
+pub fn same_is_not_apart()
+    ensures { SameIsNotApart }
+{}
+
+/// A law: two brains come to one comparison: what `compare` promises leaves nothing open.
+pub fn one_comparison()
+    ensures { OneComparison }
+{}
+
+/// A law: by any opening world, other brain, numbers of the rules, seed, side and number of rounds, the game with a brain that is the same
+/// is the same but for the states of that side's ants: the same cells, ants, food and markers, as many random numbers used, and an equal
+/// score (the task's kinetics, number generation and game play).
+pub fn plays_same()
+    ensures { PlaysSame }
+{}
+
+/// A law: so is the game with other brains on both sides, each the same as the one before, but for the states of all ants.
+pub fn both_play_same()
+    ensures { BothPlaySame }
+{}
