@@ -10,6 +10,7 @@ pub mod MemSink
 pub mod Names
 pub mod Number
 pub mod NumberList
+pub mod RoomSink
 pub mod Shelf
 pub mod Sink
 pub mod Streams
