@@ -28,13 +28,12 @@ use Rattle.cell_world.specs.declared.kind.Kind.TheVariants.{Rock}
 use Rattle.cell_world.specs.declared.score.Score.{Score}
 use Rattle.command_words.specs.Command.{CupWithin, ResumeSetup, RunSetup}
 use Rattle.command_words.specs.Command.PlainCommand.{ShowCommand, BrainCommand, MinimiseCommand, RunCommand, GenCommand, CupCommand, ViewCommand, WorkloadCommand, HelpCommand, VersionCommand, AsmCommand, SaveCommand, ResumeCommand}
-use Rattle.dump_print.specs.Content.{content_text}
-use Rattle.dump_print.specs.Texts.{cell_line, cells_text, dump_text, row_text, score_text, seed_text, stats_text}
+use Rattle.dump_print.specs.Texts.{cell_line, cell_words, cells_text, dump_text, row_text, score_text, seed_text, stats_text}
 use Rattle.dump_print.specs.declared.totals.Totals.{Totals}
 use Rattle.line_tokens.specs.Fields.{LineField, field_text, further_text, line_text}
 use Rattle.match_run.specs.Counts.{counts_text, totals_of, whole_text, both}
 use Rattle.match_run.specs.Run.{dumps_text, run_text, world_after}
-use Rattle.match_run.specs.Rest.{later_dumps, rest_text}
+use Rattle.match_run.specs.Rest.{later_dumps, plain_rest_text, rest_text}
 use Rattle.match_save.specs.Resumed.{moment_of, rest_of}
 use Rattle.match_save.specs.Saved.{SavedValue, draft_of, save_text}
 use Rattle.match_save.specs.Saves.{saved_after}
@@ -136,13 +135,7 @@ lf_minimised old new =
 -- a dump's lines
 lf_cell : (x y : ℕ) (cell : Cell) → EndsInLf (cell_line x y cell)
 unfolding cell_line
-lf_cell x y cell =
-    let content : List ℕ = content_text cell +++ codes "\n" in
-    let opened : List ℕ = codes "): " +++ content in
-    let row : List ℕ = decimal y +++ opened in
-    let between : List ℕ = codes ", " +++ row in
-    let column : List ℕ = decimal x +++ between in
-    lf_last (codes "cell (") column (lf_last (decimal x) between (lf_last (codes ", ") row (lf_last (decimal y) opened (lf_last (codes "): ") content (lf_last (content_text cell) (codes "\n") lf_end)))))
+lf_cell x y cell = lf_last (cell_words x y cell) (codes "\n") lf_end
 
 lines_row : (w : World) (y : ℕ) → AreLines (row_text w y)
 unfolding row_text
@@ -207,13 +200,13 @@ unfolding save_text draft_text draft_lines
 lf_save s = lf_flat_map (λ (line : List ℕ). line ++ 10 ∷ []) (draft_lines (draft_of s)) (omega arith) lf_save_line
 
 lf_rest : (setup : ResumeSetup) (saved : SavedValue) → EndsInLf (resume_output setup (SaveContent saved))
-unfolding resume_output rest_of rest_text
+unfolding resume_output rest_of rest_text plain_rest_text
 lf_rest setup saved =
     let more : ℕ = setup.rounds - saved.round in
     let score : List ℕ = score_text (score_of (after_rounds saved.minds saved.seed (moment_of saved) more).world) in
+    let dumps : List ℕ = later_dumps saved.minds saved.seed (chosen_rounds setup.dumps) (moment_of saved) saved.round more in
     let all = both saved.totals (totals_of saved.minds saved.seed saved.window (moment_of saved) more) in
-    lf_last (later_dumps saved.minds saved.seed (chosen_rounds setup.dumps) (moment_of saved) saved.round more) (score +++ counts_text setup.stats all)
-    (lf_then score (counts_text setup.stats all) (lf_score (score_of (after_rounds saved.minds saved.seed (moment_of saved) more).world)) (lines_counts setup.stats all))
+    lf_then (dumps +++ score) (counts_text setup.stats all) (lf_last dumps score (lf_score (score_of (after_rounds saved.minds saved.seed (moment_of saved) more).world))) (lines_counts setup.stats all)
 
 lf_row : (width : ℕ) (kinds : List Kind) (y : ℕ) → EndsInLf (line_of_row width kinds y)
 unfolding line_of_row

@@ -10,6 +10,7 @@ pub mod QuietTurns
 -- The first stop, and that there is one.
 pub mod ViewLaws
 pub mod FirstStops
+pub mod AfterRounds
 pub mod WatchedRounds
 pub mod ViewText
 -- Worked values.

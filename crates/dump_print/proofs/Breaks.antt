@@ -10,7 +10,7 @@ use Rattle.dump_print.specs.Inner.Breaks.{line_body, row_tail, broken_line, brok
 use Rattle.dump_print.specs.Texts.{cell_line, row_text, cells_text}
 
 -- a text may be moved from the front of all parts to their end, where it may at each part
-numbered-shift : (lf : List ℕ) (f g : ℕ → List ℕ) (n : ℕ) → ((i : ℕ) → lf ++ f i ≡ g i ++ lf) → lf ++ numbered f n ≡ numbered g n ++ lf
+pub numbered-shift : (lf : List ℕ) (f g : ℕ → List ℕ) (n : ℕ) → ((i : ℕ) → lf ++ f i ≡ g i ++ lf) → lf ++ numbered f n ≡ numbered g n ++ lf
 unfolding numbered
 numbered-shift lf f g zero one = append-nil lf
 numbered-shift lf f g (suc n) one =

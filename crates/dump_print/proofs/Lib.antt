@@ -1,4 +1,4 @@
 -- Where a line breaks.
-mod Breaks
+pub mod Breaks
 -- Worked values.
 pub mod Worked

@@ -7,9 +7,13 @@ use Rattle.ant_base.specs.Layout.{numbered, ◌+++◌}
 use Rattle.dump_print.specs.declared.totals.Totals.{Totals}
 use Rattle.dump_print.specs.Content.{content_text}
 
+-- the line of a cell without its LF
+abbrev pub cell_words : ℕ → ℕ → Cell → List ℕ
+cell_words x y cell = codes "cell (" +++ decimal x +++ codes ", " +++ decimal y +++ codes "): " +++ content_text cell
+
 -- the line of a cell
 unfoldable pub cell_line : ℕ → ℕ → Cell → List ℕ
-cell_line x y cell = codes "cell (" +++ decimal x +++ codes ", " +++ decimal y +++ codes "): " +++ content_text cell +++ codes "\n"
+cell_line x y cell = cell_words x y cell +++ codes "\n"
 
 -- the lines of the cells of row y, from the left
 unfoldable pub row_text : World → ℕ → List ℕ
@@ -23,9 +27,13 @@ cells_text w = numbered (row_text w) w.height
 unfoldable pub dump_text : World → ℕ → List ℕ
 dump_text w round = codes "\nAfter round " +++ decimal round +++ codes "...\n" +++ cells_text w
 
+-- the line of a seed without its LF
+abbrev pub seed_words : ℕ → List ℕ
+seed_words seed = codes "random seed: " +++ decimal seed
+
 -- the line of a seed
 unfoldable pub seed_text : ℕ → List ℕ
-seed_text seed = codes "random seed: " +++ decimal seed +++ codes "\n"
+seed_text seed = seed_words seed +++ codes "\n"
 
 -- an empty line and the line of a score
 unfoldable pub score_text : Score → List ℕ

@@ -11,5 +11,6 @@ mod pushes;
 mod totals;
 
 pub use content::ColourWord;
-pub use pushes::{push_cells, push_dump, push_score, push_seed, push_stats};
+pub use lines::CellWords;
+pub use pushes::{SeedWords, push_cells, push_dump, push_score, push_seed, push_stats};
 pub use totals::Totals;

@@ -4,7 +4,7 @@ ghost use Rattle.cell_world.specs.Grid.{world_of};
 ghost use Rattle.ant_base.specs.Layout.{◌+++◌};
 ghost use Rattle.dump_print.specs.Inner.Breaks.{line_break, row_tail, broken_line, broken_row};
 ghost use Rattle.dump_print.specs.Content.{content_text};
-ghost use Rattle.dump_print.specs.Texts.{cells_text};
+ghost use Rattle.dump_print.specs.Texts.{cell_words, cells_text};
 
 use crate::content::Content;
 use ant_base::{Each, Failed, Layout, Parts, Sink, layout};
@@ -24,6 +24,31 @@ fn row_tail(y: u16) -> ArrayString<16>
     tail.push_str(buffer.format(y));
     tail.push_str("): ");
     tail
+}
+
+/// The line that a dump has of a cell, as `cell (1, 1): red hill; `, without its LF.
+#[derive(Clone, Copy)]
+pub struct CellWords {
+    /// Where the cell is.
+    pub at: Pos,
+    /// What it holds.
+    pub cell: Cell,
+}
+
+impl Layout for CellWords {
+    ghost text = { λ line. cell_words line.at.x line.at.y line.cell };
+
+    fn push_to<K: Sink>(&self, sink: &mut K) -> Result<(), Failed> {
+        layout!(
+            "cell (",
+            self.at.x,
+            ", ",
+            self.at.y,
+            "): ",
+            Content(self.cell)
+        )
+        .push_to(sink)
+    }
 }
 
 // The line of a cell without its LF, and in front of it the LF of the line before, if there is one: pieces that end in LF are flushed

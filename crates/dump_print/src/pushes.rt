@@ -1,19 +1,31 @@
 // The public calls, each of which pushes one text.
 ghost use Rattle.ant_base.specs.Sink.{Pushed};
 ghost use Rattle.cell_world.specs.Grid.{world_of};
-ghost use Rattle.dump_print.specs.Texts.{cells_text, dump_text, score_text, seed_text, stats_text};
+ghost use Rattle.dump_print.specs.Texts.{cells_text, dump_text, score_text, seed_text, seed_words, stats_text};
 
 use crate::lines::Cells;
 use crate::totals::Totals;
 use ant_base::{Failed, Layout, Sink, layout};
 use cell_world::{Score, World};
 
+/// The words of a seed, as `random seed: 12345`: its line without the LF.
+#[derive(Clone, Copy)]
+pub struct SeedWords(pub u32);
+
+impl Layout for SeedWords {
+    ghost text = { λ words. seed_words words.0 };
+
+    fn push_to<K: Sink>(&self, sink: &mut K) -> Result<(), Failed> {
+        layout!("random seed: ", self.0).push_to(sink)
+    }
+}
+
 /// Pushes the line of a seed, as `random seed: 12345`. Where the sink failed, a prefix of the line was pushed.
 #[tactic(auto, unfolding(crate::specs::Texts::seed_text))]
 pub fn push_seed<K: Sink>(seed: u32, sink: &mut K) -> Result<(), Failed>
     ensures { Pushed (K.state sink.old) (K.state sink.new) (seed_text seed) result }
 {
-    layout!("random seed: ", seed, "\n").push_to(sink)
+    layout!(SeedWords(seed), "\n").push_to(sink)
 }
 
 /// Pushes a line for each cell, row by row from the top, each row from the left, as `cell (1, 1): red hill; `. Where the sink failed, a prefix of the lines was pushed.

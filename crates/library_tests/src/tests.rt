@@ -12,6 +12,7 @@ mod saves;
 mod standing_workers;
 mod stopped_games;
 mod stream_sinks;
+mod traces;
 mod turns;
 mod world_files;
 mod worlds;

@@ -11,7 +11,6 @@ pub mod GamesByRounds
 pub mod CountLaws
 -- The text of a run, and the rest of one.
 pub mod PlayLemmas
-pub mod RunLemmas
 pub mod RunLaws
 pub mod RestLaws
 -- Worked values.

@@ -1,5 +1,5 @@
 -- What holds of the rest of a run.
-use Rattle.std.proofs.Common.{◌≡◌, ℕ, zero, suc, ◌+◌, ◌-◌, ◌≤◌, Bool, List, ◌++◌, length, refl, sym, ap, ◌∙◌, append_assoc, append-nil, length-append, arith}
+use Rattle.std.proofs.Common.{◌≡◌, ℕ, zero, suc, ◌+◌, ◌-◌, ◌≤◌, Bool, false, List, ◌++◌, length, refl, sym, ap, ap₂, ◌∙◌, append_assoc, append-nil, length-append, arith}
 use Rattle.ant_base.specs.Layout.{numbered}
 use Rattle.ant_base.proofs.Numbered.{numbered-more, numbered-none, numbered-same}
 use Rattle.ant_turn.specs.Minds.{Minds}
@@ -11,10 +11,9 @@ use Rattle.cell_world.specs.World.{World}
 use Rattle.dump_print.specs.declared.totals.Totals.{Totals}
 use Rattle.dump_print.specs.Texts.{score_text, seed_text}
 use Rattle.match_run.specs.Counts.{both, counts_text, no_turns, totals_of, whole_text}
-use Rattle.match_run.specs.Rest.{RunsGoOn, later_dumps, rest_text}
+use Rattle.match_run.specs.Rest.{RunsGoOn, later_dumps, plain_rest_text, rest_text}
 use Rattle.match_run.specs.Run.{chosen_dump, dumps_text, run_text, world_after}
 use Rattle.match_run.proofs.CountLemmas.{totals_of-then}
-use Rattle.match_run.proofs.RunLemmas.{dumps_text-first}
 
 -- the first texts, and those after them
 numbered-split : (f : ℕ → List ℕ) (a b : ℕ) → numbered f (a + b) ≡ numbered f a ++ numbered (λ i. f (a + i)) b
@@ -41,27 +40,47 @@ module _ (minds : Minds) (seed : ℕ) (chosen : ℕ → Bool) (w : World) where
       ap f number
       ∙ ap (λ (m : Moment). chosen_dump chosen m.world (round + i + 1)) (ap (after_rounds minds seed (start_of w)) (let s : round + i + 1 ≡ round + (i + 1) = omega arith in s) ∙ sym (after_rounds-then minds seed (start_of w) round (i + 1)))))
 
-pub runs_go_on : RunsGoOn
-unfolding whole_text run_text rest_text world_after
-runs_go_on minds seed size w round rounds chosen stats within =
+-- the text of a run without its counts: what it is up to a round, and then the rest
+pub run_text-rest : (minds : Minds) (seed : ℕ) (w : World) (round rounds : ℕ) (chosen : ℕ → Bool) → round ≤ rounds → run_text minds seed rounds chosen w
+    ≡ seed_text seed ++ (dumps_text minds seed chosen w (round + 1) ++ plain_rest_text minds seed (after_rounds minds seed (start_of w) round) round rounds chosen)
+unfolding run_text plain_rest_text world_after
+run_text-rest minds seed w round rounds chosen within =
     let more : ℕ = rounds - round in
     let whole : rounds ≡ round + more = omega (arith, within) in
     let there : Moment = after_rounds minds seed (start_of w) round in
     let dumps : dumps_text minds seed chosen w (rounds + 1) ≡ dumps_text minds seed chosen w (round + 1) ++ later_dumps minds seed chosen there round more =
     ap (λ n. dumps_text minds seed chosen w (n + 1)) whole ∙ dumps-split minds seed chosen w round more in
     let ends : after_rounds minds seed (start_of w) rounds ≡ after_rounds minds seed there more = ap (after_rounds minds seed (start_of w)) whole ∙ sym (after_rounds-then minds seed (start_of w) round more) in
+    let score : score_text (score_of (after_rounds minds seed (start_of w) rounds).world) ≡ score_text (score_of (after_rounds minds seed there more).world) = ap (λ (m : Moment). score_text (score_of m.world)) ends in
+    ap (λ (d : List ℕ). seed_text seed ++ (d ++ score_text (score_of (after_rounds minds seed (start_of w) rounds).world))) dumps
+    ∙ ap (λ (s : List ℕ). seed_text seed ++ ((dumps_text minds seed chosen w (round + 1) ++ later_dumps minds seed chosen there round more) ++ s)) score
+    ∙ ap (λ (t : List ℕ). seed_text seed ++ t) (append_assoc (dumps_text minds seed chosen w (round + 1)) (later_dumps minds seed chosen there round more) (score_text (score_of (after_rounds minds seed there more).world)))
+
+-- the first dump is that of the start
+dumps_text-first : (minds : Minds) (seed : ℕ) (chosen : ℕ → Bool) (w : World) → dumps_text minds seed chosen w 1 ≡ chosen_dump chosen w 0
+unfolding dumps_text numbered world_after
+dumps_text-first minds seed chosen w = refl
+
+-- where it is just played, the dump of the start comes behind the line of the seed, if it is chosen, and then the rest
+pub run_text-start : (minds : Minds) (seed : ℕ) (w : World) (rounds : ℕ) (chosen : ℕ → Bool) → run_text minds seed rounds chosen w
+    ≡ seed_text seed ++ (chosen_dump chosen w 0 ++ plain_rest_text minds seed (start_of w) 0 rounds chosen)
+run_text-start minds seed w rounds chosen =
+    run_text-rest minds seed w 0 rounds chosen (omega arith)
+    ∙ ap (λ (d : List ℕ). seed_text seed ++ (d ++ plain_rest_text minds seed (start_of w) 0 rounds chosen)) (dumps_text-first minds seed chosen w)
+
+pub runs_go_on : RunsGoOn
+unfolding whole_text rest_text
+runs_go_on minds seed size w round rounds chosen stats within =
+    let more : ℕ = rounds - round in
+    let whole : rounds ≡ round + more = omega (arith, within) in
+    let there : Moment = after_rounds minds seed (start_of w) round in
     let counts : totals_of minds seed size (start_of w) rounds ≡ both (totals_of minds seed size (start_of w) round) (totals_of minds seed size there more) =
     ap (totals_of minds seed size (start_of w)) whole ∙ totals_of-then minds seed size (start_of w) round more in
-    let score : score_text (score_of (after_rounds minds seed (start_of w) rounds).world) ≡ score_text (score_of (after_rounds minds seed there more).world) = ap (λ (m : Moment). score_text (score_of m.world)) ends in
-    ap (λ (d : List ℕ). (seed_text seed ++ (d ++ score_text (score_of (after_rounds minds seed (start_of w) rounds).world))) ++ counts_text stats (totals_of minds seed size (start_of w) rounds)) dumps
-    ∙ ap (λ (s : List ℕ). (seed_text seed ++ ((dumps_text minds seed chosen w (round + 1) ++ later_dumps minds seed chosen there round more) ++ s)) ++ counts_text stats (totals_of minds seed size (start_of w) rounds)) score
-    ∙ ap (λ (t : Totals). (seed_text seed ++ ((dumps_text minds seed chosen w (round + 1) ++ later_dumps minds seed chosen there round more) ++ score_text (score_of (after_rounds minds seed there more).world))) ++ counts_text stats t) counts
-    ∙ regroup (seed_text seed) (dumps_text minds seed chosen w (round + 1)) (later_dumps minds seed chosen there round more) (score_text (score_of (after_rounds minds seed there more).world)) (counts_text stats (both (totals_of minds seed size (start_of w) round) (totals_of minds seed size there more)))
+    ap₂ (λ (t : List ℕ) (c : Totals). t ++ counts_text stats c) (run_text-rest minds seed w round rounds chosen within) counts
+    ∙ regroup (seed_text seed) (dumps_text minds seed chosen w (round + 1)) (plain_rest_text minds seed there round rounds chosen) (counts_text stats (both (totals_of minds seed size (start_of w) round) (totals_of minds seed size there more)))
   where
-    regroup : (a b c d e : List ℕ) → (a ++ ((b ++ c) ++ d)) ++ e ≡ a ++ (b ++ (c ++ (d ++ e)))
-    regroup a b c d e =
-        append_assoc a ((b ++ c) ++ d) e
-        ∙ ap (λ l. a ++ l) (append_assoc (b ++ c) d e ∙ append_assoc b c (d ++ e))
+    regroup : (a b c d : List ℕ) → (a ++ (b ++ c)) ++ d ≡ a ++ (b ++ (c ++ d))
+    regroup a b c d = append_assoc a (b ++ c) d ∙ ap (λ l. a ++ l) (append_assoc b c d)
 
 -- a text that ends in one that has something has something
 pub some_then : (a b : List ℕ) → 1 ≤ length b → 1 ≤ length (a ++ b)
@@ -72,12 +91,31 @@ pub end-some : (score : Score) (stats : Bool) (totals : Totals) → 1 ≤ length
 unfolding score_text
 end-some score stats totals = omega arith
 
+-- the parts of the rest of a run
+pub rest_text-parts : (minds : Minds) (seed size : ℕ) (m : Moment) (round : ℕ) (totals : Totals) (rounds : ℕ) (chosen : ℕ → Bool) (stats : Bool) → rest_text minds seed size m round totals rounds chosen stats
+    ≡ later_dumps minds seed chosen m round (rounds - round)
+    ++ (score_text (score_of (after_rounds minds seed m (rounds - round)).world) ++ counts_text stats (both totals (totals_of minds seed size m (rounds - round))))
+unfolding rest_text plain_rest_text
+rest_text-parts minds seed size m round totals rounds chosen stats =
+    append_assoc (later_dumps minds seed chosen m round (rounds - round)) (score_text (score_of (after_rounds minds seed m (rounds - round)).world)) (counts_text stats (both totals (totals_of minds seed size m (rounds - round))))
+
+-- where no counts are asked for, it is that without them
+pub rest_text-plain : (minds : Minds) (seed size : ℕ) (m : Moment) (round : ℕ) (totals : Totals) (rounds : ℕ) (chosen : ℕ → Bool) → rest_text minds seed size m round totals rounds chosen false ≡ plain_rest_text minds seed m round rounds chosen
+unfolding rest_text
+rest_text-plain minds seed size m round totals rounds chosen = append-nil (plain_rest_text minds seed m round rounds chosen)
+
+-- the parts of the rest of a run without its counts
+pub plain_rest_text-parts : (minds : Minds) (seed : ℕ) (m : Moment) (round rounds : ℕ) (chosen : ℕ → Bool) → plain_rest_text minds seed m round rounds chosen
+    ≡ later_dumps minds seed chosen m round (rounds - round) ++ score_text (score_of (after_rounds minds seed m (rounds - round)).world)
+unfolding plain_rest_text
+plain_rest_text-parts minds seed m round rounds chosen = refl
+
 -- the rest of a run has something
 pub rest_text-some : (minds : Minds) (seed size : ℕ) (m : Moment) (round : ℕ) (totals : Totals) (rounds : ℕ) (chosen : ℕ → Bool) (stats : Bool) → 1 ≤ length (rest_text minds seed size m round totals rounds chosen stats)
-unfolding rest_text
 rest_text-some minds seed size m round totals rounds chosen stats =
-    some_then (later_dumps minds seed chosen m round (rounds - round)) (score_text (score_of (after_rounds minds seed m (rounds - round)).world) ++ counts_text stats (both totals (totals_of minds seed size m (rounds - round))))
-    (end-some (score_of (after_rounds minds seed m (rounds - round)).world) stats (both totals (totals_of minds seed size m (rounds - round))))
+    rw (rest_text-parts minds seed size m round totals rounds chosen stats)
+    (some_then (later_dumps minds seed chosen m round (rounds - round)) (score_text (score_of (after_rounds minds seed m (rounds - round)).world) ++ counts_text stats (both totals (totals_of minds seed size m (rounds - round))))
+    (end-some (score_of (after_rounds minds seed m (rounds - round)).world) stats (both totals (totals_of minds seed size m (rounds - round)))))
 
 -- a run is the line of its seed, the dump of the start, if it is chosen, and the rest
 pub whole_text-rest : (minds : Minds) (seed size : ℕ) (w : World) (rounds : ℕ) (chosen : ℕ → Bool) (stats : Bool) → whole_text minds seed rounds chosen size stats w
@@ -93,13 +131,6 @@ whole_text-some minds seed size w rounds chosen stats =
     (some_then (seed_text seed) (chosen_dump chosen w 0 ++ rest_text minds seed size (start_of w) 0 no_turns rounds chosen stats)
     (some_then (chosen_dump chosen w 0) (rest_text minds seed size (start_of w) 0 no_turns rounds chosen stats)
     (rest_text-some minds seed size (start_of w) 0 no_turns rounds chosen stats)))
-
--- the parts of the rest of a run
-pub rest_text-parts : (minds : Minds) (seed size : ℕ) (m : Moment) (round : ℕ) (totals : Totals) (rounds : ℕ) (chosen : ℕ → Bool) (stats : Bool) → rest_text minds seed size m round totals rounds chosen stats
-    ≡ later_dumps minds seed chosen m round (rounds - round)
-    ++ (score_text (score_of (after_rounds minds seed m (rounds - round)).world) ++ counts_text stats (both totals (totals_of minds seed size m (rounds - round))))
-unfolding rest_text
-rest_text-parts minds seed size m round totals rounds chosen stats = refl
 
 -- the score after all rounds from the start
 pub score-rest : (minds : Minds) (seed : ℕ) (w : World) (rounds : ℕ) → score_of (after_rounds minds seed (start_of w) (rounds - 0)).world ≡ score_of (world_after minds seed w rounds)

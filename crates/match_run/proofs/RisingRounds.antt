@@ -1,5 +1,5 @@
 -- Rounds in another order, and how one of those that never fall is found.
-use Rattle.std.proofs.Common.{◌≡◌, ◌-◌, ◌<◌, ◌≤◌, ℕ, Bool, true, false, List, length, get_or, Result, Ok, Err, nat_eq, nat_lt, refl, sym, arith, eq-eqb, ne_eqb, ltb-true, ltb-false}
+use Rattle.std.proofs.Common.{◌≡◌, ◌<◌, ◌≤◌, ℕ, Bool, true, false, List, length, get_or, Result, Ok, Err, nat_eq, nat_lt, refl, sym, arith, eq-eqb, ne_eqb, ltb-true, ltb-false}
 use Rattle.std.specs.Prelude.{IsPermutation}
 use Rattle.std.specs.List.Sorted.{IsBinarySearchResult, IsNonDecreasing}
 use Rattle.std.specs.Ordering.{nat_cmp}

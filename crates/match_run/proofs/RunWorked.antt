@@ -60,7 +60,7 @@ unfolding run_text dumps_text world_after numbered seed_text dump_text cells_tex
 two_rounds = refl
 
 -- one red ant, whose brain flips twice: its first random number goes to state 1, and its second to state 2
-abbrev flipping : Minds
+abbrev pub flipping : Minds
 flipping = contest_minds (Flip 4 0 1 ∷ Flip 4 2 1 ∷ Drop 2 ∷ []) (Drop 0 ∷ [])
 
 abbrev state_in : World → Option ℕ

@@ -1,19 +1,18 @@
 -- Turns and rounds, one after another.
-use Rattle.std.proofs.Common.{◌≡◌, ℕ, ◌+◌, ◌-◌, ◌*◌, ◌≤◌, List, ◌∷◌, refl, sym, ◌∙◌, ap, ap₂, arith, subst}
+use Rattle.std.proofs.Common.{◌≡◌, ℕ, ◌+◌, ◌-◌, ◌≤◌, List, ◌∷◌, refl, sym, ◌∙◌, ap, ap₂, arith, subst}
 use Rattle.ant_random.specs.Stream.{SeedAndPlace}
 use Rattle.cell_world.specs.Cell.{one_if}
 use Rattle.cell_world.specs.Grid.{Grid, world_of}
-use Rattle.cell_world.specs.Limits.{most_ants}
-use Rattle.cell_world.specs.World.{World, with_cells}
+use Rattle.cell_world.specs.World.{with_cells}
 use Rattle.ant_turn.specs.Listed.{AreUp, after_listed}
 use Rattle.ant_turn.specs.Minds.{Minds, Fits}
-use Rattle.ant_turn.specs.Rounds.{Moment, after_turn, after_turns, after_round, after_rounds, start_of}
+use Rattle.ant_turn.specs.Rounds.{Moment, after_turn, after_turns, after_round, after_rounds}
 use Rattle.ant_turn.specs.Turn.{turn}
-use Rattle.ant_turn.proofs.KeptByRounds.{IsWithin, after_rounds-more, after_turn-place, after_turns-ids, after_turns-more, after_turns-place, after_turns-then}
+use Rattle.ant_turn.proofs.KeptByRounds.{IsWithin, after_turn-place, after_turns-ids, after_turns-more, after_turns-place, after_turns-then, after_rounds-then}
 use Rattle.ant_turn.proofs.RestingChunks.{AreUp-next}
 use Rattle.round_book.proofs.BookLemmas.{moment_at}
-use Rattle.match_run.specs.Run.{world_after}
-use Rattle.match_run.specs.Inner.Sequential.{RoundTaken, moment_from}
+use Rattle.match_run.specs.Sequential.{IsPlayedOn, SequentialValue, standing}
+use Rattle.match_run.specs.Inner.Sequential.{moment_from}
 
 -- a world and a stream are those after so many turns of a round that starts with others
 pub record IsTaken (minds : Minds) (first : Grid) (start : SeedAndPlace) (turns : ℕ) (grid : Grid) (stream : SeedAndPlace) : Type 0 where
@@ -117,40 +116,26 @@ pub IsTaken-all : {minds : Minds} {first : Grid} {start : SeedAndPlace} {turns :
 unfolding after_round
 IsTaken-all {minds} {first} {start} taken all = taken.moment ∙ ap (after_turns minds start.seed (moment_from first start) 0) all
 
--- a world and a stream are those after so many rounds of a game that starts in w
-pub record IsAfter (minds : Minds) (seed : ℕ) (w : World) (round : ℕ) (grid : Grid) (stream : SeedAndPlace) : Type 0 where
-  pub moment : moment_from grid stream ≡ after_rounds minds seed (start_of w) round
-  pub same_seed : stream.seed ≡ seed
-  pub place : stream.place ≤ round * most_ants
-  pub fits : Fits (world_of grid) minds
-
 -- no round is played
-pub IsAfter-none : (minds : Minds) (seed : ℕ) (grid : Grid) (stream : SeedAndPlace) → stream.seed ≡ seed → stream.place ≡ 0 → Fits (world_of grid) minds → IsAfter minds seed (world_of grid) 0 grid stream
-IsAfter-none minds seed grid stream same begins fits = record {
-  moment = ap (moment_at (world_of grid)) begins;
-  same_seed = same;
-  place = omega arith;
-  fits = fits;
-}
+pub IsPlayedOn-none : (game : SequentialValue) → IsPlayedOn game game 0
+IsPlayedOn-none game = record { now = refl; done = omega arith; minds = refl; seed = refl }
 
--- one round more is played
-pub IsAfter-more : {minds : Minds} {seed : ℕ} {w : World} {round : ℕ} {grid : Grid} {stream : SeedAndPlace} → IsAfter minds seed w round grid stream → (next : Grid) (later : SeedAndPlace)
-    → RoundTaken minds grid stream next later → IsAfter minds seed w (round + 1) next later
-IsAfter-more {minds} {seed} {w} {round} {grid} {stream} after next later taken =
-    let so_far : stream.place ≤ round * most_ants = after.place in
-    let few : later.place ≤ stream.place + most_ants = taken.place in
+-- some rounds, and then some more
+pub IsPlayedOn-then : {old mid : SequentialValue} {rounds : ℕ} → IsPlayedOn old mid rounds → (new : SequentialValue) (more : ℕ) → IsPlayedOn mid new more → IsPlayedOn old new (rounds + more)
+IsPlayedOn-then {old} {mid} {rounds} played new more later =
+    let so_far : mid.done ≡ old.done + rounds = played.done in
+    let since : new.done ≡ mid.done + more = later.done in
     record {
-      moment =
-          taken.moment
-          ∙ ap (λ (s : ℕ). after_round minds s (moment_from grid stream)) after.same_seed
-          ∙ ap (after_round minds seed) after.moment
-          ∙ sym (after_rounds-more minds seed (start_of w) round);
-      same_seed = taken.seed ∙ after.same_seed;
-      place = omega arith;
-      fits = taken.fit;
+      now =
+          later.now
+          ∙ ap₂ (λ (minds : Minds) (seed : ℕ). after_rounds minds seed (standing mid) more) played.minds played.seed
+          ∙ ap (λ (m : Moment). after_rounds old.minds old.seed m more) played.now
+          ∙ after_rounds-then old.minds old.seed (standing old) rounds more;
+      done = omega (arith, so_far, since);
+      minds = later.minds ∙ played.minds;
+      seed = later.seed ∙ played.seed;
     }
 
 -- the world then is that after these rounds
-pub IsAfter-world : {minds : Minds} {seed : ℕ} {w : World} {round : ℕ} {grid : Grid} {stream : SeedAndPlace} → IsAfter minds seed w round grid stream → world_of grid ≡ world_after minds seed w round
-unfolding world_after
-IsAfter-world after = ap (λ (m : Moment). m.world) after.moment
+pub IsPlayedOn-world : {old new : SequentialValue} {rounds : ℕ} → IsPlayedOn old new rounds → world_of new.world ≡ (after_rounds old.minds old.seed (standing old) rounds).world
+IsPlayedOn-world played = ap (λ (m : Moment). m.world) played.now

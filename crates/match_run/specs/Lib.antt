@@ -8,6 +8,7 @@ pub mod Play
 pub mod Rest
 pub mod Run
 pub mod RunLaws
+pub mod Sequential
 pub mod Stopped
 pub use Rattle.ant_base.specs.Layout
 pub use Rattle.ant_base.specs.NumberList

@@ -1,19 +1,19 @@
-// A whole game, played turn after turn.
-ghost use Rattle.std.specs.Prelude.{◌≡◌, ◌+◌, ◌≤◌, IfOk, OnOk};
-ghost use Rattle.ant_base.specs.Layout.{◌+++◌};
+// Games that are just played, and the text of their runs.
+ghost use Rattle.std.specs.Prelude.{◌≡◌, ◌-◌, ◌≤◌, IfOk, OnOk};
 ghost use Rattle.ant_base.specs.Sink.{Pushed};
 ghost use Rattle.ant_turn.specs.Minds.{Fits, minds_of};
+ghost use Rattle.ant_turn.specs.Rounds.{after_rounds};
 ghost use Rattle.cell_world.specs.Grid.{world_of};
 ghost use Rattle.cell_world.specs.Score.{score_of};
-ghost use Rattle.dump_print.specs.Texts.{score_text};
 ghost use Rattle.match_run.specs.Dumps.{chooses};
-ghost use Rattle.match_run.specs.Run.{most_rounds, dumps_text, ended, run_text, world_after};
+ghost use Rattle.match_run.specs.Rest.{later_dumps, plain_rest_text};
+ghost use Rattle.match_run.specs.Run.{most_rounds, ended, run_text, world_after};
+ghost use Rattle.match_run.specs.Sequential.{IsPlayedOn, standing};
 
-use crate::dumps::push_chosen;
+use crate::dumps::{Dumps, push_chosen};
 use crate::plan::Plan;
-use crate::sequential::play_round;
+use crate::sequential_game::SequentialGame;
 use ant_base::{Failed, Sink};
-use ant_random::Stream;
 use ant_turn::Brains;
 use cell_world::{Score, World};
 use dump_print::{push_score, push_seed};
@@ -39,48 +39,52 @@ pub fn play_alone<K: Sink>(
     ensures score { IfOk result (λ s. s ≡ score_of (world_after (minds_of brains.entry) plan.now.seed (world_of world) plan.now.rounds)) }
 {
     push_seed(plan.seed, sink)?;
-    play_to_score(world, brains, plan, sink)
+    push_chosen(&world, &plan.dumps, 0, sink)?;
+    let mut game = SequentialGame::begin(world, brains, plan.seed);
+    play_rest_alone(&mut game, plan.rounds, &plan.dumps, sink)
 }
 
-// Plays a game, and pushes the dumps that the plan chooses and the score.
-fn play_to_score<K: Sink>(
-    world: World,
-    brains: Brains<'_>,
-    plan: &Plan,
+/// Plays a game on until so many rounds are done in all, and pushes the rest of its text, without counts: the dump after each later round that
+/// is chosen, in order, and the score (the task's game play).
+///
+/// The rounds are at most 1,000,000, and at least those that are done. Gives the score at the end. It fails only where the sink did, whose
+/// count of faults rose then: a prefix of the text was pushed. It takes no memory.
+pub fn play_rest_alone<K: Sink>(
+    game: &mut SequentialGame<'_>,
+    rounds: u32,
+    dumps: &Dumps,
     sink: &mut K,
 ) -> Result<Score, Failed>
-    requires fit { Fits (world_of world) (minds_of brains) }
-    requires few_rounds { plan.now.rounds ≤ most_rounds }
+    requires left { game.old.done ≤ rounds }
+    requires few_rounds { rounds ≤ most_rounds }
     ensures text { Pushed (K.state sink.old) (K.state sink.new)
-        (dumps_text (minds_of brains.entry) plan.now.seed (chooses plan.now.dumps) (world_of world) (plan.now.rounds + 1)
-        +++ score_text (score_of (world_after (minds_of brains.entry) plan.now.seed (world_of world) plan.now.rounds))) (ended result) }
-    ensures score { IfOk result (λ s. s ≡ score_of (world_after (minds_of brains.entry) plan.now.seed (world_of world) plan.now.rounds)) }
+        (plain_rest_text game.old.minds game.old.seed (standing game.old) game.old.done rounds (chooses dumps.now)) (ended result) }
+    ensures score { IfOk result (λ s. s ≡ score_of (after_rounds game.old.minds game.old.seed (standing game.old) (rounds - game.old.done)).world) }
+    ensures played { OnOk result (IsPlayedOn game.old game.new (rounds - game.old.done)) }
 {
-    let mut field = world;
-    play_rounds(&mut field, brains, plan, sink)?;
-    let score = field.score();
+    play_rounds(game, rounds, dumps, sink)?;
+    let score = game.world().score();
     push_score(score, sink)?;
     Ok(score)
 }
 
-// Plays the rounds of a plan, and pushes the dumps that it chooses.
+// Plays the later rounds of a game, and pushes the dumps that are chosen.
 fn play_rounds<K: Sink>(
-    world: &mut World,
-    brains: Brains<'_>,
-    plan: &Plan,
+    game: &mut SequentialGame<'_>,
+    rounds: u32,
+    dumps: &Dumps,
     sink: &mut K,
 ) -> Result<(), Failed>
-    requires fit { Fits (world_of world.old) (minds_of brains) }
-    requires few_rounds { plan.now.rounds ≤ most_rounds }
+    requires left { game.old.done ≤ rounds }
+    requires few_rounds { rounds ≤ most_rounds }
     ensures text { Pushed (K.state sink.old) (K.state sink.new)
-        (dumps_text (minds_of brains.entry) plan.now.seed (chooses plan.now.dumps) (world_of world.old) (plan.now.rounds + 1)) result }
-    ensures world { OnOk result (world_of world.new ≡ world_after (minds_of brains.entry) plan.now.seed (world_of world.old) plan.now.rounds) }
+        (later_dumps game.old.minds game.old.seed (chooses dumps.now) (standing game.old) game.old.done (rounds - game.old.done)) result }
+    ensures played { OnOk result (IsPlayedOn game.old game.new (rounds - game.old.done)) }
 {
-    let mut stream = Stream::from_seed(plan.seed);
-    push_chosen(world, &plan.dumps, 0, sink)?;
-    for round in 0..plan.rounds {
-        play_round(world, brains, &mut stream);
-        push_chosen(world, &plan.dumps, round + 1, sink)?;
+    let done = game.done();
+    for more in 0..rounds - done {
+        game.round();
+        push_chosen(game.world(), dumps, done + more + 1, sink)?;
     }
     Ok(())
 }
@@ -93,19 +97,7 @@ pub fn play_score(world: World, brains: Brains<'_>, seed: u32, rounds: u32) -> S
     requires few_rounds { rounds ≤ most_rounds }
     ensures { result ≡ score_of (world_after (minds_of brains.entry) seed (world_of world) rounds) }
 {
-    let mut field = world;
-    play_silently(&mut field, brains, seed, rounds);
-    field.score()
-}
-
-// Plays so many rounds.
-fn play_silently(world: &mut World, brains: Brains<'_>, seed: u32, rounds: u32)
-    requires fit { Fits (world_of world.old) (minds_of brains) }
-    requires few_rounds { rounds ≤ most_rounds }
-    ensures { world_of world.new ≡ world_after (minds_of brains.entry) seed (world_of world.old) rounds }
-{
-    let mut stream = Stream::from_seed(seed);
-    for _ in 0..rounds {
-        play_round(world, brains, &mut stream);
-    }
+    let mut game = SequentialGame::begin(world, brains, seed);
+    game.play_on(rounds);
+    game.world().score()
 }

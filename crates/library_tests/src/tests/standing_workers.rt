@@ -2,6 +2,8 @@
 ghost use Rattle.std.specs.Prelude.{◌≡◌, ◌≤◌, true, IfOk, length};
 ghost use Rattle.std.specs.Arc.{arc_value};
 ghost use Rattle.ant_base.specs.Shelf.{longest};
+ghost use Rattle.ant_turn.specs.Minds.{Fits, minds_of};
+ghost use Rattle.cell_world.specs.Grid.{world_of};
 
 use ant_base::{LONGEST, NoGate};
 use ant_turn::{Brains, Sheet};
@@ -17,7 +19,7 @@ use std::thread::Threads;
 use world_read::read_world;
 
 // The world in which a surrounded ant dies in the first round, the brains, and its seed.
-const WORLD: &str =
+pub(crate) const WORLD: &str =
     "7\n6\n# # # # # # #\n # . . . . . #\n# . . - # . #\n # - . + - # #\n# + . - - # #\n # # # # # # #\n";
 
 const FLIPS: &str = "Flip 2 0 0";
@@ -93,6 +95,17 @@ pub(crate) fn make_players<R: Abort>(rt: &R, alloc: Global, black: &str) -> Resu
     Ok(Players { red, black })
 }
 
+// The world of a text, which these brains fit.
+pub(crate) fn opened_world(alloc: Global, text: &[u8], brains: Brains<'_>) -> Result<World, Fail>
+    requires { length text.now ≤ longest }
+    ensures { IfOk result (λ world. Fits (world_of world) (minds_of brains.entry)) }
+{
+    let world = read_world(alloc, text)?;
+    let _red_states = brains.red.len();
+    let _black_states = brains.black.len();
+    Ok(world)
+}
+
 // A whole field with the world of a text, at the start of a seed's random numbers.
 pub(crate) fn field_on<'b>(
     alloc: Global,
@@ -103,9 +116,7 @@ pub(crate) fn field_on<'b>(
     requires { length text.now ≤ longest }
     ensures { IfOk result (λ field. (field.whole ≡ true) × (field.place ≡ 0)) }
 {
-    let world = read_world(alloc, text)?;
-    let _red_states = brains.red.len();
-    let _black_states = brains.black.len();
+    let world = opened_world(alloc, text, brains)?;
     Ok(Field::new(alloc, world, brains, seed, 0)?)
 }
 
@@ -130,7 +141,7 @@ fn field_of<'b, R: Abort>(
 }
 
 // Copies of a field's brains.
-fn minds_of(alloc: Global, field: &Field<'_>) -> Result<Arc<OwnBrains>, Fail>
+fn own_brains(alloc: Global, field: &Field<'_>) -> Result<Arc<OwnBrains>, Fail>
     ensures { IfOk result (λ minds. arc_value minds ≡ field.now.minds) }
 {
     Ok(Arc::new(alloc, OwnBrains::of(alloc, field.brains())?)?)
@@ -146,7 +157,7 @@ fn base_of(alloc: Global, field: &Field<'_>) -> Result<Arc<World>, Fail>
 // The looks at all turns of a field's first round, each at the guess of the row.
 fn found_on<R: Abort>(rt: &R, alloc: Global, field: &Field<'_>) -> Result<Found, Fail> {
     assert!(rt; 7 <= field.world().ant_count());
-    let minds = minds_of(alloc, field)?;
+    let minds = own_brains(alloc, field)?;
     let base = base_of(alloc, field)?;
     let job = Job::of(alloc, field, minds, base, 0, 7, &GUESSES)?;
     Ok(job.work(&NoGate, 0))

@@ -1,64 +1,64 @@
-use Rattle.std.proofs.Common.{◌≡◌, ◌+◌, ◌∙◌, ap, arith}
+use Rattle.std.proofs.Common.{◌≡◌, ◌+◌, ◌-◌, ℕ, arith, subst}
 use Rattle.std.proofs.lemmas.Result.{err_from_is_err_and}
-use Rattle.ant_base.proofs.Pushes.{all_then, front_then, front_more}
-use Rattle.ant_turn.specs.Minds.{minds_of}
-use Rattle.cell_world.specs.Grid.{world_of}
+use Rattle.ant_base.specs.Sink.{PushedAll, PushedFront}
+use Rattle.ant_base.proofs.Pushes.{all_of_nothing, all_then, front_then, front_more}
+use Rattle.cell_world.specs.Grid.{Grid, world_of}
 use Rattle.match_run.specs.Dumps.{chooses}
-use Rattle.match_run.specs.Run.{world_after}
-use Rattle.match_run.proofs.RunLemmas.{dumps_text-first, dumps_text-front, dumps_text-more}
-use Rattle.match_run.proofs.SequentialLemmas.{IsAfter, IsAfter-none, IsAfter-more, IsAfter-world}
+use Rattle.match_run.specs.Run.{chosen_dump}
+use Rattle.match_run.specs.Sequential.{IsPlayedOn, standing}
+use Rattle.match_run.proofs.PlayLemmas.{later_dumps-front, later_dumps-more, later_dumps-none}
+use Rattle.match_run.proofs.SequentialLemmas.{IsPlayedOn-none, IsPlayedOn-then, IsPlayedOn-world}
 use Rattle.match_run.proofs.alone.play_rounds.Goals as goal
 
-pub loop-round-init : goal.loop-round-init
-loop-round-init g c =
-    let minds = minds_of c.args.brains in
-    let plan = c.args.plan.now in
+pub loop-more-init : goal.loop-more-init
+loop-more-init g c =
+    let game = c.args.game.now in
     record {
-      after = IsAfter-none minds plan.seed c.args.world.now c.from_seed-stream.result c.from_seed-stream.ensures.seed c.from_seed-stream.ensures.place c.requires.fit;
-      text = rw (dumps_text-first minds plan.seed (chooses plan.dumps) (world_of c.args.world.now)) c.in_ok-push_chosen.ensures;
+      played = IsPlayedOn-none game;
+      text = rw (later_dumps-none game.minds game.seed (chooses c.args.dumps.now) (standing game) game.done) (all_of_nothing (g.K.Sink.state c.args.sink.now));
     }
 
-pub play_round-requires-clause-fit : goal.play_round-requires-clause-fit
-play_round-requires-clause-fit g c = c.loop-round.invariant.after.fits
+pub round-requires : goal.round-requires
+round-requires g c =
+    let done = c.loop-more.invariant.played.done in
+    omega (arith, done, c.loop-more-test.true, c.requires.left, c.requires.few_rounds, c.done-done.ensures.done)
 
-pub play_round-requires-clause-place : goal.play_round-requires-clause-place
-play_round-requires-clause-place g c = omega (arith, c.loop-round.invariant.after.place, c.loop-round-test.true, c.requires.few_rounds)
-
-pub loop-round-preserved : goal.loop-round-preserved
-loop-round-preserved g c =
-    let minds = minds_of c.args.brains in
-    let plan = c.args.plan.now in
-    let after : IsAfter minds plan.seed (world_of c.args.world.now) (c.loop-round.round + 1) c.play_round.new.world c.play_round.new.stream =
-    IsAfter-more c.loop-round.invariant.after _ _ c.play_round.ensures in
+pub loop-more-preserved : goal.loop-more-preserved
+loop-more-preserved g c =
+    let game = c.args.game.now in
+    let more = c.loop-more.more in
+    let chosen = chooses c.args.dumps.now in
+    let next : IsPlayedOn game c.round.new.self (more + 1) = IsPlayedOn-then c.loop-more.invariant.played c.round.new.self 1 c.round.ensures in
     record {
-      after = after;
-      text = rw (dumps_text-more minds plan.seed (chooses plan.dumps) (world_of c.args.world.now) (c.loop-round.round + 1), ← IsAfter-world after)
-          (all_then _ _ _ _ _ c.loop-round.invariant.text c.in_ok-push_chosen-2.ensures);
+      played = next;
+      text = rw (later_dumps-more game.minds game.seed chosen (standing game) game.done more, ← IsPlayedOn-world next) (all_then _ _ _ _ _ c.loop-more.invariant.text
+          (subst (λ (w : Grid). PushedAll (g.K.Sink.state c.loop-more.sink) (g.K.Sink.state c.push_chosen.new.sink) (chosen_dump chosen (world_of w) (game.done + more + 1))) c.world.ensures
+          (subst (λ (done : ℕ). PushedAll (g.K.Sink.state c.loop-more.sink) (g.K.Sink.state c.push_chosen.new.sink) (chosen_dump chosen (world_of c.world.result.now) (done + more + 1))) c.done-done.ensures.done c.in_ok-push_chosen.ensures)));
     }
 
 pub returns-in_err-push_chosen-clause-text : goal.returns-in_err-push_chosen-clause-text
 returns-in_err-push_chosen-clause-text g c =
-    let minds = minds_of c.args.brains in
-    let plan = c.args.plan.now in
-    let w = world_of c.args.world.now in
+    let game = c.args.game.now in
+    let more = c.loop-more.more in
+    let chosen = chooses c.args.dumps.now in
     let p = err_from_is_err_and c.from_residual.result c.from_residual.ensures.1 in
-    let rest = dumps_text-front minds plan.seed (chooses plan.dumps) w 1 (plan.rounds + 1) (omega arith) in
-    rw (p.1, rest.1, dumps_text-first minds plan.seed (chooses plan.dumps) w) (front_more _ _ _ _ c.in_err-push_chosen.ensures)
+    let next : IsPlayedOn game c.round.new.self (more + 1) = IsPlayedOn-then c.loop-more.invariant.played c.round.new.self 1 c.round.ensures in
+    let rest = later_dumps-front game.minds game.seed chosen (standing game) game.done (more + 1) (c.args.rounds - game.done) (omega (arith, c.loop-more-test.true, c.done-done.ensures.done)) in
+    rw (p.1, rest.1, later_dumps-more game.minds game.seed chosen (standing game) game.done more, ← IsPlayedOn-world next)
+    (front_more _ _ _ _ (front_then _ _ _ _ _ c.loop-more.invariant.text
+    (subst (λ (w : Grid). PushedFront (g.K.Sink.state c.loop-more.sink) (g.K.Sink.state c.push_chosen.new.sink) (chosen_dump chosen (world_of w) (game.done + more + 1))) c.world.ensures
+    (subst (λ (done : ℕ). PushedFront (g.K.Sink.state c.loop-more.sink) (g.K.Sink.state c.push_chosen.new.sink) (chosen_dump chosen (world_of c.world.result.now) (done + more + 1))) c.done-done.ensures.done c.in_err-push_chosen.ensures))))
 
-pub returns-in_err-push_chosen-2-clause-text : goal.returns-in_err-push_chosen-2-clause-text
-returns-in_err-push_chosen-2-clause-text g c =
-    let minds = minds_of c.args.brains in
-    let plan = c.args.plan.now in
-    let w = world_of c.args.world.now in
-    let round = c.loop-round.round in
-    let p = err_from_is_err_and c.from_residual-in_err-push_chosen-2.result c.from_residual-in_err-push_chosen-2.ensures.1 in
-    let after : IsAfter minds plan.seed w (round + 1) c.play_round.new.world c.play_round.new.stream =
-    IsAfter-more c.loop-round.invariant.after _ _ c.play_round.ensures in
-    let rest = dumps_text-front minds plan.seed (chooses plan.dumps) w (round + 1 + 1) (plan.rounds + 1) (omega (arith, c.loop-round-test.true)) in
-    rw (p.1, rest.1, dumps_text-more minds plan.seed (chooses plan.dumps) w (round + 1), ← IsAfter-world after)
-    (front_more _ _ _ _ (front_then _ _ _ _ _ c.loop-round.invariant.text c.in_err-push_chosen-2.ensures))
+pub returns-clause-text : goal.returns-clause-text
+returns-clause-text g c =
+    let low = c.loop-more-test.false in
+    let high = c.loop-more.auto.more-end in
+    let all : c.loop-more.more ≡ c.args.rounds - c.args.game.now.done = omega (arith, low, high, c.done-done.ensures.done) in
+    rw (← all) c.loop-more.invariant.text
 
-pub returns-clause-world : goal.returns-clause-world
-returns-clause-world g c =
-    let all : c.loop-round.round ≡ c.args.plan.now.rounds = omega (arith, c.loop-round-test.false, c.loop-round.auto.round-end) in
-    IsAfter-world c.loop-round.invariant.after ∙ ap (world_after (minds_of c.args.brains) c.args.plan.now.seed (world_of c.args.world.now)) all
+pub returns-clause-played : goal.returns-clause-played
+returns-clause-played g c =
+    let low = c.loop-more-test.false in
+    let high = c.loop-more.auto.more-end in
+    let all : c.loop-more.more ≡ c.args.rounds - c.args.game.now.done = omega (arith, low, high, c.done-done.ensures.done) in
+    subst (λ (n : ℕ). IsPlayedOn c.args.game.now c.loop-more.game n) all c.loop-more.invariant.played

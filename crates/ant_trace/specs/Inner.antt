@@ -1,0 +1,2 @@
+-- Stepping stones between the definitions and the code: no public clause cites them.
+pub mod Broken

@@ -1,0 +1,117 @@
+// A game that is just played.
+ghost use Rattle.std.specs.Prelude.{◌≡◌, ◌+◌, ◌*◌, ◌<◌, ◌≤◌};
+ghost use Rattle.ant_turn.specs.Minds.{Fits, minds_of};
+ghost use Rattle.cell_world.specs.Grid.{world_of};
+ghost use Rattle.cell_world.specs.Limits.{most_ants};
+ghost use Rattle.match_run.specs.Run.{most_rounds};
+ghost use Rattle.match_run.specs.Sequential.{IsPlayedOn, IsSequential};
+
+use crate::sequential::play_round;
+use ant_random::Stream;
+use ant_turn::Brains;
+use cell_world::World;
+use std::marker::Model;
+
+/// A game that is just played, round after round and each turn after turn (the task's game play): no look is made ahead, nothing is counted, and
+/// it takes no memory. It knows its world, its brains, its stream of random numbers, and how many rounds are done.
+#[derive(Drop)]
+pub struct SequentialGame<'b> {
+    world: World,
+    brains: Brains<'b>,
+    stream: Stream,
+    done: u32,
+}
+
+impl<'b> Model for SequentialGame<'b> {
+    ghost use Rattle.ant_turn.specs.Minds.{minds_of};
+    ghost use Rattle.match_run.specs.Sequential.{IsSequential, SequentialValue};
+
+    ghost Value = { SequentialValue };
+
+    ghost view = { λ game. record {
+      world = game.world;
+      minds = minds_of game.brains;
+      seed = game.stream.seed;
+      place = game.stream.place;
+      done = game.done;
+    } };
+
+    ghost invariant = { λ game. IsSequential (record {
+      world = game.world;
+      minds = minds_of game.brains;
+      seed = game.stream.seed;
+      place = game.stream.place;
+      done = game.done;
+    }) };
+}
+
+impl<'b> SequentialGame<'b> {
+    /// A game that begins on a world, with the random numbers of a seed from place 0 on (the task's game play). Each ant's state is below the
+    /// length of its colour's brain, as in every opening world.
+    pub fn begin(world: World, brains: Brains<'b>, seed: u32) -> SequentialGame<'b>
+        requires fit { Fits (world_of world) (minds_of brains) }
+        ensures { result ≡ record { world = world; minds = minds_of brains.entry; seed = seed; place = 0; done = 0 } }
+    {
+        SequentialGame::at_round(world, brains, seed, 0, 0)
+    }
+
+    /// A game that stands at the end of a round: its world is this one, so many random numbers of its seed were drawn, and so many rounds are
+    /// done. Each ant's state is below the length of its colour's brain; at most 1,000,000 rounds are done, in which each of 16,384 ids drew
+    /// one number at most.
+    pub fn at_round(
+        world: World,
+        brains: Brains<'b>,
+        seed: u32,
+        place: u64,
+        done: u32,
+    ) -> SequentialGame<'b>
+        requires fit { Fits (world_of world) (minds_of brains) }
+        requires few { done ≤ most_rounds }
+        requires place { place ≤ done * most_ants }
+        ensures { result ≡ record { world = world; minds = minds_of brains.entry; seed = seed; place = place; done = done } }
+    {
+        SequentialGame {
+            world,
+            brains,
+            stream: Stream::at_place_uncounted(seed, place),
+            done,
+        }
+    }
+
+    /// Plays one round: a turn of each id in rising order (the task's kinetics). Fewer than 1,000,000 rounds are done. It takes no memory.
+    #[inline(always)]
+    pub fn round(&mut self)
+        requires few { self.old.done < most_rounds }
+        ensures { IsPlayedOn self.old self.new 1 }
+    {
+        play_round(&mut self.world, self.brains, &mut self.stream);
+        self.done += 1;
+    }
+
+    /// Plays so many rounds more (the task's kinetics), with those that are done at most 1,000,000. It takes no memory.
+    pub fn play_on(&mut self, rounds: u32)
+        requires few { self.old.done + rounds ≤ most_rounds }
+        ensures { IsPlayedOn self.old self.new rounds }
+    {
+        for _ in 0..rounds {
+            self.round();
+        }
+    }
+
+    /// The world as it is (the task's geography).
+    #[inline]
+    pub fn world(&self) -> &World
+        ensures { result.now ≡ self.now.world }
+    {
+        &self.world
+    }
+
+    /// How many rounds are done, at most 1,000,000 (the task's kinetics).
+    #[inline]
+    pub fn done(&self) -> u32
+        ensures done { result ≡ self.now.done }
+        ensures game { IsSequential self.now }
+    {
+        self.done
+    }
+}
