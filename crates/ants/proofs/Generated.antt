@@ -64,4 +64,5 @@ carries_ungenerated command seed shape shelf out result stop.Memory no_file room
 pub carries_generated : {U : Type 0} (seed : ℕ) (shape : GenShape) (shelf : ShelfState) (out new_out : SinkState) (world : Grid) (result : Result U CommandStop) (last : Result (Unit {0}) Failed) → ending_of result ≡ push_ending last → IsGenerated seed (shape_named shape) world
     → Pushed out new_out (canonical_text world.width world.height (kinds_of world)) last → CarriesOut (GenCommand seed shape) shelf shelf out new_out (ending_of result)
 carries_generated seed shape shelf out new_out world result last same generated pushed =
-    carries_pushed (GenCommand seed shape) shelf shelf out new_out [] result last same (reads_none shelf) (canonical_text world.width world.height (kinds_of world)) (record { world = world; generated = generated; told = refl }) pushed
+    carries_pushed (GenCommand seed shape) shelf shelf out new_out [] result last same (reads_none shelf) (canonical_text world.width world.height (kinds_of world))
+    (record { value = tt; read = refl; told = record { world = world; generated = generated; told = refl } }) pushed

@@ -11,10 +11,9 @@ use Rattle.cell_world.specs.Grid.{world_of}
 use Rattle.dump_print.specs.declared.totals.Totals.{Totals}
 use Rattle.match_run.specs.Counts.{counts_text, totals_of, whole_text}
 use Rattle.match_run.specs.Run.{run_text}
-use Rattle.ants.specs.Files.{AreAccepted, FileContent, IsAccepted}
-use Rattle.ants.specs.Files.FileContent.{BrainContent, BreakContent, WorldContent, LabelledContent, SaveContent}
+use Rattle.ants.specs.Files.{AreAccepted, FileContent}
 use Rattle.ants.specs.Headline.{Headline, NamesTheReason, NamesTheWord, PrintsItsOutput, PrintsTheGame, TellsItsCounts, KeepsPromise}
-use Rattle.ants.specs.Outputs.{IsJobText, brain_file, game_files, match_output, minds_named, world_file}
+use Rattle.ants.specs.Outputs.{IsJobText, ReadGame, game_contents, game_files, match_output, minds_named}
 use Rattle.ants.specs.Outside.{Outside}
 use Rattle.ants.specs.Endings.{IsDone}
 use Rattle.ants.specs.Run.{Ends, Reports}
@@ -50,26 +49,32 @@ abbrev PrintsAll : List ℕ → List ℕ → List ℕ → RunSetup → Outside �
 PrintsAll world red black setup before after = (game : PrintsTheGame world red black setup before after) × TellsItsCounts world red black setup before after game
 
 -- the game of a world and two brains that were accepted
-game_of : (world red black : List ℕ) (setup : RunSetup) (before after : Outside) (a b c : Fetched) (fetches : List Fetched) (first second third : FileContent) (text : List ℕ) → FetchesEach before.shelf after.shelf (a ∷ b ∷ c ∷ fetches)
-    → IsAccepted (world_file world) a first → IsAccepted (brain_file red) b second → IsAccepted (brain_file black) c third → fetches ≡ [] → text ≡ match_output setup first second third → PushedAll before.out after.out text
+game_of : (world red black : List ℕ) (setup : RunSetup) (before after : Outside) (fetches : List Fetched) (read : ReadGame) (text : List ℕ) → FetchesEach before.shelf after.shelf fetches
+    → AreAccepted (game_files world red black) fetches (game_contents read) → text ≡ match_output setup read → PushedAll before.out after.out text
     → NothingWaits after.out.waiting → after.err ≡ before.err → PrintsAll world red black setup before after
 unfolding match_output whole_text run_text
-game_of world red black setup before after a b c fetches (WorldContent grid) (BrainContent one) (BrainContent two) text fetched x y z last is written flushed silent =
+game_of world red black setup before after [] read text fetched are is written flushed silent = absurd are
+game_of world red black setup before after (a ∷ []) read text fetched are is written flushed silent = absurd are.1
+game_of world red black setup before after (a ∷ b ∷ []) read text fetched are is written flushed silent = absurd are.1.1
+game_of world red black setup before after (a ∷ b ∷ c ∷ fetches) read text fetched are is written flushed silent =
+    let x = are.0 in
+    let y = are.1.0 in
+    let z = are.1.1.0 in
     let got : List ℕ → List ℕ → Fetched = λ name bytes. record { name = name; answer = Ok bytes } in
     let same : a ∷ b ∷ c ∷ fetches ≡ got world x.bytes ∷ got red y.bytes ∷ got black z.bytes ∷ [] =
     ap (λ (f : Fetched). f ∷ b ∷ c ∷ fetches) x.got ∙ ap (λ (f : Fetched). got world x.bytes ∷ f ∷ c ∷ fetches) y.got
-    ∙ ap (λ (f : Fetched). got world x.bytes ∷ got red y.bytes ∷ f ∷ fetches) z.got ∙ ap (λ (more : List Fetched). got world x.bytes ∷ got red y.bytes ∷ got black z.bytes ∷ more) last in
-    let totals : Totals = totals_of (minds_named setup one two) setup.seed setup.window (start_of (world_of grid)) setup.rounds in
+    ∙ ap (λ (f : Fetched). got world x.bytes ∷ got red y.bytes ∷ f ∷ fetches) z.got ∙ ap (λ (more : List Fetched). got world x.bytes ∷ got red y.bytes ∷ got black z.bytes ∷ more) are.1.1.1.0 in
+    let totals : Totals = totals_of (minds_named setup read.red read.black) setup.seed setup.window (start_of (world_of read.world)) setup.rounds in
     let game : PrintsTheGame world red black setup before after = record {
       world_bytes = x.bytes;
       red_bytes = y.bytes;
       black_bytes = z.bytes;
       fetched = subst (FetchesEach before.shelf after.shelf) same fetched;
-      start = grid;
+      start = read.world;
       is_world = x.reads;
-      red_brain = one;
+      red_brain = read.red;
       is_red = y.reads;
-      black_brain = two;
+      black_brain = read.black;
       is_black = z.reads;
       counts = counts_text setup.stats totals;
       uncounted = λ off. ap (λ (stats : Bool). counts_text stats totals) off;
@@ -78,31 +83,12 @@ game_of world red black setup before after a b c fetches (WorldContent grid) (Br
       silent = silent;
     } in
     (game, record { told = refl })
-game_of world red black setup before after a b c fetches (WorldContent grid) (BrainContent one) (WorldContent third) text fetched x y z last is written flushed silent = absurd z.reads
-game_of world red black setup before after a b c fetches (WorldContent grid) (BrainContent one) (BreakContent third) text fetched x y z last is written flushed silent = absurd z.reads
-game_of world red black setup before after a b c fetches (WorldContent grid) (BrainContent one) (LabelledContent made places) text fetched x y z last is written flushed silent = absurd z.reads
-game_of world red black setup before after a b c fetches (WorldContent grid) (BrainContent one) (SaveContent made) text fetched x y z last is written flushed silent = absurd z.reads
-game_of world red black setup before after a b c fetches (WorldContent grid) (WorldContent second) third text fetched x y z last is written flushed silent = absurd y.reads
-game_of world red black setup before after a b c fetches (WorldContent grid) (BreakContent second) third text fetched x y z last is written flushed silent = absurd y.reads
-game_of world red black setup before after a b c fetches (WorldContent grid) (LabelledContent made places) third text fetched x y z last is written flushed silent = absurd y.reads
-game_of world red black setup before after a b c fetches (WorldContent grid) (SaveContent made) third text fetched x y z last is written flushed silent = absurd y.reads
-game_of world red black setup before after a b c fetches (BrainContent first) second third text fetched x y z last is written flushed silent = absurd x.reads
-game_of world red black setup before after a b c fetches (BreakContent first) second third text fetched x y z last is written flushed silent = absurd x.reads
-game_of world red black setup before after a b c fetches (LabelledContent made places) second third text fetched x y z last is written flushed silent = absurd x.reads
-game_of world red black setup before after a b c fetches (SaveContent made) second third text fetched x y z last is written flushed silent = absurd x.reads
 
 game_done : (world red black : List ℕ) (setup : RunSetup) (before after : Outside) (fetches : List Fetched) (contents : List FileContent) (text : List ℕ) → FetchesEach before.shelf after.shelf fetches
     → AreAccepted (game_files world red black) fetches contents → IsJobText (RunCommand world red black setup) contents text → PushedAll before.out after.out text
     → NothingWaits after.out.waiting → after.err ≡ before.err → PrintsAll world red black setup before after
-game_done world red black setup before after fetches [] text fetched are is written flushed silent = absurd is
-game_done world red black setup before after fetches (first ∷ []) text fetched are is written flushed silent = absurd is
-game_done world red black setup before after fetches (first ∷ second ∷ []) text fetched are is written flushed silent = absurd is
-game_done world red black setup before after [] (first ∷ second ∷ third ∷ []) text fetched are is written flushed silent = absurd are
-game_done world red black setup before after (a ∷ []) (first ∷ second ∷ third ∷ []) text fetched are is written flushed silent = absurd are.1
-game_done world red black setup before after (a ∷ b ∷ []) (first ∷ second ∷ third ∷ []) text fetched are is written flushed silent = absurd are.1.1
-game_done world red black setup before after (a ∷ b ∷ c ∷ fetches) (first ∷ second ∷ third ∷ []) text fetched are is written flushed silent =
-    game_of world red black setup before after a b c fetches first second third text fetched are.0 are.1.0 are.1.1.0 are.1.1.1.0 is written flushed silent
-game_done world red black setup before after fetches (first ∷ second ∷ third ∷ next ∷ more) text fetched are is written flushed silent = absurd is
+game_done world red black setup before after fetches contents text fetched are is written flushed silent =
+    game_of world red black setup before after fetches is.value text fetched (subst (AreAccepted (game_files world red black) fetches) is.read are) is.told written flushed silent
 
 game : (words : List (List ℕ)) (before after : Outside) → HasEnded words before after Done → (world red black : List ℕ) (setup : RunSetup) → IsCommand words (RunCommand world red black setup) → PrintsAll world red black setup before after
 game words before after it world red black setup is =

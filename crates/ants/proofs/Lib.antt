@@ -1,7 +1,10 @@
--- Texts: what each command writes, and that it ends in LF.
+-- Texts: what each command writes, that it is one, is there, and ends in LF.
 pub mod Cups
+pub mod Viewed
 pub mod TextEnds
+pub mod ReadContents
 pub mod Texts
+pub mod JobTexts
 -- What is fetched and judged, file by file.
 pub mod Readings
 pub mod Verdicts
@@ -13,12 +16,9 @@ pub mod SampleWorked
 pub mod Generated
 pub mod Planned
 pub mod Untouched
-pub mod Viewed
 pub mod Workloads
 pub mod Saves
--- The laws: one text, one output, the headline.
-pub mod OneTexts
-pub mod HasOutputs
+-- The laws: labelled games, saves, the headline.
 pub mod LabelledGames
 pub mod ResumedGames
 pub mod Headlines

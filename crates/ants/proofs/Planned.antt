@@ -17,12 +17,15 @@ use Rattle.match_save.specs.Saves.{saved_after}
 use Rattle.ants.specs.declared.run.PlannedGame.{PlannedGame}
 use Rattle.ants.specs.declared.run.Setting.{Setting}
 use Rattle.ants.specs.declared.stop.CommandStop.{CommandStop}
-use Rattle.ants.specs.Files.FileContent.{BrainContent, WorldContent}
-use Rattle.ants.specs.Inner.Plans.{Plans, minds_in, setting_contents, stop_of, text_in}
+use Rattle.ants.specs.Inner.Plans.{Plans, game_read, minds_in, setting_contents, stop_of, text_in}
 use Rattle.ants.specs.Inner.Reading.{CarriesOut, ReadsFiles, ending_of}
 use Rattle.ants.specs.Inner.Reading.ReadOutcome.{Contents}
-use Rattle.ants.specs.Outputs.{chosen_rounds, game_files, match_output, minds_named, save_output}
+use Rattle.ants.specs.Outputs.{ReadGame, Tells, chosen_rounds, game_contents, game_files, is_text_of, match_output, minds_named, save_output}
 use Rattle.ants.proofs.Readings.{carries_done, carries_fault}
+
+-- what is told of a game's files is told of what they were read as
+pub tells : (setting : Setting) (text_of : ReadGame → List ℕ) → Tells game_contents (is_text_of text_of) (setting_contents setting) (text_of (game_read setting))
+tells setting text_of = record { value = game_read setting; read = refl; told = refl }
 
 module _ (setup : RunSetup) (game : PlannedGame) (setting : Setting) (plans : Plans setup game) where
   by_sheet : Sheet → Minds
@@ -32,7 +35,7 @@ module _ (setup : RunSetup) (game : PlannedGame) (setting : Setting) (plans : Pl
   named = minds_named setup setting.red setting.black
 
   -- the text of a game
-  output_planned : text_in setting game ≡ match_output setup (WorldContent setting.world) (BrainContent setting.red) (BrainContent setting.black)
+  output_planned : text_in setting game ≡ match_output setup (game_read setting)
   unfolding match_output by_sheet named
   output_planned =
       ap (λ sheet. whole_text (by_sheet sheet) game.plan.seed game.plan.rounds (chooses game.plan.dumps) game.plan.window game.plan.stats (world_of setting.world)) plans.sheet_is
@@ -44,7 +47,7 @@ module _ (setup : RunSetup) (game : PlannedGame) (setting : Setting) (plans : Pl
 
   -- the save of a game
   pub saved_planned : save_text (saved_after (minds_in setting game) game.plan.seed game.plan.window (world_of setting.world) game.plan.rounds)
-      ≡ save_output setup (WorldContent setting.world) (BrainContent setting.red) (BrainContent setting.black)
+      ≡ save_output setup (game_read setting)
   unfolding save_output by_sheet named
   saved_planned =
       ap (λ sheet. save_text (saved_after (by_sheet sheet) game.plan.seed game.plan.window (world_of setting.world) game.plan.rounds)) plans.sheet_is
@@ -57,7 +60,7 @@ module _ (setup : RunSetup) (game : PlannedGame) (setting : Setting) (plans : Pl
     pub carries_game : PushedAll out new_out (text_in setting game) → CarriesOut (RunCommand world red black setup) shelf new_shelf out new_out None
     carries_game pushed =
         carries_done (RunCommand world red black setup) shelf new_shelf out new_out (setting_contents setting) reads
-        (match_output setup (WorldContent setting.world) (BrainContent setting.red) (BrainContent setting.black)) refl
+        (match_output setup (game_read setting)) (tells setting (match_output setup))
         (subst (PushedAll out new_out) output_planned pushed)
 
     -- its files were read, and its play stopped
@@ -65,5 +68,5 @@ module _ (setup : RunSetup) (game : PlannedGame) (setting : Setting) (plans : Pl
         → CarriesOut (RunCommand world red black setup) shelf new_shelf out new_out (ending_of result)
     carries_game_stopped result fault same pushed =
         carries_fault (RunCommand world red black setup) shelf new_shelf out new_out (setting_contents setting) result fault same reads
-        (match_output setup (WorldContent setting.world) (BrainContent setting.red) (BrainContent setting.black)) refl
+        (match_output setup (game_read setting)) (tells setting (match_output setup))
         (subst (λ text. StoppedBy out new_out text fault) output_planned pushed) tt

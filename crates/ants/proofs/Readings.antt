@@ -28,7 +28,7 @@ use Rattle.ants.specs.Outside.{Outside, outside_of}
 use Rattle.ants.specs.FaultLines.{Reason, ending_by, reason_of}
 use Rattle.ants.specs.FaultLines.Ending.{RefusedWord}
 use Rattle.ants.specs.FaultLines.Reason.{AtFile, AtOutput, AtInput, AtRoom, AtMemory}
-use Rattle.ants.proofs.TextEnds.{texts_end_in_lf}
+use Rattle.ants.proofs.JobTexts.{texts_end_in_lf}
 use Rattle.ants.proofs.Texts.{never_long}
 
 -- the files a were accepted, and then the files b

@@ -5,15 +5,12 @@ use Rattle.std.proofs.lemmas.List.{length-map}
 use Rattle.std.proofs.lemmas.List.Sorted.{length_permutation}
 use Rattle.std.specs.List.{flat_map}
 use Rattle.std.specs.Prelude.{◌-◌, ◌*◌, ◌%◌, ◌==◌, codes, decimal, slice_index_or}
-use Rattle.ant_asm.proofs.HasAssembled.{assembled-some}
 use Rattle.ant_base.proofs.Numbered.{numbered-list}
 use Rattle.ant_base.proofs.Pushes.{ends_in_lf-append}
-use Rattle.ant_base.specs.Fetched.{Fetched}
 use Rattle.ant_base.specs.Layout.{numbered, ◌+++◌}
 use Rattle.ant_base.specs.Lines.{ends_in_lf}
 use Rattle.ant_turn.specs.Rounds.{after_rounds, start_of}
 use Rattle.brain_minimise.specs.Text.{minimised_text}
-use Rattle.brain_read.proofs.SoundnessLemmas.{brain_of}
 use Rattle.brain_read.specs.Canonical.{brain_text, instruction_text}
 use Rattle.brain_read.specs.Forms.{fields_of}
 use Rattle.brain_read.specs.declared.instr.Instr.{Instr}
@@ -26,8 +23,7 @@ use Rattle.cell_world.specs.declared.cell.Cell.{Cell}
 use Rattle.cell_world.specs.declared.kind.Kind.{Kind}
 use Rattle.cell_world.specs.declared.kind.Kind.TheVariants.{Rock}
 use Rattle.cell_world.specs.declared.score.Score.{Score}
-use Rattle.command_words.specs.Command.{CupWithin, ResumeSetup, RunSetup}
-use Rattle.command_words.specs.Command.PlainCommand.{ShowCommand, BrainCommand, MinimiseCommand, RunCommand, GenCommand, CupCommand, ViewCommand, WorkloadCommand, HelpCommand, VersionCommand, AsmCommand, SaveCommand, ResumeCommand}
+use Rattle.command_words.specs.Command.{ResumeSetup, RunSetup}
 use Rattle.dump_print.specs.Texts.{cell_line, cell_words, cells_text, dump_text, row_text, score_text, seed_text, stats_text}
 use Rattle.dump_print.specs.declared.totals.Totals.{Totals}
 use Rattle.line_tokens.specs.Fields.{LineField, field_text, further_text, line_text}
@@ -46,21 +42,16 @@ use Rattle.tournament.specs.Text.{standing_text, table_line_text}
 use Rattle.tournament.specs.declared.standing.Line.{Line}
 use Rattle.world_read.specs.Bytes.{byte_of}
 use Rattle.world_read.specs.Canonical.{canonical_text, cell_text, line_of_row, space_if}
-use Rattle.world_read.specs.Opened.{kinds_of}
 use Rattle.ants.specs.declared.workload.Summary.{Summary}
-use Rattle.ants.specs.Files.{AreAccepted, FileContent, IsAccepted}
 use Rattle.ants.specs.Help.{file_lines, game_lines, game_option_lines, head_lines, help_text, status_lines, version_text, world_option_lines}
-use Rattle.ants.specs.Files.FileContent.{BrainContent, BreakContent, WorldContent, LabelledContent, SaveContent}
-use Rattle.ants.specs.Outputs.{IsCupOutput, IsMinimisedOutput, IsViewOutput, asm_output, brain_file, brain_output, chosen_rounds, cup_files, match_output, minds_named, labelled_file, score_between, show_output, resume_output, save_file, save_output, summary_lines, summary_of, workload_text, world_file}
-use Rattle.ants.specs.Laws.{TextsEndInLf}
-use Rattle.ants.proofs.Cups.{players_counted}
+use Rattle.ants.specs.Outputs.{ReadGame, chosen_rounds, match_output, minds_named, resume_output, save_output, show_output, summary_lines, workload_text}
 
 -- a text that ends in LF
-record EndsInLf (text : List ℕ) : Type 0 where
-  is : ends_in_lf text ≡ true
+pub record EndsInLf (text : List ℕ) : Type 0 where
+  pub is : ends_in_lf text ≡ true
 
 -- a text that ends in LF, or has no bytes
-abbrev AreLines : List ℕ → Type 0
+abbrev pub AreLines : List ℕ → Type 0
 AreLines text = (text ≡ []) ⊎ EndsInLf text
 
 -- what stands before a text that ends in LF changes nothing
@@ -118,11 +109,11 @@ lf_instruction : (instruction : Instr) → EndsInLf (instruction_text instructio
 unfolding instruction_text
 lf_instruction instruction = lf_line (fields_of instruction)
 
-lf_brain : (list : List Instr) → 1 ≤ length list → EndsInLf (brain_text list)
+pub lf_brain : (list : List Instr) → 1 ≤ length list → EndsInLf (brain_text list)
 unfolding brain_text
 lf_brain list some = lf_flat_map instruction_text list some lf_instruction
 
-lf_minimised : (old new : List Instr) → EndsInLf (minimised_text old new)
+pub lf_minimised : (old new : List Instr) → EndsInLf (minimised_text old new)
 unfolding minimised_text brain_text
 lf_minimised old new =
     let kept : List ℕ = codes " kept\n" +++ flat_map instruction_text new in
@@ -175,15 +166,15 @@ lines_counts false totals = inl refl
 lines_counts true totals = inr (lf_stats totals)
 
 -- the output of each command
-lf_show : (seed : ℕ) (grid : Grid) → EndsInLf (show_output seed (WorldContent grid))
+pub lf_show : (seed : ℕ) (grid : Grid) → EndsInLf (show_output seed grid)
 unfolding show_output
 lf_show seed grid = lf_last (seed_text seed) (dump_text (world_of grid) 0) (lf_dump (world_of grid) 0)
 
-lf_match : (setup : RunSetup) (grid : Grid) (red black : List Instr) → EndsInLf (match_output setup (WorldContent grid) (BrainContent red) (BrainContent black))
+pub lf_match : (setup : RunSetup) (game : ReadGame) → EndsInLf (match_output setup game)
 unfolding match_output whole_text run_text
-lf_match setup grid red black =
-    let minds = minds_named setup red black in
-    let w : World = world_of grid in
+lf_match setup game =
+    let minds = minds_named setup game.red game.black in
+    let w : World = world_of game.world in
     let dumps : List ℕ = dumps_text minds setup.seed (chosen_rounds setup.dumps) w (setup.rounds + 1) in
     let score : List ℕ = score_text (score_of (world_after minds setup.seed w setup.rounds)) in
     let counts : List ℕ = counts_text setup.stats (totals_of minds setup.seed setup.window (start_of w) setup.rounds) in
@@ -195,11 +186,15 @@ lf_match setup grid red black =
 lf_save_line : (line : List ℕ) → EndsInLf (line ++ 10 ∷ [])
 lf_save_line line = lf_last line (10 ∷ []) (record { is = refl })
 
-lf_save : (s : SavedValue) → EndsInLf (save_text s)
+lf_saved : (s : SavedValue) → EndsInLf (save_text s)
 unfolding save_text draft_text draft_lines
-lf_save s = lf_flat_map (λ (line : List ℕ). line ++ 10 ∷ []) (draft_lines (draft_of s)) (omega arith) lf_save_line
+lf_saved s = lf_flat_map (λ (line : List ℕ). line ++ 10 ∷ []) (draft_lines (draft_of s)) (omega arith) lf_save_line
 
-lf_rest : (setup : ResumeSetup) (saved : SavedValue) → EndsInLf (resume_output setup (SaveContent saved))
+pub lf_save : (setup : RunSetup) (game : ReadGame) → EndsInLf (save_output setup game)
+unfolding save_output
+lf_save setup game = lf_saved (saved_after (minds_named setup game.red game.black) setup.seed setup.window (world_of game.world) setup.rounds)
+
+pub lf_rest : (setup : ResumeSetup) (saved : SavedValue) → EndsInLf (resume_output setup saved)
 unfolding resume_output rest_of rest_text plain_rest_text
 lf_rest setup saved =
     let more : ℕ = setup.rounds - saved.round in
@@ -214,7 +209,7 @@ lf_row width kinds y =
     let cells : List ℕ = numbered (λ x. cell_text x (byte_of (slice_index_or kinds (y * width + x) Rock))) width in
     lf_last (space_if (y % 2 == 1)) (cells +++ codes "\n") (lf_last cells (codes "\n") lf_end)
 
-lf_canonical : (width height : ℕ) (kinds : List Kind) → EndsInLf (canonical_text width height kinds)
+pub lf_canonical : (width height : ℕ) (kinds : List Kind) → EndsInLf (canonical_text width height kinds)
 unfolding canonical_text
 lf_canonical width height kinds =
     let rows : List ℕ = numbered (line_of_row width kinds) height in
@@ -240,7 +235,7 @@ lf_end_of : (w : World) (rounds : ℕ) (stop : Option Stop) → EndsInLf (end_te
 lf_end_of w rounds None = lf_no_stop rounds
 lf_end_of w rounds (Some stop) = lf_then (stop_line stop) (cells_text w) (lf_stop stop) (lines_cells w)
 
-lf_view : (w : World) (seed rounds : ℕ) (stop : Option Stop) → EndsInLf (view_text w seed rounds stop)
+pub lf_view : (w : World) (seed rounds : ℕ) (stop : Option Stop) → EndsInLf (view_text w seed rounds stop)
 unfolding view_text
 lf_view w seed rounds stop = lf_last (seed_text seed) (end_text w rounds stop) (lf_end_of w rounds stop)
 
@@ -258,178 +253,24 @@ lf_table_line names line =
     lf_last (decimal line.points) points (lf_last (codes " points: ") name (lf_last (name_of names line.player) first (lf_last (codes " (") won (lf_last (decimal line.won) second
     (lf_last (codes " won, ") drawn (lf_last (decimal line.drawn) third (lf_last (codes " drawn, ") lost (lf_last (decimal line.lost) (codes " lost)\n") (record { is = refl })))))))))
 
-lf_workload : (seed rounds : ℕ) (summary : Summary) → EndsInLf (workload_text seed rounds summary)
+pub lf_workload : (seed rounds : ℕ) (summary : Summary) → EndsInLf (workload_text seed rounds summary)
 unfolding workload_text
 lf_workload seed rounds summary =
     lf_last (summary_lines seed rounds summary) (score_text summary.score +++ stats_text summary.totals) (lf_last (score_text summary.score) (stats_text summary.totals) (lf_stats summary.totals))
 
-lf_help : EndsInLf help_text
+pub lf_help : EndsInLf help_text
 unfolding help_text status_lines
 lf_help =
     lf_last head_lines _ (lf_last game_lines _ (lf_last file_lines _ (lf_last game_option_lines _ (lf_last world_option_lines status_lines (record { is = refl })))))
 
-lf_version : EndsInLf version_text
+pub lf_version : EndsInLf version_text
 unfolding version_text
 lf_version = record { is = refl }
 
 -- a standing has a line for each player
-lf_standing : (names : List (List ℕ)) (players worlds : ℕ) (score : ℕ → ℕ → ℕ → Score) (lines : List Line) → 1 ≤ players → Ranks players (all_played players worlds score) lines → EndsInLf (standing_text names lines)
+pub lf_standing : (names : List (List ℕ)) (players worlds : ℕ) (score : ℕ → ℕ → ℕ → Score) (lines : List Line) → 1 ≤ players → Ranks players (all_played players worlds score) lines → EndsInLf (standing_text names lines)
 lf_standing names players worlds score lines some at =
     let counted = length_permutation (map (line_of (all_played players worlds score)) (below players)) lines at.each in
     let each = length-map (below players) (line_of (all_played players worlds score)) in
     let all = length-below players in
     lf_flat_map (table_line_text names) lines (omega (arith, counted, each, all, some)) (lf_table_line names)
-
-ends : {text other : List ℕ} → text ≡ other → EndsInLf other → ends_in_lf text ≡ true
-ends {text} {other} is last = subst (λ (t : List ℕ). ends_in_lf t ≡ true) (sym is) last.is
-
-show_ends : (name : List ℕ) (seed : ℕ) (fetch : Fetched) (content : FileContent) (text : List ℕ) → IsAccepted (world_file name) fetch content → text ≡ show_output seed content → ends_in_lf text ≡ true
-show_ends name seed fetch (WorldContent grid) text got is = ends is (lf_show seed grid)
-show_ends name seed fetch (BrainContent list) text got is = absurd got.reads
-show_ends name seed fetch (BreakContent items) text got is = absurd got.reads
-show_ends name seed fetch (LabelledContent made places) text got is = absurd got.reads
-show_ends name seed fetch (SaveContent made) text got is = absurd got.reads
-
-brain_ends : (name : List ℕ) (fetch : Fetched) (content : FileContent) (text : List ℕ) → IsAccepted (brain_file name) fetch content → text ≡ brain_output content → ends_in_lf text ≡ true
-unfolding brain_output
-brain_ends name fetch (WorldContent grid) text got is = absurd got.reads
-brain_ends name fetch (BrainContent list) text got is = ends is (lf_brain list (brain_of got.bytes list got.reads).some)
-brain_ends name fetch (BreakContent items) text got is = absurd got.reads
-brain_ends name fetch (LabelledContent made places) text got is = absurd got.reads
-brain_ends name fetch (SaveContent made) text got is = absurd got.reads
-
-asm_ends : (name : List ℕ) (fetch : Fetched) (content : FileContent) (text : List ℕ) → IsAccepted (labelled_file name) fetch content → text ≡ asm_output content → ends_in_lf text ≡ true
-unfolding asm_output
-asm_ends name fetch (WorldContent grid) text got is = absurd got.reads
-asm_ends name fetch (BrainContent list) text got is = absurd got.reads
-asm_ends name fetch (BreakContent items) text got is = absurd got.reads
-asm_ends name fetch (SaveContent saved) text got is = absurd got.reads
-asm_ends name fetch (LabelledContent made places) text got is = ends is (lf_brain made (assembled-some got.bytes made places got.reads))
-
-minimised_ends : (content : FileContent) (text : List ℕ) → IsMinimisedOutput content text → ends_in_lf text ≡ true
-minimised_ends (WorldContent grid) text is = absurd is
-minimised_ends (BrainContent list) text is = ends is.told (lf_minimised list is.new)
-minimised_ends (BreakContent items) text is = absurd is
-minimised_ends (LabelledContent made places) text is = absurd is
-minimised_ends (SaveContent made) text is = absurd is
-
-match_ends : (world red black : List ℕ) (setup : RunSetup) (a b c : Fetched) (first second third : FileContent) (text : List ℕ) → IsAccepted (world_file world) a first → IsAccepted (brain_file red) b second → IsAccepted (brain_file black) c third
-    → text ≡ match_output setup first second third → ends_in_lf text ≡ true
-match_ends world red black setup a b c (WorldContent grid) (BrainContent one) (BrainContent two) text x y z is = ends is (lf_match setup grid one two)
-match_ends world red black setup a b c (WorldContent grid) (BrainContent one) (WorldContent third) text x y z is = absurd z.reads
-match_ends world red black setup a b c (WorldContent grid) (BrainContent one) (BreakContent third) text x y z is = absurd z.reads
-match_ends world red black setup a b c (WorldContent grid) (BrainContent one) (LabelledContent made places) text x y z is = absurd z.reads
-match_ends world red black setup a b c (WorldContent grid) (BrainContent one) (SaveContent made) text x y z is = absurd z.reads
-match_ends world red black setup a b c (WorldContent grid) (WorldContent second) third text x y z is = absurd y.reads
-match_ends world red black setup a b c (WorldContent grid) (BreakContent second) third text x y z is = absurd y.reads
-match_ends world red black setup a b c (WorldContent grid) (LabelledContent made places) third text x y z is = absurd y.reads
-match_ends world red black setup a b c (WorldContent grid) (SaveContent made) third text x y z is = absurd y.reads
-match_ends world red black setup a b c (BrainContent first) second third text x y z is = absurd x.reads
-match_ends world red black setup a b c (BreakContent first) second third text x y z is = absurd x.reads
-match_ends world red black setup a b c (LabelledContent made places) second third text x y z is = absurd x.reads
-match_ends world red black setup a b c (SaveContent made) second third text x y z is = absurd x.reads
-
-save_ends : (world red black : List ℕ) (setup : RunSetup) (a b c : Fetched) (first second third : FileContent) (text : List ℕ) → IsAccepted (world_file world) a first → IsAccepted (brain_file red) b second → IsAccepted (brain_file black) c third
-    → text ≡ save_output setup first second third → ends_in_lf text ≡ true
-unfolding save_output
-save_ends world red black setup a b c (WorldContent grid) (BrainContent one) (BrainContent two) text x y z is = ends is (lf_save (saved_after (minds_named setup one two) setup.seed setup.window (world_of grid) setup.rounds))
-save_ends world red black setup a b c (WorldContent grid) (BrainContent one) (WorldContent third) text x y z is = absurd z.reads
-save_ends world red black setup a b c (WorldContent grid) (BrainContent one) (BreakContent third) text x y z is = absurd z.reads
-save_ends world red black setup a b c (WorldContent grid) (BrainContent one) (LabelledContent made places) text x y z is = absurd z.reads
-save_ends world red black setup a b c (WorldContent grid) (BrainContent one) (SaveContent made) text x y z is = absurd z.reads
-save_ends world red black setup a b c (WorldContent grid) (WorldContent second) third text x y z is = absurd y.reads
-save_ends world red black setup a b c (WorldContent grid) (BreakContent second) third text x y z is = absurd y.reads
-save_ends world red black setup a b c (WorldContent grid) (LabelledContent made places) third text x y z is = absurd y.reads
-save_ends world red black setup a b c (WorldContent grid) (SaveContent made) third text x y z is = absurd y.reads
-save_ends world red black setup a b c (BrainContent first) second third text x y z is = absurd x.reads
-save_ends world red black setup a b c (BreakContent first) second third text x y z is = absurd x.reads
-save_ends world red black setup a b c (LabelledContent made places) second third text x y z is = absurd x.reads
-save_ends world red black setup a b c (SaveContent made) second third text x y z is = absurd x.reads
-
-resume_ends : (name : List ℕ) (setup : ResumeSetup) (fetch : Fetched) (content : FileContent) (text : List ℕ) → IsAccepted (save_file name setup.rounds) fetch content → text ≡ resume_output setup content → ends_in_lf text ≡ true
-resume_ends name setup fetch (WorldContent other) text got is = absurd got.reads
-resume_ends name setup fetch (BrainContent other) text got is = absurd got.reads
-resume_ends name setup fetch (BreakContent other) text got is = absurd got.reads
-resume_ends name setup fetch (LabelledContent made places) text got is = absurd got.reads
-resume_ends name setup fetch (SaveContent saved) text got is = ends is (lf_rest setup saved)
-
-view_ends : (seed rounds : ℕ) (first second third fourth : FileContent) (text : List ℕ) → IsViewOutput seed rounds first second third fourth text → ends_in_lf text ≡ true
-view_ends seed rounds (WorldContent grid) (BrainContent red) (BrainContent black) (BreakContent items) text is = ends is.view (lf_view is.end seed rounds is.stop)
-view_ends seed rounds (WorldContent grid) (BrainContent red) (BrainContent black) (WorldContent fourth) text is = absurd is
-view_ends seed rounds (WorldContent grid) (BrainContent red) (BrainContent black) (LabelledContent made places) text is = absurd is
-view_ends seed rounds (WorldContent grid) (BrainContent red) (BrainContent black) (SaveContent made) text is = absurd is
-view_ends seed rounds (WorldContent grid) (BrainContent red) (BrainContent black) (BrainContent fourth) text is = absurd is
-view_ends seed rounds (WorldContent grid) (BrainContent red) (WorldContent third) fourth text is = absurd is
-view_ends seed rounds (WorldContent grid) (BrainContent red) (BreakContent third) fourth text is = absurd is
-view_ends seed rounds (WorldContent grid) (BrainContent red) (LabelledContent made places) fourth text is = absurd is
-view_ends seed rounds (WorldContent grid) (BrainContent red) (SaveContent made) fourth text is = absurd is
-view_ends seed rounds (WorldContent grid) (WorldContent second) third fourth text is = absurd is
-view_ends seed rounds (WorldContent grid) (BreakContent second) third fourth text is = absurd is
-view_ends seed rounds (WorldContent grid) (LabelledContent made places) third fourth text is = absurd is
-view_ends seed rounds (WorldContent grid) (SaveContent made) third fourth text is = absurd is
-view_ends seed rounds (BrainContent first) second third fourth text is = absurd is
-view_ends seed rounds (BreakContent first) second third fourth text is = absurd is
-view_ends seed rounds (LabelledContent made places) second third fourth text is = absurd is
-view_ends seed rounds (SaveContent made) second third fourth text is = absurd is
-
-cup_ends : (worlds brains : List (List ℕ)) (seed rounds workers : ℕ) (fetches : List Fetched) (contents : List FileContent) (text : List ℕ) → CupWithin worlds brains seed rounds workers
-    → AreAccepted (cup_files worlds brains) fetches contents → IsCupOutput brains seed rounds contents text → ends_in_lf text ≡ true
-cup_ends worlds brains seed rounds workers fetches contents text within are is =
-    let counted = players_counted worlds brains fetches is.worlds is.players (subst (AreAccepted (cup_files worlds brains) fetches) is.read are) in
-    let enough : 2 ≤ length brains = within.brain_names.enough in
-    let some : 1 ≤ length is.players = omega (arith, counted, enough) in
-    ends is.told.is (lf_standing brains (length is.players) (length is.worlds) (score_between is.worlds is.players seed rounds) is.told.lines some is.told.standing)
-
-pub texts_end_in_lf : TextsEndInLf
-texts_end_in_lf (ShowCommand world seed) fetches [] text within are is = absurd is
-texts_end_in_lf (ShowCommand world seed) [] (content ∷ []) text within are is = absurd are
-texts_end_in_lf (ShowCommand world seed) (fetch ∷ fetches) (content ∷ []) text within are is = show_ends world seed fetch content text are.0 is
-texts_end_in_lf (ShowCommand world seed) fetches (content ∷ next ∷ more) text within are is = absurd is
-texts_end_in_lf (BrainCommand file) fetches [] text within are is = absurd is
-texts_end_in_lf (BrainCommand file) [] (content ∷ []) text within are is = absurd are
-texts_end_in_lf (BrainCommand file) (fetch ∷ fetches) (content ∷ []) text within are is = brain_ends file fetch content text are.0 is
-texts_end_in_lf (BrainCommand file) fetches (content ∷ next ∷ more) text within are is = absurd is
-texts_end_in_lf (MinimiseCommand file) fetches [] text within are is = absurd is
-texts_end_in_lf (MinimiseCommand file) fetches (content ∷ []) text within are is = minimised_ends content text is
-texts_end_in_lf (MinimiseCommand file) fetches (content ∷ next ∷ more) text within are is = absurd is
-texts_end_in_lf (RunCommand world red black setup) fetches [] text within are is = absurd is
-texts_end_in_lf (RunCommand world red black setup) fetches (first ∷ []) text within are is = absurd is
-texts_end_in_lf (RunCommand world red black setup) fetches (first ∷ second ∷ []) text within are is = absurd is
-texts_end_in_lf (RunCommand world red black setup) [] (first ∷ second ∷ third ∷ []) text within are is = absurd are
-texts_end_in_lf (RunCommand world red black setup) (a ∷ []) (first ∷ second ∷ third ∷ []) text within are is = absurd are.1
-texts_end_in_lf (RunCommand world red black setup) (a ∷ b ∷ []) (first ∷ second ∷ third ∷ []) text within are is = absurd are.1.1
-texts_end_in_lf (RunCommand world red black setup) (a ∷ b ∷ c ∷ fetches) (first ∷ second ∷ third ∷ []) text within are is =
-    match_ends world red black setup a b c first second third text are.0 are.1.0 are.1.1.0 is
-texts_end_in_lf (RunCommand world red black setup) fetches (first ∷ second ∷ third ∷ next ∷ more) text within are is = absurd is
-texts_end_in_lf (GenCommand seed shape) fetches [] text within are is = ends is.told (lf_canonical is.world.width is.world.height (kinds_of is.world))
-texts_end_in_lf (GenCommand seed shape) fetches (content ∷ contents) text within are is = absurd is
-texts_end_in_lf (CupCommand worlds brains seed rounds workers) fetches contents text within are is = cup_ends worlds brains seed rounds workers fetches contents text within are is
-texts_end_in_lf (ViewCommand world red black breaks seed rounds) fetches [] text within are is = absurd is
-texts_end_in_lf (ViewCommand world red black breaks seed rounds) fetches (first ∷ []) text within are is = absurd is
-texts_end_in_lf (ViewCommand world red black breaks seed rounds) fetches (first ∷ second ∷ []) text within are is = absurd is
-texts_end_in_lf (ViewCommand world red black breaks seed rounds) fetches (first ∷ second ∷ third ∷ []) text within are is = absurd is
-texts_end_in_lf (ViewCommand world red black breaks seed rounds) fetches (first ∷ second ∷ third ∷ fourth ∷ []) text within are is = view_ends seed rounds first second third fourth text is
-texts_end_in_lf (ViewCommand world red black breaks seed rounds) fetches (first ∷ second ∷ third ∷ fourth ∷ next ∷ more) text within are is = absurd is
-texts_end_in_lf (WorkloadCommand seed rounds workers) fetches [] text within are is = ends is.told (lf_workload seed rounds (summary_of seed rounds (world_of is.world)))
-texts_end_in_lf (WorkloadCommand seed rounds workers) fetches (content ∷ contents) text within are is = absurd is
-texts_end_in_lf HelpCommand fetches [] text within are is = ends is lf_help
-texts_end_in_lf HelpCommand fetches (content ∷ contents) text within are is = absurd is
-texts_end_in_lf VersionCommand fetches [] text within are is = ends is lf_version
-texts_end_in_lf VersionCommand fetches (content ∷ contents) text within are is = absurd is
-texts_end_in_lf (AsmCommand file) fetches [] text within are is = absurd is
-texts_end_in_lf (AsmCommand file) [] (content ∷ []) text within are is = absurd are
-texts_end_in_lf (AsmCommand file) (fetch ∷ fetches) (content ∷ []) text within are is = asm_ends file fetch content text are.0 is
-texts_end_in_lf (AsmCommand file) fetches (content ∷ next ∷ more) text within are is = absurd is
-texts_end_in_lf (SaveCommand world red black setup) fetches [] text within are is = absurd is
-texts_end_in_lf (SaveCommand world red black setup) fetches (first ∷ []) text within are is = absurd is
-texts_end_in_lf (SaveCommand world red black setup) fetches (first ∷ second ∷ []) text within are is = absurd is
-texts_end_in_lf (SaveCommand world red black setup) [] (first ∷ second ∷ third ∷ []) text within are is = absurd are
-texts_end_in_lf (SaveCommand world red black setup) (a ∷ []) (first ∷ second ∷ third ∷ []) text within are is = absurd are.1
-texts_end_in_lf (SaveCommand world red black setup) (a ∷ b ∷ []) (first ∷ second ∷ third ∷ []) text within are is = absurd are.1.1
-texts_end_in_lf (SaveCommand world red black setup) (a ∷ b ∷ c ∷ fetches) (first ∷ second ∷ third ∷ []) text within are is =
-    save_ends world red black setup a b c first second third text are.0 are.1.0 are.1.1.0 is
-texts_end_in_lf (SaveCommand world red black setup) fetches (first ∷ second ∷ third ∷ next ∷ more) text within are is = absurd is
-texts_end_in_lf (ResumeCommand save setup) fetches [] text within are is = absurd is
-texts_end_in_lf (ResumeCommand save setup) [] (content ∷ []) text within are is = absurd are
-texts_end_in_lf (ResumeCommand save setup) (fetch ∷ fetches) (content ∷ []) text within are is = resume_ends save setup fetch content text are.0 is
-texts_end_in_lf (ResumeCommand save setup) fetches (content ∷ next ∷ more) text within are is = absurd is

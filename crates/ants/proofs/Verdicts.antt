@@ -9,7 +9,7 @@ use Rattle.ant_base.specs.Shelf.{AreSure, IsContent, IsTold, IsTooLong, ShelfSta
 use Rattle.ant_base.specs.declared.shelf.FetchFault.TheVariants as answer
 use Rattle.command_words.proofs.WordLaws as words_laws
 use Rattle.command_words.specs.Command.{PlainCommand, IsCommand}
-use Rattle.command_words.specs.Command.PlainCommand.{ShowCommand, BrainCommand, MinimiseCommand, RunCommand, GenCommand, CupCommand, ViewCommand, WorkloadCommand, HelpCommand, VersionCommand, AsmCommand, SaveCommand, ResumeCommand}
+use Rattle.command_words.specs.Command.PlainCommand.{GenCommand, WorkloadCommand}
 use Rattle.world_gen.proofs.Unique.{one_outcome}
 use Rattle.ants.specs.declared.status.Status.{Status}
 use Rattle.ants.specs.declared.status.Status.TheVariants as status
@@ -251,37 +251,15 @@ complete_run words before after ended run = λ contents is room shelf_held out_h
 
 -- a text that is written of a generated world is none where an element has no room
 text_has_room : (command : PlainCommand) (contents : List FileContent) (text : List ℕ) (element : ℕ) → IsJobText command contents text → LacksRoom command element → ⊥
-text_has_room (GenCommand seed shape) [] text element is lacks = one_outcome.none seed (shape_named shape) is.generated.placed element is.generated.placing lacks
-text_has_room (GenCommand seed shape) (content ∷ contents) text element is lacks = is
-text_has_room (WorkloadCommand seed rounds workers) [] text element is lacks = one_outcome.none seed contest_shape is.generated.placed element is.generated.placing lacks
-text_has_room (WorkloadCommand seed rounds workers) (content ∷ contents) text element is lacks = is
-text_has_room (ShowCommand world seed) contents text element is lacks = lacks
-text_has_room (BrainCommand file) contents text element is lacks = lacks
-text_has_room (MinimiseCommand file) contents text element is lacks = lacks
-text_has_room (RunCommand world red black setup) contents text element is lacks = lacks
-text_has_room (CupCommand worlds brains seed rounds workers) contents text element is lacks = lacks
-text_has_room (ViewCommand world red black breaks seed rounds) contents text element is lacks = lacks
-text_has_room HelpCommand contents text element is lacks = lacks
-text_has_room VersionCommand contents text element is lacks = lacks
-text_has_room (AsmCommand file) contents text element is lacks = lacks
-text_has_room (SaveCommand world red black setup) contents text element is lacks = lacks
-text_has_room (ResumeCommand save setup) contents text element is lacks = lacks
+text_has_room (GenCommand seed shape) contents text element is lacks = one_outcome.none seed (shape_named shape) is.told.generated.placed element is.told.generated.placing lacks
+text_has_room (WorkloadCommand seed rounds workers) contents text element is lacks = one_outcome.none seed contest_shape is.told.generated.placed element is.told.generated.placing lacks
+text_has_room other contents text element is lacks = lacks
 
 -- a command that lacks room fetches nothing
 lacks_no_file : (command : PlainCommand) (element : ℕ) → LacksRoom command element → files_of command ≡ []
 lacks_no_file (GenCommand seed shape) element lacks = refl
 lacks_no_file (WorkloadCommand seed rounds workers) element lacks = refl
-lacks_no_file (ShowCommand world seed) element lacks = absurd lacks
-lacks_no_file (BrainCommand file) element lacks = absurd lacks
-lacks_no_file (MinimiseCommand file) element lacks = absurd lacks
-lacks_no_file (RunCommand world red black setup) element lacks = absurd lacks
-lacks_no_file (CupCommand worlds brains seed rounds workers) element lacks = absurd lacks
-lacks_no_file (ViewCommand world red black breaks seed rounds) element lacks = absurd lacks
-lacks_no_file HelpCommand element lacks = absurd lacks
-lacks_no_file VersionCommand element lacks = absurd lacks
-lacks_no_file (AsmCommand file) element lacks = absurd lacks
-lacks_no_file (SaveCommand world red black setup) element lacks = absurd lacks
-lacks_no_file (ResumeCommand save setup) element lacks = absurd lacks
+lacks_no_file other element lacks = absurd lacks
 
 -- a run of which an element has no room ends so, or wants memory
 crowding_by : (command : PlainCommand) (before after : Outside) (fetches : List Fetched) (element : ℕ) (stop : Option Reason) → LacksRoom command element → EndsBy command before after fetches stop

@@ -1,5 +1,5 @@
 -- Laws on the texts of the commands.
-use Rattle.std.specs.Prelude.{◌≡◌, ℕ, ◌+◌, ◌≤◌, Bool, true, false, List, [], ◌∷◌, ◌++◌, Option}
+use Rattle.std.specs.Prelude.{◌≡◌, ℕ, ◌+◌, ◌≤◌, Bool, true, false, List, ◌++◌, Option}
 use Rattle.ant_asm.specs.Assembled.{IsAssembled}
 use Rattle.ant_asm.specs.Match.{label_game, numbered_moment}
 use Rattle.ant_asm.specs.Places.{Address}
@@ -23,10 +23,11 @@ use Rattle.command_words.specs.Command.PlainCommand.{RunCommand, CupCommand, Res
 use Rattle.command_words.specs.Slots.DumpChoice.{NoDump}
 use Rattle.dump_print.specs.Texts.{seed_text}
 use Rattle.match_run.specs.Run.{dumps_text}
+use Rattle.match_save.specs.Saved.{SavedValue}
 use Rattle.ants.specs.Files.{AreAccepted, FileContent, Reads}
-use Rattle.ants.specs.Files.FileContent.{BrainContent, WorldContent}
+use Rattle.ants.specs.Files.FileContent.{SaveContent}
 use Rattle.ants.specs.Files.FileKind.{SaveFile}
-use Rattle.ants.specs.Outputs.{HasRoom, IsJobText, chosen_rounds, files_of, game_files, minds_named}
+use Rattle.ants.specs.Outputs.{HasRoom, IsJobText, ReadGame, chosen_rounds, files_of, game_contents, game_files, minds_named, save_contents}
 
 -- each output of a command whose numbers and names are within the limits, and whose files were accepted, ends in LF
 abbrev pub TextsEndInLf : Type 0
@@ -86,43 +87,41 @@ abbrev pub resumed_setup : RunSetup → ℕ → ResumeSetup
 resumed_setup setup workers = record { rounds = setup.rounds; dumps = setup.dumps; workers = workers; stats = setup.stats }
 
 -- what `run` prints up to a round: the line of the seed, and the chosen dumps up to that round
-unfoldable pub front_output : RunSetup → ℕ → FileContent → FileContent → FileContent → List ℕ
-front_output setup round (WorldContent grid) (BrainContent red) (BrainContent black) =
-    seed_text setup.seed +++ dumps_text (minds_named setup red black) setup.seed (chosen_rounds setup.dumps) (world_of grid) (round + 1)
--- never: its files are a world and two brains
-front_output setup round world red black = []
+unfoldable pub front_output : RunSetup → ℕ → ReadGame → List ℕ
+front_output setup round game =
+    seed_text setup.seed +++ dumps_text (minds_named setup game.red game.black) setup.seed (chosen_rounds setup.dumps) (world_of game.world) (round + 1)
 
 -- a game of `run`, within the limits, whose files were accepted
-pub record IsGameOf (world red black : List ℕ) (setup : RunSetup) (first second third : FileContent) : Type 0 where
+pub record IsGameOf (world red black : List ℕ) (setup : RunSetup) (game : ReadGame) : Type 0 where
   pub within : CommandWithin (RunCommand world red black setup)
   pub fetches : List Fetched
-  pub accepted : AreAccepted (game_files world red black) fetches (first ∷ second ∷ third ∷ [])
+  pub accepted : AreAccepted (game_files world red black) fetches (game_contents game)
 
 -- such a game was saved after a round by so many workers, and what was printed is accepted where at most so many rounds are to be played in all
-pub record IsSavedAs (world red black : List ℕ) (setup : RunSetup) (first second third : FileContent) (round : ℕ) (content : FileContent) : Type 0 where
+pub record IsSavedAs (world red black : List ℕ) (setup : RunSetup) (game : ReadGame) (round : ℕ) (saved : SavedValue) : Type 0 where
   pub early : round ≤ setup.rounds
   pub workers : ℕ
   pub text : List ℕ
-  pub is_text : IsJobText (SaveCommand world red black (saved_setup setup round workers)) (first ∷ second ∷ third ∷ []) text
-  pub reads : Reads (SaveFile setup.rounds) text content
+  pub is_text : IsJobText (SaveCommand world red black (saved_setup setup round workers)) (game_contents game) text
+  pub reads : Reads (SaveFile setup.rounds) text (SaveContent saved)
 
 -- games are saved and gone on with, whoever plays before the save and after it
 pub record SavesAreResumed : Type 0 where
   -- what `save` prints up to the last round is accepted
-  pub accepted : (world red black : List ℕ) (setup : RunSetup) (first second third : FileContent) (round workers : ℕ) (text : List ℕ)
-      → IsGameOf world red black setup first second third → round ≤ setup.rounds
-      → IsJobText (SaveCommand world red black (saved_setup setup round workers)) (first ∷ second ∷ third ∷ []) text
-      → (content : FileContent) × Reads (SaveFile setup.rounds) text content
+  pub accepted : (world red black : List ℕ) (setup : RunSetup) (game : ReadGame) (round workers : ℕ) (text : List ℕ)
+      → IsGameOf world red black setup game → round ≤ setup.rounds
+      → IsJobText (SaveCommand world red black (saved_setup setup round workers)) (game_contents game) text
+      → (saved : SavedValue) × Reads (SaveFile setup.rounds) text (SaveContent saved)
   -- what `run` prints is what it prints up to the saved round, and then what `resume` prints of the save
-  pub goes_on : (world red black save : List ℕ) (setup : RunSetup) (first second third : FileContent) (round workers : ℕ) (content : FileContent) (text rest : List ℕ)
-      → IsGameOf world red black setup first second third → IsSavedAs world red black setup first second third round content
-      → IsJobText (RunCommand world red black setup) (first ∷ second ∷ third ∷ []) text
-      → IsJobText (ResumeCommand save (resumed_setup setup workers)) (content ∷ []) rest
-      → text ≡ front_output setup round first second third ++ rest
+  pub goes_on : (world red black save : List ℕ) (setup : RunSetup) (game : ReadGame) (round workers : ℕ) (saved : SavedValue) (text rest : List ℕ)
+      → IsGameOf world red black setup game → IsSavedAs world red black setup game round saved
+      → IsJobText (RunCommand world red black setup) (game_contents game) text
+      → IsJobText (ResumeCommand save (resumed_setup setup workers)) (save_contents saved) rest
+      → text ≡ front_output setup round game ++ rest
   -- so it doesn't matter after which round it was saved
-  pub any_round : (world red black save other : List ℕ) (setup : RunSetup) (first second third : FileContent) (round later workers others : ℕ) (content changed : FileContent) (rest last : List ℕ)
-      → IsGameOf world red black setup first second third
-      → IsSavedAs world red black setup first second third round content → IsSavedAs world red black setup first second third later changed
-      → IsJobText (ResumeCommand save (resumed_setup setup workers)) (content ∷ []) rest
-      → IsJobText (ResumeCommand other (resumed_setup setup others)) (changed ∷ []) last
-      → front_output setup round first second third ++ rest ≡ front_output setup later first second third ++ last
+  pub any_round : (world red black save other : List ℕ) (setup : RunSetup) (game : ReadGame) (round later workers others : ℕ) (saved changed : SavedValue) (rest last : List ℕ)
+      → IsGameOf world red black setup game
+      → IsSavedAs world red black setup game round saved → IsSavedAs world red black setup game later changed
+      → IsJobText (ResumeCommand save (resumed_setup setup workers)) (save_contents saved) rest
+      → IsJobText (ResumeCommand other (resumed_setup setup others)) (save_contents changed) last
+      → front_output setup round game ++ rest ≡ front_output setup later game ++ last

@@ -8,7 +8,9 @@ use Rattle.brain_minimise.specs.Minimised.{IsMinimised}
 use Rattle.brain_minimise.specs.Text.{minimised_text}
 use Rattle.brain_read.specs.declared.instr.Instr.{Instr}
 use Rattle.brain_read.specs.Canonical.{brain_text}
+use Rattle.ant_asm.specs.Places.{Address}
 use Rattle.break_view.specs.Texts.{IsViewText}
+use Rattle.break_view.specs.declared.breaks.Break.{Break}
 use Rattle.cell_world.specs.Grid.{Grid, world_of}
 use Rattle.cell_world.specs.Score.{alive_of, score_of}
 use Rattle.cell_world.specs.World.{World}
@@ -22,7 +24,7 @@ use Rattle.match_run.specs.Counts.{totals_of, whole_text}
 use Rattle.match_run.specs.Dumps.{has_round}
 use Rattle.match_run.specs.Run.{world_after}
 use Rattle.match_save.specs.Resumed.{rest_of}
-use Rattle.match_save.specs.Saved.{save_text}
+use Rattle.match_save.specs.Saved.{SavedValue, save_text}
 use Rattle.match_save.specs.Saves.{saved_after}
 use Rattle.dump_print.specs.Texts.{seed_text, dump_text, score_text, stats_text}
 use Rattle.command_words.specs.Command.{PlainCommand, ResumeSetup, RunSetup}
@@ -83,23 +85,68 @@ files_of (AsmCommand file) = labelled_file file ∷ []
 files_of (SaveCommand world red black setup) = game_files world red black
 files_of (ResumeCommand save setup) = save_file save setup.rounds ∷ []
 
+-- what was read of the files of a game
+pub record ReadGame : Type 0 where
+  pub world : Grid
+  pub red : List Instr
+  pub black : List Instr
+
+-- of a game and its breaks
+pub record ReadView : Type 0 where
+  pub game : ReadGame
+  pub breaks : List Break
+
+-- of a cup
+pub record ReadCup : Type 0 where
+  pub worlds : List Grid
+  pub players : List (List Instr)
+
+-- of a labelled program
+pub record ReadProgram : Type 0 where
+  pub brain : List Instr
+  pub places : List Address
+
+-- the contents of no file, of one, and of several
+abbrev pub no_contents : Unit {0} → List FileContent
+no_contents nothing = []
+
+abbrev pub world_contents : Grid → List FileContent
+world_contents grid = WorldContent grid ∷ []
+
+abbrev pub brain_contents : List Instr → List FileContent
+brain_contents list = BrainContent list ∷ []
+
+abbrev pub program_contents : ReadProgram → List FileContent
+program_contents program = LabelledContent program.brain program.places ∷ []
+
+abbrev pub save_contents : SavedValue → List FileContent
+save_contents saved = SaveContent saved ∷ []
+
+abbrev pub game_contents : ReadGame → List FileContent
+game_contents game = WorldContent game.world ∷ BrainContent game.red ∷ BrainContent game.black ∷ []
+
+abbrev pub view_contents : ReadView → List FileContent
+view_contents view = game_contents view.game ++ BreakContent view.breaks ∷ []
+
+abbrev pub cup_contents : List Grid → List (List Instr) → List FileContent
+cup_contents worlds players = map WorldContent worlds ++ map BrainContent players
+
+abbrev pub roster_contents : ReadCup → List FileContent
+roster_contents cup = cup_contents cup.worlds cup.players
+
+-- these contents are those of some value, of which this text tells
+pub record Tells {A : Type 0} (contents_of : A → List FileContent) (IsText : A → List ℕ → Type 0) (contents : List FileContent) (text : List ℕ) : Type 0 where
+  pub value : A
+  pub read : contents ≡ contents_of value
+  pub told : IsText value text
+
+-- the text is that of the value
+abbrev pub is_text_of : {A : Type 0} → (A → List ℕ) → A → List ℕ → Type 0
+is_text_of text_of value text = text ≡ text_of value
+
 -- the output of `show`: the line of the seed, and the dump after round 0
-unfoldable pub show_output : ℕ → FileContent → List ℕ
-show_output seed (WorldContent grid) = seed_text seed +++ dump_text (world_of grid) 0
--- never: its file is a world
-show_output seed content = []
-
--- the output of `brain`: the canonical text
-unfoldable pub brain_output : FileContent → List ℕ
-brain_output (BrainContent list) = brain_text list
--- never: its file is a brain
-brain_output content = []
-
--- the output of `asm`: the canonical text of the brain of the labelled program
-unfoldable pub asm_output : FileContent → List ℕ
-asm_output (LabelledContent brain places) = brain_text brain
--- never: its file is a labelled program
-asm_output content = []
+unfoldable pub show_output : ℕ → Grid → List ℕ
+show_output seed grid = seed_text seed +++ dump_text (world_of grid) 0
 
 -- whether the words of a command choose a round: none, every one, or those of a list
 abbrev pub chosen_rounds : DumpChoice → ℕ → Bool
@@ -116,24 +163,17 @@ abbrev pub minds_named : RunSetup → List Instr → List Instr → Minds
 minds_named setup red black = record { red = red; black = black; sheet = sheet_named setup }
 
 -- the output of `run`: the line of the seed, the chosen dumps, the score, and the counts where they are asked for
-unfoldable pub match_output : RunSetup → FileContent → FileContent → FileContent → List ℕ
-match_output setup (WorldContent grid) (BrainContent red) (BrainContent black) =
-    whole_text (minds_named setup red black) setup.seed setup.rounds (chosen_rounds setup.dumps) setup.window setup.stats (world_of grid)
--- never: its files are a world and two brains
-match_output setup world red black = []
+unfoldable pub match_output : RunSetup → ReadGame → List ℕ
+match_output setup game =
+    whole_text (minds_named setup game.red game.black) setup.seed setup.rounds (chosen_rounds setup.dumps) setup.window setup.stats (world_of game.world)
 
 -- the output of `save`: the save of the game after its rounds
-unfoldable pub save_output : RunSetup → FileContent → FileContent → FileContent → List ℕ
-save_output setup (WorldContent grid) (BrainContent red) (BrainContent black) =
-    save_text (saved_after (minds_named setup red black) setup.seed setup.window (world_of grid) setup.rounds)
--- never: its files are a world and two brains
-save_output setup world red black = []
+unfoldable pub save_output : RunSetup → ReadGame → List ℕ
+save_output setup game = save_text (saved_after (minds_named setup game.red game.black) setup.seed setup.window (world_of game.world) setup.rounds)
 
 -- the output of `resume`: the rest of a saved game's text
-unfoldable pub resume_output : ResumeSetup → FileContent → List ℕ
-resume_output setup (SaveContent saved) = rest_of saved setup.rounds (chosen_rounds setup.dumps) setup.stats
--- never: its file is a save
-resume_output setup content = []
+unfoldable pub resume_output : ResumeSetup → SavedValue → List ℕ
+resume_output setup saved = rest_of saved setup.rounds (chosen_rounds setup.dumps) setup.stats
 
 -- the output of `minimise`: what is told of this brain, minimised
 pub record TellsMinimised (old : List Instr) (text : List ℕ) : Type 0 where
@@ -142,17 +182,9 @@ pub record TellsMinimised (old : List Instr) (text : List ℕ) : Type 0 where
   pub minimised : IsMinimised old new numbers
   pub told : text ≡ minimised_text old new
 
-abbrev pub IsMinimisedOutput : FileContent → List ℕ → Type 0
-IsMinimisedOutput (BrainContent list) text = TellsMinimised list text
--- never: its file is a brain
-IsMinimisedOutput content text = ⊥
-
 -- the output of `view`: the view of the game, by the contest's rules, with these breaks
-abbrev pub IsViewOutput : ℕ → ℕ → FileContent → FileContent → FileContent → FileContent → List ℕ → Type 0
-IsViewOutput seed rounds (WorldContent grid) (BrainContent red) (BrainContent black) (BreakContent items) text =
-    IsViewText (contest_minds red black) seed rounds (world_of grid) items text
--- never: its files are a world, two brains and a list of breaks
-IsViewOutput seed rounds world red black breaks text = ⊥
+abbrev pub IsViewOutput : ℕ → ℕ → ReadView → List ℕ → Type 0
+IsViewOutput seed rounds view text = IsViewText (contest_minds view.game.red view.game.black) seed rounds (world_of view.game.world) view.breaks text
 
 -- no cells, for places past the end of a list
 abbrev pub nowhere : Grid
@@ -167,16 +199,9 @@ unfoldable pub score_between : List Grid → List (List Instr) → ℕ → ℕ �
 score_between worlds players seed rounds world red black =
     score_of (world_after (minds_between players red black) seed (world_of (slice_index_or worlds world nowhere)) rounds)
 
--- what was read are these worlds, and then these players
-abbrev pub cup_contents : List Grid → List (List Instr) → List FileContent
-cup_contents worlds players = map WorldContent worlds ++ map BrainContent players
-
 -- the output of `cup`: that of all games between the players, on all worlds, with this seed and so many rounds each
-pub record IsCupOutput (names : List (List ℕ)) (seed rounds : ℕ) (contents : List FileContent) (text : List ℕ) : Type 0 where
-  pub worlds : List Grid
-  pub players : List (List Instr)
-  pub read : contents ≡ cup_contents worlds players
-  pub told : IsCupText names (length players) (length worlds) (score_between worlds players seed rounds) text
+abbrev pub IsCupOutput : List (List ℕ) → ℕ → ℕ → ReadCup → List ℕ → Type 0
+IsCupOutput names seed rounds cup text = IsCupText names (length cup.players) (length cup.worlds) (score_between cup.worlds cup.players seed rounds) text
 
 -- the shape that the words of `gen` name
 abbrev pub shape_named : GenShape → Shape
@@ -239,18 +264,16 @@ HasRoom command = (element : ℕ) → ¬ LacksRoom command element
 
 -- a text is the output of a command whose files were accepted as these contents
 abbrev pub IsJobText : PlainCommand → List FileContent → List ℕ → Type 0
-IsJobText (ShowCommand world seed) (content ∷ []) text = text ≡ show_output seed content
-IsJobText (BrainCommand file) (content ∷ []) text = text ≡ brain_output content
-IsJobText (MinimiseCommand file) (content ∷ []) text = IsMinimisedOutput content text
-IsJobText (RunCommand world red black setup) (first ∷ second ∷ third ∷ []) text = text ≡ match_output setup first second third
-IsJobText (CupCommand worlds brains seed rounds workers) contents text = IsCupOutput brains seed rounds contents text
-IsJobText (ViewCommand world red black breaks seed rounds) (first ∷ second ∷ third ∷ fourth ∷ []) text = IsViewOutput seed rounds first second third fourth text
-IsJobText (GenCommand seed shape) [] text = TellsGenerated seed (shape_named shape) text
-IsJobText (WorkloadCommand seed rounds workers) [] text = TellsWorkload seed rounds text
-IsJobText HelpCommand [] text = text ≡ help_text
-IsJobText VersionCommand [] text = text ≡ version_text
-IsJobText (AsmCommand file) (content ∷ []) text = text ≡ asm_output content
-IsJobText (SaveCommand world red black setup) (first ∷ second ∷ third ∷ []) text = text ≡ save_output setup first second third
-IsJobText (ResumeCommand save setup) (content ∷ []) text = text ≡ resume_output setup content
--- never: a command's files are as many as its contents
-IsJobText command contents text = ⊥
+IsJobText (ShowCommand world seed) = Tells world_contents (is_text_of (show_output seed))
+IsJobText (BrainCommand file) = Tells brain_contents (is_text_of brain_text)
+IsJobText (MinimiseCommand file) = Tells brain_contents TellsMinimised
+IsJobText (RunCommand world red black setup) = Tells game_contents (is_text_of (match_output setup))
+IsJobText (CupCommand worlds brains seed rounds workers) = Tells roster_contents (IsCupOutput brains seed rounds)
+IsJobText (ViewCommand world red black breaks seed rounds) = Tells view_contents (IsViewOutput seed rounds)
+IsJobText (GenCommand seed shape) = Tells no_contents (λ nothing. TellsGenerated seed (shape_named shape))
+IsJobText (WorkloadCommand seed rounds workers) = Tells no_contents (λ nothing. TellsWorkload seed rounds)
+IsJobText HelpCommand = Tells no_contents (is_text_of (λ nothing. help_text))
+IsJobText VersionCommand = Tells no_contents (is_text_of (λ nothing. version_text))
+IsJobText (AsmCommand file) = Tells program_contents (is_text_of (λ program. brain_text program.brain))
+IsJobText (SaveCommand world red black setup) = Tells game_contents (is_text_of (save_output setup))
+IsJobText (ResumeCommand save setup) = Tells save_contents (is_text_of (resume_output setup))

@@ -1,7 +1,6 @@
 // The command `show`.
 ghost use Rattle.ant_base.specs.Sink.{Pushed};
 ghost use Rattle.command_words.specs.Command.PlainCommand.{ShowCommand};
-ghost use Rattle.ants.specs.Files.FileContent.{WorldContent};
 ghost use Rattle.ants.specs.Inner.Reading.{CarriesOut, ending_of};
 ghost use Rattle.ants.specs.Outputs.{show_output};
 
@@ -15,7 +14,7 @@ use std::alloc::Global;
 // Pushes the line of the seed and the dump after round 0.
 #[tactic(auto, unfolding(crate::specs::Outputs::show_output))]
 fn push_show<K: Sink>(world: &World, seed: u32, out: &mut K) -> Result<(), Failed>
-    ensures { Pushed (K.state out.old) (K.state out.new) (show_output seed (WorldContent world.now)) result }
+    ensures { Pushed (K.state out.old) (K.state out.new) (show_output seed world.now) result }
 {
     push_seed(seed, out)?;
     push_dump(world, 0, out)

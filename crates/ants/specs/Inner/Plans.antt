@@ -1,5 +1,5 @@
 -- What the private functions that plan a game ensure.
-use Rattle.std.specs.Prelude.{◌≡◌, ℕ, ◌<◌, ◌≤◌, List, [], ◌∷◌, Option, Some, None, Result, Ok, Err}
+use Rattle.std.specs.Prelude.{◌≡◌, ℕ, ◌<◌, ◌≤◌, List, Option, Some, None, Result, Ok, Err}
 use Rattle.ant_turn.specs.Minds.{Minds}
 use Rattle.ant_turn.specs.Sheet.{sheet_of}
 use Rattle.command_words.specs.Command.{PlainCommand, RunSetup}
@@ -21,8 +21,7 @@ use Rattle.ants.specs.declared.stop.FileFault.TheVariants.{AlreadyAt}
 use Rattle.ants.specs.declared.stop.CommandStop.{CommandStop}
 use Rattle.ants.specs.declared.stop.CommandStop.TheVariants as stop
 use Rattle.ants.specs.Files.{FileContent}
-use Rattle.ants.specs.Files.FileContent.{WorldContent, BrainContent}
-use Rattle.ants.specs.Outputs.{chosen_rounds, sheet_named}
+use Rattle.ants.specs.Outputs.{ReadGame, chosen_rounds, game_contents, sheet_named}
 use Rattle.ants.specs.FaultLines.{Reason, reason_of}
 use Rattle.ants.specs.FaultLines.Reason.{AtInput}
 
@@ -68,8 +67,11 @@ IsGenerating seed shape (Err stop.Memory) = Unit {0}
 IsGenerating seed shape (Err other) = ⊥
 
 -- what the files of a game were read as
+abbrev pub game_read : Setting → ReadGame
+game_read setting = record { world = setting.world; red = setting.red; black = setting.black }
+
 abbrev pub setting_contents : Setting → List FileContent
-setting_contents setting = WorldContent setting.world ∷ BrainContent setting.red ∷ BrainContent setting.black ∷ []
+setting_contents setting = game_contents (game_read setting)
 
 -- the brains of a game that were read, and the numbers of its rules
 abbrev pub minds_in : Setting → PlannedGame → Minds

@@ -44,5 +44,9 @@ returns g c =
     carries_pushed (CupCommand (texts c.args.entry.worlds.now) (texts c.args.entry.brains.now) c.args.entry.seed c.args.entry.rounds c.args.entry.workers) (g.S.Shelf.state c.args.shelf.now) (g.S.Shelf.state c.roster_of.new.shelf) (g.K.Sink.state c.args.out.now) (g.K.Sink.state c.push_standing.new.sink)
     (cup_contents c.in_ok-roster.roster.worlds.items c.in_ok-roster.roster.players.items) c.after_push.result c.push_standing.result c.after_push.ensures c.in_ok-roster.ensures
     (standing_text (texts c.args.entry.brains.now) c.in_ok-standing.standing)
-    (record { worlds = c.in_ok-roster.roster.worlds.items; players = c.in_ok-roster.roster.players.items; read = refl; told = record { lines = c.in_ok-standing.standing; standing = c.in_ok-standing.ensures; is = refl } })
+    (record {
+      value = record { worlds = c.in_ok-roster.roster.worlds.items; players = c.in_ok-roster.roster.players.items };
+      read = refl;
+      told = record { lines = c.in_ok-standing.standing; standing = c.in_ok-standing.ensures; is = refl };
+    })
     (subst (λ (names : List (List ℕ)). Pushed (g.K.Sink.state c.args.out.now) (g.K.Sink.state c.push_standing.new.sink) (standing_text names c.in_ok-standing.standing) c.push_standing.result) c.in_ok-names.ensures c.push_standing.ensures)

@@ -9,4 +9,4 @@ pub returns : goal.returns
 returns g c =
     carries_pushed HelpCommand (g.S.Shelf.state c.args.shelf.now) (g.S.Shelf.state c.args.shelf.now) (g.K.Sink.state c.args.out.now) (g.K.Sink.state c.push_help.new.out)
     [] c.after_push.result c.push_help.result c.after_push.ensures (reads_none (g.S.Shelf.state c.args.shelf.now))
-    help_text refl c.push_help.ensures
+    help_text (record { value = tt; read = refl; told = refl }) c.push_help.ensures

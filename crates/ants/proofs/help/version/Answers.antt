@@ -9,4 +9,4 @@ pub returns : goal.returns
 returns g c =
     carries_pushed VersionCommand (g.S.Shelf.state c.args.shelf.now) (g.S.Shelf.state c.args.shelf.now) (g.K.Sink.state c.args.out.now) (g.K.Sink.state c.push_version.new.out)
     [] c.after_push.result c.push_version.result c.after_push.ensures (reads_none (g.S.Shelf.state c.args.shelf.now))
-    version_text refl c.push_version.ensures
+    version_text (record { value = tt; read = refl; told = refl }) c.push_version.ensures

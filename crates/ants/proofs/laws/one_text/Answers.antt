@@ -1,4 +1,4 @@
-use Rattle.ants.proofs.OneTexts.{one_text}
+use Rattle.ants.proofs.JobTexts.{one_text}
 use Rattle.ants.proofs.laws.one_text.Goals as goal
 
 pub returns : goal.returns

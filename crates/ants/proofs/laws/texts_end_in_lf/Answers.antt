@@ -1,4 +1,4 @@
-use Rattle.ants.proofs.TextEnds.{texts_end_in_lf}
+use Rattle.ants.proofs.JobTexts.{texts_end_in_lf}
 use Rattle.ants.proofs.laws.texts_end_in_lf.Goals as goal
 
 pub returns : goal.returns

@@ -21,5 +21,5 @@ returns g c =
     carries_pushed (MinimiseCommand c.args.name.now) (g.S.Shelf.state c.args.shelf.now) (g.S.Shelf.state c.read_file.new.shelf) (g.K.Sink.state c.args.out.now) (g.K.Sink.state c.push_minimised.new.sink)
     (BrainContent c.in_ok-brain.brain ∷ []) c.after_push.result c.push_minimised.result c.after_push.ensures c.in_ok-brain.ensures
     (minimised_text c.in_ok-brain.brain c.in_ok-minimised.minimised.brain)
-    (record { new = c.in_ok-minimised.minimised.brain; numbers = c.in_ok-minimised.minimised.map; minimised = c.in_ok-minimised.ensures; told = refl })
+    (record { value = c.in_ok-brain.brain; read = refl; told = record { new = c.in_ok-minimised.minimised.brain; numbers = c.in_ok-minimised.minimised.map; minimised = c.in_ok-minimised.ensures; told = refl } })
     c.push_minimised.ensures

@@ -1,14 +1,13 @@
 -- the files were accepted, and their game was saved
-use Rattle.std.proofs.Common.{◌∙◌, ap, refl, subst}
+use Rattle.std.proofs.Common.{◌∙◌, ap, subst}
 use Rattle.ant_base.specs.Sink.{Pushed}
 use Rattle.ant_turn.specs.Sheet.{sheet_of}
 use Rattle.command_words.specs.Command.PlainCommand.{SaveCommand}
 use Rattle.match_save.specs.Saved.{save_text}
-use Rattle.ants.specs.Inner.Plans.{setting_contents}
-use Rattle.ants.specs.Files.FileContent.{BrainContent, WorldContent}
+use Rattle.ants.specs.Inner.Plans.{game_read, setting_contents}
 use Rattle.ants.specs.Outputs.{save_output}
 use Rattle.ants.proofs.Accepted.{fits_accepted, opened_accepted}
-use Rattle.ants.proofs.Planned.{saved_planned}
+use Rattle.ants.proofs.Planned.{saved_planned, tells}
 use Rattle.ants.proofs.Readings.{carries_pushed, carries_stop, carries_wanting_later}
 use Rattle.ants.proofs.save.save_by.Goals as goal
 
@@ -34,6 +33,6 @@ pub returns : goal.returns
 returns g c = λ setup plans.
     carries_pushed (SaveCommand c.args.names.world.now c.args.names.red.now c.args.names.black.now setup) (g.S.Shelf.state c.args.shelf.now) (g.S.Shelf.state c.setting_of.new.shelf) (g.K.Sink.state c.args.out.now) (g.K.Sink.state c.write_saved.new.sink)
     (setting_contents c.in_ok-setting.setting) c.after_push.result c.write_saved.result c.after_push.ensures c.in_ok-setting.ensures
-    (save_output setup (WorldContent c.in_ok-setting.setting.world) (BrainContent c.in_ok-setting.setting.red) (BrainContent c.in_ok-setting.setting.black)) refl
+    (save_output setup (game_read c.in_ok-setting.setting)) (tells c.in_ok-setting.setting (save_output setup))
     (subst (λ text. Pushed (g.K.Sink.state c.args.out.now) (g.K.Sink.state c.write_saved.new.sink) text c.write_saved.result)
     (ap save_text c.in_ok-saved.ensures ∙ saved_planned setup c.args.game.now c.in_ok-setting.setting plans) c.write_saved.ensures.pushed)

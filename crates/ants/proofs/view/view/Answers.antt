@@ -1,12 +1,12 @@
 -- the files were accepted, and their game was played to its first stop
-use Rattle.std.proofs.Common.{[], ◌∷◌, ◌++◌}
+use Rattle.std.proofs.Common.{[], ◌∷◌, ◌++◌, refl}
 use Rattle.ant_turn.specs.Minds.{contest_minds}
 use Rattle.ant_turn.specs.Sheet.{contest}
 use Rattle.break_view.specs.Texts.{view_of}
 use Rattle.cell_world.specs.Grid.{world_of}
 use Rattle.command_words.specs.Command.PlainCommand.{ViewCommand}
 use Rattle.ants.specs.Files.FileContent.{BreakContent}
-use Rattle.ants.specs.Inner.Plans.{setting_contents}
+use Rattle.ants.specs.Inner.Plans.{game_read, setting_contents}
 use Rattle.ants.specs.Inner.Reading.ReadOutcome.{Contents}
 use Rattle.ants.specs.Outputs.{break_file, game_files}
 use Rattle.ants.proofs.Accepted.{fits_accepted}
@@ -38,5 +38,9 @@ returns g c =
     (reads_then (g.S.Shelf.state c.args.shelf.now) (g.S.Shelf.state c.setting_of.new.shelf) (g.S.Shelf.state c.read_file.new.shelf) (game_files c.args.game.names.world.now c.args.game.names.red.now c.args.game.names.black.now) (break_file c.args.game.breaks.now ∷ [])
     (setting_contents c.in_ok-setting.setting) (Contents (BreakContent c.in_ok-breaks.breaks ∷ [])) c.in_ok-setting.ensures c.in_ok-breaks.ensures)
     (view_of (contest_minds c.in_ok-setting.setting.red c.in_ok-setting.setting.black) c.args.game.seed c.args.game.rounds (world_of c.in_ok-setting.setting.world) c.in_ok-breaks.breaks)
-    (view_of-view (contest_minds c.in_ok-setting.setting.red c.in_ok-setting.setting.black) c.args.game.seed c.args.game.rounds (world_of c.in_ok-setting.setting.world) c.in_ok-breaks.breaks)
+    (record {
+      value = record { game = game_read c.in_ok-setting.setting; breaks = c.in_ok-breaks.breaks };
+      read = refl;
+      told = view_of-view (contest_minds c.in_ok-setting.setting.red c.in_ok-setting.setting.black) c.args.game.seed c.args.game.rounds (world_of c.in_ok-setting.setting.world) c.in_ok-breaks.breaks;
+    })
     c.push_stop.ensures

@@ -27,4 +27,4 @@ returns g c = λ workers.
     carries_pushed (WorkloadCommand c.args.seed c.args.rounds workers) (g.S.Shelf.state c.args.shelf.now) (g.S.Shelf.state c.args.shelf.now) (g.K.Sink.state c.args.out.now) (g.K.Sink.state c.push_summary.new.out)
     [] c.after_push.result c.push_summary.result c.after_push.ensures (reads_none (g.S.Shelf.state c.args.shelf.now))
     (workload_text c.args.seed c.args.rounds c.in_ok-summary.summary)
-    (record { world = c.in_ok-world.world; generated = c.in_ok-world.ensures; told = ap (workload_text c.args.seed c.args.rounds) c.in_ok-summary.ensures }) c.push_summary.ensures
+    (record { value = tt; read = refl; told = record { world = c.in_ok-world.world; generated = c.in_ok-world.ensures; told = ap (workload_text c.args.seed c.args.rounds) c.in_ok-summary.ensures } }) c.push_summary.ensures
