@@ -1,8 +1,9 @@
 -- Games are saved and gone on with.
-use Rattle.std.proofs.Common.{◌≡◌, ℕ, ◌+◌, ◌≤◌, List, [], ◌∷◌, ◌++◌, refl, sym, ◌∙◌, ap, arith, append_assoc}
+use Rattle.std.proofs.Common.{◌≡◌, ℕ, ◌+◌, ◌≤◌, List, [], ◌∷◌, ◌++◌, length, Ok, Option, Some, refl, sym, ◌∙◌, ap, subst, arith, append_assoc}
 use Rattle.std.specs.List.{AllByRecursion}
 use Rattle.ant_base.specs.Fetched.{Fetched}
 use Rattle.ant_base.specs.Layout.{◌+++◌}
+use Rattle.ant_base.specs.Shelf.{longest}
 use Rattle.brain_read.specs.declared.instr.Instr.{Instr}
 use Rattle.brain_read.specs.declared.instr.Instr.TheVariants.{Sense, Mark, Unmark, PickUp, Drop, Turn, Move, Flip}
 use Rattle.brain_read.specs.Forms.{HasBound, IsInRange}
@@ -18,6 +19,7 @@ use Rattle.match_run.specs.Run.{dumps_text}
 use Rattle.match_save.proofs.AfterRounds.{games_are_saved}
 use Rattle.match_save.proofs.ResumedGames.{saves_go_on}
 use Rattle.match_save.proofs.SaveVerdicts.{every_verdict}
+use Rattle.match_save.proofs.TextLength.{saves_are_short}
 use Rattle.match_save.specs.Resumed.{IsOfGame, rest_of}
 use Rattle.match_save.specs.Saved.{IsSaveText, IsSaved, SavedValue}
 use Rattle.match_save.specs.Saves.{Starts, saved_after}
@@ -25,7 +27,10 @@ use Rattle.world_read.specs.Opened.{OpensAs}
 use Rattle.ants.specs.Files.{AreAccepted, FileContent, IsAccepted, Reads}
 use Rattle.ants.specs.Files.FileContent.{WorldContent, BrainContent, BreakContent, LabelledContent, SaveContent}
 use Rattle.ants.specs.Files.FileKind.{SaveFile}
-use Rattle.ants.specs.Outputs.{brain_file, chosen_rounds, game_files, match_output, minds_named, resume_output, save_output, world_file}
+use Rattle.command_words.specs.Command.PlainCommand.{ResumeCommand}
+use Rattle.ants.specs.Verdict.{IsJudged}
+use Rattle.ants.specs.Verdict.FilesVerdict.{AllAccepted}
+use Rattle.ants.specs.Outputs.{brain_file, chosen_rounds, files_of, game_files, match_output, minds_named, resume_output, save_output, world_file}
 use Rattle.ants.specs.Laws.{IsGameOf, IsSavedAs, SavesAreResumed, front_output, resumed_setup, saved_setup}
 
 -- the bounds of a brain that was read are at most the largest
@@ -171,6 +176,29 @@ accepted world red black setup first second third round workers text game early 
     by_game world red black setup (λ a b c. text ≡ save_output (saved_setup setup round workers) a b c → (content : FileContent) × Reads (SaveFile setup.rounds) text content) game.fetches first second third game.within game.accepted
     (λ grid one two is is_text. accept setup grid one two round is early workers text is_text) told
 
+-- what was saved is short enough for a file
+short : (world red black : List ℕ) (setup : RunSetup) (first second third : FileContent) (round workers : ℕ) (text : List ℕ) → IsGameOf world red black setup first second third → round ≤ setup.rounds
+    → text ≡ save_output (saved_setup setup round workers) first second third → length text ≤ longest
+unfolding save_output
+short world red black setup first second third round workers text game early told =
+    by_game world red black setup (λ a b c. text ≡ save_output (saved_setup setup round workers) a b c → length text ≤ longest) game.fetches first second third game.within game.accepted
+    (λ grid one two is is_text. subst (λ (t : List ℕ). length t ≤ longest) (sym is_text) (saves_are_short (saved_after (minds_named setup one two) setup.seed setup.window (world_of grid) round) (kept-saved setup grid one two round is early)))
+    told
+
+-- so a shelf that holds it gives it, and it is accepted
+fetched : (world red black save : List ℕ) (setup : RunSetup) (first second third : FileContent) (round workers others : ℕ) (text : List ℕ) (at : List ℕ → Option (List ℕ)) → IsGameOf world red black setup first second third
+    → round ≤ setup.rounds → text ≡ save_output (saved_setup setup round workers) first second third → at save ≡ Some text
+    → (content : FileContent) × IsJudged at (files_of (ResumeCommand save (resumed_setup setup others))) (AllAccepted (content ∷ []))
+fetched world red black save setup first second third round workers others text at game early told there =
+    let read = accepted world red black setup first second third round workers text game early told in (
+      read.0,
+      record {
+        fetches = record { name = save; answer = Ok text } ∷ [];
+        told = (record { told = there; short = short world red black setup first second third round workers text game early told }, tt);
+        judged = (record { bytes = text; got = refl; reads = read.1 }, (refl, refl));
+      },
+    )
+
 -- a content that was read of a save is one
 joined_by : (setup : RunSetup) (grid : Grid) (red black : List Instr) (round workers others : ℕ) (saved : List ℕ) (content : FileContent) (text rest : List ℕ) → Begins setup grid red black → round ≤ setup.rounds
     → saved ≡ save_output (saved_setup setup round workers) (WorldContent grid) (BrainContent red) (BrainContent black) → Reads (SaveFile setup.rounds) saved content
@@ -194,6 +222,7 @@ goes_on world red black setup first second third round others content text rest 
 pub saves_are_resumed : SavesAreResumed
 saves_are_resumed = record {
   accepted = accepted;
+  fetched = fetched;
   goes_on = λ world red black save setup first second third round workers content text rest game saved is_text is_rest. goes_on world red black setup first second third round workers content text rest game saved is_text is_rest;
   any_round = λ world red black save other setup first second third round later workers others content changed rest last game saved again is_rest is_last.
       sym (goes_on world red black setup first second third round workers content (match_output setup first second third) rest game saved refl is_rest)

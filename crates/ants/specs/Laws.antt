@@ -1,5 +1,5 @@
 -- Laws on the texts of the commands.
-use Rattle.std.specs.Prelude.{◌≡◌, ℕ, ◌+◌, ◌≤◌, Bool, true, false, List, [], ◌∷◌, ◌++◌, Option}
+use Rattle.std.specs.Prelude.{◌≡◌, ℕ, ◌+◌, ◌≤◌, Bool, true, false, List, [], ◌∷◌, ◌++◌, Option, Some}
 use Rattle.ant_asm.specs.Assembled.{IsAssembled}
 use Rattle.ant_asm.specs.Match.{label_game, numbered_moment}
 use Rattle.ant_asm.specs.Places.{Address}
@@ -27,6 +27,8 @@ use Rattle.match_run.specs.Run.{dumps_text}
 use Rattle.ants.specs.Files.{AreAccepted, FileContent, Reads}
 use Rattle.ants.specs.Files.FileContent.{BrainContent, WorldContent}
 use Rattle.ants.specs.Files.FileKind.{SaveFile}
+use Rattle.ants.specs.Verdict.{IsJudged}
+use Rattle.ants.specs.Verdict.FilesVerdict.{AllAccepted}
 use Rattle.ants.specs.Outputs.{HasRoom, IsJobText, chosen_rounds, files_of, game_files, minds_named}
 
 -- each output of a command whose numbers and names are within the limits, and whose files were accepted, ends in LF
@@ -114,6 +116,12 @@ pub record SavesAreResumed : Type 0 where
       → IsGameOf world red black setup first second third → round ≤ setup.rounds
       → IsJobText (SaveCommand world red black (saved_setup setup round workers)) (first ∷ second ∷ third ∷ []) text
       → (content : FileContent) × Reads (SaveFile setup.rounds) text content
+  -- and it is no longer than a file may be: where it lies under the name of the save, `resume` accepts that file, whoever plays on
+  pub fetched : (world red black save : List ℕ) (setup : RunSetup) (first second third : FileContent) (round workers others : ℕ) (text : List ℕ) (at : List ℕ → Option (List ℕ))
+      → IsGameOf world red black setup first second third → round ≤ setup.rounds
+      → IsJobText (SaveCommand world red black (saved_setup setup round workers)) (first ∷ second ∷ third ∷ []) text
+      → at save ≡ Some text
+      → (content : FileContent) × IsJudged at (files_of (ResumeCommand save (resumed_setup setup others))) (AllAccepted (content ∷ []))
   -- what `run` prints is what it prints up to the saved round, and then what `resume` prints of the save
   pub goes_on : (world red black save : List ℕ) (setup : RunSetup) (first second third : FileContent) (round workers : ℕ) (content : FileContent) (text rest : List ℕ)
       → IsGameOf world red black setup first second third → IsSavedAs world red black setup first second third round content
