@@ -6,7 +6,7 @@ use Rattle.brain_read.specs.declared.instr.Instr.{Instr}
 use Rattle.break_view.proofs.ViewLaws.{one_first_stop}
 use Rattle.ant_turn.specs.Minds.{contest_minds}
 use Rattle.cell_world.specs.Grid.{Grid, world_of}
-use Rattle.command_words.specs.Command.{RunSetup}
+use Rattle.command_words.specs.Command.{ResumeSetup, RunSetup}
 use Rattle.command_words.specs.Command.PlainCommand.{ShowCommand, BrainCommand, MinimiseCommand, RunCommand, GenCommand, CupCommand, ViewCommand, WorkloadCommand, HelpCommand, VersionCommand, AsmCommand, SaveCommand, ResumeCommand}
 use Rattle.match_run.specs.Counts.{whole_text}
 use Rattle.tournament.specs.Text.{IsCupText, standing_text}
@@ -17,7 +17,7 @@ use Rattle.world_read.specs.Canonical.{canonical_text}
 use Rattle.world_read.specs.Opened.{kinds_of}
 use Rattle.ants.specs.Files.{FileContent}
 use Rattle.ants.specs.Files.FileContent.{WorldContent, BrainContent, BreakContent, LabelledContent, SaveContent}
-use Rattle.ants.specs.Outputs.{IsCupOutput, IsJobText, IsMinimisedOutput, IsViewOutput, TellsGenerated, TellsMinimised, TellsWorkload, contest_shape, cup_contents, match_output, score_between, shape_named, summary_of, workload_text}
+use Rattle.ants.specs.Outputs.{IsCupOutput, IsJobText, IsMinimisedOutput, IsViewOutput, TellsGenerated, TellsMinimised, TellsWorkload, contest_shape, cup_contents, match_output, resume_output, save_output, score_between, shape_named, summary_of, workload_text}
 use Rattle.ants.specs.Laws.{OneText, WindowsChangeCountsAlone, WorkersChangeNothing}
 
 tells_minimised : (list : List Instr) (text other : List ℕ) → TellsMinimised list text → TellsMinimised list other → text ≡ other
@@ -138,29 +138,53 @@ one_text (ResumeCommand save setup) [] text other a b = absurd a
 one_text (ResumeCommand save setup) (content ∷ []) text other a b = a ∙ sym b
 one_text (ResumeCommand save setup) (content ∷ next ∷ more) text other a b = absurd a
 
-same_match : (setup : RunSetup) (workers : ℕ) (first second third : FileContent) → match_output setup first second third ≡ match_output (record setup { workers = workers }) first second third
-unfolding match_output
-same_match setup workers (WorldContent grid) (BrainContent red) (BrainContent black) = refl
-same_match setup workers (WorldContent grid) (BrainContent red) (WorldContent third) = refl
-same_match setup workers (WorldContent grid) (BrainContent red) (BreakContent third) = refl
-same_match setup workers (WorldContent grid) (BrainContent red) (LabelledContent made places) = refl
-same_match setup workers (WorldContent grid) (BrainContent red) (SaveContent made) = refl
-same_match setup workers (WorldContent grid) (WorldContent second) third = refl
-same_match setup workers (WorldContent grid) (BreakContent second) third = refl
-same_match setup workers (WorldContent grid) (LabelledContent made places) third = refl
-same_match setup workers (WorldContent grid) (SaveContent made) third = refl
-same_match setup workers (BrainContent first) second third = refl
-same_match setup workers (BreakContent first) second third = refl
-same_match setup workers (LabelledContent made places) second third = refl
-same_match setup workers (SaveContent made) second third = refl
+-- the workers of a game change nothing of the outputs of `run` and `save`
+same_workers : (setup : RunSetup) (workers : ℕ) (first second third : FileContent) → (match_output setup first second third ≡ match_output (record setup { workers = workers }) first second third)
+    × (save_output setup first second third ≡ save_output (record setup { workers = workers }) first second third)
+unfolding match_output save_output
+same_workers setup workers (WorldContent grid) (BrainContent red) (BrainContent black) = (refl, refl)
+same_workers setup workers (WorldContent grid) (BrainContent red) (WorldContent third) = (refl, refl)
+same_workers setup workers (WorldContent grid) (BrainContent red) (BreakContent third) = (refl, refl)
+same_workers setup workers (WorldContent grid) (BrainContent red) (LabelledContent made places) = (refl, refl)
+same_workers setup workers (WorldContent grid) (BrainContent red) (SaveContent made) = (refl, refl)
+same_workers setup workers (WorldContent grid) (WorldContent second) third = (refl, refl)
+same_workers setup workers (WorldContent grid) (BreakContent second) third = (refl, refl)
+same_workers setup workers (WorldContent grid) (LabelledContent made places) third = (refl, refl)
+same_workers setup workers (WorldContent grid) (SaveContent made) third = (refl, refl)
+same_workers setup workers (BrainContent first) second third = (refl, refl)
+same_workers setup workers (BreakContent first) second third = (refl, refl)
+same_workers setup workers (LabelledContent made places) second third = (refl, refl)
+same_workers setup workers (SaveContent made) second third = (refl, refl)
 
 other_workers : (world red black : List ℕ) (setup : RunSetup) (workers : ℕ) (contents : List FileContent) (text : List ℕ)
     → IsJobText (RunCommand world red black setup) contents text → IsJobText (RunCommand world red black (record setup { workers = workers })) contents text
 other_workers world red black setup workers [] text is = absurd is
 other_workers world red black setup workers (first ∷ []) text is = absurd is
 other_workers world red black setup workers (first ∷ second ∷ []) text is = absurd is
-other_workers world red black setup workers (first ∷ second ∷ third ∷ []) text is = is ∙ same_match setup workers first second third
+other_workers world red black setup workers (first ∷ second ∷ third ∷ []) text is = is ∙ (same_workers setup workers first second third).0
 other_workers world red black setup workers (first ∷ second ∷ third ∷ next ∷ more) text is = absurd is
+
+other_savers : (world red black : List ℕ) (setup : RunSetup) (workers : ℕ) (contents : List FileContent) (text : List ℕ)
+    → IsJobText (SaveCommand world red black setup) contents text → IsJobText (SaveCommand world red black (record setup { workers = workers })) contents text
+other_savers world red black setup workers [] text is = absurd is
+other_savers world red black setup workers (first ∷ []) text is = absurd is
+other_savers world red black setup workers (first ∷ second ∷ []) text is = absurd is
+other_savers world red black setup workers (first ∷ second ∷ third ∷ []) text is = is ∙ (same_workers setup workers first second third).1
+other_savers world red black setup workers (first ∷ second ∷ third ∷ next ∷ more) text is = absurd is
+
+same_rest : (setup : ResumeSetup) (workers : ℕ) (content : FileContent) → resume_output setup content ≡ resume_output (record setup { workers = workers }) content
+unfolding resume_output
+same_rest setup workers (SaveContent saved) = refl
+same_rest setup workers (WorldContent other) = refl
+same_rest setup workers (BrainContent other) = refl
+same_rest setup workers (BreakContent other) = refl
+same_rest setup workers (LabelledContent made places) = refl
+
+other_resumers : (save : List ℕ) (setup : ResumeSetup) (workers : ℕ) (contents : List FileContent) (text : List ℕ)
+    → IsJobText (ResumeCommand save setup) contents text → IsJobText (ResumeCommand save (record setup { workers = workers })) contents text
+other_resumers save setup workers [] text is = absurd is
+other_resumers save setup workers (content ∷ []) text is = is ∙ same_rest setup workers content
+other_resumers save setup workers (content ∷ next ∷ more) text is = absurd is
 
 same_far : (setup : RunSetup) (far : Bool) (first second third : FileContent) → match_output setup first second third ≡ match_output (record setup { far = far }) first second third
 unfolding match_output
@@ -195,6 +219,8 @@ pub workers_change_nothing : WorkersChangeNothing
 workers_change_nothing = record {
   run = other_workers;
   far = other_far;
+  save = other_savers;
+  resume = other_resumers;
   cup = λ worlds brains seed rounds workers others contents text is. is;
   workload = other_workload;
 }

@@ -47,6 +47,10 @@ pub record WorkersChangeNothing : Type 0 where
       → IsJobText (RunCommand world red black setup) contents text → IsJobText (RunCommand world red black (record setup { workers = workers })) contents text
   pub far : (world red black : List ℕ) (setup : RunSetup) (standing : Bool) (contents : List FileContent) (text : List ℕ)
       → IsJobText (RunCommand world red black setup) contents text → IsJobText (RunCommand world red black (record setup { far = standing })) contents text
+  pub save : (world red black : List ℕ) (setup : RunSetup) (workers : ℕ) (contents : List FileContent) (text : List ℕ)
+      → IsJobText (SaveCommand world red black setup) contents text → IsJobText (SaveCommand world red black (record setup { workers = workers })) contents text
+  pub resume : (save : List ℕ) (setup : ResumeSetup) (workers : ℕ) (contents : List FileContent) (text : List ℕ)
+      → IsJobText (ResumeCommand save setup) contents text → IsJobText (ResumeCommand save (record setup { workers = workers })) contents text
   pub cup : (worlds brains : List (List ℕ)) (seed rounds workers others : ℕ) (contents : List FileContent) (text : List ℕ)
       → IsJobText (CupCommand worlds brains seed rounds workers) contents text → IsJobText (CupCommand worlds brains seed rounds others) contents text
   pub workload : (seed rounds workers others : ℕ) (contents : List FileContent) (text : List ℕ)

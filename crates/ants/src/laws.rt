@@ -26,7 +26,7 @@ pub fn one_text()
     ensures { OneText }
 {}
 
-/// The number of workers of a `run`, a `cup` or a `workload` changes nothing of its output, nor does `--far` of a `run`.
+/// The number of workers of a `run`, a `save`, a `resume`, a `cup` or a `workload` changes nothing of its output, nor does `--far` of a `run`.
 pub fn workers_change_nothing()
     ensures { WorkersChangeNothing }
 {}
