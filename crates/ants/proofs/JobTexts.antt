@@ -12,10 +12,11 @@ use Rattle.brain_read.specs.declared.instr.Instr.{Instr}
 use Rattle.break_view.proofs.ViewLaws.{one_first_stop}
 use Rattle.break_view.specs.Texts.{view_of}
 use Rattle.cell_world.specs.Grid.{Grid, world_of}
-use Rattle.command_words.specs.Command.{CupWithin, RunSetup, ShapeWithin}
+use Rattle.command_words.specs.Command.{CupWithin, ResumeSetup, RunSetup, ShapeWithin}
 use Rattle.command_words.specs.Command.PlainCommand.{ShowCommand, BrainCommand, MinimiseCommand, RunCommand, GenCommand, CupCommand, ViewCommand, WorkloadCommand, HelpCommand, VersionCommand, AsmCommand, SaveCommand, ResumeCommand}
 use Rattle.command_words.specs.declared.command.GenShape.{GenShape}
 use Rattle.match_run.specs.Counts.{whole_text}
+use Rattle.match_save.specs.Saved.{SavedValue}
 use Rattle.tournament.proofs.LawsLemmas.{standing_law}
 use Rattle.tournament.proofs.SortedLines.{has_standing}
 use Rattle.tournament.specs.Text.{standing_text}
@@ -180,10 +181,20 @@ same_windows : (setup : RunSetup) (window : ℕ) (game : ReadGame) → setup.sta
 unfolding match_output whole_text
 same_windows setup window game off = rw off refl
 
+same_save : (setup : RunSetup) (workers : ℕ) (game : ReadGame) → save_output setup game ≡ save_output (record setup { workers = workers }) game
+unfolding save_output
+same_save setup workers game = refl
+
+same_rest : (setup : ResumeSetup) (workers : ℕ) (saved : SavedValue) → resume_output setup saved ≡ resume_output (record setup { workers = workers }) saved
+unfolding resume_output
+same_rest setup workers saved = refl
+
 pub workers_change_nothing : WorkersChangeNothing
 workers_change_nothing = record {
   run = λ world red black setup workers contents text is. other_game setup (record setup { workers = workers }) contents text (same_match setup workers) is;
   far = λ world red black setup standing contents text is. other_game setup (record setup { far = standing }) contents text (same_far setup standing) is;
+  save = λ world red black setup workers contents text is. record { value = is.value; read = is.read; told = is.told ∙ same_save setup workers is.value };
+  resume = λ save setup workers contents text is. record { value = is.value; read = is.read; told = is.told ∙ same_rest setup workers is.value };
   cup = λ worlds brains seed rounds workers others contents text is. is;
   workload = λ seed rounds workers others contents text is. is;
 }

@@ -1,8 +1,9 @@
 -- Games are saved and gone on with.
-use Rattle.std.proofs.Common.{◌≡◌, ℕ, ◌+◌, ◌≤◌, List, [], ◌∷◌, ◌++◌, refl, sym, ◌∙◌, ap, arith, append_assoc}
+use Rattle.std.proofs.Common.{◌≡◌, ℕ, ◌+◌, ◌≤◌, List, [], ◌∷◌, ◌++◌, length, Ok, Option, Some, refl, sym, ◌∙◌, ap, subst, arith, append_assoc}
 use Rattle.std.specs.List.{AllByRecursion}
 use Rattle.ant_base.specs.Fetched.{Fetched}
 use Rattle.ant_base.specs.Layout.{◌+++◌}
+use Rattle.ant_base.specs.Shelf.{longest}
 use Rattle.brain_read.specs.declared.instr.Instr.{Instr}
 use Rattle.brain_read.specs.declared.instr.Instr.TheVariants.{Sense, Mark, Unmark, PickUp, Drop, Turn, Move, Flip}
 use Rattle.brain_read.specs.Forms.{HasBound, IsInRange}
@@ -17,6 +18,7 @@ use Rattle.match_run.specs.Run.{dumps_text}
 use Rattle.match_save.proofs.AfterRounds.{games_are_saved}
 use Rattle.match_save.proofs.ResumedGames.{saves_go_on}
 use Rattle.match_save.proofs.SaveVerdicts.{every_verdict}
+use Rattle.match_save.proofs.TextLength.{saves_are_short}
 use Rattle.match_save.specs.Resumed.{IsOfGame, rest_of}
 use Rattle.match_save.specs.Saved.{IsSaveText, IsSaved, SavedValue}
 use Rattle.match_save.specs.Saves.{Starts, saved_after}
@@ -24,7 +26,10 @@ use Rattle.world_read.specs.Opened.{OpensAs}
 use Rattle.ants.specs.Files.{AreAccepted, Reads}
 use Rattle.ants.specs.Files.FileContent.{SaveContent}
 use Rattle.ants.specs.Files.FileKind.{SaveFile}
-use Rattle.ants.specs.Outputs.{ReadGame, Tells, chosen_rounds, game_contents, game_files, is_text_of, match_output, minds_named, resume_output, save_contents, save_output}
+use Rattle.ants.specs.Outputs.{ReadGame, Tells, chosen_rounds, files_of, game_contents, game_files, is_text_of, match_output, minds_named, resume_output, save_contents, save_output}
+use Rattle.ants.specs.Verdict.{IsJudged}
+use Rattle.ants.specs.Verdict.FilesVerdict.{AllAccepted}
+use Rattle.command_words.specs.Command.PlainCommand.{ResumeCommand}
 use Rattle.ants.proofs.ReadContents.{read_game, read_save}
 use Rattle.ants.specs.Laws.{IsGameOf, IsSavedAs, SavesAreResumed, front_output, resumed_setup, saved_setup}
 
@@ -142,11 +147,40 @@ goes_on world red black setup game round others saved text rest is kept is_text 
     joined setup game round (begins world red black setup game is.fetches is.within is.accepted) kept.early kept.workers others kept.text saved text rest
     (game_told world red black (save_output (saved_setup setup round kept.workers)) game kept.text kept.is_text) kept.reads.0 is_text is_rest
 
+-- what was saved is accepted
+accepted : (world red black : List ℕ) (setup : RunSetup) (game : ReadGame) (round workers : ℕ) (text : List ℕ) → IsGameOf world red black setup game → round ≤ setup.rounds
+    → text ≡ save_output (saved_setup setup round workers) game → (saved : SavedValue) × Reads (SaveFile setup.rounds) text (SaveContent saved)
+accepted world red black setup game round workers text is early told = accept setup game round (begins world red black setup game is.fetches is.within is.accepted) early workers text told
+
+-- and short enough for a file
+short : (world red black : List ℕ) (setup : RunSetup) (game : ReadGame) (round workers : ℕ) (text : List ℕ) → IsGameOf world red black setup game → round ≤ setup.rounds
+    → text ≡ save_output (saved_setup setup round workers) game → length text ≤ longest
+unfolding save_output
+short world red black setup game round workers text is early told =
+    subst (λ (t : List ℕ). length t ≤ longest) (sym told)
+    (saves_are_short (saved_after (minds_named setup game.red game.black) setup.seed setup.window (world_of game.world) round)
+    (kept-saved setup game round (begins world red black setup game is.fetches is.within is.accepted) early))
+
+-- so a shelf that holds it gives it, and it is accepted
+fetched : (world red black save : List ℕ) (setup : RunSetup) (game : ReadGame) (round workers others : ℕ) (text : List ℕ) (at : List ℕ → Option (List ℕ)) → IsGameOf world red black setup game
+    → round ≤ setup.rounds → text ≡ save_output (saved_setup setup round workers) game → at save ≡ Some text
+    → (saved : SavedValue) × IsJudged at (files_of (ResumeCommand save (resumed_setup setup others))) (AllAccepted (SaveContent saved ∷ []))
+fetched world red black save setup game round workers others text at is early told there =
+    let read = accepted world red black setup game round workers text is early told in (
+      read.0,
+      record {
+        fetches = record { name = save; answer = Ok text } ∷ [];
+        told = (record { told = there; short = short world red black setup game round workers text is early told }, tt);
+        judged = (record { bytes = text; got = refl; reads = read.1 }, (refl, refl));
+      },
+    )
+
 pub saves_are_resumed : SavesAreResumed
 saves_are_resumed = record {
   accepted = λ world red black setup game round workers text is early told.
-      accept setup game round (begins world red black setup game is.fetches is.within is.accepted) early workers text
-      (game_told world red black (save_output (saved_setup setup round workers)) game text told);
+      accepted world red black setup game round workers text is early (game_told world red black (save_output (saved_setup setup round workers)) game text told);
+  fetched = λ world red black save setup game round workers others text at is early told there.
+      fetched world red black save setup game round workers others text at is early (game_told world red black (save_output (saved_setup setup round workers)) game text told) there;
   goes_on = λ world red black save setup game round workers saved text rest is kept is_text is_rest.
       goes_on world red black setup game round workers saved text rest is kept (game_told world red black (match_output setup) game text is_text)
       (save_told (resume_output (resumed_setup setup workers)) saved rest is_rest);

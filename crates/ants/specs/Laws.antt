@@ -1,5 +1,5 @@
 -- Laws on the texts of the commands.
-use Rattle.std.specs.Prelude.{◌≡◌, ℕ, ◌+◌, ◌≤◌, Bool, true, false, List, ◌++◌, Option}
+use Rattle.std.specs.Prelude.{◌≡◌, ℕ, ◌+◌, ◌≤◌, Bool, true, false, List, [], ◌∷◌, ◌++◌, Option, Some}
 use Rattle.ant_asm.specs.Assembled.{IsAssembled}
 use Rattle.ant_asm.specs.Match.{label_game, numbered_moment}
 use Rattle.ant_asm.specs.Places.{Address}
@@ -28,6 +28,8 @@ use Rattle.ants.specs.Files.{AreAccepted, FileContent, Reads}
 use Rattle.ants.specs.Files.FileContent.{SaveContent}
 use Rattle.ants.specs.Files.FileKind.{SaveFile}
 use Rattle.ants.specs.Outputs.{HasRoom, IsJobText, ReadGame, chosen_rounds, files_of, game_contents, game_files, minds_named, save_contents}
+use Rattle.ants.specs.Verdict.{IsJudged}
+use Rattle.ants.specs.Verdict.FilesVerdict.{AllAccepted}
 
 -- each output of a command whose numbers and names are within the limits, and whose files were accepted, ends in LF
 abbrev pub TextsEndInLf : Type 0
@@ -45,6 +47,10 @@ pub record WorkersChangeNothing : Type 0 where
       → IsJobText (RunCommand world red black setup) contents text → IsJobText (RunCommand world red black (record setup { workers = workers })) contents text
   pub far : (world red black : List ℕ) (setup : RunSetup) (standing : Bool) (contents : List FileContent) (text : List ℕ)
       → IsJobText (RunCommand world red black setup) contents text → IsJobText (RunCommand world red black (record setup { far = standing })) contents text
+  pub save : (world red black : List ℕ) (setup : RunSetup) (workers : ℕ) (contents : List FileContent) (text : List ℕ)
+      → IsJobText (SaveCommand world red black setup) contents text → IsJobText (SaveCommand world red black (record setup { workers = workers })) contents text
+  pub resume : (save : List ℕ) (setup : ResumeSetup) (workers : ℕ) (contents : List FileContent) (text : List ℕ)
+      → IsJobText (ResumeCommand save setup) contents text → IsJobText (ResumeCommand save (record setup { workers = workers })) contents text
   pub cup : (worlds brains : List (List ℕ)) (seed rounds workers others : ℕ) (contents : List FileContent) (text : List ℕ)
       → IsJobText (CupCommand worlds brains seed rounds workers) contents text → IsJobText (CupCommand worlds brains seed rounds others) contents text
   pub workload : (seed rounds workers others : ℕ) (contents : List FileContent) (text : List ℕ)
@@ -112,6 +118,12 @@ pub record SavesAreResumed : Type 0 where
       → IsGameOf world red black setup game → round ≤ setup.rounds
       → IsJobText (SaveCommand world red black (saved_setup setup round workers)) (game_contents game) text
       → (saved : SavedValue) × Reads (SaveFile setup.rounds) text (SaveContent saved)
+  -- and it is no longer than a file may be: where it lies under the name of the save, `resume` accepts that file, whoever plays on
+  pub fetched : (world red black save : List ℕ) (setup : RunSetup) (game : ReadGame) (round workers others : ℕ) (text : List ℕ) (at : List ℕ → Option (List ℕ))
+      → IsGameOf world red black setup game → round ≤ setup.rounds
+      → IsJobText (SaveCommand world red black (saved_setup setup round workers)) (game_contents game) text
+      → at save ≡ Some text
+      → (saved : SavedValue) × IsJudged at (files_of (ResumeCommand save (resumed_setup setup others))) (AllAccepted (SaveContent saved ∷ []))
   -- what `run` prints is what it prints up to the saved round, and then what `resume` prints of the save
   pub goes_on : (world red black save : List ℕ) (setup : RunSetup) (game : ReadGame) (round workers : ℕ) (saved : SavedValue) (text rest : List ℕ)
       → IsGameOf world red black setup game → IsSavedAs world red black setup game round saved

@@ -26,7 +26,7 @@ pub fn one_text()
     ensures { OneText }
 {}
 
-/// The number of workers of a `run`, a `cup` or a `workload` changes nothing of its output, nor does `--far` of a `run`.
+/// The number of workers of a `run`, a `save`, a `resume`, a `cup` or a `workload` changes nothing of its output, nor does `--far` of a `run`.
 pub fn workers_change_nothing()
     ensures { WorkersChangeNothing }
 {}
@@ -46,7 +46,7 @@ pub fn assembled_and_minimised()
     ensures { AssembledAndMinimised }
 {}
 
-/// Where `run` prints a text, `save` after fewer rounds of the same game prints a save that `resume` accepts, and what `resume` prints of it is
+/// Where `run` prints a text, `save` after fewer rounds of the same game prints a save that is no longer than a file may be and that `resume` accepts, and what `resume` prints of it is
 /// the rest of that text: before it stand the line of the seed and the chosen dumps up to the saved round. The seed, the window, the sheet, the
 /// dumps and the counts are those of `run`; each of the three may have any number of workers. So it is after whichever round the game is saved.
 pub fn saves_are_resumed()

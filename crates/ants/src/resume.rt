@@ -15,7 +15,7 @@ use crate::run::dumps_of;
 use crate::stop::{CommandStop, FileFault, after_play};
 use ant_base::{Shelf, Sink};
 use command_words::ResumeOptions;
-use match_save::{SaveFault, Saved, read_saved, resume as go_on};
+use match_save::{SaveFault, Saved, read_saved, resume as go_on, resume_alone};
 use round_book::Crew;
 use std::alloc::Global;
 
@@ -69,8 +69,8 @@ fn saved_in<'w, S: Shelf>(
     read_save(alloc, name, rounds, &bytes)
 }
 
-/// Goes on with the game of a save by a crew until so many rounds are done in all, and writes the rest of its text. A save of which more
-/// rounds are done is refused.
+/// Goes on with the game of a save until so many rounds are done in all, and writes the rest of its text: turn by turn where one worker is to play
+/// and no counts are asked for, else by a crew. A save of which more rounds are done is refused.
 pub fn resume<'w, C: Crew, S: Shelf, K: Sink>(
     alloc: Global,
     crew: &mut C,
@@ -86,7 +86,11 @@ pub fn resume<'w, C: Crew, S: Shelf, K: Sink>(
 {
     let rounds = options.rounds;
     let stats = options.stats;
+    let lone = options.workers == 1;
     let dumps = dumps_of(alloc, options.dumps)?;
     let saved = saved_in(alloc, shelf, name, rounds)?;
+    if lone && !stats {
+        return after_play(resume_alone(alloc, &saved, rounds, &dumps, out));
+    }
     after_play(go_on(alloc, crew, &saved, rounds, &dumps, stats, out))
 }

@@ -1,6 +1,8 @@
 -- Saves as games that go on.
 use Rattle.std.proofs.Common.{◌≡◌, ◌⊎◌, ℕ, ◌+◌, ◌*◌, ◌<◌, ◌≤◌, Bool, true, false, cond, ltb, List, [], ◌∷◌, length, get_or, Some, None, refl, sym, ◌∙◌, ap, subst, inl, inr, arith}
 use Rattle.std.specs.List.{AllByRecursion}
+use Rattle.std.proofs.lemmas.Nat.{mul-le}
+use Rattle.cell_world.specs.Limits.{most_ants}
 use Rattle.hex_geometry.specs.declared.position.Pos.{Pos}
 use Rattle.hex_geometry.specs.RowOrder.{index_of}
 use Rattle.cell_world.specs.declared.ant.Ant.{Ant}
@@ -12,11 +14,13 @@ use Rattle.ant_turn.specs.Minds.{Fits, Minds, mind_of}
 use Rattle.ant_turn.specs.Rounds.{Moment, start_of}
 use Rattle.dump_print.specs.Texts.{seed_text}
 use Rattle.dump_print.specs.declared.totals.Totals.{Totals}
-use Rattle.match_run.proofs.RestLaws.{rest_text-some, runs_go_on}
+use Rattle.match_run.proofs.RestLaws.{rest_text-plain, rest_text-some, runs_go_on}
 use Rattle.match_run.specs.Counts.{totals_of}
 use Rattle.match_run.specs.Game.{CanGoOn, GameValue, game_at_round, now_of}
-use Rattle.match_run.specs.Rest.{rest_text}
-use Rattle.match_run.specs.Run.{dumps_text}
+use Rattle.match_run.specs.Rest.{plain_rest_text, rest_text}
+use Rattle.match_run.specs.Sequential.{SequentialValue, standing}
+use Rattle.match_save.specs.Inner.Alone.{sequential_of}
+use Rattle.match_run.specs.Run.{dumps_text, most_rounds}
 use Rattle.round_book.specs.Book.{FieldValue}
 use Rattle.match_save.specs.Draft.{Draft, IsInForm}
 use Rattle.match_save.specs.Resumed.{SavesGoOn, field_of, moment_of, rest_of}
@@ -123,3 +127,35 @@ rest-is s game rounds chosen stats e = ap (λ (g : GameValue). rest_text g.field
 pub rest_of-some : (s : SavedValue) (rounds : ℕ) (chosen : ℕ → Bool) (stats : Bool) → 1 ≤ length (rest_of s rounds chosen stats)
 unfolding rest_of
 rest_of-some s rounds chosen stats = rest_text-some s.minds s.seed s.window (moment_of s) s.round s.totals rounds chosen stats
+
+-- a game that is just played stands where the save does
+pub sequential-is : (s : SavedValue) (world : Grid) (minds : Minds) (seed place round : ℕ) → world ≡ s.world → minds ≡ s.minds → seed ≡ s.seed → place ≡ s.place → round ≡ s.round
+    → ◌≡◌ {A = SequentialValue} (record { world = world; minds = minds; seed = seed; place = place; done = round }) (sequential_of s)
+sequential-is s world minds seed place round a b c e f =
+    ap (λ (w : Grid). record { world = w; minds = minds; seed = seed; place = place; done = round }) a
+    ∙ ap (λ (m : Minds). record { world = s.world; minds = m; seed = seed; place = place; done = round }) b
+    ∙ ap (λ (n : ℕ). record { world = s.world; minds = s.minds; seed = n; place = place; done = round }) c
+    ∙ ap (λ (n : ℕ). record { world = s.world; minds = s.minds; seed = s.seed; place = n; done = round }) e
+    ∙ ap (λ (n : ℕ). record { world = s.world; minds = s.minds; seed = s.seed; place = s.place; done = n }) f
+
+-- few of its rounds are done
+pub few-saved : (s : SavedValue) → IsSaved s → s.round ≤ most_rounds
+unfolding draft_of
+few-saved s is = is.in_form.head.round
+
+-- and each turn drew one random number at most
+pub place-saved : (s : SavedValue) → IsSaved s → s.place ≤ s.round * most_ants
+unfolding draft_of grid_of_draft
+place-saved s is =
+    let ids : hill_count (draft_of s).soils ≡ s.world.ids = ap (λ (g : Grid). g.ids) is.same in
+    let few : hill_count (draft_of s).soils ≤ most_ants = is.state.world.valid.few in
+    let all : hill_count (draft_of s).soils * s.round ≤ most_ants * s.round = mul-le (hill_count (draft_of s).soils) s.round most_ants s.round few (omega arith) in
+    (let p = is.state.place in omega (arith, p, all))
+
+-- what was pushed of a save's game that is just played is its rest without counts
+pub alone-is : (s : SavedValue) (game : SequentialValue) (rounds : ℕ) (chosen : ℕ → Bool) → game ≡ sequential_of s
+    → plain_rest_text game.minds game.seed (standing game) game.done rounds chosen ≡ rest_of s rounds chosen false
+unfolding rest_of
+alone-is s game rounds chosen e =
+    ap (λ (g : SequentialValue). plain_rest_text g.minds g.seed (standing g) g.done rounds chosen) e
+    ∙ sym (rest_text-plain s.minds s.seed s.window (moment_of s) s.round s.totals rounds chosen)

@@ -1,6 +1,7 @@
 -- Games that can be saved, and what their saves are (this project's own).
-use Rattle.std.specs.Prelude.{◌≡◌, ℕ, zero, suc, ◌≤◌, List, [], ◌∷◌, ◌++◌}
+use Rattle.std.specs.Prelude.{◌≡◌, ℕ, zero, suc, ◌≤◌, List, [], ◌∷◌, ◌++◌, length}
 use Rattle.std.specs.List.{AllByRecursion}
+use Rattle.ant_base.specs.Shelf.{longest}
 use Rattle.ant_turn.specs.HillLaws.{hill_cells}
 use Rattle.ant_turn.specs.Minds.{AreSound, Minds}
 use Rattle.ant_turn.specs.Rounds.{after_rounds, start_of}
@@ -14,7 +15,7 @@ use Rattle.hex_geometry.specs.RowOrder.{pos_at}
 use Rattle.match_run.specs.Counts.{totals_of}
 use Rattle.match_run.specs.Game.{GameValue}
 use Rattle.match_save.specs.Resumed.{IsOfGame}
-use Rattle.match_save.specs.Saved.{IsSaved, SavedValue}
+use Rattle.match_save.specs.Saved.{IsSaved, SavedValue, save_text}
 
 -- a game can be saved: it stands at the end of a round, it began at place 0, a window has at most 16,384 turns, and its world has as many ids as
 -- hill cells
@@ -77,3 +78,7 @@ pub record Starts (minds : Minds) (seed window rounds : ℕ) (grid : Grid) : Typ
 abbrev pub GamesAreSaved : Type 0
 GamesAreSaved = (minds : Minds) (seed window rounds : ℕ) (grid : Grid) → Starts minds seed window rounds grid
     → IsSaved (saved_after minds seed window (world_of grid) rounds) × IsOfGame (saved_after minds seed window (world_of grid) rounds) (world_of grid)
+
+-- the text of every save has at most as many bytes as a file may have
+abbrev pub SavesAreShort : Type 0
+SavesAreShort = (s : SavedValue) → IsSaved s → length (save_text s) ≤ longest

@@ -1,6 +1,6 @@
 // Laws on the definitions of saves.
 ghost use Rattle.match_save.specs.Resumed.{SavesGoOn};
-ghost use Rattle.match_save.specs.Saves.{GamesAreSaved};
+ghost use Rattle.match_save.specs.Saves.{GamesAreSaved, SavesAreShort};
 ghost use Rattle.match_save.specs.Laws.{EveryTextHasOneVerdict};
 
 /// A law: every text is that of exactly one save or has exactly one fault, and never both (this project's own). The call does nothing: its
@@ -20,4 +20,10 @@ pub fn saves_go_on()
 /// clause is the law.
 pub fn games_are_saved()
     ensures { GamesAreSaved }
+{}
+
+/// A law: the text of every save has at most as many bytes as a file may have, 4,194,304 (this project's own). So what was written of a save can
+/// be fetched. The call does nothing: its clause is the law.
+pub fn saves_are_short()
+    ensures { SavesAreShort }
 {}

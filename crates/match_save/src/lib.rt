@@ -24,9 +24,9 @@ mod soil;
 mod write;
 
 pub use fault::SaveFault;
-pub use laws::{every_text_has_one_verdict, games_are_saved, saves_go_on};
+pub use laws::{every_text_has_one_verdict, games_are_saved, saves_are_short, saves_go_on};
 pub use read::read_saved;
-pub use rest::resume;
+pub use rest::{resume, resume_alone};
 pub use saved::Saved;
 pub use saves::save_of;
 pub use write::write_saved;

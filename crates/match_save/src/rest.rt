@@ -1,17 +1,18 @@
 // A saved game that goes on.
-ghost use Rattle.std.specs.Prelude.{◌≡◌, ◌-◌, ◌*◌, ◌≤◌, IfOk, OnOk};
+ghost use Rattle.std.specs.Prelude.{◌≡◌, ◌-◌, ◌*◌, ◌≤◌, IfOk, OnOk, false};
 ghost use Rattle.cell_world.specs.Score.{score_of};
 ghost use Rattle.match_run.specs.Dumps.{chooses};
 ghost use Rattle.match_run.specs.Game.{RisesUpTo, counted_on, game_at_round};
 ghost use Rattle.match_run.specs.Play.{PushedBy};
 ghost use Rattle.match_run.specs.Run.{most_rounds};
 ghost use Rattle.match_save.specs.Resumed.{field_of, later_world, rest_of};
+ghost use Rattle.match_save.specs.Inner.Alone.{sequential_of};
 
 use crate::saved::Saved;
 use ant_base::Sink;
 use cell_world::Score;
 use hex_geometry::OutOfMemory;
-use match_run::{Dumps, Game, PlayFault, play_rest};
+use match_run::{Dumps, Game, PlayFault, SequentialGame, play_rest, play_rest_alone};
 use round_book::{Crew, Field};
 use std::alloc::Global;
 
@@ -52,4 +53,39 @@ fn game_of<'s>(alloc: Global, saved: &'s Saved) -> Result<Game<'s>, OutOfMemory>
     let world = saved.world().copy(alloc)?;
     let field = Field::new(alloc, world, saved.brains(), saved.seed(), saved.place())?;
     Ok(Game::at_round(field, saved.window(), saved.round(), saved.totals()))
+}
+
+/// Goes on with a saved game, as `resume` does where no counts are asked for: it is just played, turn after turn, without looks (this project's
+/// own). Its text is the same, and takes no more memory than a copy of the saved world.
+///
+/// The rounds are at most 1,000,000, and at least those that are done. Gives the score at the end. It is refused where the sink failed, whose count
+/// of faults rose then, and a prefix of the text was pushed; or it is out of memory, and nothing was. The save stays as it is.
+pub fn resume_alone<K: Sink>(
+    alloc: Global,
+    saved: &Saved,
+    rounds: u32,
+    dumps: &Dumps,
+    sink: &mut K,
+) -> Result<Score, PlayFault>
+    requires left { saved.now.round ≤ rounds }
+    requires few_rounds { rounds ≤ most_rounds }
+    ensures text { PushedBy (K.state sink.old) (K.state sink.new) (rest_of saved.now rounds (chooses dumps.now) false) result }
+    ensures score { IfOk result (λ s. s ≡ score_of (later_world saved.now (rounds - saved.now.round))) }
+{
+    let mut game = sequential_of(alloc, saved)?;
+    Ok(play_rest_alone(&mut game, rounds, dumps, sink)?)
+}
+
+// The game that stands where a save does, to be just played.
+fn sequential_of<'s>(alloc: Global, saved: &'s Saved) -> Result<SequentialGame<'s>, OutOfMemory>
+    ensures { IfOk result (λ game. game ≡ sequential_of saved.now) }
+{
+    let world = saved.world().copy(alloc)?;
+    Ok(SequentialGame::at_round(
+        world,
+        saved.brains(),
+        saved.seed(),
+        saved.place(),
+        saved.round(),
+    ))
 }

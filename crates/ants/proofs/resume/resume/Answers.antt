@@ -1,5 +1,5 @@
 -- the file was accepted, and its game went on
-use Rattle.std.proofs.Common.{ℕ, Bool, ◌∷◌, [], ap, refl, subst}
+use Rattle.std.proofs.Common.{◌≡◌, ℕ, Bool, false, ◌∷◌, [], ap, ap₂, refl, sym, subst}
 use Rattle.command_words.specs.Command.PlainCommand.{ResumeCommand}
 use Rattle.command_words.specs.Command.{plain_resume}
 use Rattle.match_run.specs.Play.{PushedBy}
@@ -22,6 +22,16 @@ pub returns : goal.returns
 unfolding resume_output
 returns g c =
     carries_played (ResumeCommand c.args.name.now (plain_resume c.args.options)) (g.S.Shelf.state c.args.shelf.now) (g.S.Shelf.state c.saved_in.new.shelf) (g.K.Sink.state c.args.out.now) (g.K.Sink.state c.resume.new.sink)
-    (SaveContent c.in_ok-saved.saved ∷ []) c.after_play.result c.resume.result c.after_play.ensures c.in_ok-saved.ensures
+    (SaveContent c.in_ok-saved.saved ∷ []) c.after_play-2.result c.resume.result c.after_play-2.ensures c.in_ok-saved.ensures
     (resume_output (plain_resume c.args.options) c.in_ok-saved.saved) (record { value = c.in_ok-saved.saved; read = refl; told = refl })
     (subst (λ text. PushedBy (g.K.Sink.state c.args.out.now) (g.K.Sink.state c.resume.new.sink) text c.resume.result) (ap (λ (chosen : ℕ → Bool). rest_of c.in_ok-saved.saved c.args.options.rounds chosen c.args.options.stats) c.in_ok-dumps.ensures) c.resume.ensures.text) tt
+
+pub returns-then-not-stats : goal.returns-then-not-stats
+unfolding resume_output
+returns-then-not-stats g c =
+    let off : c.args.options.stats ≡ false = c.if-not-stats.true in
+    carries_played (ResumeCommand c.args.name.now (plain_resume c.args.options)) (g.S.Shelf.state c.args.shelf.now) (g.S.Shelf.state c.saved_in.new.shelf) (g.K.Sink.state c.args.out.now) (g.K.Sink.state c.resume_alone.new.sink)
+    (SaveContent c.in_ok-saved.saved ∷ []) c.after_play.result c.resume_alone.result c.after_play.ensures c.in_ok-saved.ensures
+    (resume_output (plain_resume c.args.options) c.in_ok-saved.saved) (record { value = c.in_ok-saved.saved; read = refl; told = refl })
+    (subst (λ text. PushedBy (g.K.Sink.state c.args.out.now) (g.K.Sink.state c.resume_alone.new.sink) text c.resume_alone.result)
+    (ap₂ (λ (chosen : ℕ → Bool) (stats : Bool). rest_of c.in_ok-saved.saved c.args.options.rounds chosen stats) c.in_ok-dumps.ensures (sym off)) c.resume_alone.ensures.text) tt
