@@ -1,11 +1,11 @@
 -- Worked programs, by computation.
-use Rattle.std.proofs.Common.{◌≡◌, ℕ, suc, List, [], ◌∷◌, Some, None, refl, map}
+use Rattle.std.proofs.Common.{◌≡◌, ℕ, suc, List, [], ◌∷◌, Some, None, refl, map, arith}
 use Rattle.std.specs.Prelude.{codes}
 use Rattle.hex_geometry.specs.declared.direction.Side.TheVariants.{Left}
 use Rattle.brain_read.specs.declared.instr.Instr.{Instr}
 use Rattle.brain_read.specs.declared.instr.Instr.TheVariants as instr
 use Rattle.ant_asm.specs.declared.action.Action.TheVariants.{Drop, Move, Turn}
-use Rattle.ant_asm.specs.declared.fault.AsmFault.TheVariants.{NoLabel, Twice, NoBlock, EmptyBlock, TooMany, UnknownWord, BadName, ExtraToken}
+use Rattle.ant_asm.specs.declared.fault.AsmFault.TheVariants.{NoLabel, Twice, NoBlock, EmptyBlock, TooMany, UnknownWord, BadName, ExtraToken, Misplaced, WrongCount}
 use Rattle.ant_asm.specs.Program.{Items}
 use Rattle.ant_asm.specs.Names.Named.{NextWord, Name}
 use Rattle.ant_asm.specs.Lines.{Line}
@@ -16,7 +16,8 @@ use Rattle.ant_asm.specs.Places.{Address, beginning, placed, places}
 use Rattle.ant_asm.specs.LabelGame.{instruction_by}
 use Rattle.ant_asm.specs.Assembled.{number_in}
 use Rattle.ant_asm.specs.Standing.{Standing, below, items_of, nothing_yet, place_fault}
-use Rattle.ant_asm.specs.Text.{last_fault}
+use Rattle.ant_asm.specs.Text.{HasLineFault, last_fault}
+use Rattle.ant_asm.specs.Text.IsLineFault.{OfPlace}
 
 -- what stands below some lines, the first of which has this number
 abbrev below_all : Standing → ℕ → List Line → Standing
@@ -51,6 +52,20 @@ worked_unknown = refl
 worked_first : (let s : Standing = below_all nothing_yet 1 (Instructs (Drop (Name (codes "zz"))) ∷ Begins (codes "a") [] ∷ Instructs (Drop (Name (codes "nope"))) ∷ Ends ∷ []) in last_fault s.begun s) ≡ Some (NoLabel 1)
 worked_first = refl
 
+-- Drop x / Drop y: the first line of a body counts
+worked_first_of_body : (let s : Standing = below_all nothing_yet 1 (Instructs (Drop (Name (codes "x"))) ∷ Instructs (Drop (Name (codes "y"))) ∷ []) in last_fault s.begun s) ≡ Some (NoLabel 1)
+worked_first_of_body = refl
+
+-- block a / Drop x / end / block b / Drop next / end / use b: that of a block above the last one counts too
+worked_first_of_blocks : (let s : Standing = below_all nothing_yet 1
+    (Begins (codes "a") [] ∷ Instructs (Drop (Name (codes "x"))) ∷ Ends ∷ Begins (codes "b") [] ∷ Instructs (Drop NextWord) ∷ Ends ∷ Uses (codes "b") [] ∷ []) in
+    last_fault s.begun s) ≡ Some (NoLabel 2)
+worked_first_of_blocks = refl
+
+-- block b p q p
+worked_parameters : place_fault nothing_yet 1 (Begins (codes "b") (codes "p" ∷ codes "q" ∷ codes "p" ∷ [])) ≡ Some (Twice 1)
+worked_parameters = refl
+
 -- block b p / p:
 worked_twice : place_fault (below nothing_yet 1 (Begins (codes "b") (codes "p" ∷ []))) 2 (Marks (codes "p")) ≡ Some (Twice 2)
 worked_twice = refl
@@ -79,6 +94,27 @@ worked_room = (refl, refl, refl, refl)
 -- block z, below so many blocks
 worked_blocks : (place_fault (record nothing_yet { count = 255 }) 1 (Begins (codes "z") []) ≡ None) × (place_fault (record nothing_yet { count = 256 }) 1 (Begins (codes "z") []) ≡ Some (TooMany 1))
 worked_blocks = (refl, refl)
+
+-- which fault of a line counts: below 256 blocks, block z p p, and block b where there is one; in a block, block z; and where no instruction has
+-- room, use b next of a block that has no parameters
+worked_order : (place_fault (record nothing_yet { count = 256 }) 1 (Begins (codes "z") (codes "p" ∷ codes "p" ∷ [])) ≡ Some (Twice 1))
+    × (place_fault (record (after_so_many 0) { count = 256 }) 5 (Begins (codes "b") []) ≡ Some (Twice 5))
+    × (place_fault (record (below nothing_yet 1 (Begins (codes "a") [])) { count = 256 }) 2 (Begins (codes "z") []) ≡ Some (Misplaced 2))
+    × (place_fault (after_so_many 9999) 5 (Uses (codes "b") (NextWord ∷ [])) ≡ Some (WrongCount 5))
+worked_order = (refl, refl, refl, refl)
+
+-- use a / foo: a line that stands wrongly counts before one below it that is spelled wrongly
+worked_lines : HasLineFault (codes "use a\nfoo\n") (NoBlock 1)
+unfolding is_name is_next
+worked_lines = record {
+  before = [];
+  line = record { number = 1; tokens = codes "use" ∷ codes "a" ∷ [] };
+  after = record { number = 2; tokens = codes "foo" ∷ [] } ∷ [];
+  lines = refl;
+  standing = nothing_yet;
+  leads = refl;
+  wrong = OfPlace (Uses (codes "a") []) (record { spelled = (refl, ((refl, refl), tt)); in_range = omega arith }) refl;
+}
 
 -- next: · move: · end x · Move go 1 · block next · a: b
 worked_next : spelling_fault 1 (codes "next:" ∷ []) ≡ Some (UnknownWord 1)

@@ -9,7 +9,7 @@ use std::process::Abort;
 type Row = (&'static [u8], Option<AsmFault>);
 
 /// Each fault at its line, and texts that come near it.
-const FAULTS: [Row; 88] = [
+const FAULTS: [Row; 98] = [
     (
         b"block b a b c d e f g h\nDrop h\nend\nuse b next next next next next next next next\n",
         None,
@@ -193,6 +193,28 @@ const FAULTS: [Row; 88] = [
     (b"Drop next \x80\n", Some(AsmFault::BadByte { line: 1 })),
     (b"\x80\n", Some(AsmFault::BadByte { line: 1 })),
     (b"foo\n", Some(AsmFault::UnknownWord { line: 1 })),
+    (b"Drop x\nDrop y\n", Some(AsmFault::NoLabel { line: 1 })),
+    (
+        b"block a\nDrop x\nend\nblock b\nDrop next\nend\nuse b\n",
+        Some(AsmFault::NoLabel { line: 2 }),
+    ),
+    (b"use a\nfoo\n", Some(AsmFault::NoBlock { line: 1 })),
+    (b"block b p q p\n", Some(AsmFault::Twice { line: 1 })),
+    (
+        b"block b\nDrop next\nend\nuse B\n",
+        Some(AsmFault::NoBlock { line: 4 }),
+    ),
+    (
+        b"block b\nDrop next\nend\nblock B\nDrop next\nend\nuse b\nuse B\n",
+        None,
+    ),
+    (b"block b p P\nDrop P\nend\nuse b next next\n", None),
+    (
+        b"block b p\nDrop P\nend\nuse b next\n",
+        Some(AsmFault::NoLabel { line: 2 }),
+    ),
+    (b"a_b:\nDrop a_b\n", None),
+    (b"block b_ p_1\nDrop p_1\nend\nx_:\nuse b_ x_\n", None),
     (
         b"; only a comment\n \t\r\n\na: ; named\n drop NEXT;\xff\n",
         None,
