@@ -6,6 +6,7 @@ mod files_and_texts;
 mod generated;
 mod kills;
 mod labelled_programs;
+mod labels;
 mod minimised;
 mod numbers;
 mod saves;
