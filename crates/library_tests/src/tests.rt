@@ -2,6 +2,7 @@
 mod brains;
 mod conditions;
 mod cups;
+mod faults;
 mod files_and_texts;
 mod generated;
 mod kills;
