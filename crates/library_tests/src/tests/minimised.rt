@@ -1,7 +1,8 @@
 // Brains with what is left of them and the map to it, written out.
-use ant_base::{Calls, LONGEST, Layout, MemSink};
+use super::brain_of;
+use ant_base::{Calls, Layout, MemSink};
 use brain_minimise::{Minimised, StateMap, minimise, push_minimised};
-use brain_read::{Brain, read_brain};
+use brain_read::Brain;
 use std::alloc::Global;
 use std::process::Abort;
 use std::test::Fail;
@@ -31,12 +32,6 @@ fn spelled(alloc: Global, map: &StateMap) -> Result<String, Fail> {
         words.push_str(&word)?;
     }
     Ok(words)
-}
-
-fn brain_of<R: Abort>(rt: &R, alloc: Global, text: &str) -> Brain {
-    let bytes = text.as_bytes();
-    assert!(rt; bytes.len() <= LONGEST);
-    read_brain(alloc, bytes).expect(rt, "it is a brain")
 }
 
 // What is told of a minimised brain.
