@@ -22,6 +22,16 @@ use world_read::read_world;
 pub(crate) const WORLD: &str =
     "7\n6\n# # # # # # #\n # . . . . . #\n# . . - # . #\n # - . + - # #\n# + . - - # #\n # # # # # # #\n";
 
+// The same with a rocky column more, with a rocky row more, and with a hill cell more in row order, so that all ids are the same.
+const WIDER: &str =
+    "8\n6\n# # # # # # # #\n # . . . . . # #\n# . . - # . # #\n # - . + - # # #\n# + . - - # # #\n # # # # # # # #\n";
+
+const HIGHER: &str =
+    "7\n7\n# # # # # # #\n # . . . . . #\n# . . - # . #\n # - . + - # #\n# + . - - # #\n # # # # # # #\n# # # # # # #\n";
+
+const CROWDED: &str =
+    "7\n6\n# # # # # # #\n # . . . . . #\n# . . - # . #\n # - . + - # #\n# + . - - + #\n # # # # # # #\n";
+
 const FLIPS: &str = "Flip 2 0 0";
 
 pub(crate) const MOVES: &str = "Move 0 0";
@@ -54,7 +64,7 @@ const LATER: [(u32, u64, bool); 7] = [
     (6, 2, true),
 ];
 
-// With a field of another seed, or of other rules.
+// With a field of another seed, of other rules, or on a world of another width, height or number of ids.
 const OTHERS: [(u32, u64, bool); 7] = [
     (0, 0, false),
     (1, 0, false),
@@ -120,6 +130,27 @@ pub(crate) fn field_on<'b>(
     Ok(Field::new(alloc, world, brains, seed, 0)?)
 }
 
+// A whole field at the start of a game on the world of a text.
+fn field_in<'b, R: Abort>(
+    rt: &R,
+    alloc: Global,
+    text: &str,
+    players: &'b Players,
+    sheet: Sheet,
+    seed: u32,
+) -> Result<Field<'b>, Fail>
+    ensures { IfOk result (λ field. (field.whole ≡ true) × (field.place ≡ 0)) }
+{
+    let bytes = text.as_bytes();
+    assert!(rt; bytes.len() <= LONGEST);
+    let brains = Brains {
+        red: &players.red,
+        black: &players.black,
+        sheet,
+    };
+    field_on(alloc, bytes, brains, seed)
+}
+
 // A whole field at the start of the game.
 fn field_of<'b, R: Abort>(
     rt: &R,
@@ -130,14 +161,7 @@ fn field_of<'b, R: Abort>(
 ) -> Result<Field<'b>, Fail>
     ensures { IfOk result (λ field. (field.whole ≡ true) × (field.place ≡ 0)) }
 {
-    let bytes = WORLD.as_bytes();
-    assert!(rt; bytes.len() <= LONGEST);
-    let brains = Brains {
-        red: &players.red,
-        black: &players.black,
-        sheet,
-    };
-    field_on(alloc, bytes, brains, seed)
+    field_in(rt, alloc, WORLD, players, sheet, seed)
 }
 
 // Copies of a field's brains.
@@ -214,6 +238,20 @@ fn looks_of_another_game_dont_agree(rt: HostRuntime) -> Result<(), Fail> {
     check_field(&rt, rt.alloc(), MOVES, Sheet::contest(), 1, &OTHERS)?;
     check_field(&rt, rt.alloc(), MOVES, Sheet::new(5, 3, 0), SEED, &OTHERS)?;
     check_field(&rt, rt.alloc(), FLIPS, Sheet::contest(), SEED, &REDS)
+}
+
+// Asserts of the looks of the game's first round that none agrees with the same game on another world.
+fn check_world<R: Abort>(rt: &R, alloc: Global, text: &str) -> Result<(), Fail> {
+    let players = make_players(rt, alloc, MOVES)?;
+    let field = field_in(rt, alloc, text, &players, Sheet::contest(), SEED)?;
+    check_first(rt, alloc, &field, &OTHERS)
+}
+
+#[test]
+fn looks_on_a_world_of_other_numbers_dont_agree(rt: HostRuntime) -> Result<(), Fail> {
+    check_world(&rt, rt.alloc(), WIDER)?;
+    check_world(&rt, rt.alloc(), HIGHER)?;
+    check_world(&rt, rt.alloc(), CROWDED)
 }
 
 // The field after the round.
