@@ -1,5 +1,6 @@
 // Runs by any number of workers; and looks that workers make at the same time, each of them once.
 ghost use Rattle.std.specs.Prelude.{◌≡◌, true};
+ghost use Rattle.round_workers.specs.Crews.{IsCrewSize};
 
 use crate::status::Status;
 use crate::tests::games::{Players, killing_field, killing_players};
@@ -184,10 +185,11 @@ fn any_number_of_workers_writes_the_same_bytes(rt: HostRuntime) -> Result<(), Fa
 // How many turns that round has.
 const TURNS: usize = 7;
 
-// A window of that round by a crew: from which turn on, and what came of it: its counts, the turns that the crew says it played, and the
-// place to which it came.
+// A window of that round by a crew: of how many workers, from which turn on, and what came of it: its counts, the turns that the crew says it
+// played, and the place to which it came.
 #[derive(Clone, Copy, Debug, PartialEq, Eq)]
 struct Window {
+    workers: u32,
     from: u32,
     taken: u32,
     redone: u32,
@@ -195,9 +197,10 @@ struct Window {
     place: u64,
 }
 
-// The whole round, and its turns from 3 on.
-const WINDOWS: [Window; 2] = [
+// The whole round by two workers and by three, and its turns from 3 on.
+const WINDOWS: [Window; 3] = [
     Window {
+        workers: 2,
         from: 0,
         taken: 5,
         redone: 2,
@@ -205,6 +208,15 @@ const WINDOWS: [Window; 2] = [
         place: 1,
     },
     Window {
+        workers: 3,
+        from: 0,
+        taken: 5,
+        redone: 2,
+        turns: 7,
+        place: 1,
+    },
+    Window {
+        workers: 3,
         from: 3,
         taken: 4,
         redone: 0,
@@ -213,22 +225,25 @@ const WINDOWS: [Window; 2] = [
     },
 ];
 
-// Plays the turns of a field from one on, by a crew of three whose looks are made in pieces.
+// Plays the turns of a field from one on, by a crew of so many workers whose looks are made in pieces.
 fn window_in_pieces<R: Threads + Sync, G: Gate>(
     rt: &R,
     alloc: Global,
     field: &mut Field<'_>,
+    workers: u32,
     from: u32,
     gate: &G,
 ) -> Result<Window, Fail>
+    requires workers { IsCrewSize workers }
     requires whole { field.old.whole ≡ true }
     requires first { field.old.place ≡ 0 }
 {
     let ids = field.world().ant_count();
     let from = ids.min(from);
-    let mut crew = PieceCrew::new(rt, 3, gate);
+    let mut crew = PieceCrew::new(rt, workers, gate);
     let counts = crew.window(alloc, field, from, ids)?;
     Ok(Window {
+        workers,
         from,
         taken: counts.taken(),
         redone: counts.redone(),
@@ -237,22 +252,25 @@ fn window_in_pieces<R: Threads + Sync, G: Gate>(
     })
 }
 
-// The same by a crew of three with a board.
+// The same by a crew with a board.
 fn window_on_board<R: Threads + Sync, G: Gate>(
     rt: &R,
     alloc: Global,
     field: &mut Field<'_>,
+    workers: u32,
     from: u32,
     gate: &G,
 ) -> Result<Window, Fail>
+    requires workers { IsCrewSize workers }
     requires whole { field.old.whole ≡ true }
     requires first { field.old.place ≡ 0 }
 {
     let ids = field.world().ant_count();
     let from = ids.min(from);
-    let mut crew = BoardCrew::new(rt, 3, gate);
+    let mut crew = BoardCrew::new(rt, workers, gate);
     let counts = crew.window(alloc, field, from, ids)?;
     Ok(Window {
+        workers,
         from,
         taken: counts.taken(),
         redone: counts.redone(),
@@ -277,8 +295,10 @@ fn check_field_in_pieces<R: Threads + Sync + Abort>(
     requires whole { field.old.whole ≡ true }
     requires first { field.old.place ≡ 0 }
 {
-    let meeting = Meeting::of(alloc, 3, TURNS)?;
-    let window = window_in_pieces(rt, alloc, field, wanted.from, &meeting)?;
+    let workers = wanted.workers;
+    assert!(rt; 1 <= workers && workers <= 16);
+    let meeting = Meeting::of(alloc, workers as usize, TURNS)?;
+    let window = window_in_pieces(rt, alloc, field, workers, wanted.from, &meeting)?;
     check_window(rt, &meeting, window, wanted);
     Ok(())
 }
@@ -293,8 +313,10 @@ fn check_field_on_board<R: Threads + Sync + Abort>(
     requires whole { field.old.whole ≡ true }
     requires first { field.old.place ≡ 0 }
 {
-    let meeting = Meeting::of(alloc, 3, TURNS)?;
-    let window = window_on_board(rt, alloc, field, wanted.from, &meeting)?;
+    let workers = wanted.workers;
+    assert!(rt; 1 <= workers && workers <= 16);
+    let meeting = Meeting::of(alloc, workers as usize, TURNS)?;
+    let window = window_on_board(rt, alloc, field, workers, wanted.from, &meeting)?;
     check_window(rt, &meeting, window, wanted);
     Ok(())
 }
@@ -346,12 +368,13 @@ fn check_windows<R: Threads + Sync + Abort>(
 }
 
 #[test]
-fn crews_of_three_look_at_the_same_time(rt: HostRuntime) -> Result<(), Fail> {
+fn crews_of_two_and_three_look_at_the_same_time(rt: HostRuntime) -> Result<(), Fail> {
     check_windows(&rt, rt.alloc(), &WINDOWS)
 }
 
-// Words of the same round, how many workers meet in it, and its counts where they are asked for.
-const MET: [(&str, usize, &str); 5] = [
+// Words of the same round, how many workers meet in it, and its counts where they are asked for. No more meet than there are turns; one that
+// stands by calls the gate also where it is alone, and all of them do in each window, or the committer would in their place.
+const MET: [(&str, usize, &str); 9] = [
     (
         "run w r b --seed 12345 --rounds 1 --dump 1 --workers 2",
         2,
@@ -376,6 +399,22 @@ const MET: [(&str, usize, &str); 5] = [
         "run w r b --seed 12345 --rounds 1 --dump 1 --stats --workers 2 --far",
         2,
         "turns 7 taken 5 redone 2\n",
+    ),
+    (
+        "run w r b --seed 12345 --rounds 1 --dump 1 --workers 3 --far",
+        3,
+        "",
+    ),
+    ("run w r b --seed 12345 --rounds 1 --dump 1 --far", 1, ""),
+    (
+        "run w r b --seed 12345 --rounds 1 --dump 1 --window 3 --workers 2 --far --stats",
+        2,
+        "turns 7 taken 6 redone 1\n",
+    ),
+    (
+        "run w r b --seed 12345 --rounds 1 --dump 1 --workers 16",
+        7,
+        "",
     ),
 ];
 

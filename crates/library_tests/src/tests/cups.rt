@@ -10,7 +10,7 @@ use std::process::Abort;
 use std::sync::atomic::{AtomicBool, Ordering};
 use std::test::Fail;
 use std::thread::Threads;
-use tournament::{Added, Names, Referee, play_all, push_standing};
+use tournament::{Added, CupFault, Names, Referee, play_all, push_standing, tell_cup};
 
 // More bytes than any text of these tests has.
 const ROOM: u64 = 2000;
@@ -60,6 +60,20 @@ impl Referee for Even {
     ghost score = { λ _ _ _ _. record { red = 5; black = 5 } };
 
     fn game(&self, _: Global, _: u32, _: u32, _: u32) -> Result<Score, OutOfMemory> {
+        Ok(Score { red: 5, black: 5 })
+    }
+}
+
+// Every game on world 0 is drawn, and none on another is played.
+struct FirstWorldAlone;
+
+impl Referee for FirstWorldAlone {
+    ghost score = { λ _ _ _ _. record { red = 5; black = 5 } };
+
+    fn game(&self, _: Global, world: u32, _: u32, _: u32) -> Result<Score, OutOfMemory> {
+        if world > 0 {
+            return Err(OutOfMemory);
+        }
         Ok(Score { red: 5, black: 5 })
     }
 }
@@ -169,6 +183,66 @@ fn drawn_games_leave_the_players_in_their_order(rt: HostRuntime) -> Result<(), F
         &names,
         2,
         "8 points: z (0 won, 8 drawn, 0 lost)\n8 points: y (0 won, 8 drawn, 0 lost)\n8 points: x (0 won, 8 drawn, 0 lost)\n",
+    )
+}
+
+// Asserts what is told of a cup of players a and b on worlds of these names with 1, 2 and 16 workers, and how it ends.
+fn check_told<R: Threads + Sync + Abort, F: Referee>(
+    rt: &R,
+    alloc: Global,
+    referee: &F,
+    worlds: &[&str],
+    text: &str,
+    end: Result<(), CupFault>,
+) -> Result<(), Fail>
+    requires { (world red black : ℕ) → F.knows referee.now world red black }
+{
+    let names = named(alloc, &["a", "b"])?;
+    let places = texts_of(alloc, worlds)?;
+    let players = names.len();
+    assert!(rt; 2 <= players && players <= 16);
+    assert!(rt; 1 <= places.len() && places.len() <= 16);
+    for workers in [1, 2, 16] {
+        let mut out = MemSink::with_room(alloc, ROOM, Calls::new(alloc))?;
+        let told = tell_cup(rt, alloc, referee, &places, &names, workers, &mut out);
+        assert_eq!(rt; told, end, "with {workers} workers");
+        assert_eq!(rt; str::from_utf8(out.held())?, text, "with {workers} workers");
+    }
+    Ok(())
+}
+
+// These texts.
+fn texts_of(alloc: Global, list: &[&str]) -> Result<Vec<String>, Fail> {
+    let mut texts = Vec::new(alloc);
+    for text in list {
+        texts.push(String::from_str(alloc, text)?)?;
+    }
+    Ok(texts)
+}
+
+#[test]
+fn games_are_told_before_the_standing(rt: HostRuntime) -> Result<(), Fail> {
+    check_told(
+        &rt,
+        rt.alloc(),
+        &OneWin,
+        &["w"],
+        "game 1: red 0 black 0, w, a, b\ngame 2: red 3 black 0, w, b, a\n3 points: b (1 won, 1 drawn, 0 lost)\n1 points: a (0 won, 1 drawn, 1 lost)\n",
+        Ok(()),
+    )
+}
+
+#[test]
+fn the_games_on_the_worlds_before_are_told_where_one_is_refused(
+    rt: HostRuntime,
+) -> Result<(), Fail> {
+    check_told(
+        &rt,
+        rt.alloc(),
+        &FirstWorldAlone,
+        &["w", "v"],
+        "game 1: red 5 black 5, w, a, b\ngame 2: red 5 black 5, w, b, a\n",
+        Err(CupFault::OutOfMemory),
     )
 }
 

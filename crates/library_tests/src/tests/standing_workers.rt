@@ -1,18 +1,21 @@
 // Looks that a job makes of a game's first round, against fields that are the same and others; and what takes memory, with it.
 ghost use Rattle.std.specs.Prelude.{◌≡◌, ◌≤◌, true, IfOk, length};
+ghost use Rattle.std.specs.Option.{ForSome};
 ghost use Rattle.std.specs.Arc.{arc_value};
 ghost use Rattle.ant_base.specs.Shelf.{longest};
 ghost use Rattle.ant_turn.specs.Minds.{Fits, minds_of};
 ghost use Rattle.cell_world.specs.Grid.{world_of};
 
-use ant_base::{LONGEST, NoGate};
+use ant_base::{Gate, LONGEST, NoGate};
 use ant_turn::{Brains, Sheet};
 use brain_read::{Brain, read_brain};
 use cell_world::World;
 use far_crew::{Errand, Found, Job, OwnBrains, agrees, with_far};
 use round_book::{Crew, Field, play_window};
 use std::alloc::Global;
+use std::hint::spin_loop;
 use std::process::Abort;
+use std::sync::atomic::{AtomicBool, AtomicU32, Ordering};
 use std::sync::{Arc, Wait};
 use std::test::Fail;
 use std::thread::Threads;
@@ -303,4 +306,158 @@ fn check_early<R: Threads + Wait + Sync + Abort>(rt: &R, alloc: Global, workers:
 fn an_errand_may_end_early(rt: HostRuntime) {
     check_early(&rt, rt.alloc(), 1);
     check_early(&rt, rt.alloc(), 16);
+}
+
+// Turns after which a worker that waits for the other one gives up.
+const PATIENCE: u32 = 100_000_000;
+
+// A gate at which two workers wait for each other, each up to its patience: which of them has called it, how often it was called, and whether
+// one waited in vain or was neither of them.
+#[derive(Drop)]
+struct Pair {
+    begun: [AtomicBool; 2],
+    calls: AtomicU32,
+    missed: AtomicBool,
+}
+
+impl Pair {
+    // Nobody has called it.
+    fn new() -> Pair {
+        Pair {
+            begun: [AtomicBool::new(false), AtomicBool::new(false)],
+            calls: AtomicU32::new(0),
+            missed: AtomicBool::new(false),
+        }
+    }
+
+    // Asserts that it was called so often, by the two alone, who met.
+    fn check<R: Abort>(&self, rt: &R, calls: u32) {
+        assert!(rt;
+            !self.missed.load(Ordering::SeqCst),
+            "a worker waited in vain"
+        );
+        assert_eq!(rt; self.calls.load(Ordering::SeqCst), calls);
+    }
+}
+
+impl Gate for Pair {
+    fn before_look(&self, worker: u32, _ticket: u32) {
+        let met = match worker {
+            0 => meets(&self.begun[0], &self.begun[1]),
+            1 => meets(&self.begun[1], &self.begun[0]),
+            _ => false,
+        };
+        if !met {
+            self.missed.store(true, Ordering::SeqCst);
+        }
+        self.calls.fetch_add(1, Ordering::SeqCst);
+    }
+}
+
+// Says that one worker has begun, and whether the other does before the patience is at its end.
+fn meets(own: &AtomicBool, other: &AtomicBool) -> bool {
+    own.store(true, Ordering::SeqCst);
+    for _ in 0..PATIENCE {
+        if other.load(Ordering::SeqCst) {
+            return true;
+        }
+        spin_loop();
+    }
+    false
+}
+
+// What came of two windows: how many looks were taken and turns executed anew in each, and the place to which they led.
+#[derive(Clone, Copy, Debug, PartialEq, Eq)]
+struct Played {
+    first: (u32, u32),
+    second: (u32, u32),
+    place: u64,
+}
+
+// An errand that plays the first round of a game, which it has, in two windows, the first of three turns; and what came of it.
+#[derive(Drop)]
+struct FirstRound<'b> {
+    alloc: Global,
+    field: Option<Field<'b>>,
+    played: Option<Played>,
+    ghost begins: { ForSome field (λ field. (field.whole ≡ true) × (field.place ≡ 0)) },
+}
+
+impl Errand for FirstRound<'_> {
+    ghost use Rattle.std.specs.Prelude.{⊤};
+
+    ghost finished = { λ _ _. ⊤ };
+
+    fn run<C: Crew>(self, crew: &mut C) -> Self {
+        let FirstRound {
+            alloc,
+            field,
+            played: _,
+        } = self;
+        let played = match field {
+            Some(mut field) => play_first_round(alloc, &mut field, crew),
+            None => None,
+        };
+        FirstRound {
+            alloc,
+            field: None,
+            played,
+        }
+    }
+}
+
+// Plays the first round of a game in two windows by a crew, where there is memory.
+fn play_first_round<C: Crew>(alloc: Global, field: &mut Field<'_>, crew: &mut C) -> Option<Played>
+    requires ready { C.ready crew.old }
+    requires whole { field.old.whole ≡ true }
+    requires first { field.old.place ≡ 0 }
+{
+    let ids = field.world().ant_count();
+    let between = ids.min(3);
+    let first = crew.window(alloc, field, 0, between).ok()?;
+    if field.place() > 3 {
+        return None;
+    }
+    let second = crew.window(alloc, field, between, ids).ok()?;
+    Some(Played {
+        first: (first.taken(), first.redone()),
+        second: (second.taken(), second.redone()),
+        place: field.place(),
+    })
+}
+
+// Asserts what comes of the round by two workers that stand by, who look at the same time and at each turn once.
+fn check_pair<R: Threads + Wait + Sync + Abort>(
+    rt: &R,
+    alloc: Global,
+    players: &Players,
+) -> Result<(), Fail> {
+    let field = field_of(rt, alloc, players, Sheet::contest(), SEED)?;
+    let pair = Pair::new();
+    let errand = FirstRound {
+        alloc,
+        field: Some(field),
+        played: None,
+    };
+    let Ok(done) = with_far(rt, alloc, 2, &pair, errand) else {
+        panic!(rt; "there is memory");
+    };
+    assert_eq!(rt; done.played, Some(PLAYED));
+    pair.check(rt, 7);
+    Ok(())
+}
+
+// The red ant of id 2 dies in turn 1, so that its own turn is executed anew. The second window's guesses know of it.
+const PLAYED: Played = Played {
+    first: (2, 1),
+    second: (4, 0),
+    place: 1,
+};
+
+#[test]
+fn workers_that_stand_by_look_at_the_same_time_in_both_windows(
+    rt: HostRuntime,
+) -> Result<(), Fail> {
+    let players = make_players(&rt, rt.alloc(), MOVES)?;
+    check_pair(&rt, rt.alloc(), &players)
 }
