@@ -4,7 +4,6 @@ pub mod Numbered
 pub mod Linewise
 -- What is pushed, and what a stream was given.
 pub mod Pushes
-pub mod RoomSinks
 pub mod Streams
 -- What is fetched.
 pub mod Fetches

@@ -10,7 +10,6 @@ pub mod MemSink
 pub mod Names
 pub mod Number
 pub mod NumberList
-pub mod RoomSink
 pub mod Shelf
 pub mod Sink
 pub mod Streams
