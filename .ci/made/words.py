@@ -17,7 +17,7 @@ def number(text):
 
 
 class Words:
-    """Commands with their options, and options with their limits and defaults, as the definitions have them."""
+    """Commands with their options, and options with their limits and defaults and with what they take, as the definitions have them."""
 
     def __init__(self, folder="crates/command_words/specs"):
         texts = [read(file) for file in source_files(folder, ".antt") if "/Inner/" not in file]
@@ -37,6 +37,7 @@ class Words:
             self.commands[word_of[kind]] = [option_of[it] for it in these]
         self.keywords = list(keyword_of.values())
         self.options = {}
+        self.takes = {option: re.sub(r"Word \(?(\w+).*", r"\1", values[choice]) for choice, option in option_of.items() if values[choice] != "[]"}
         for choice, option in option_of.items():
             kind = re.match(r"Word \(Number (\w+)\)", values[choice])
             limits = "%s to %s" % (number(least[kind[1]]), number(most[kind[1]])) if kind else None
