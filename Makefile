@@ -32,6 +32,7 @@ documents:
 install: build
 	install -D -m 755 $(PROGRAM) $(DESTDIR)$(PREFIX)/bin/ants
 	install -D -m 644 docs/ants.1 $(DESTDIR)$(PREFIX)/share/man/man1/ants.1
+	install -D -m 644 docs/ants.bash $(DESTDIR)$(PREFIX)/share/bash-completion/completions/ants
 
 bench: build
 	bench/run

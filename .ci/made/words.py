@@ -17,7 +17,7 @@ def number(text):
 
 
 class Words:
-    """Commands with their options, and options with their limits and defaults, as the definitions have them."""
+    """Commands with their options, and options with their limits and defaults and with what they take, as the definitions have them."""
 
     def __init__(self, folder="crates/command_words/specs"):
         texts = [read(file) for file in source_files(folder, ".antt") if "/Inner/" not in file]
@@ -34,6 +34,7 @@ class Words:
             self.commands[word] = [word_of[it] for it in choices.strip("()").split(" ∷ ") if it != "[]"]
         self.keywords = list(dict(only(texts, r'^keyword_of (\w+) = codes "([^"]+)"')).values())
         self.options = {}
+        self.takes = dict(only(texts, r'^option_row \w+ = (?:needed|free)_option \(codes "([^"]+)"\) \(?(\w+)'))
         for choice, form, word, kind in options:
             limits = "%s to %s" % (number(least[kind]), number(most[kind])) if kind else None
             default = "needed" if form == "needed" else number(default_of[choice]) if choice in default_of else None

@@ -1,0 +1,35 @@
+# Completion of the words of `ants` for bash, and for zsh behind `autoload -U bashcompinit && bashcompinit`.
+# Made of the table of commands by `make documents`.
+_ants() {
+    [ -z "${ZSH_VERSION-}" ] || setopt localoptions ksharrays shwordsplit
+    local word=${COMP_WORDS[COMP_CWORD]} before=${COMP_WORDS[COMP_CWORD-1]} options=
+    COMPREPLY=()
+    if [ "$COMP_CWORD" -eq 1 ]; then
+        COMPREPLY=($(compgen -W 'show brain minimise run gen cup view workload --help --version asm save resume' -- "$word"))
+        return
+    fi
+    case ${COMP_WORDS[1]} in
+    run) options='--seed --rounds --dump --workers --window --surround --corpse --rest --stats --far' ;;
+    gen) options='--width --height --rocks --blobs' ;;
+    cup) options='--worlds --brains --seed --rounds --workers' ;;
+    view) options='--seed --rounds' ;;
+    save) options='--seed --rounds --workers --window --surround --corpse --rest' ;;
+    resume) options='--rounds --dump --workers --stats' ;;
+    esac
+    case $before in
+    --seed | --rounds | --workers | --window | --surround | --corpse | --rest | --width | --height | --rocks | --blobs) return ;;
+    --dump) COMPREPLY=($(compgen -W 'none all' -- "$word")); return ;;
+    esac
+    case $word in
+    -*)
+        for before in "${COMP_WORDS[@]}"; do
+            [ "$before" = "$word" ] || options=" $options " options=${options/ $before / }
+        done
+        COMPREPLY=($(compgen -W "$options" -- "$word")) ;;
+    *)
+        local IFS=$'
+'
+        COMPREPLY=($(compgen -f -- "$word")) ;;
+    esac
+}
+complete -o filenames -F _ants ants
