@@ -5,7 +5,7 @@ _ants() {
     local word=${COMP_WORDS[COMP_CWORD]} before=${COMP_WORDS[COMP_CWORD-1]} options=
     COMPREPLY=()
     if [ "$COMP_CWORD" -eq 1 ]; then
-        COMPREPLY=($(compgen -W 'show brain minimise run gen cup view workload --help --version asm save resume' -- "$word"))
+        COMPREPLY=($(compgen -W 'show brain minimise run gen cup view workload --help help --version asm save resume' -- "$word"))
         return
     fi
     case ${COMP_WORDS[1]} in
