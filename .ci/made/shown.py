@@ -97,6 +97,8 @@ class Linker:
 
     def sign(self, sign, definition):
         module = definition.module
+        if sign == definition.name:
+            return '<b id="%s">%s</b>' % (anchor(definition), html.escape(sign))
         for name in list(module.definitions) + list(module.names):
             if "◌" in name and sign in name.split("◌"):
                 it = module.definitions.get(name) or self.tree.resolve(*module.names[name], where=module.file)

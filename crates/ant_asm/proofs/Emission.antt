@@ -46,13 +46,13 @@ suc-some : (n : ℕ) → (suc n == 0) ≡ false
 suc-some n = false_from_ne_true (suc n == 0) (λ same. let e : suc n ≡ 0 = eqb-true (suc n) 0 same in absurd (omega arith))
 
 -- one item more
-from_place-next : (k : ℕ) (items : Items) → from_place (suc k) items ≡ from_place 1 (from_place k items)
+pub from_place-next : (k : ℕ) (items : Items) → from_place (suc k) items ≡ from_place 1 (from_place k items)
 from_place-next zero items = refl
 from_place-next (suc k) End = refl
 from_place-next (suc k) (Do action others) = from_place-next k others
 from_place-next (suc k) (Use handed block others) = from_place-next k others
 
-offset-next : (k : ℕ) (items : Items) → offset (suc k) items ≡ offset k items + offset 1 (from_place k items)
+pub offset-next : (k : ℕ) (items : Items) → offset (suc k) items ≡ offset k items + offset 1 (from_place k items)
 offset-next zero items = let e : offset 1 items ≡ 0 + offset 1 items = omega arith in e
 offset-next (suc k) End = refl
 offset-next (suc k) (Do action others) = let e : offset (suc k) others ≡ offset k others + offset 1 (from_place k others) = offset-next k others in let f : suc (offset (suc k) others) ≡ suc (offset k others) + offset 1 (from_place k others) = omega arith in f
@@ -67,7 +67,7 @@ module _ (main : Items) where
   number = number_in (places main)
 
   -- the body that a path leads to, its frame, and its numbers
-  record Stands (body : Items) (frame : Frame) (numbers : Numbers) : Type 0 where
+  pub record Stands (body : Items) (frame : Frame) (numbers : Numbers) : Type 0 where
     walks : (k : ℕ) (rest : Address) → placed_at main (frame.path ++ k ∷ rest) ≡ placed_from rest body frame k (from_place k body)
     counts : (k : ℕ) (rest : Address) → number_of main (frame.path ++ k ∷ rest) ≡ number_walk rest (numbers.base + offset k body) (from_place k body)
 
@@ -122,7 +122,7 @@ module _ (main : Items) where
   assembled address = instruction_by (λ label. number ((placed main address).target label)) (placed main address).action
 
   -- besides: all the body's addresses are main's, and the numbers are those of the frame
-  record IsNumbered (body : Items) (frame : Frame) (numbers : Numbers) : Type 0 where
+  pub record IsNumbered (body : Items) (frame : Frame) (numbers : Numbers) : Type 0 where
     stands : Stands body frame numbers
     among : HoldsIn (IsAmong (places main)) body frame.path 0
     after : number frame.after ≡ numbers.after
@@ -141,7 +141,7 @@ module _ (main : Items) where
   get_or-map (place ∷ list) zero other = refl
   get_or-map (place ∷ list) (suc i) other = get_or-map list i other
 
-  number_first-is : (body : Items) (frame : Frame) (numbers : Numbers) (k : ℕ) → IsNumbered body frame numbers → number (first_at body frame k) ≡ number_first body numbers k
+  pub number_first-is : (body : Items) (frame : Frame) (numbers : Numbers) (k : ℕ) → IsNumbered body frame numbers → number (first_at body frame k) ≡ number_first body numbers k
   number_first-is body frame numbers k is =
       let items : Items = from_place k body in
       ap number (first_of-places items frame.path k frame.after)
@@ -159,7 +159,7 @@ module _ (main : Items) where
   map-both body frame numbers k [] is = refl
   map-both body frame numbers k (label ∷ labels) is = ap₂ (λ (n : ℕ) (list : List ℕ). n ∷ list) (number_target-is body frame numbers k label is) (map-both body frame numbers k labels is)
 
-  IsNumbered-inner : (body : Items) (frame : Frame) (numbers : Numbers) (k : ℕ) (handed : List Label) (block others : Items) →
+  pub IsNumbered-inner : (body : Items) (frame : Frame) (numbers : Numbers) (k : ℕ) (handed : List Label) (block others : Items) →
       IsNumbered body frame numbers → from_place k body ≡ Use handed block others →
       IsNumbered block (inner body frame k handed) (inner_numbers body numbers k handed)
   IsNumbered-inner body frame numbers k handed block others is at = record {
@@ -195,7 +195,7 @@ module _ (main : Items) where
     main_first : number (beginning main) ≡ 0
     main_first = beginning-number main some
 
-    IsNumbered-main : IsNumbered main (main_frame main) main_numbers
+    pub IsNumbered-main : IsNumbered main (main_frame main) main_numbers
     IsNumbered-main = record {
       stands = Stands-main;
       among = HoldsIn-all (IsAmong (places main)) main [] 0 (λ address among. among);

@@ -29,7 +29,7 @@ module _ (text : List ℕ) (bodies : List Body) (are : AreBodiesOf text bodies) 
   pub main-few : size_of main ≤ most
   main-few = let there = the_body bodies (last_of bodies) last-inside in (are.blocks.good.each (last_of bodies) there.0 there.1).few
 
-  main-some : 1 ≤ length (places main)
+  pub main-some : 1 ≤ length (places main)
   main-some = let all = places_of-size main [] 0 in let some = are.blocks.some (last_of bodies) last-inside in omega (arith, all, some)
 
   pub main-assembled : IsAssembled main (emitted main main main_numbers 0) (places main)

@@ -26,5 +26,15 @@ pub mod Expansion
 pub mod HasAssembled
 pub mod OnAnswers
 pub mod MadeLists
+-- The names of bodies, and the labels of a program.
+pub mod LabelTexts
+pub mod OutlineLemmas
+pub mod OutlineReading
+pub mod OutlineFits
+pub mod LabelStates
+pub mod LabelWalk
+pub mod LabelSteps
+pub mod LabelsRead
 -- Worked values.
 pub mod Worked
+mod WorkedLabels

@@ -15,6 +15,7 @@ use Rattle.ant_asm.specs.declared.fault.AsmFault.TheVariants.{OutOfMemory}
 use Rattle.ant_asm.specs.Program.{Items}
 use Rattle.ant_asm.specs.Places.{Address}
 use Rattle.ant_asm.specs.Assembled.{IsAssembled}
+use Rattle.ant_asm.specs.Labels.{LabelState}
 use Rattle.ant_asm.specs.Match.{label_game, numbered_moment}
 use Rattle.ant_asm.specs.Text.{IsAsmFault, IsAsmText}
 
@@ -35,9 +36,14 @@ AnswersProgram (Ok made) main = IsAssembled main made.brain made.places
 AnswersProgram (Err fault) main = fault ≡ OutOfMemory
 
 -- the answer is this fault, or out of memory
-abbrev pub AnswersFault : Result code.Assembled AsmFault → AsmFault → Type 0
+abbrev pub AnswersFault : {A : Type 0} → Result A AsmFault → AsmFault → Type 0
 AnswersFault (Ok made) fault = ⊥
 AnswersFault (Err answered) fault = (answered ≡ fault) ⊎ (answered ≡ OutOfMemory)
+
+-- the answer is these labels, or out of memory
+abbrev pub AnswersLabels : Result (List LabelState) AsmFault → List LabelState → Type 0
+AnswersLabels (Ok answered) labels = answered ≡ labels
+AnswersLabels (Err fault) labels = fault ≡ OutOfMemory
 
 -- whatever the opening world, the other brain, the numbers of the rules, the seed, the side and the number of rounds: the game with the brain that
 -- is answered on that side is the labelled game of the text's program with each address replaced by its number, at an equal place of the stream

@@ -6,3 +6,5 @@ pub mod ReadLine
 pub mod Ranged
 pub mod View
 pub mod ProgramView
+pub mod Ways
+pub mod Outlines

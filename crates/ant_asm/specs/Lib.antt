@@ -10,6 +10,7 @@ pub mod Lines
 pub mod LineFaults
 pub mod Standing
 pub mod Text
+pub mod Labels
 pub use Rattle.ant_base.specs.Shelf
 pub use Rattle.brain_read.specs.Forms
 pub use Rattle.brain_read.specs.Soundness

@@ -22,6 +22,7 @@ use crate::body::Body;
 use crate::fault::AsmFault;
 use crate::line::{Line, read_line};
 use crate::open::{OpenBody, OpenKind, close_body, first_unknown};
+use crate::scope::block_named;
 use crate::spelling::Source;
 use ant_base::Lines;
 use indexmap::IndexMap;
@@ -223,7 +224,7 @@ impl<'t> Program<'t> {
     fn block_number(&self, name: &[u8]) -> Option<usize>
         ensures { result ≡ known_as self.now.blocks.entries name.now }
     {
-        self.blocks.get(name).copied()
+        block_named(&self.blocks, name)
     }
 
     // How many instructions a block expands to.

@@ -20,6 +20,13 @@ pub fn meaning_of(names: &Names, name: &[u8]) -> Option<Label>
     names.get(name).copied()
 }
 
+// The number of the block of a name, if it has ended.
+pub(crate) fn block_named(blocks: &IndexMap<&[u8], usize>, name: &[u8]) -> Option<usize>
+    ensures { result ≡ known_as blocks.now.entries name.now }
+{
+    blocks.get(name).copied()
+}
+
 // One name more.
 pub fn add_name<'t>(names: &mut Names<'t>, name: &'t [u8], label: Label) -> Result<(), OutOfMemory>
     ensures { OnOk result (known_as names.new.entries ≡ with_name name.now label (known_as names.old.entries)) }

@@ -113,7 +113,7 @@ same_program a b brains places = λ i. record { brain = brains i; places = place
 
 pub read_program : (name : List ℕ) → IsReading (labelled_file name ∷ []) program_contents
 read_program name = record {
-  one = λ a b same. same_program a b cc cc;
+  one = λ a b same. same_program a b (cc) (cc);
   reads = λ fetches contents are.
       let it = first (labelled_file name) [] fetches contents are in
       let program = program-read name it.fetch it.content it.first in
@@ -161,7 +161,7 @@ same_game a b worlds reds blacks = λ i. record { world = worlds i; red = reds i
 
 pub read_game : (world red black : List ℕ) → IsReading (game_files world red black) game_contents
 read_game world red black = record {
-  one = λ a b same. same_game a b cc cc cc;
+  one = λ a b same. same_game a b (cc) (cc) (cc);
   reads = λ fetches contents are.
       let it = game-first world red black [] fetches contents are in
       (it.game, it.whole ∙ ap (λ (more : List FileContent). game_contents it.game ++ more) it.others.1);
@@ -172,7 +172,7 @@ same_view a b games breaks = λ i. record { game = games i; breaks = breaks i }
 
 pub read_view : (world red black breaks : List ℕ) → IsReading (game_files world red black ++ break_file breaks ∷ []) view_contents
 read_view world red black breaks = record {
-  one = λ a b same. same_view a b (same_game a.game b.game cc cc cc) cc;
+  one = λ a b same. same_view a b (same_game a.game b.game (cc) (cc) (cc)) (cc);
   reads = λ fetches contents are.
       let it = game-first world red black (break_file breaks ∷ []) fetches contents are in
       let last = first (break_file breaks) [] it.fetches it.more it.others in

@@ -1,6 +1,7 @@
 -- Minimising, worked out on small brains.
 use Rattle.std.proofs.Common.{◌≡◌, ℕ, List, [], ◌∷◌, map, true, Some, None, codes, refl, ap, arith}
 use Rattle.std.specs.Fmt.{digits}
+use Rattle.ant_base.specs.Layout.{numbered}
 use Rattle.hex_geometry.specs.declared.direction.Dir.{Dir}
 use Rattle.hex_geometry.specs.declared.direction.Dir.TheVariants.{East, West}
 use Rattle.hex_geometry.specs.declared.direction.Side.TheVariants.{Left}
@@ -18,7 +19,7 @@ use Rattle.brain_read.specs.Canonical.{brain_text, instruction_text}
 use Rattle.brain_minimise.specs.Equivalence.{AreEquivalent, shape_of}
 use Rattle.brain_minimise.specs.Laws.{kept_before, left_of}
 use Rattle.brain_minimise.specs.Match.{DiffersInStates, IsMatchingAnt}
-use Rattle.brain_minimise.specs.Text.{minimised_text}
+use Rattle.brain_minimise.specs.Text.{minimised_text, states_text}
 
 -- the brain
 abbrev three : List Instr
@@ -32,6 +33,11 @@ flip_is_no_move equivalent = let shapes = equivalent.bisimulation.shape 0 1 equi
 three_told : minimised_text three (Flip 2 1 1 ∷ Move 0 0 ∷ []) ≡ codes "; 3 states, 2 kept\nFlip 2 1 1\nMove 0 0\n"
 unfolding digits minimised_text brain_text instruction_text
 three_told = refl
+
+-- what is told of the states of a map: the second was dropped, and the fourth is the first
+states_told : states_text (Some 0 ∷ None ∷ Some 1 ∷ Some 0 ∷ []) ≡ codes "0 0\n1 dropped\n2 1\n3 0\n"
+unfolding digits numbered states_text
+states_told = refl
 
 -- how many states before one have a number, and which instructions are left
 ranks : (kept_before (Some 0 ∷ None ∷ Some 1 ∷ []) 2 ≡ 1) × (left_of (Some 0 ∷ None ∷ Some 1 ∷ []) (Drop 0 ∷ Drop 1 ∷ Drop 2 ∷ []) ≡ Drop 0 ∷ Drop 2 ∷ [])

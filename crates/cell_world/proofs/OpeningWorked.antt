@@ -1,8 +1,10 @@
 -- Two opening worlds, written out.
-use Rattle.std.proofs.Common.{◌≡◌, false, List, [], ◌∷◌, ◌++◌, map, Option, Some, None, refl}
+use Rattle.std.proofs.Common.{◌≡◌, ℕ, false, List, [], ◌∷◌, ◌++◌, map, Option, Some, None, refl}
 use Rattle.std.specs.Prelude.{replicate}
 use Rattle.hex_geometry.specs.declared.direction.Dir.TheVariants.{East}
+use Rattle.hex_geometry.specs.declared.position.Pos.{Pos}
 use Rattle.cell_world.specs.declared.ant.Ant.{Ant}
+use Rattle.cell_world.specs.declared.ant.Colour.{Colour}
 use Rattle.cell_world.specs.declared.ant.Colour.TheVariants.{Red, Black}
 use Rattle.cell_world.specs.declared.cell.Cell.{Cell}
 use Rattle.cell_world.specs.declared.kind.Kind.{Kind}
@@ -10,7 +12,7 @@ use Rattle.cell_world.specs.declared.kind.Kind.TheVariants.{Rock, RedHill, Black
 use Rattle.cell_world.specs.Cell.{cell_weight, rock}
 use Rattle.cell_world.specs.Grid.{Grid, cell_in, world_of}
 use Rattle.cell_world.specs.Opening.{IsPlan, floor, opening}
-use Rattle.cell_world.specs.World.{place_in, weight}
+use Rattle.cell_world.specs.World.{place_in, placed_cells, weight}
 use Rattle.cell_world.proofs.Plans.{IsPlan-test}
 
 -- one red hill cell: `# # #`, `# + #`, `# # #`
@@ -65,3 +67,14 @@ places-three_hills = (refl, refl, refl, refl)
 weight-three_hills : weight (world_of (opening 5 3 three_hills)) ≡ 27
 unfolding weight cell_weight cell_in opening rock floor
 weight-three_hills = refl
+
+-- its cells come in row order, each with its position
+abbrev at : ℕ → ℕ → Option Colour → Pos × Option Colour
+at x y hill = (record { x = x; y = y }, hill)
+
+cells-three_hills : map (λ (placed : Pos × Cell). (placed.0, placed.1.hill)) (placed_cells (world_of (opening 5 3 three_hills)))
+    ≡ at 0 0 None ∷ at 1 0 None ∷ at 2 0 None ∷ at 3 0 None ∷ at 4 0 None
+    ∷ at 0 1 None ∷ at 1 1 (Some Red) ∷ at 2 1 (Some Red) ∷ at 3 1 (Some Black) ∷ at 4 1 None
+    ∷ at 0 2 None ∷ at 1 2 None ∷ at 2 2 None ∷ at 3 2 None ∷ at 4 2 None ∷ []
+unfolding placed_cells cell_in opening rock floor
+cells-three_hills = refl

@@ -3,5 +3,6 @@ pub mod CellLemmas
 pub mod JobLemmas
 -- An answer that agrees, and what a window picks of all.
 pub mod AgreementLemmas
+pub mod AgreementWorked
 pub mod PickLemmas
 pub mod WindowLemmas

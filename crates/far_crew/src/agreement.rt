@@ -26,7 +26,9 @@ use spec_record::Look;
 /// the number of looks. It takes no memory.
 pub fn agrees(field: &Field<'_>, found: &Found, i: u32, guess: u64) -> bool
     requires { i < length found.now.looks }
-    ensures { (look : _) → slice_get found.now.looks i ≡ Some look → ((result ≡ true) ↔ AgreesWith field.now found.now look guess) }
+    ensures agrees { (look : _) → slice_get found.now.looks i ≡ Some look → ((result ≡ true) ↔ AgreesWith field.now found.now look guess) }
+    ensures own { (look : _) → slice_get found.now.looks i ≡ Some look → result ≡ true
+        → look ≡ look_of field.now.minds field.now.seed (world_of field.now.world) guess look.turn }
 {
     is_agreeing(field, found, found.look(i as usize), guess)
 }
@@ -45,24 +47,18 @@ pub(crate) fn is_look_for(
     if look.turn() != id {
         return false;
     }
-    is_known(field, found, look, guess)
-}
-
-#[tactic(auto, using(crate::proofs::AgreementLemmas::look_known))]
-fn is_known(field: &Field<'_>, found: &Found, look: &Look, guess: u64) -> bool
-    requires { IsLookOf found.now.minds found.now.seed found.now.base look.now }
-    ensures { result ≡ true → look.now ≡ look_of field.now.minds field.now.seed (world_of field.now.world) guess look.now.turn }
-{
-    let _valid = field.world().width();
     is_agreeing(field, found, look, guess)
 }
 
-// Whether a look of an answer agrees.
-#[tactic(auto, using(crate::proofs::AgreementLemmas::agrees_test))]
+// Whether a look of an answer agrees; it is the field's own then.
+#[tactic(auto, using(crate::proofs::AgreementLemmas::agrees_test, crate::proofs::AgreementLemmas::look_known))]
 fn is_agreeing(field: &Field<'_>, found: &Found, look: &Look, guess: u64) -> bool
     requires { IsLookOf found.now.minds found.now.seed found.now.base look.now }
-    ensures { (result ≡ true) ↔ AgreesWith field.now found.now look.now guess }
+    ensures agrees { (result ≡ true) ↔ AgreesWith field.now found.now look.now guess }
+    ensures own { result ≡ true → look.now ≡ look_of field.now.minds field.now.seed (world_of field.now.world) guess look.now.turn }
 {
+    // for its clause alone: what the field has is a world
+    let _width = field.world().width();
     is_same_in_all(field, found, look, guess)
 }
 

@@ -53,10 +53,11 @@ impl Found {
         }
     }
 
-    /// How many looks there are.
+    /// How many looks there are. A clause says what every answer keeps, so that one that came by a channel is known by this call.
     #[inline]
     pub fn len(&self) -> usize
-        ensures { result ≡ length self.now.looks }
+        ensures len { result ≡ length self.now.looks }
+        ensures kept { IsFound self.now.minds self.now.seed self.now.base self.now.looks }
     {
         self.looks.len()
     }

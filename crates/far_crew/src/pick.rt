@@ -2,7 +2,7 @@
 ghost use Rattle.std.specs.Prelude.{◌≡◌, ◌+◌, ◌-◌, ◌<◌, ◌≤◌, List, [], None, length, slice_get, OnOk};
 ghost use Rattle.std.specs.Option.{option_copied};
 ghost use Rattle.std.specs.Vec.{vec_capacity, vec_len};
-ghost use Rattle.far_crew.specs.Inner.Picks.{AreFilled, AreNone, ArePicked, look_named, looks_in};
+ghost use Rattle.far_crew.specs.Inner.Picks.{AreFilled, AreNone, ArePicked, ArePicksOf, look_named, looks_in};
 ghost use Rattle.far_crew.specs.Inner.Turns.{AreTurnsOf, window_on};
 ghost use Rattle.far_crew.specs.declared.line.Line.{Line as GivenLine};
 
@@ -83,10 +83,8 @@ pub fn choose<G: Gate>(
 #[tactic(auto, using(crate::proofs::PickLemmas::looks_in_some))]
 fn sift(field: &Field<'_>, lines: &[Line], turns: &GuessedTurns<'_>, picks: &mut [Option<Pick>])
     requires turns { AreTurnsOf field.now turns.now }
-    requires count { length picks.old ≡ turns.now.to - turns.now.from }
-    requires picked { ArePicked lines.now [] picks.old (window_on field.now turns.now) }
-    ensures count { length picks.new ≡ turns.now.to - turns.now.from }
-    ensures picked { ArePicked lines.now [] picks.new (window_on field.now turns.now) }
+    requires picks { ArePicksOf field.now turns.now lines.now [] picks.old }
+    ensures { ArePicksOf field.now turns.now lines.now [] picks.new }
 {
     for line in 0..lines.len() {
         if let Some(found) = &lines[line].found {
@@ -105,10 +103,8 @@ fn sift_answer(
 )
     requires answer { looks_in lines.now answer.now.line ≡ answer.now.found.now.looks }
     requires turns { AreTurnsOf field.now turns.now }
-    requires count { length picks.old ≡ turns.now.to - turns.now.from }
-    requires picked { ArePicked lines.now [] picks.old (window_on field.now turns.now) }
-    ensures count { length picks.new ≡ turns.now.to - turns.now.from }
-    ensures picked { ArePicked lines.now [] picks.new (window_on field.now turns.now) }
+    requires picks { ArePicksOf field.now turns.now lines.now [] picks.old }
+    ensures { ArePicksOf field.now turns.now lines.now [] picks.new }
 {
     for at in 0..answer.found.len() {
         sift_look(field, lines, answer, at, turns, picks);
@@ -127,10 +123,8 @@ fn sift_look(
     requires answer { looks_in lines.now answer.now.line ≡ answer.now.found.now.looks }
     requires at { at < length answer.now.found.now.looks }
     requires turns { AreTurnsOf field.now turns.now }
-    requires count { length picks.old ≡ turns.now.to - turns.now.from }
-    requires picked { ArePicked lines.now [] picks.old (window_on field.now turns.now) }
-    ensures count { length picks.new ≡ turns.now.to - turns.now.from }
-    ensures picked { ArePicked lines.now [] picks.new (window_on field.now turns.now) }
+    requires picks { ArePicksOf field.now turns.now lines.now [] picks.old }
+    ensures { ArePicksOf field.now turns.now lines.now [] picks.new }
 {
     let Answer { line, found } = *answer;
     let look = found.look(at);
@@ -160,9 +154,8 @@ fn fill<G: Gate>(
     requires count { length picks.old ≡ turns.now.to - turns.now.from }
     requires bare { own.old.items ≡ [] }
     requires room { turns.now.to - turns.now.from ≤ vec_capacity own.old }
-    ensures picked { (lines : List GivenLine) → ArePicked lines [] picks.old (window_on field.now turns.now) → ArePicked lines own.new.items picks.new (window_on field.now turns.now) }
+    ensures picks { (lines : List GivenLine) → ArePicksOf field.now turns.now lines [] picks.old → ArePicksOf field.now turns.now lines own.new.items picks.new }
     ensures filled { AreFilled picks.new (turns.now.to - turns.now.from) }
-    ensures count { length picks.new ≡ turns.now.to - turns.now.from }
 {
     for id in turns.from..turns.to {
         fill_turn(caller, field, turns, picks, own, id);
@@ -184,9 +177,13 @@ fn fill_turn<G: Gate>(
     requires count { length picks.old ≡ turns.now.to - turns.now.from }
     requires room { vec_len own.old < vec_capacity own.old }
     requires filled { AreFilled picks.old (id - turns.now.from) }
-    ensures picked { (lines : List GivenLine) → ArePicked lines own.old.items picks.old (window_on field.now turns.now) → ArePicked lines own.new.items picks.new (window_on field.now turns.now) }
-    ensures filled { AreFilled picks.new (id + 1 - turns.now.from) }
+
+    // whatever the lines hold, what was picked stays
+    ensures picks { (lines : List GivenLine) → ArePicksOf field.now turns.now lines own.old.items picks.old → ArePicksOf field.now turns.now lines own.new.items picks.new }
     ensures count { length picks.new ≡ turns.now.to - turns.now.from }
+    ensures filled { AreFilled picks.new (id + 1 - turns.now.from) }
+
+    // one look at most is made, in the room that there is
     ensures len { vec_len own.new ≤ vec_len own.old + 1 }
     ensures capacity { vec_capacity own.new ≡ vec_capacity own.old }
 {

@@ -1,8 +1,7 @@
 // Settles the turns of a window by the looks that are picked.
 ghost use Rattle.std.specs.Prelude.{◌≡◌, ◌+◌, ◌-◌, ◌<◌, length};
 ghost use Rattle.round_book.specs.Book.{IsSameWindow, StandsOn, window_of};
-ghost use Rattle.far_crew.specs.Inner.Picks.{AreFilled, ArePicked};
-ghost use Rattle.far_crew.specs.Inner.Turns.{window_on};
+ghost use Rattle.far_crew.specs.Inner.Picks.{AreFilled, ArePicked, ArePicksOf};
 
 use crate::guesses::GuessedTurns;
 use crate::line::Line;
@@ -23,8 +22,7 @@ pub fn settle(
     requires from { book.old.from ≡ turns.now.from }
     requires next { book.old.next ≡ turns.now.from }
     requires to { book.old.to ≡ turns.now.to }
-    requires count { length picks.now ≡ turns.now.to - turns.now.from }
-    requires picked { ArePicked lines.now own.now picks.now (window_on field.now turns.now) }
+    requires picks { ArePicksOf field.now turns.now lines.now own.now picks.now }
     requires filled { AreFilled picks.now (turns.now.to - turns.now.from) }
     ensures stands { StandsOn field.now book.new }
     ensures next { book.new.next ≡ turns.now.to }

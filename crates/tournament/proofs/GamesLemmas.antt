@@ -1,5 +1,5 @@
 -- Lists of games, one player, pair or world at a time.
-use Rattle.std.proofs.Common.{◌≡◌, ◌≢◌, ℕ, zero, suc, ◌+◌, ◌*◌, ◌<◌, ◌≤◌, Bool, true, false, nat_lt, List, [], ◌∷◌, ◌++◌, length, filter, All, refl, sym, ◌∙◌, ap, append-nil, length-append, add-one, arith}
+use Rattle.std.proofs.Common.{◌≡◌, ◌≢◌, ℕ, zero, suc, ◌+◌, ◌*◌, ◌<◌, ◌≤◌, Bool, true, false, nat_lt, List, [], ◌∷◌, ◌++◌, length, get_or, filter, All, refl, sym, ◌∙◌, ap, append-nil, length-append, add-one, subst, arith}
 use Rattle.std.specs.List.{flat_map}
 use Rattle.std.proofs.lemmas.List.{flat_map_more}
 use Rattle.std.proofs.lemmas.List.Elements.{filter-append, All-append, All-nil, All-cons, All-push}
@@ -7,7 +7,7 @@ use Rattle.std.proofs.lemmas.Bool.{lt-ltb, ltb-true, le-ltb}
 use Rattle.std.proofs.lemmas.List.Sums.{length-filter, count_by-le-length}
 use Rattle.std.proofs.Math.Nat.{suc-mul}
 use Rattle.tournament.specs.declared.games.Pairing.{Pairing}
-use Rattle.tournament.specs.Games.{below, above, both_ways, games_with, games_on, games_of}
+use Rattle.tournament.specs.Games.{IsGame, below, above, both_ways, games_with, games_on, games_of}
 
 -- one number more comes last
 pub below-more : (n : ℕ) → below (n + 1) ≡ below n ++ n ∷ []
@@ -89,13 +89,6 @@ pub All-above : (i n : ℕ) → All (λ k. (i < k) × (k < n)) (above i n)
 unfolding above
 All-above i n = above_in i n (below n) (All-below n)
 
--- a game of a cup: its world and its two players are there, and they are different
-pub record IsGame (players worlds : ℕ) (game : Pairing) : Type 0 where
-  pub world : game.world < worlds
-  pub red : game.red < players
-  pub black : game.black < players
-  pub apart : game.red ≢ game.black
-
 less_apart : (i j : ℕ) → i < j → i ≢ j
 less_apart i j lt = λ (e : i ≡ j). absurd (omega arith)
 
@@ -114,7 +107,7 @@ unfolding games_with
 with_all players worlds world i w =
     All-flat_map (IsGame players worlds) (both_ways world i) (λ j. (i < j) × (j < players)) (λ j at. pair_all players worlds world i j w at.0 at.1) (above i players) (All-above i players)
 
-on_all : (players worlds world : ℕ) → world < worlds → All (IsGame players worlds) (games_on players world)
+pub on_all : (players worlds world : ℕ) → world < worlds → All (IsGame players worlds) (games_on players world)
 unfolding games_on
 on_all players worlds world w =
     All-flat_map (IsGame players worlds) (games_with players world) (λ i. i < players) (λ i _. with_all players worlds world i w) (below players) (All-below players)
@@ -143,7 +136,7 @@ length-games_with : (players world i : ℕ) → players ≤ 16 → length (games
 unfolding games_with
 length-games_with players world i le = omega (arith, length_within (both_ways world i) 2 (λ j. omega arith) (above i players) 16 (omega (arith, length-above i players)))
 
-length-games_on : (players world : ℕ) → players ≤ 16 → length (games_on players world) ≤ 512
+pub length-games_on : (players world : ℕ) → players ≤ 16 → length (games_on players world) ≤ 512
 unfolding games_on
 length-games_on players world le = omega (arith, length_within (games_with players world) 32 (λ i. length-games_with players world i le) (below players) 16 (omega (arith, length-below players)))
 
@@ -151,3 +144,25 @@ length-games_on players world le = omega (arith, length_within (games_with playe
 pub length-games_of : (players worlds : ℕ) → players ≤ 16 → worlds ≤ 16 → length (games_of players worlds) ≤ 8192
 unfolding games_of
 length-games_of players worlds le le2 = omega (arith, length_within (games_on players) 512 (λ world. length-games_on players world le) (below worlds) 16 (omega (arith, length-below worlds)))
+
+both_here : (world i j : ℕ) → All (λ game. game.world ≡ world) (both_ways world i j)
+both_here world i j =
+    let there : Pairing = record { world = world; red = i; black = j } in
+    let back : Pairing = record { world = world; red = j; black = i } in
+    All-cons (λ (game : Pairing). game.world ≡ world) there (back ∷ []) refl (All-cons (λ (game : Pairing). game.world ≡ world) back [] refl (All-nil (λ (game : Pairing). game.world ≡ world)))
+
+with_here : (players world i : ℕ) → All (λ game. game.world ≡ world) (games_with players world i)
+unfolding games_with
+with_here players world i = All-flat_map (λ (game : Pairing). game.world ≡ world) (both_ways world i) (λ _. Unit {0}) (λ j _. both_here world i j) (above i players) (λ k d lt. tt)
+
+on_here : (players world : ℕ) → All (λ game. game.world ≡ world) (games_on players world)
+unfolding games_on
+on_here players world = All-flat_map (λ (game : Pairing). game.world ≡ world) (games_with players world) (λ _. Unit {0}) (λ i _. with_here players world i) (below players) (λ k d lt. tt)
+
+-- what is known of each pair of players on a world is known of its games
+pub known_on : (knows : ℕ → ℕ → ℕ → Type 0) (players world : ℕ) → ((red black : ℕ) → red < players → black < players → red ≢ black → knows world red black)
+    → All (λ game. knows game.world game.red game.black) (games_on players world)
+known_on knows players world known k d lt =
+    let it : Pairing = get_or (games_on players world) k d in
+    let game = on_all players (world + 1) world (omega arith) k d lt in
+    subst (λ w. knows w it.red it.black) (sym (on_here players world k d lt)) (known it.red it.black game.red game.black game.apart)

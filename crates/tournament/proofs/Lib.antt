@@ -6,6 +6,8 @@ pub mod TotalLemmas
 pub mod LawsLemmas
 pub mod SortedLines
 pub mod StandingLemmas
+-- Games that are told.
+pub mod ToldLemmas
 -- Names.
 pub mod NamesLemmas
 -- Worked values.

@@ -10,9 +10,8 @@ use Rattle.cell_world.specs.declared.score.Score.{Score}
 use Rattle.tournament.specs.declared.games.Pairing.{Pairing}
 use Rattle.tournament.specs.declared.games.Played.{Played}
 use Rattle.tournament.specs.declared.pieces.Piece.{Piece}
-use Rattle.tournament.specs.Games.{played_by}
+use Rattle.tournament.specs.Games.{IsGame, played_by}
 use Rattle.tournament.specs.Inner.Pieces.{AreKnown, IsPieceReady, IsPieceDone, dealt_games, played_games}
-use Rattle.tournament.proofs.GamesLemmas.{IsGame}
 
 -- one piece more
 pub dealt_more : (games old new : List Pairing) (from to : ℕ) → from ≤ to → old ≡ take from games → new ≡ old ++ take (to - from) (drop from games) → new ≡ take to games
@@ -51,20 +50,19 @@ All-left P xs ys all = All-same P xs (take (length xs) (xs ++ ys)) (sym (take_at
 All-right : (P : Pairing → Type 0) (xs ys : List Pairing) → All P (xs ++ ys) → All P ys
 All-right P xs ys all = All-same P ys (drop (length xs) (xs ++ ys)) (sym (drop_at xs ys (length xs) refl)) (All-drop P (length xs) (xs ++ ys) all)
 
-ready_by : (knows : ℕ → ℕ → ℕ → Type 0) (pieces : List Piece) → AreKnown knows (dealt_games pieces) → All (λ piece. piece.played.items ≡ []) pieces → All (IsPieceReady knows) pieces
+-- and those of its pieces
+pub ready_by : (knows : ℕ → ℕ → ℕ → Type 0) (pieces : List Piece) → AreKnown knows (dealt_games pieces) → All (λ piece. piece.played.items ≡ []) pieces → All (IsPieceReady knows) pieces
 ready_by knows [] known fresh = All-nil (IsPieceReady knows)
 ready_by knows (piece ∷ pieces) known fresh =
     let here = All-left (λ game. knows game.world game.red game.black) piece.games.items (dealt_games pieces) known in
     let rest = All-right (λ game. knows game.world game.red game.black) piece.games.items (dealt_games pieces) known in
     All-cons (IsPieceReady knows) piece pieces (record { fresh = fresh 0 piece (omega arith); known = here }) (ready_by knows pieces rest (λ k d lt. fresh (suc k) d (omega arith)))
 
--- a referee that knows the games of a cup knows those of its pieces
-pub ready : (knows : ℕ → ℕ → ℕ → Type 0) (players worlds : ℕ) (games : List Pairing) (pieces : List Piece)
-    → ((world red black : ℕ) → world < worlds → red < players → black < players → red ≢ black → knows world red black)
-    → All (IsGame players worlds) games → dealt_games pieces ≡ games → All (λ piece. piece.played.items ≡ []) pieces → All (IsPieceReady knows) pieces
-ready knows players worlds games pieces known all dealt fresh =
-    let each : AreKnown knows games = All-weaker (IsGame players worlds) (λ game. knows game.world game.red game.black) (λ game at. known game.world game.red game.black at.world at.red at.black at.apart) games all in
-    ready_by knows pieces (All-same (λ game. knows game.world game.red game.black) (dealt_games pieces) games dealt each) fresh
+-- a referee that knows each pair of players on each world knows the games of a cup
+pub games_known : (knows : ℕ → ℕ → ℕ → Type 0) (players worlds : ℕ) (games : List Pairing)
+    → ((world red black : ℕ) → world < worlds → red < players → black < players → red ≢ black → knows world red black) → All (IsGame players worlds) games → AreKnown knows games
+games_known knows players worlds games known all =
+    All-weaker (IsGame players worlds) (λ game. knows game.world game.red game.black) (λ game at. known game.world game.red game.black at.world at.red at.black at.apart) games all
 
 at_false : (b : Bool) (P : Type 0) → b ≡ false → OnFalse b P → P
 at_false true P e h = absurd (cc)

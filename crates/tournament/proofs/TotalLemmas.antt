@@ -7,9 +7,8 @@ use Rattle.cell_world.specs.declared.score.Score.{Score}
 use Rattle.tournament.specs.declared.games.Pairing.{Pairing}
 use Rattle.tournament.specs.declared.games.Played.{Played}
 use Rattle.tournament.specs.declared.standing.Line.{Line}
-use Rattle.tournament.specs.Games.{below, played_by}
+use Rattle.tournament.specs.Games.{IsGame, below, played_by}
 use Rattle.tournament.specs.Standing.{is_won, is_lost, is_drawn}
-use Rattle.tournament.proofs.GamesLemmas.{IsGame}
 
 -- the sum of f over the numbers below n
 abbrev pub total : (ℕ → ℕ) → ℕ → ℕ

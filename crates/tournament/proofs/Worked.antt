@@ -1,5 +1,5 @@
 -- Cups, worked out. Two players on one world: a has the number 0 and b the number 1. The game with b as red ends 3 to 0, the other one 0 to 0.
-use Rattle.std.proofs.Common.{◌≡◌, ℕ, zero, suc, true, false, ◌==◌, [], ◌∷◌, map, codes, cond, refl, sym, subst, arith, IsPermutation}
+use Rattle.std.proofs.Common.{◌≡◌, ℕ, zero, suc, true, false, ◌==◌, List, [], ◌∷◌, ◌++◌, map, codes, cond, refl, sym, subst, arith, IsPermutation}
 use Rattle.std.specs.Fmt.{digits}
 use Rattle.std.specs.List.{AllAdjacentBelow}
 use Rattle.std.proofs.lemmas.List.Sorted.{IsPermutation-append_comm}
@@ -8,9 +8,11 @@ use Rattle.tournament.specs.declared.games.Pairing.{Pairing}
 use Rattle.tournament.specs.declared.standing.Line.{Line}
 use Rattle.ant_base.specs.Names.{has_name}
 use Rattle.tournament.specs.Names.{with_name}
-use Rattle.tournament.specs.Games.{below, above, games_with, games_on, games_of, all_played}
+use Rattle.tournament.specs.Games.{below, above, games_with, games_on, games_of, all_played, world_played}
+use Rattle.tournament.specs.Laws.{added_up}
 use Rattle.tournament.specs.Standing.{line_of, StandsAbove, IsStandingOf}
 use Rattle.tournament.specs.Text.{table_line_text, standing_text, IsCupText}
+use Rattle.tournament.specs.Told.{IsToldCupText, cup_played, game_line_text, games_text}
 
 abbrev score : ℕ → ℕ → ℕ → Score
 score world red black = cond (red == 1) (record { red = 3; black = 0 }) (record { red = 0; black = 0 })
@@ -86,3 +88,25 @@ names_known = (refl, refl, refl)
 -- a new name goes last, and one that is there stays
 names_added : (with_name (codes "b" ∷ codes "a" ∷ []) (codes "c") ≡ codes "b" ∷ codes "a" ∷ codes "c" ∷ []) × (with_name (codes "b" ∷ codes "a" ∷ []) (codes "b") ≡ codes "b" ∷ codes "a" ∷ [])
 names_added = (refl, refl)
+
+-- the first cup on a world w, told: its two games, and then its standing
+abbrev told_text : List ℕ
+told_text = codes "game 1: red 0 black 0, w, a, b\ngame 2: red 3 black 0, w, b, a\n3 points: b (1 won, 1 drawn, 0 lost)\n1 points: a (0 won, 1 drawn, 1 lost)\n"
+
+told_text_is : told_text ≡ games_text (codes "w" ∷ []) (codes "a" ∷ codes "b" ∷ []) (cup_played (codes "w" ∷ []) (codes "a" ∷ codes "b" ∷ []) score) 1 ++ standing_text (codes "a" ∷ codes "b" ∷ []) (line_b ∷ line_a ∷ [])
+unfolding digits table_line_text game_line_text games_of games_on games_with above
+told_text_is = refl
+
+pub told : IsToldCupText (codes "w" ∷ []) (codes "a" ∷ codes "b" ∷ []) score told_text
+told = record { lines = line_b ∷ line_a ∷ []; standing = b_then_a; is = told_text_is }
+
+-- on a second world v the numbers go on; each game has the name of its own world, and red's score first
+two_worlds_told : games_text (codes "w" ∷ codes "v" ∷ []) (codes "a" ∷ codes "b" ∷ []) (all_played 2 2 two_worlds) 1
+    ≡ codes "game 1: red 0 black 1, w, a, b\ngame 2: red 1 black 0, w, b, a\ngame 3: red 4 black 4, v, a, b\ngame 4: red 4 black 4, v, b, a\n"
+unfolding digits game_line_text games_of games_on games_with above
+two_worlds_told = refl
+
+-- what player a has of it is what it lost on w and what it drew on v, added up
+added_by_world : added_up (line_of (world_played 2 0 two_worlds) 0) (line_of (world_played 2 1 two_worlds) 0) ≡ record { player = 0; points = 2; won = 0; drawn = 2; lost = 2 }
+unfolding games_on games_with above line_of
+added_by_world = refl

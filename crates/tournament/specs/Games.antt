@@ -1,5 +1,5 @@
 -- The games of a cup, in their order. Worlds and players are numbered from 0.
-use Rattle.std.specs.Prelude.{ℕ, zero, suc, List, [], ◌∷◌, ◌++◌, filter, map, nat_lt}
+use Rattle.std.specs.Prelude.{◌≢◌, ◌<◌, ℕ, zero, suc, List, [], ◌∷◌, ◌++◌, filter, map, nat_lt}
 use Rattle.std.specs.List.{flat_map}
 use Rattle.cell_world.specs.declared.score.Score.{Score}
 use Rattle.tournament.specs.declared.games.Pairing.{Pairing}
@@ -37,3 +37,14 @@ played_by score game = record { game = game; score = score game.world game.red g
 -- the games of a cup with their scores
 abbrev pub all_played : ℕ → ℕ → (ℕ → ℕ → ℕ → Score) → List Played
 all_played players worlds score = map (played_by score) (games_of players worlds)
+
+-- the games of a cup on one world with their scores
+abbrev pub world_played : ℕ → ℕ → (ℕ → ℕ → ℕ → Score) → List Played
+world_played players world score = map (played_by score) (games_on players world)
+
+-- a game of a cup: its world and its two players are there, and they are different
+pub record IsGame (players worlds : ℕ) (game : Pairing) : Type 0 where
+  pub world : game.world < worlds
+  pub red : game.red < players
+  pub black : game.black < players
+  pub apart : game.red ≢ game.black

@@ -1,9 +1,11 @@
 -- Laws of cups.
-use Rattle.std.specs.Prelude.{◌≡◌, ℕ, ◌*◌, List, length, sum_by}
+use Rattle.std.specs.Prelude.{◌≡◌, ℕ, ◌+◌, ◌*◌, List, ◌++◌, length, sum_by}
+use Rattle.std.specs.List.{flat_map}
 use Rattle.cell_world.specs.declared.score.Score.{Score}
 use Rattle.tournament.specs.declared.standing.Line.{Line}
-use Rattle.tournament.specs.Games.{games_of}
-use Rattle.tournament.specs.Standing.{IsStandingOf}
+use Rattle.tournament.specs.declared.games.Played.{Played}
+use Rattle.tournament.specs.Games.{all_played, below, games_of, world_played}
+use Rattle.tournament.specs.Standing.{IsStandingOf, line_of}
 
 -- the points of all players together are twice the games
 abbrev pub PointsAddUp : Type 0
@@ -22,3 +24,15 @@ abbrev pub OneStanding : Type 0
 OneStanding =
     (players worlds : ℕ) (score : ℕ → ℕ → ℕ → Score) (lines others : List Line) → IsStandingOf players worlds score lines
     → IsStandingOf players worlds score others → lines ≡ others
+
+-- the games of a cup are those on its worlds, one world after another
+abbrev pub WorldsInOrder : Type 0
+WorldsInOrder = (players worlds : ℕ) (score : ℕ → ℕ → ℕ → Score) → all_played players worlds score ≡ flat_map (λ world. world_played players world score) (below worlds)
+
+-- two lines of a player, added up
+abbrev pub added_up : Line → Line → Line
+added_up x y = record { player = x.player; points = x.points + y.points; won = x.won + y.won; drawn = x.drawn + y.drawn; lost = x.lost + y.lost }
+
+-- a player's line after some games and then more is the line after the former and that after the latter, added up
+abbrev pub GamesAddUp : Type 0
+GamesAddUp = (games more : List Played) (p : ℕ) → line_of (games ++ more) p ≡ added_up (line_of games p) (line_of more p)

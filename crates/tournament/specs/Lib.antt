@@ -5,5 +5,6 @@ pub mod Laws
 pub mod Names
 pub mod Standing
 pub mod Text
+pub mod Told
 pub use Rattle.ant_base.specs.Layout
 pub use Rattle.ant_base.specs.Sink

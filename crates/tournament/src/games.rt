@@ -6,18 +6,23 @@ use cell_world::Score;
 use hex_geometry::OutOfMemory;
 use std::alloc::Global;
 
-// A game: the numbers of its world, its red player and its black player.
-#[derive(Clone, Copy)]
+/// A game of a cup.
+#[derive(Clone, Copy, Debug, PartialEq, Eq)]
 pub struct Pairing {
+    /// The number of its world, from 0.
     pub world: u32,
+    /// The number of its red player, from 0.
     pub red: u32,
+    /// The number of its black player, from 0.
     pub black: u32,
 }
 
-// A game with its score.
-#[derive(Clone, Copy)]
+/// A game with its score.
+#[derive(Clone, Copy, Debug, PartialEq, Eq)]
 pub struct Played {
+    /// The game.
     pub game: Pairing,
+    /// Its score.
     pub score: Score,
 }
 
@@ -29,6 +34,15 @@ pub fn games_of(alloc: Global, players: u32, worlds: u32) -> Result<Vec<Pairing>
     for world in 0..worlds {
         add_world(&mut games, players, world)?;
     }
+    Ok(games)
+}
+
+// The games on one world.
+pub fn games_on(alloc: Global, players: u32, world: u32) -> Result<Vec<Pairing>, OutOfMemory>
+    ensures { IfOk result (λ games. games.items ≡ games_on players world) }
+{
+    let mut games = Vec::new(alloc);
+    add_world(&mut games, players, world)?;
     Ok(games)
 }
 

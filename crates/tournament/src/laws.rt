@@ -1,5 +1,5 @@
 // What holds of all cups, as laws of their definitions.
-ghost use Rattle.tournament.specs.Laws.{OneStanding, PointsAddUp, WinsAreLosses};
+ghost use Rattle.tournament.specs.Laws.{GamesAddUp, OneStanding, PointsAddUp, WinsAreLosses, WorldsInOrder};
 
 /// A law: the points of a cup's players add up to twice its games.
 pub fn points_add_up()
@@ -14,4 +14,11 @@ pub fn wins_are_losses()
 /// A law: a cup has one standing; its scores leave no choice.
 pub fn one_standing()
     ensures { OneStanding }
+{}
+
+/// Two laws: the games of a cup are those on its worlds, one world after another; and a player's line after some games and then more is the
+/// line after the former and that after the latter, added up. So the standing is the sum of the games.
+pub fn games_add_up()
+    ensures worlds { WorldsInOrder }
+    ensures lines { GamesAddUp }
 {}

@@ -1,9 +1,11 @@
-// A whole cup.
-ghost use Rattle.std.specs.Prelude.{◌≢◌, ℕ, ◌<◌, ◌≤◌, IfOk};
+// A whole cup, and its games on one world.
+ghost use Rattle.std.specs.Prelude.{◌≡◌, ◌≢◌, ℕ, ◌<◌, ◌≤◌, ◌^◌, IfOk, length, map};
+ghost use Rattle.tournament.specs.Games.{played_by, world_played};
+ghost use Rattle.tournament.specs.Inner.Pieces.{AreKnown};
 ghost use Rattle.tournament.specs.Standing.{IsStandingOf};
 
 use crate::fork::play_together;
-use crate::games::games_of;
+use crate::games::{Pairing, Played, games_of, games_on};
 use crate::pieces::deal;
 use crate::referee::Referee;
 use crate::standing::Standing;
@@ -30,7 +32,43 @@ pub fn play_all<R: Threads + Sync, F: Referee>(
     ensures { IfOk result (λ standing. IsStandingOf players worlds (F.score referee.now) standing) }
 {
     let games = games_of(alloc, players, worlds)?;
-    let mut pieces = deal(alloc, &games, workers as usize)?;
-    let played = play_together(rt, alloc, referee, &mut pieces, workers as usize)?;
+    let played = play_listed(rt, alloc, referee, &games, workers)?;
     standing_of(alloc, players, &played)
+}
+
+/// Plays the games of a cup of 2 to 16 players on the world of this number, from 0, with 1 to 16 workers, and gives them with the referee's
+/// scores, in the order in which the cup has them, whatever the number of workers is. The referee knows each of these games: any two
+/// different players, as red and as black. It is refused only when out of memory, its own or the referee's.
+pub fn play_world<R: Threads + Sync, F: Referee>(
+    rt: &R,
+    alloc: Global,
+    referee: &F,
+    players: u32,
+    world: u32,
+    workers: u32,
+) -> Result<Vec<Played>, OutOfMemory>
+    requires players { (2 ≤ players) × (players ≤ 16) }
+    requires workers { (1 ≤ workers) × (workers ≤ 16) }
+    requires known { (red black : ℕ) → red < players → black < players → red ≢ black → F.knows referee.now world red black }
+    ensures { IfOk result (λ played. played.items ≡ world_played players world (F.score referee.now)) }
+{
+    let games = games_on(alloc, players, world)?;
+    play_listed(rt, alloc, referee, &games, workers)
+}
+
+// Plays these games with so many workers, and gives them with their scores.
+fn play_listed<R: Threads + Sync, F: Referee>(
+    rt: &R,
+    alloc: Global,
+    referee: &F,
+    games: &[Pairing],
+    workers: u32,
+) -> Result<Vec<Played>, OutOfMemory>
+    requires few { length games.now < 2 ^ 30 }
+    requires workers { (1 ≤ workers) × (workers ≤ 16) }
+    requires known { AreKnown (F.knows referee.now) games.now }
+    ensures { IfOk result (λ played. played.items ≡ map (played_by (F.score referee.now)) games.now) }
+{
+    let mut pieces = deal(alloc, games, workers as usize)?;
+    play_together(rt, alloc, referee, &mut pieces, workers as usize)
 }

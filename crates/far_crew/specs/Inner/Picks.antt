@@ -1,11 +1,14 @@
 -- Which look settles each turn of a window.
-use Rattle.std.specs.Prelude.{◌≡◌, ℕ, ◌+◌, ◌<◌, true, List, [], Option, Some, None, slice_get, slice_index_or}
+use Rattle.std.specs.Prelude.{◌≡◌, ℕ, ◌+◌, ◌-◌, ◌<◌, true, List, [], Option, Some, None, length, slice_get, slice_index_or}
 use Rattle.std.specs.Option.{is_some}
+use Rattle.round_book.specs.Book.{FieldValue}
 use Rattle.round_book.specs.Window.{Window, look_for}
 use Rattle.spec_record.specs.Look.{LookValue}
+use Rattle.far_crew.specs.declared.guesses.GuessedTurns.{GuessedTurns}
 use Rattle.far_crew.specs.declared.line.Line.{Line}
 use Rattle.far_crew.specs.declared.pick.Pick.{Pick}
 use Rattle.far_crew.specs.declared.pick.Pick.TheVariants.{Theirs, Own}
+use Rattle.far_crew.specs.Inner.Turns.{window_on}
 use Rattle.far_crew.specs.Jobs.{FoundValue}
 
 -- the looks of an answer, if there is one
@@ -30,6 +33,11 @@ look_named lines own (Own at) = slice_get own at
 -- each pick names the look at its turn of the window
 abbrev pub ArePicked : List Line → List LookValue → List (Option Pick) → Window → Type 0
 ArePicked lines own picks window = (j : ℕ) (pick : Pick) → slice_index_or picks j None ≡ Some pick → look_named lines own pick ≡ Some (look_for window (window.from + j))
+
+-- there is a place for the pick of each of these turns of a field, and each pick names the look at its turn
+pub record ArePicksOf (field : FieldValue) (turns : GuessedTurns) (lines : List Line) (own : List LookValue) (picks : List (Option Pick)) : Type 0 where
+  pub count : length picks ≡ turns.to - turns.from
+  pub picked : ArePicked lines own picks (window_on field turns)
 
 -- no turn has a pick
 abbrev pub AreNone : List (Option Pick) → Type 0

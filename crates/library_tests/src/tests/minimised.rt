@@ -1,7 +1,8 @@
 // Brains with what is left of them and the map to it, written out.
-use ant_base::{Calls, LONGEST, MemSink};
+use super::brain_of;
+use ant_base::{Calls, Layout, MemSink};
 use brain_minimise::{Minimised, StateMap, minimise, push_minimised};
-use brain_read::{Brain, read_brain};
+use brain_read::Brain;
 use std::alloc::Global;
 use std::process::Abort;
 use std::test::Fail;
@@ -31,12 +32,6 @@ fn spelled(alloc: Global, map: &StateMap) -> Result<String, Fail> {
         words.push_str(&word)?;
     }
     Ok(words)
-}
-
-fn brain_of<R: Abort>(rt: &R, alloc: Global, text: &str) -> Brain {
-    let bytes = text.as_bytes();
-    assert!(rt; bytes.len() <= LONGEST);
-    read_brain(alloc, bytes).expect(rt, "it is a brain")
 }
 
 // What is told of a minimised brain.
@@ -97,6 +92,26 @@ fn equivalent_states_merge(rt: HostRuntime) -> Result<(), Fail> {
         ),
     ] {
         check(&rt, rt.alloc(), brain, counts, kept, map)?;
+    }
+    Ok(())
+}
+
+#[test]
+fn each_state_has_its_line(rt: HostRuntime) -> Result<(), Fail> {
+    for (brain, lines) in [
+        (
+            TEN,
+            "0 0\n1 1\n2 2\n3 3\n4 4\n5 5\n6 6\n7 3\n8 7\n9 dropped\n",
+        ),
+        // A dropped state is equivalent to kept ones.
+        ("Drop 2\nDrop 2\nDrop 2\n", "0 0\n1 dropped\n2 0\n"),
+        ("Move 0 0\n", "0 0\n"),
+    ] {
+        let brain = brain_of(&rt, rt.alloc(), brain);
+        let minimised = minimise(rt.alloc(), &brain)?;
+        let mut sink = MemSink::with_room(rt.alloc(), ROOM, Calls::new(rt.alloc()))?;
+        assert!(rt; minimised.map.push_to(&mut sink).is_ok());
+        assert_eq!(rt; str::from_utf8(sink.held())?, lines);
     }
     Ok(())
 }

@@ -8,13 +8,16 @@ use Rattle.far_crew.proofs.PickLemmas.{AreFilled-kept, AreFilled-own, ArePicked-
 use Rattle.far_crew.proofs.WindowLemmas.{look_made}
 use Rattle.far_crew.proofs.pick.fill_turn.Goals as goal
 
-pub returns-clause-picked : goal.returns-clause-picked
-returns-clause-picked g c lines picked =
+pub returns-clause-picks : goal.returns-clause-picks
+returns-clause-picks g c lines picks =
     let first = c.requires.first in let last = c.requires.last in let count = c.requires.count in
     let made = look_made c.args.field.now c.args.turns.now.from c.args.turns.now.to c.args.id (minds_of c.brains.result) c.seed.result c.world.result.now c.guess_of-guess.result c.look.result
     c.brains.ensures.brains c.seed.ensures c.world.ensures.world c.guess_of-guess.ensures.guess c.look.ensures in
-    ArePicked-own lines c.args.own.now.items c.push_reserved.new.self.items c.look.result c.args.picks.now (window_of c.args.field.now c.args.turns.now.from c.args.turns.now.to) (c.args.id - c.args.turns.now.from) c.args.id c.len-at.result
-    (omega arith) (omega (arith, c.len-at.ensures)) (omega arith) made c.push_reserved.ensures.items picked
+    record {
+      count = length-set c.args.picks.now (c.args.id - c.args.turns.now.from) (Some (Own c.len-at.result)) ∙ count;
+      picked = ArePicked-own lines c.args.own.now.items c.push_reserved.new.self.items c.look.result c.args.picks.now (window_of c.args.field.now c.args.turns.now.from c.args.turns.now.to) (c.args.id - c.args.turns.now.from) c.args.id c.len-at.result
+          (omega arith) (omega (arith, c.len-at.ensures)) (omega arith) made c.push_reserved.ensures.items picks.picked;
+    }
 
 pub returns-clause-filled : goal.returns-clause-filled
 returns-clause-filled g c = AreFilled-own c.args.picks.now c.args.turns.now.from c.args.turns.now.to c.args.id c.requires.first c.requires.last c.requires.filled (Own c.len-at.result) c.requires.count
@@ -49,8 +52,8 @@ look-requires-clause-id g c =
 pub push_reserved-requires : goal.push_reserved-requires
 push_reserved-requires g c = c.requires.room
 
-pub returns-then-is_some-clause-picked : goal.returns-then-is_some-clause-picked
-returns-then-is_some-clause-picked g c lines picked = picked
+pub returns-then-is_some-clause-picks : goal.returns-then-is_some-clause-picks
+returns-then-is_some-clause-picks g c lines picks = picks
 
 pub returns-then-is_some-clause-count : goal.returns-then-is_some-clause-count
 returns-then-is_some-clause-count g c = c.requires.count

@@ -1,11 +1,7 @@
 -- the picks so far name the looks at their turns
-use Rattle.std.proofs.Common.{◌≡◌, ◌-◌, [], length}
-use Rattle.far_crew.specs.Inner.Picks.{ArePicked}
-use Rattle.far_crew.specs.Inner.Turns.{window_on}
+use Rattle.std.proofs.Common.{[]}
+use Rattle.far_crew.specs.Inner.Picks.{ArePicksOf}
 use Rattle.far_crew.proofs.pick.sift_answer.Given as goal
 
 abbrev pub invariant-loop-at : goal.invariant-loop-at
-invariant-loop-at l = record {
-  count : length l.picks ≡ l.turns.to - l.turns.from;
-  picked : ArePicked l.lines [] l.picks (window_on l.field l.turns);
-}
+invariant-loop-at l = ArePicksOf l.field l.turns l.lines [] l.picks

@@ -8,30 +8,24 @@ use Rattle.far_crew.proofs.PickLemmas.{ArePicked-set}
 use Rattle.far_crew.proofs.WindowLemmas.{look_for_is}
 use Rattle.far_crew.proofs.pick.sift_look.Goals as goal
 
-pub returns-then-is_look_for-clause-picked : goal.returns-then-is_look_for-clause-picked
-returns-then-is_look_for-clause-picked c =
+pub returns-then-is_look_for : goal.returns-then-is_look_for
+returns-then-is_look_for c =
     let window = window_of c.args.field.now c.args.turns.now.from c.args.turns.now.to in
-    let count = c.requires.count in let below = c.if-id-turns.false in let above = c.if-id-turns-2.false in
+    let count = c.requires.picks.count in let below = c.if-id-turns.false in let above = c.if-id-turns-2.false in
     let turn : c.turn-id.result ≡ c.args.turns.now.from + (c.turn-id.result - c.args.turns.now.from) = omega arith in
     let look : c.look-look.result.now ≡ look_for window (c.args.turns.now.from + (c.turn-id.result - c.args.turns.now.from)) =
     c.is_look_for.ensures c.if-is_look_for.true ∙ look_for_is c.args.field.now c.args.turns.now.from c.args.turns.now.to c.turn-id.result c.guess_of-guess.result c.guess_of-guess.ensures.guess ∙ ap (look_for window) turn in
-    ArePicked-set c.args.lines.now [] window c.args.picks.now (c.turn-id.result - c.args.turns.now.from) (Theirs c.args.answer.now.line c.args.at) (omega arith) c.requires.picked
-    (ap (λ (l : List LookValue). slice_get l c.args.at) c.requires.answer ∙ c.look-look.ensures.item ∙ ap Some look)
+    record {
+      count = length-set c.args.picks.now (c.turn-id.result - c.args.turns.now.from) (Some (Theirs c.args.answer.now.line c.args.at)) ∙ count;
+      picked = ArePicked-set c.args.lines.now [] window c.args.picks.now (c.turn-id.result - c.args.turns.now.from) (Theirs c.args.answer.now.line c.args.at) (omega arith) c.requires.picks.picked
+          (ap (λ (l : List LookValue). slice_get l c.args.at) c.requires.answer ∙ c.look-look.ensures.item ∙ ap Some look);
+    }
 
-pub returns-then-is_look_for-clause-count : goal.returns-then-is_look_for-clause-count
-returns-then-is_look_for-clause-count c = length-set c.args.picks.now (c.turn-id.result - c.args.turns.now.from) (Some (Theirs c.args.answer.now.line c.args.at)) ∙ c.requires.count
+pub returns-then-is_some : goal.returns-then-is_some
+returns-then-is_some c = c.requires.picks
 
-pub returns-then-is_some-clause-count : goal.returns-then-is_some-clause-count
-returns-then-is_some-clause-count c = c.requires.count
-
-pub returns-then-is_some-clause-picked : goal.returns-then-is_some-clause-picked
-returns-then-is_some-clause-picked c = c.requires.picked
-
-pub returns-else-is_look_for-clause-count : goal.returns-else-is_look_for-clause-count
-returns-else-is_look_for-clause-count c = c.requires.count
-
-pub returns-else-is_look_for-clause-picked : goal.returns-else-is_look_for-clause-picked
-returns-else-is_look_for-clause-picked c = c.requires.picked
+pub returns-else-is_look_for : goal.returns-else-is_look_for
+returns-else-is_look_for c = c.requires.picks
 
 pub guess_of-guess-requires-clause-turns : goal.guess_of-guess-requires-clause-turns
 guess_of-guess-requires-clause-turns c = c.requires.turns
@@ -45,8 +39,5 @@ guess_of-guess-requires-clause-last c = c.if-id-turns-2.false
 pub is_look_for-requires : goal.is_look_for-requires
 is_look_for-requires c = c.look-look.ensures.is
 
-pub returns-then-id-turns-clause-count : goal.returns-then-id-turns-clause-count
-returns-then-id-turns-clause-count c = c.requires.count
-
-pub returns-then-id-turns-clause-picked : goal.returns-then-id-turns-clause-picked
-returns-then-id-turns-clause-picked c = c.requires.picked
+pub returns-then-id-turns : goal.returns-then-id-turns
+returns-then-id-turns c = c.requires.picks

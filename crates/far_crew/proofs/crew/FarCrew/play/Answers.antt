@@ -36,14 +36,13 @@ settle-requires-clause-next g c = ap (λ (b : BookValue). b.next) c.in_ok-book.e
 pub settle-requires-clause-to : goal.settle-requires-clause-to
 settle-requires-clause-to g c = ap (λ (b : BookValue). b.to) c.in_ok-book.ensures.book
 
-pub settle-requires-clause-count : goal.settle-requires-clause-count
-settle-requires-clause-count g c = c.deref-4.ensures.len ∙ c.choose.ensures.count
-
-pub settle-requires-clause-picked : goal.settle-requires-clause-picked
-settle-requires-clause-picked g c =
-    ArePicked-so c.deref.result.now c.deref-2.result.now c.choose.new.own.items c.deref-3.result.now c.choose.new.picks.items c.deref-4.result.now
-    (window_of c.args.field.now c.args.turns.now.from c.args.turns.now.to) (window_of c.begin.new.self c.args.turns.now.from c.args.turns.now.to)
-    (c.deref-2.ensures.value ∙ sym c.deref.ensures.value) c.deref-3.ensures.value c.deref-4.ensures.value (ap (λ (f : FieldValue). window_of f c.args.turns.now.from c.args.turns.now.to) c.in_ok-book.ensures.lent) c.choose.ensures.picked
+pub settle-requires-clause-picks : goal.settle-requires-clause-picks
+settle-requires-clause-picks g c = record {
+  count = c.deref-4.ensures.len ∙ c.choose.ensures.count;
+  picked = ArePicked-so c.deref.result.now c.deref-2.result.now c.choose.new.own.items c.deref-3.result.now c.choose.new.picks.items c.deref-4.result.now
+      (window_of c.args.field.now c.args.turns.now.from c.args.turns.now.to) (window_of c.begin.new.self c.args.turns.now.from c.args.turns.now.to)
+      (c.deref-2.ensures.value ∙ sym c.deref.ensures.value) c.deref-3.ensures.value c.deref-4.ensures.value (ap (λ (f : FieldValue). window_of f c.args.turns.now.from c.args.turns.now.to) c.in_ok-book.ensures.lent) c.choose.ensures.picked;
+}
 
 pub settle-requires-clause-filled : goal.settle-requires-clause-filled
 settle-requires-clause-filled g c = subst (λ (l : List (Option Pick)). AreFilled l (c.args.turns.now.to - c.args.turns.now.from)) (sym c.deref-4.ensures.value) c.choose.ensures.filled

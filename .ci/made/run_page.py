@@ -1,0 +1,304 @@
+"""docs/RUN.md and docs/run.html: all that has to be believed of one `run`, and nothing else, in an order by hand.
+
+docs/run_page.txt has the order. Its lines are
+
+    keep TYPE: NAMES            of this data or type only these constructors are met, and equations on others are left out
+    leave out NAMES             these definitions stand on other pages
+    # CHAPTER                   text below it, up to an empty line, is the chapter's first paragraph
+    FILE: NAMES                 a block: definitions or types of this file, in this order
+
+The list has to be exactly what the law's page reaches, what a definition names has to stand before it or in its own block, and no equation that
+stays may make what is left out.
+"""
+import re
+
+import shown
+from tree import CodeType, Contract, Definition, Tree, Unknown, goes_on, left_of, names_of, read, source_files, words_of
+
+ORDER, WORDS = "docs/run_page.txt", "docs/library_words.txt"
+CRATE, ROOT = "ants", "KeepsPromise"
+MOST_LINES = 1050
+PACE = 10  # lines a minute, of a reader who reads each
+
+
+class Block:
+    def __init__(self, file, parts):
+        self.file, self.parts = file, parts
+
+
+class Chapter:
+    def __init__(self, title):
+        self.title, self.says, self.blocks = title, [], []
+
+
+class RunPage:
+    def __init__(self, tree):
+        self.tree = tree
+        self.kept, self.left_out, self.chapters = {}, set(), []
+        self.by_file = {}
+        for definition in tree.definitions():
+            self.by_file.setdefault((definition.module.file, definition.name), definition)
+        self.read_order()
+        self.cases = {name: set(shown.members_of(it)) - kept for name, (it, kept) in self.kept.items()}
+        self.parts = [part for chapter in self.chapters for block in chapter.blocks for part in block.parts]
+        self.check()
+
+    # The order.
+
+    def read_order(self):
+        told = None
+        for number, line in enumerate(read(ORDER).split("\n"), 1):
+            where = "%s:%d" % (ORDER, number)
+            if line.startswith("keep "):
+                name, _, names = line[len("keep "):].partition(": ")
+                self.kept[name] = self.of_name(name, where), set(names.split())
+            elif line.startswith("leave out "):
+                self.left_out |= set(line[len("leave out "):].split())
+            elif line.startswith("# "):
+                self.chapters.append(Chapter(line[2:]))
+                told = self.chapters[-1].says
+            elif not line.strip():
+                told = None
+            elif told is not None:
+                told.append(line)
+            elif ": " in line and self.chapters:
+                file, _, names = line.partition(": ")
+                self.chapters[-1].blocks.append(Block(file, [self.of_file(file, it, where) for it in names.split()]))
+            elif not line.startswith("--"):
+                raise Unknown("%s: what is `%s`?" % (where, line))
+
+    def of_file(self, file, name, where):
+        if file.endswith(".rt"):
+            it = CodeType.find(file.split("/")[1], file, name)
+            if it:
+                return self.tree.types.setdefault((file, name), it)
+        elif (file, name) in self.by_file:
+            return self.by_file[file, name]
+        raise Unknown("%s: %s has no %s" % (where, file, name))
+
+    def of_name(self, name, where):
+        """The one data or type that has this name and more than one case."""
+        found = [it for it in self.tree.definitions() if it.name == name and it.shape == "data"]
+        for file in self.code_files():
+            it = CodeType.find(file.split("/")[1], file, name)
+            if it and len(shown.members_of(it)) > 1:
+                found.append(self.tree.types.setdefault((file, name), it))
+        if len(found) != 1:
+            raise Unknown("%s: there are %d types %s" % (where, len(found), name))
+        return found[0]
+
+    def code_files(self):
+        for crate in sorted(self.tree.own):
+            yield from source_files("crates/%s/src" % crate, ".rt")
+
+    # What is left of a definition.
+
+    def type_of_case(self, module, name, member):
+        """The data or type of which a name is a constructor, where it is one."""
+        if name in module.aliases:
+            return self.tree.resolve(module.aliases[name], member or name, module.file) if member else None
+        if name in module.names:
+            return self.tree.resolve(*module.names[name], where=module.file)
+        return Tree.constructed(module, name)
+
+    def left_cases(self, definition, text):
+        """The constructors that are left out, and that a text names."""
+        found = []
+        for name, member, before in names_of(words_of(text)):
+            case = member if name in definition.module.aliases and member else name
+            if case[:1].isupper():
+                it = self.type_of_case(definition.module, name, member)
+                if it is not None and it.name in self.cases and case in self.cases[it.name] and it is self.kept[it.name][0]:
+                    found.append(case)
+        return found
+
+    def lines(self, it):
+        """The lines of a definition or a type, without the equations and cases that no `run` meets."""
+        if isinstance(it, CodeType):
+            return self.type_lines(it)
+        if it.name in self.kept and it is self.kept[it.name][0]:
+            left = self.cases[it.name]
+            return self.without(it.text, lambda line: re.match(r"  (?:pub )?([^\s:]+) :", line) and re.match(r"  (?:pub )?([^\s:]+) :", line)[1] in left, "--")
+        if it.shape:
+            return it.text
+        out, above, skip = [], [], False
+        for line in it.text:
+            if line.startswith("--"):
+                above.append(line)
+                continue
+            if not goes_on(line):
+                skip = bool(self.left_cases(it, left_of(words_of(line))))
+            if not skip:
+                out += above + [line]
+            above = []
+        return out
+
+    def type_lines(self, it):
+        """A type without the cases that are left out, a variant a line, and without the braces around them all."""
+        lines = it.text
+        if it.name in self.kept and it is self.kept[it.name][0]:
+            left = self.cases[it.name]
+            lines = self.without(lines, lambda line: re.match(r"    (\w+)", line) and re.match(r"    (\w+)", line)[1] in left, "//")
+        out = []
+        for line in lines:
+            if re.match(r"    (\w+) \{$", out[-1] if out else "") or out and out[-1].startswith("    ") and out[-1].count("{") > out[-1].count("}"):
+                out[-1] += " " + line.strip()
+            elif line != "}":
+                out.append(line)
+        return [re.sub(r" \{$", "", re.sub(r",? \},$", " }", line)) for line in out]
+
+    @staticmethod
+    def without(lines, is_left, comment):
+        """Lines without those that are left out and the comments above them."""
+        out, above = [], []
+        for line in lines:
+            if line.strip().startswith(comment):
+                above.append(line)
+            elif is_left(line):
+                above = []
+            else:
+                out += above + [line]
+                above = []
+        return out + above
+
+    def is_cut(self, it):
+        return len(self.lines(it)) < len(it.text)
+
+    def count(self, it):
+        comment = "//" if isinstance(it, CodeType) else "--"
+        return sum(1 for line in self.lines(it) if line.strip() and not line.strip().startswith(comment))
+
+    def named(self, it):
+        if isinstance(it, CodeType):
+            kept = "\n".join(re.sub(r"//.*", "", line) for line in self.lines(it))
+            return [other for other in it.named(self.tree) if re.search(r"\b%s\b" % other.name, kept) and other.name not in self.left_out]
+        text = "\n".join(self.lines(it) + ([it.header] if it.header else []))
+        return [other for other in self.tree.named_in(it, text) if other.name not in self.left_out]
+
+    # The checks.
+
+    def reached(self):
+        left = [it for it in self.tree.definitions() if it.name == ROOT and it.module.crate == CRATE]
+        found, seen = [], set()
+        while left:
+            it = left.pop(0)
+            if id(it) not in seen:
+                seen.add(id(it))
+                found.append(it)
+                left += self.named(it)
+        return found
+
+    def check(self):
+        listed = {id(it) for it in self.parts}
+        if len(listed) < len(self.parts):
+            twice = [it.name for it in self.parts if self.parts.count(it) > 1]
+            raise Unknown("%s: twice there: %s" % (ORDER, " ".join(sorted(set(twice)))))
+        reached = self.reached()
+        missing = ["%s of %s" % (it.name, it.file if isinstance(it, CodeType) else it.module.file) for it in reached if id(it) not in listed]
+        if missing:
+            raise Unknown("%s: the page lacks %s" % (ORDER, ", ".join(missing)))
+        ids = {id(it) for it in reached}
+        more = [it.name for it in self.parts if id(it) not in ids]
+        if more:
+            raise Unknown("%s: the promise of a run doesn't reach %s" % (ORDER, " ".join(more)))
+        stands = set()
+        for chapter in self.chapters:
+            for block in chapter.blocks:
+                stands |= {id(it) for it in block.parts}
+                for it in block.parts:
+                    late = [other.name for other in self.named(it) if id(other) not in stands]
+                    if late:
+                        raise Unknown("%s: %s names %s, which stands below it" % (ORDER, it.name, " ".join(late)))
+        for it in self.parts:
+            if isinstance(it, Definition):
+                for line in self.lines(it):
+                    made = self.left_cases(it, line)
+                    if made and not line.startswith("--"):
+                        raise Unknown("%s: %s names %s, which the page leaves out" % (ORDER, it.name, " ".join(made)))
+        total = self.total()
+        if total > MOST_LINES:
+            raise Unknown("%s: %d lines to believe, more than %d" % (ORDER, total, MOST_LINES))
+
+    def total(self):
+        return sum(self.count(it) for it in self.parts)
+
+    # The page.
+
+    def shown(self):
+        ids = {id(it) for it in self.parts}
+        fields = {}
+        for it in self.parts:
+            if isinstance(it, CodeType) or it.shape == "record":
+                for name in shown.members_of(it):
+                    fields.setdefault(name, []).append(it)
+        linker = shown.Linker(self.tree, lambda it: "#" + shown.anchor(it) if id(it) in ids else None, fields)
+        types = {it.name: it for it in self.parts if isinstance(it, CodeType)}
+        out = [("#", "What one run promises")]
+        out += [("p", it) for it in self.introduction()]
+        rows = [[("[%s](#%s)" % (it.title, re.sub(r"[^\w\- ]", "", it.title.lower()).replace(" ", "-"))), str(self.of_chapter(it)), str(round(self.of_chapter(it) / PACE) or 1)] for it in self.chapters]
+        out.append(("table", ["chapter", "lines", "minutes"], rows))
+        for chapter in self.chapters:
+            out.append(("##", chapter.title))
+            out.append(("p", " ".join(chapter.says)))
+            for block in chapter.blocks:
+                out.append(("p", "[%s](../%s)%s" % (re.sub("^crates/", "", block.file), block.file, self.remark(block))))
+                out.append(("pre", "\n\n".join(linker.whole(it, self.lines(it), types) for it in block.parts)))
+        out.append(("##", "Words of the library"))
+        out += self.library(linker)
+        return out
+
+    def of_chapter(self, chapter):
+        return sum(self.count(it) for block in chapter.blocks for it in block.parts)
+
+    def remark(self, block):
+        cut = [it.name for it in block.parts if self.is_cut(it)]
+        says = block.parts[0].module.says if isinstance(block.parts[0], Definition) else "Types of the code."
+        return ": " + says + (" Rows that no `run` meets are left out of %s." % ", ".join("`%s`" % it for it in cut) if cut else "")
+
+    def introduction(self):
+        law = Contract.of(CRATE, "headline")
+        yield (
+            "Made from the tree by `.ci/make-documents`; not edited by hand. All that has to be believed of `ants run WORLD RED BLACK --seed N --rounds N ..` without `--stats`, and no more: "
+            "%d lines without comments, types of the code counted, %d minutes at %d lines a minute. A name leads to where it is defined; what a definition names stands above it." % (self.total(), round(self.total() / PACE), PACE)
+        )
+        yield (
+            "The promise is `KeepsPromise`, of which the law [`headline`](../%s) says that it holds of each run of `run_to_exit`, the one call that `main` makes. "
+            "The checker accepts the program only with it. Here are not: what other commands read and write, the counts that `--stats` adds, and the fault of each text that is refused; "
+            "[SPECIFICATION.md](SPECIFICATION.md) has them." % law.file
+        )
+        yield (
+            "**How to read it.** `x : A` says that x is an A; `A → B` is a function from A to B. A `record` has all of its fields, a `data` is one of its rows; where a field is a fact, it says so. "
+            "A definition by several equations means the first that fits, and `_` fits all. `(x : A) → B` says that B holds for every x, `(x : A) × B` that it does for some x; `λ x. b` is the function that gives b at x; "
+            "`record x { f = y }` is x with y for its field f. A `u8`, `u16`, `u32` or `u64` of a type of the code is a whole number in a definition, a `bool` a test, a `Vec` or a `&[T]` a list. "
+            "`*`, `/` and `%` bind before `+` and `-`, these before `∷`, `++` and `+++`, and these before `==`, `≡`, `≤` and their like; a function binds before all of them. `pub`, `abbrev` and `unfoldable` mean nothing to a reader."
+        )
+
+    def library(self, linker):
+        rows, told = [], {}
+        for number, line in enumerate(read(WORDS).split("\n"), 1):
+            if line and not line.startswith("#"):
+                word, bar, says = line.partition(" | ")
+                if not bar:
+                    raise Unknown("%s:%d: a row is a word, a bar and what it is" % (WORDS, number))
+                told[word.strip()] = says
+        missing = sorted(set(linker.library) - set(told))
+        if missing:
+            raise Unknown("%s: says nothing of %s" % (WORDS, " ".join("%s (%s)" % (it, linker.library[it]) for it in missing)))
+        more = sorted(set(told) - set(linker.library))
+        if more:
+            raise Unknown("%s: the page doesn't have %s" % (WORDS, " ".join(more)))
+        for word in sorted(told, key=lambda it: (it[0].isalpha(), it.lower())):
+            rows.append(["`%s`" % word.replace("|", "\\|"), told[word].replace("|", "\\|")])
+        return [("table", ["word", "what it is"], rows)]
+
+
+def pages(tree):
+    page = RunPage(tree)
+    parts = page.shown()
+    blocks = "\n".join(part[1] for part in parts if part[0] == "pre")
+    places = re.findall(r'id="([^"]*)"', blocks)
+    lost = set(re.findall(r'href="#([^"]*)"', blocks)) - set(places)
+    if lost or len(set(places)) < len(places):
+        raise Unknown("docs/RUN.md: links that lead nowhere, or to two places: %s" % " ".join(sorted(lost)))
+    yield "docs/RUN.md", shown.as_markdown(parts)
+    yield "docs/run.html", shown.as_html(parts, "ants: what one run promises")

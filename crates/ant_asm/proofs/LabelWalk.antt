@@ -1,0 +1,56 @@
+-- The labels of a body, line by line.
+use Rattle.std.proofs.Common.{◌≡◌, ℕ, ◌+◌, Bool, true, false, List, [], ◌++◌, refl, sym, ap, ◌∙◌, subst, arith, append_assoc, append-nil}
+use Rattle.std.specs.Prelude.{◌==◌, if◌then◌else◌}
+use Rattle.std.proofs.lemmas.Bool.{eq-eqb, eqb-true}
+use Rattle.ant_base.specs.Sink.{PushedAll, PushedFront, SinkState}
+use Rattle.ant_base.proofs.Pushes.{all_of_nothing, all_then, front_more, front_then}
+use Rattle.ant_asm.specs.Labels.{LabelState, Outline, labels_text}
+use Rattle.ant_asm.specs.Labels.Outline.{Closed}
+use Rattle.ant_asm.specs.Inner.Outlines.{outline_size, state_at}
+use Rattle.ant_asm.proofs.LabelTexts.{labels_text-append}
+
+-- some labels were told; those of the lines that are left, the first of whose instructions has this number, are the others
+pub record AreTold (tell : Outline → ℕ → List LabelState) (all : List LabelState) (end : ℕ) (rest : Outline) (at : ℕ) (old new : SinkState) : Type 0 where
+  pub told : List LabelState
+  pub pushed : PushedAll old new (labels_text told)
+  pub left : told ++ tell rest at ≡ all
+  pub ends : at + outline_size rest ≡ end
+
+module _ (tell : Outline → ℕ → List LabelState) where
+  pub told-none : (rest : Outline) (at end : ℕ) (state : SinkState) → at + outline_size rest ≡ end → AreTold tell (tell rest at) end rest at state state
+  told-none rest at end state ends = record { told = []; pushed = all_of_nothing state; left = refl; ends = ends }
+
+  -- some more
+  pub told-more : (all more : List LabelState) (end at next : ℕ) (rest later : Outline) (old mid new : SinkState) → AreTold tell all end rest at old mid → PushedAll mid new (labels_text more) →
+      tell rest at ≡ more ++ tell later next → next + outline_size later ≡ end → AreTold tell all end later next old new
+  told-more all more end at next rest later old mid new before pushed split ends = record {
+    told = before.told ++ more;
+    pushed = subst (PushedAll old new) (sym (labels_text-append before.told more)) (all_then old mid new (labels_text before.told) (labels_text more) before.pushed pushed);
+    left = append_assoc before.told more (tell later next) ∙ ap (λ (l : List LabelState). before.told ++ l) (sym split) ∙ before.left;
+    ends = ends;
+  }
+
+  -- a prefix of some more
+  pub told-front : (all more others : List LabelState) (end at : ℕ) (rest : Outline) (old mid new : SinkState) → AreTold tell all end rest at old mid → PushedFront mid new (labels_text more) →
+      tell rest at ≡ more ++ others → PushedFront old new (labels_text all)
+  told-front all more others end at rest old mid new before pushed split =
+      subst (PushedFront old new)
+      (ap (λ (t : List ℕ). labels_text before.told ++ t) (sym (labels_text-append more others) ∙ ap labels_text (sym split)) ∙ sym (labels_text-append before.told (tell rest at)) ∙ ap labels_text before.left)
+      (front_then old mid new (labels_text before.told) (labels_text more ++ labels_text others) before.pushed (front_more mid new (labels_text more) (labels_text others) pushed))
+
+  -- nothing is left
+  pub told-all : (all : List LabelState) (end at : ℕ) (old new : SinkState) → AreTold tell all end Closed at old new → tell Closed at ≡ [] → PushedAll old new (labels_text all)
+  told-all all end at old new before none =
+      subst (λ (l : List LabelState). PushedAll old new (labels_text l)) (sym (append-nil before.told) ∙ ap (λ (l : List LabelState). before.told ++ l) (sym none) ∙ before.left) before.pushed
+
+-- the state of what is numbered so
+pub state-is : (at end after left : ℕ) → at + left ≡ end → (if at == end then after else at) ≡ state_at left at after
+state-is at end after left sum = ap (λ (b : Bool). if b then after else at) (same (at == end) (left == 0) refl refl)
+  where
+    same : (a b : Bool) → (at == end) ≡ a → (left == 0) ≡ b → a ≡ b
+    same true true first second = refl
+    same false false first second = refl
+    same true false first second =
+        let e : at ≡ end = eqb-true at end first in let z : left ≡ 0 = omega (arith, e, sum) in let never : true ≡ false = sym (eq-eqb left 0 z) ∙ second in absurd (cc)
+    same false true first second =
+        let z : left ≡ 0 = eqb-true left 0 second in let e : at ≡ end = omega (arith, z, sum) in let never : true ≡ false = sym (eq-eqb at end e) ∙ first in absurd (cc)

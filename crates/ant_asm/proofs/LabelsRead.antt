@@ -1,0 +1,48 @@
+-- What was read of a program is its labels.
+use Rattle.std.proofs.Common.{◌≡◌, ℕ, List, [], sym, ap, ap₂, ◌∙◌, arith}
+use Rattle.line_tokens.specs.TokenLines.{lines_with_tokens}
+use Rattle.ant_asm.specs.declared.body.Body.{Body}
+use Rattle.ant_asm.specs.declared.fault.AsmFault.{AsmFault}
+use Rattle.ant_asm.specs.declared.named.NamedBody.{NamedBody}
+use Rattle.ant_asm.specs.Program.{Items, size_of}
+use Rattle.ant_asm.specs.Text.{IsAsmFault}
+use Rattle.ant_asm.specs.Labels.{AreLabelsOf, LabelState, Outline, labels_of, outline_of}
+use Rattle.ant_asm.specs.Inner.Flat.{tree_at}
+use Rattle.ant_asm.specs.Inner.Outlines.{AreListed, AreOutlinesOf, all_states, lines_said, listed, main_of, outline_at, outline_size}
+use Rattle.ant_asm.specs.Inner.ProgramView.{AreBodiesOf, last_of}
+use Rattle.ant_asm.proofs.Expansion.{main-few, main-some}
+use Rattle.ant_asm.proofs.LabelStates.{labels-are}
+use Rattle.ant_asm.proofs.LineLemmas.{lines_decide}
+use Rattle.ant_asm.proofs.OutlineFits.{Fits, fits-size, one-said, text-fits, text-said}
+use Rattle.ant_asm.proofs.TextLemmas.{never_both, one_program}
+
+module _ (text : List ℕ) (bodies : List Body) (named : List NamedBody) (are : AreBodiesOf text bodies) (outlines : AreOutlinesOf (lines_said text) named) where
+  abbrev main : Items
+  main = tree_at bodies (last_of bodies)
+
+  fits : Fits (outline_of (lines_said text)) main
+  fits = text-fits text main are.main
+
+  pub are-listed : AreListed named
+  are-listed = record {
+    good = outlines.good;
+    some = outlines.some;
+    few = let size : outline_size (outline_at named (main_of named)) ≡ size_of main = ap outline_size outlines.main ∙ fits-size (outline_of (lines_said text)) main fits in let few = main-few text bodies are in omega (arith, size, few);
+  }
+
+  pub labels-read : AreLabelsOf text (listed named)
+  labels-read = record {
+    main = main;
+    is = are.main;
+    lines = lines_said text;
+    said = text-said text main are.main;
+    are = ap (λ (o : Outline). all_states o 0 0 []) outlines.main ∙ sym (labels-are main (outline_of (lines_said text)) fits (main-some text bodies are));
+  }
+
+-- a program has one list of labels
+pub one-labels : (text : List ℕ) (a b : List LabelState) → AreLabelsOf text a → AreLabelsOf text b → a ≡ b
+one-labels text a b first second =
+    first.are ∙ ap₂ labels_of (one_program lines_decide text first.main second.main first.is second.is) (one-said (lines_with_tokens text) first.lines second.lines first.said second.said) ∙ sym second.are
+
+pub labels-fault : (text : List ℕ) (labels : List LabelState) → AreLabelsOf text labels → (fault : AsmFault) → IsAsmFault text fault → ⊥
+labels-fault text labels are fault wrong = never_both lines_decide text are.main fault are.is wrong

@@ -1,0 +1,37 @@
+-- The labels of a worked program, by computation.
+use Rattle.std.proofs.Common.{◌≡◌, ℕ, suc, List, [], ◌∷◌, refl}
+use Rattle.std.specs.Prelude.{codes}
+use Rattle.std.specs.Fmt.{digits}
+use Rattle.hex_geometry.specs.declared.direction.Side.TheVariants.{Left}
+use Rattle.ant_asm.specs.declared.action.Action.TheVariants.{Drop, Turn}
+use Rattle.ant_asm.specs.Names.Named.{NextWord, Name}
+use Rattle.ant_asm.specs.Lines.{Line}
+use Rattle.ant_asm.specs.Lines.Line.{Marks, Begins, Ends, Uses, Instructs}
+use Rattle.ant_asm.specs.Places.{beginning}
+use Rattle.ant_asm.specs.Standing.{Standing, below, items_of, nothing_yet}
+use Rattle.ant_asm.specs.Labels.{NumberedLine, labels_of, labels_text}
+use Rattle.ant_asm.specs.Labels.NumberedLine.{At}
+
+-- what stands below the lines
+abbrev below_lines : Standing → List NumberedLine → Standing
+below_lines standing [] = standing
+below_lines standing (At number line ∷ lines) = below_lines (below standing number line) lines
+
+-- the lines of these that have a token are numbered from this on
+abbrev numbered_from : ℕ → List Line → List NumberedLine
+numbered_from number [] = []
+numbered_from number (line ∷ lines) = At number line ∷ numbered_from (suc number) lines
+
+-- block left on / turn: / Turn Left on / end / block half on / use left next / mid: / use left on / last: / end / block idle / idle: / Drop idle / end /
+-- start: / use half next / use half start / stop:
+abbrev nested : List NumberedLine
+nested = numbered_from 1
+    (Begins (codes "left") (codes "on" ∷ []) ∷ Marks (codes "turn") ∷ Instructs (Turn Left (Name (codes "on"))) ∷ Ends
+    ∷ Begins (codes "half") (codes "on" ∷ []) ∷ Uses (codes "left") (NextWord ∷ []) ∷ Marks (codes "mid") ∷ Uses (codes "left") (Name (codes "on") ∷ []) ∷ Marks (codes "last") ∷ Ends
+    ∷ Begins (codes "idle") [] ∷ Marks (codes "idle") ∷ Instructs (Drop (Name (codes "idle"))) ∷ Ends
+    ∷ Marks (codes "start") ∷ Uses (codes "half") (NextWord ∷ []) ∷ Uses (codes "half") (Name (codes "start") ∷ []) ∷ Marks (codes "stop") ∷ [])
+
+worked_labels : labels_text (labels_of (items_of (below_lines nothing_yet nested).main) nested)
+    ≡ codes "0 start\n0 stop\n1 half@16/mid\n2 half@16/last\n0 half@16/left@6/turn\n1 half@16/left@8/turn\n3 half@17/mid\n0 half@17/last\n2 half@17/left@6/turn\n3 half@17/left@8/turn\n"
+unfolding beginning digits
+worked_labels = refl

@@ -1,0 +1,21 @@
+use Rattle.std.proofs.Common.{refl}
+use Rattle.ant_asm.specs.declared.named.NamedLine.{NamedLine}
+use Rattle.ant_asm.specs.Lines.Line.{Instructs}
+use Rattle.ant_asm.specs.Labels.NumberedLine.{At}
+use Rattle.ant_asm.specs.Inner.Outlines.{blocks_named, outlines_of}
+use Rattle.ant_asm.proofs.OnAnswers.{on_both, on_ok}
+use Rattle.ant_asm.proofs.OutlineLemmas.{good-push}
+use Rattle.ant_asm.proofs.OutlineReading.{add-on, current-good}
+use Rattle.ant_asm.proofs.outline.Outlines.instruct.Goals as goal
+
+pub returns-clause-good : goal.returns-clause-good
+returns-clause-good c =
+    let o = c.args.self.now in
+    on_both c.add.result c.add.ensures.lines c.add.ensures.size (λ lines size.
+    current-good o c.add.new.self c.requires.good (good-push (outlines_of o.bodies.items) o.current c.add.new.self NamedLine.Instruction 1 c.requires.good.current lines size tt (λ few. refl)))
+
+pub returns-clause-on : goal.returns-clause-on
+returns-clause-on c = λ number action lines.
+    let o = c.args.self.now in
+    on_ok c.add.result c.add.ensures.lines (λ is.
+    add-on o.bodies.items o.current c.add.new.self (blocks_named o.bodies.items o.blocks.entries) NamedLine.Instruction (At number (Instructs action)) lines o.around is refl (λ named. refl) refl)

@@ -1,0 +1,151 @@
+// The labels of a program, and the states that they became.
+ghost use Rattle.std.specs.Prelude.{◌≡◌, ◌==◌, ◌+◌, ◌≤◌, ◌<◌, List, [], length, IfOk, IfErr, if◌then◌else◌};
+ghost use Rattle.ant_base.specs.Shelf.{longest};
+ghost use Rattle.ant_base.specs.Sink.{Pushed};
+ghost use Rattle.ant_asm.specs.Answers.{AnswersFault, AnswersLabels, IsFaultOf};
+ghost use Rattle.ant_asm.specs.Labels.{AreLabelsOf, LabelState, labels_text};
+ghost use Rattle.ant_asm.specs.Text.{IsAsmFault};
+ghost use Rattle.ant_asm.specs.Inner.Flat.{most};
+ghost use Rattle.ant_asm.specs.Inner.Outlines.{AreGoodNamed, all_states, label_of, outline_at, outline_size, own_states};
+ghost use Rattle.ant_asm.specs.Inner.Ways.{steps_of};
+
+use crate::fault::AsmFault;
+use crate::named::{NamedBody, NamedLine, size_of};
+use crate::outline::read_outlines;
+use crate::program::read_bodies;
+use crate::way::{Name, Way};
+use ant_base::{Failed, Layout, Sink, layout};
+use std::alloc::Global;
+use std::marker::Model;
+
+/// The labels of a labelled program, of each body that is put in place, each with the uses on the way to its body and the state to which it
+/// leads (this project's own). Contracts see the list of them, in the order in which they are told; only the names in the text's lines are
+/// kept, however many labels that makes.
+#[derive(Drop)]
+pub struct Labels {
+    bodies: Vec<NamedBody>,
+}
+
+impl Model for Labels {
+    ghost use Rattle.std.specs.Prelude.{List};
+    ghost use Rattle.ant_asm.specs.Labels.{LabelState};
+    ghost use Rattle.ant_asm.specs.Inner.Outlines.{AreListed, listed};
+
+    ghost Value = { List LabelState };
+
+    ghost view = { λ labels. listed labels.bodies.items };
+
+    ghost invariant = { λ labels. AreListed labels.bodies.items };
+}
+
+/// The labels of a labelled program of at most 4,194,304 bytes, or the text's fault, which is the one that `assemble` answers.
+/// `OutOfMemory` may be answered at any text; every other answer follows from the text alone.
+pub fn read_labels(alloc: Global, text: &[u8]) -> Result<Labels, AsmFault>
+    requires { length text.now ≤ longest }
+    ensures labels { IfOk result (AreLabelsOf text.now) }
+    ensures fault { IfErr result (λ fault. IsFaultOf text.now fault) }
+    ensures every_labels { (labels : List LabelState) → AreLabelsOf text.now labels → AnswersLabels result labels }
+    ensures every_fault { (fault : AsmFault) → IsAsmFault text.now fault → AnswersFault result fault }
+{
+    let _program = read_bodies(alloc, text)?;
+    let bodies = read_outlines(alloc, text)?;
+    Ok(Labels { bodies })
+}
+
+/// A line for each label, in order: the state, the uses on the way to its body, each with the name of its block, `@`, its line and `/`, and
+/// the label's name, as `40 carry` or `13 step@90/turn@14/again`. Lines are pushed one by one, and it takes no memory.
+impl Layout for Labels {
+    ghost use Rattle.ant_asm.specs.Labels.{labels_text};
+
+    ghost text = { labels_text };
+
+    fn push_to<K: Sink>(&self, sink: &mut K) -> Result<(), Failed> {
+        push_body(&self.bodies, self.bodies.len() - 1, 0, 0, &Way::Main, sink)
+    }
+}
+
+// The number to which a label leads that stands at this number, in a body that ends at that one.
+fn state_from(at: u16, end: u16, after: u16) -> u16
+    ensures { result ≡ (if at == end then after else at) }
+{
+    if at == end { after } else { at }
+}
+
+// The labels of the body of this number itself, by the number of its first instruction and that of what follows it.
+fn push_own<K: Sink>(
+    bodies: &[NamedBody],
+    number: usize,
+    base: u16,
+    after: u16,
+    way: &Way,
+    sink: &mut K,
+) -> Result<(), Failed>
+    requires good { AreGoodNamed [] bodies.now }
+    requires known { number < length bodies.now }
+    requires fits { base + outline_size (outline_at bodies.now number) ≤ most }
+    ensures { Pushed (K.state sink.old) (K.state sink.new) (labels_text (own_states (outline_at bodies.now number) base after (steps_of way.now))) result }
+{
+    let body = &bodies[number];
+    let end = base + body.size;
+    let mut at = base;
+    for line in &body.lines {
+        push_label(line, state_from(at, end, after), way, sink)?;
+        at += size_of(bodies, line);
+    }
+    Ok(())
+}
+
+// The label of a line, if it is one.
+fn push_label<K: Sink>(line: &NamedLine, state: u16, way: &Way, sink: &mut K) -> Result<(), Failed>
+    ensures { Pushed (K.state sink.old) (K.state sink.new) (labels_text (label_of line.now state (steps_of way.now))) result }
+{
+    match line {
+        NamedLine::Label(name) => layout!(state, " ", *way, Name(name), "\n").push_to(sink),
+        NamedLine::Instruction => Ok(()),
+        NamedLine::Use { .. } => Ok(()),
+    }
+}
+
+// The labels of a body, and then those of the blocks that it puts in place.
+fn push_body<K: Sink>(
+    bodies: &[NamedBody],
+    number: usize,
+    base: u16,
+    after: u16,
+    way: &Way,
+    sink: &mut K,
+) -> Result<(), Failed>
+    requires good { AreGoodNamed [] bodies.now }
+    requires known { number < length bodies.now }
+    requires fits { base + outline_size (outline_at bodies.now number) ≤ most }
+    ensures { Pushed (K.state sink.old) (K.state sink.new) (labels_text (all_states (outline_at bodies.now number) base after (steps_of way.now))) result }
+{
+    push_own(bodies, number, base, after, way, sink)?;
+    let body = &bodies[number];
+    let end = base + body.size;
+    let mut next = base;
+    for line in &body.lines {
+        let at = next;
+        next = at + size_of(bodies, line);
+        match line {
+            NamedLine::Label(_) => {}
+            NamedLine::Instruction => {}
+            NamedLine::Use { line, name, block } => {
+                let through = Way::Through {
+                    outer: &*way,
+                    name,
+                    line: *line,
+                };
+                push_body(
+                    bodies,
+                    *block,
+                    at,
+                    state_from(next, end, after),
+                    &through,
+                    sink,
+                )?;
+            }
+        }
+    }
+    Ok(())
+}

@@ -1,0 +1,78 @@
+// What no clause says: that a fault is displayed, the longest too.
+use ant_asm::AsmFault;
+use ant_base::{Failed, FetchFault, OutOfMemory};
+use brain_read::BrainFault;
+use line_tokens::{LineFault, Refusal};
+use match_run::PlayFault;
+use match_save::SaveFault;
+use std::alloc::Global;
+use std::fmt;
+use world_gen::GenFault;
+use world_read::WorldFault;
+
+// Whether a fault is displayed so.
+fn says<F: fmt::Display>(alloc: Global, fault: &F, text: &str) -> bool {
+    match format!(in alloc; "{fault}") {
+        Ok(shown) => shown.as_str() == text,
+        Err(_) => false,
+    }
+}
+
+const LAST_STATE: BrainFault = BrainFault::NoSuchState {
+    line: 4294967295,
+    state: 18446744073709551615,
+};
+
+const LAST_CELL: WorldFault = WorldFault::BadCell {
+    row: 511,
+    column: 65535,
+};
+
+#[test]
+fn faults_are_displayed(rt: HostRuntime) {
+    let alloc = rt.alloc();
+    let low = [
+        says(alloc, &FetchFault::Failed, "not read"),
+        says(alloc, &FetchFault::TooLong, "too long"),
+        says(alloc, &Failed, "output failed"),
+        says(alloc, &OutOfMemory, "out of memory"),
+        says(alloc, &PlayFault::WriteFault, "output failed"),
+        says(
+            alloc,
+            &GenFault::NoRoom { element: 13 },
+            "no room for element 13",
+        ),
+    ];
+    assert_eq!(rt; low, [true; 6]);
+}
+
+#[test]
+fn faults_of_texts_are_displayed(rt: HostRuntime) {
+    let alloc = rt.alloc();
+    let token = Refusal {
+        fault: LineFault::BadNumber,
+        bad_byte: true,
+    };
+    let texts = [
+        says(alloc, &LAST_CELL, "row 511: bad cell at column 65535"),
+        says(
+            alloc,
+            &WorldFault::OpenRim { x: 2, y: 0 },
+            "rim open at (2, 0)",
+        ),
+        says(
+            alloc,
+            &LAST_STATE,
+            "line 4294967295: no such state 18446744073709551615",
+        ),
+        says(alloc, &token, "bad byte"),
+        says(alloc, &token.fault, "bad number"),
+        says(
+            alloc,
+            &AsmFault::WrongCount { line: 7 },
+            "line 7: wrong number of labels",
+        ),
+        says(alloc, &SaveFault::BadLine { line: 3 }, "line 3: not a save"),
+    ];
+    assert_eq!(rt; texts, [true; 7]);
+}
