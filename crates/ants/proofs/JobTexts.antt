@@ -9,11 +9,13 @@ use Rattle.brain_minimise.proofs.Uniqueness.{one_minimised}
 use Rattle.brain_minimise.specs.Text.{minimised_text}
 use Rattle.brain_read.proofs.SoundnessLemmas.{brain_of}
 use Rattle.brain_read.specs.declared.instr.Instr.{Instr}
+use Rattle.brain_same.proofs.SameLaws.{one_comparison}
+use Rattle.brain_same.specs.Text.{comparison_text}
 use Rattle.break_view.proofs.ViewLaws.{one_first_stop}
 use Rattle.break_view.specs.Texts.{view_of}
 use Rattle.cell_world.specs.Grid.{Grid, world_of}
 use Rattle.command_words.specs.Command.{CupWithin, ResumeSetup, RunSetup, ShapeWithin}
-use Rattle.command_words.specs.Command.PlainCommand.{ShowCommand, BrainCommand, MinimiseCommand, RunCommand, GenCommand, CupCommand, ViewCommand, WorkloadCommand, HelpCommand, VersionCommand, AsmCommand, SaveCommand, ResumeCommand}
+use Rattle.command_words.specs.Command.PlainCommand.{ShowCommand, BrainCommand, MinimiseCommand, RunCommand, GenCommand, CupCommand, ViewCommand, WorkloadCommand, HelpCommand, VersionCommand, AsmCommand, SaveCommand, ResumeCommand, TraceCommand, SameCommand}
 use Rattle.command_words.specs.declared.command.GenShape.{GenShape}
 use Rattle.match_run.specs.Counts.{whole_text}
 use Rattle.match_save.specs.Saved.{SavedValue}
@@ -29,11 +31,11 @@ use Rattle.world_read.specs.Canonical.{canonical_text}
 use Rattle.world_read.specs.Opened.{kinds_of}
 use Rattle.ants.specs.Files.{AreAccepted, FileContent}
 use Rattle.ants.specs.Help.{help_text, version_text}
-use Rattle.ants.specs.Outputs.{IsCupOutput, IsViewOutput, ReadCup, ReadGame, ReadProgram, ReadView, Tells, TellsGenerated, TellsMinimised, TellsWorkload, brain_contents, brain_file, contest_shape, roster_contents, cup_files, game_contents, is_text_of, labelled_file, match_output, program_contents, resume_output, save_output, score_between, shape_named, show_output, summary_of, workload_text}
+use Rattle.ants.specs.Outputs.{IsCupOutput, IsViewOutput, ReadCup, ReadGame, ReadPair, ReadProgram, ReadView, Tells, TellsGenerated, TellsMinimised, TellsSame, TellsWorkload, brain_contents, brain_file, contest_shape, roster_contents, cup_files, game_contents, is_text_of, labelled_file, match_output, program_contents, resume_output, save_output, score_between, shape_named, show_output, summary_of, trace_output, workload_text}
 use Rattle.ants.specs.Laws.{HasOutput, OneText, TextsEndInLf, WindowsChangeCountsAlone, WorkersChangeNothing}
 use Rattle.ants.proofs.Cups.{players_counted}
-use Rattle.ants.proofs.ReadContents.{has_text_of, has_told, one_text_of, one_told, read_brain, read_cup, read_game, read_none, read_program, read_save, read_view, read_world}
-use Rattle.ants.proofs.TextEnds.{EndsInLf, lf_brain, lf_canonical, lf_help, lf_match, lf_minimised, lf_rest, lf_save, lf_show, lf_standing, lf_version, lf_view, lf_workload}
+use Rattle.ants.proofs.ReadContents.{has_text_of, has_told, one_text_of, one_told, read_brain, read_cup, read_game, read_none, read_pair, read_program, read_save, read_view, read_world}
+use Rattle.ants.proofs.TextEnds.{EndsInLf, lf_brain, lf_canonical, lf_comparison, lf_help, lf_match, lf_minimised, lf_rest, lf_save, lf_show, lf_standing, lf_trace, lf_version, lf_view, lf_workload}
 use Rattle.ants.proofs.Viewed.{view_of-view}
 
 -- what is told ends in LF
@@ -73,6 +75,8 @@ texts_end_in_lf (AsmCommand file) fetches contents text within are is =
     ends is.told (lf_brain is.value.brain (program-some file fetches is.value (subst (AreAccepted (labelled_file file ∷ []) fetches) is.read are)))
 texts_end_in_lf (SaveCommand world red black setup) fetches contents text within are is = ends is.told (lf_save setup is.value)
 texts_end_in_lf (ResumeCommand save setup) fetches contents text within are is = ends is.told (lf_rest setup is.value)
+texts_end_in_lf (TraceCommand world red black id setup) fetches contents text within are is = ends is.told (lf_trace id setup is.value)
+texts_end_in_lf (SameCommand first second) fetches contents text within are is = ends is.told.told (lf_comparison is.told.comparison)
 
 -- what is told of one value is one text
 one-minimised : (list : List Instr) (text other : List ℕ) → TellsMinimised list text → TellsMinimised list other → text ≡ other
@@ -96,6 +100,9 @@ one-workload : (seed rounds : ℕ) (text other : List ℕ) → TellsWorkload see
 one-workload seed rounds text other a b =
     a.told ∙ ap (λ (w : Grid). workload_text seed rounds (summary_of seed rounds (world_of w))) (one_outcome.world seed contest_shape a.world b.world a.generated b.generated) ∙ sym b.told
 
+one-same : (pair : ReadPair) (text other : List ℕ) → TellsSame pair text → TellsSame pair other → text ≡ other
+one-same pair text other a b = a.told ∙ ap comparison_text (one_comparison pair.first pair.second a.comparison b.comparison a.is b.is) ∙ sym b.told
+
 pub one_text : OneText
 one_text (ShowCommand world seed) contents text other a b = one_text_of (read_world world) (show_output seed) contents text other a b
 one_text (BrainCommand file) contents text other a b = one_told (read_brain file) contents text other (λ list x y. x ∙ sym y) a b
@@ -109,6 +116,8 @@ one_text HelpCommand contents text other a b = a.told ∙ sym b.told
 one_text VersionCommand contents text other a b = a.told ∙ sym b.told
 one_text (AsmCommand file) contents text other a b = one_told (read_program file) contents text other (λ program x y. x ∙ sym y) a b
 one_text (SaveCommand world red black setup) contents text other a b = one_text_of (read_game world red black) (save_output setup) contents text other a b
+one_text (TraceCommand world red black id setup) contents text other a b = one_text_of (read_game world red black) (trace_output id setup) contents text other a b
+one_text (SameCommand first second) contents text other a b = one_told (read_pair first second) contents text other (λ pair. one-same pair text other) a b
 one_text (ResumeCommand save setup) contents text other a b = one_text_of (read_save save setup.rounds) (resume_output setup) contents text other a b
 
 -- what is told of each value is told
@@ -149,20 +158,22 @@ has-workload seed rounds room =
     (workload_text seed rounds (summary_of seed rounds (world_of world.0)), record { world = world.0; generated = world.1; told = refl })
 
 pub has_output : HasOutput
-has_output (ShowCommand world seed) fetches contents within are room = has_text_of (read_world world) (show_output seed) fetches contents are
-has_output (BrainCommand file) fetches contents within are room = has_told (read_brain file) fetches contents are (λ list accepted. (_, refl))
-has_output (MinimiseCommand file) fetches contents within are room = has_told (read_brain file) fetches contents are (λ list accepted. has-minimised file fetches list accepted)
-has_output (RunCommand world red black setup) fetches contents within are room = has_text_of (read_game world red black) (match_output setup) fetches contents are
-has_output (GenCommand seed shape) fetches contents within are room =
+has_output (ShowCommand world seed) fetches contents by_law within are room = has_text_of (read_world world) (show_output seed) fetches contents are
+has_output (BrainCommand file) fetches contents by_law within are room = has_told (read_brain file) fetches contents are (λ list accepted. (_, refl))
+has_output (MinimiseCommand file) fetches contents by_law within are room = has_told (read_brain file) fetches contents are (λ list accepted. has-minimised file fetches list accepted)
+has_output (RunCommand world red black setup) fetches contents by_law within are room = has_text_of (read_game world red black) (match_output setup) fetches contents are
+has_output (GenCommand seed shape) fetches contents by_law within are room =
     has_told read_none fetches contents are (λ nothing accepted. has-generated seed (shape_named shape) (is_shape_named shape within.1) room)
-has_output (CupCommand worlds brains seed rounds workers) fetches contents within are room = has_told (read_cup worlds brains) fetches contents are (λ cup accepted. has-cup brains seed rounds cup)
-has_output (ViewCommand world red black breaks seed rounds) fetches contents within are room = has_told (read_view world red black breaks) fetches contents are (λ view accepted. has-view seed rounds view)
-has_output (WorkloadCommand seed rounds workers) fetches contents within are room = has_told read_none fetches contents are (λ nothing accepted. has-workload seed rounds room)
-has_output HelpCommand fetches contents within are room = has_told read_none fetches contents are (λ nothing accepted. (help_text, refl))
-has_output VersionCommand fetches contents within are room = has_told read_none fetches contents are (λ nothing accepted. (version_text, refl))
-has_output (AsmCommand file) fetches contents within are room = has_told (read_program file) fetches contents are (λ program accepted. (_, refl))
-has_output (SaveCommand world red black setup) fetches contents within are room = has_text_of (read_game world red black) (save_output setup) fetches contents are
-has_output (ResumeCommand save setup) fetches contents within are room = has_text_of (read_save save setup.rounds) (resume_output setup) fetches contents are
+has_output (CupCommand worlds brains seed rounds workers) fetches contents by_law within are room = has_told (read_cup worlds brains) fetches contents are (λ cup accepted. has-cup brains seed rounds cup)
+has_output (ViewCommand world red black breaks seed rounds) fetches contents by_law within are room = has_told (read_view world red black breaks) fetches contents are (λ view accepted. has-view seed rounds view)
+has_output (WorkloadCommand seed rounds workers) fetches contents by_law within are room = has_told read_none fetches contents are (λ nothing accepted. has-workload seed rounds room)
+has_output HelpCommand fetches contents by_law within are room = has_told read_none fetches contents are (λ nothing accepted. (help_text, refl))
+has_output VersionCommand fetches contents by_law within are room = has_told read_none fetches contents are (λ nothing accepted. (version_text, refl))
+has_output (AsmCommand file) fetches contents by_law within are room = has_told (read_program file) fetches contents are (λ program accepted. (_, refl))
+has_output (SaveCommand world red black setup) fetches contents by_law within are room = has_text_of (read_game world red black) (save_output setup) fetches contents are
+has_output (ResumeCommand save setup) fetches contents by_law within are room = has_text_of (read_save save setup.rounds) (resume_output setup) fetches contents are
+has_output (TraceCommand world red black id setup) fetches contents by_law within are room = has_text_of (read_game world red black) (trace_output id setup) fetches contents are
+has_output (SameCommand first second) fetches contents by_law within are room = absurd by_law
 
 -- a game's text is that of another setup where each game's is
 other_game : (setup other : RunSetup) (contents : List FileContent) (text : List ℕ) → ((game : ReadGame) → match_output setup game ≡ match_output other game)

@@ -7,7 +7,7 @@ use Rattle.cell_world.specs.Grid.{Grid}
 use Rattle.match_save.specs.Saved.{SavedValue}
 use Rattle.ants.specs.Files.{AreAccepted, File, FileContent, IsAccepted}
 use Rattle.ants.specs.Files.FileContent.{BrainContent, BreakContent, WorldContent, LabelledContent, SaveContent}
-use Rattle.ants.specs.Outputs.{ReadCup, ReadGame, ReadProgram, ReadView, Tells, brain_contents, brain_file, break_file, roster_contents, cup_files, game_contents, game_files, is_text_of, labelled_file, no_contents, program_contents, save_contents, save_file, view_contents, world_contents, world_file}
+use Rattle.ants.specs.Outputs.{ReadCup, ReadGame, ReadPair, ReadProgram, ReadView, Tells, brain_contents, brain_file, break_file, roster_contents, cup_files, game_contents, game_files, is_text_of, labelled_file, no_contents, pair_contents, program_contents, save_contents, save_file, view_contents, world_contents, world_file}
 
 -- accepted files are read as one value
 pub record IsReading {A : Type 0} (files : List File) (contents_of : A → List FileContent) : Type 0 where
@@ -89,6 +89,23 @@ read_brain name = record {
       let it = first (brain_file name) [] fetches contents are in
       let list = brain-read name it.fetch it.content it.first in
       (list.0, alone (brain_file name) contents (BrainContent list.0) it list.1);
+}
+
+same_pair : (a b : ReadPair) → a.first ≡ b.first → a.second ≡ b.second → a ≡ b
+same_pair a b firsts seconds = λ i. record { first = firsts i; second = seconds i }
+
+pub read_pair : (one two : List ℕ) → IsReading (brain_file one ∷ brain_file two ∷ []) pair_contents
+read_pair one two = record {
+  one = λ a b same. (let firsts : a.first ≡ b.first = cc in let seconds : a.second ≡ b.second = cc in same_pair a b firsts seconds);
+  reads = λ fetches contents are.
+      let a = first (brain_file one) (brain_file two ∷ []) fetches contents are in
+      let b = first (brain_file two) [] a.fetches a.more a.others in
+      let x = brain-read one a.fetch a.content a.first in
+      let y = brain-read two b.fetch b.content b.first in (
+        record { first = x.0; second = y.0 },
+        a.whole ∙ ap (λ (c : FileContent). c ∷ a.more) x.1
+            ∙ ap (λ (more : List FileContent). BrainContent x.0 ∷ more) (alone (brain_file two) a.more (BrainContent y.0) b y.1),
+      );
 }
 
 same_program : (a b : ReadProgram) → a.brain ≡ b.brain → a.places ≡ b.places → a ≡ b

@@ -4,27 +4,34 @@ use Rattle.std.proofs.lemmas.Bool.{false≢true}
 use Rattle.std.proofs.lemmas.List.{length-map}
 use Rattle.std.proofs.lemmas.List.Sorted.{length_permutation}
 use Rattle.std.specs.List.{flat_map}
-use Rattle.std.specs.Prelude.{◌-◌, ◌*◌, ◌%◌, ◌==◌, codes, decimal, slice_index_or}
+use Rattle.std.specs.Prelude.{◌-◌, ◌*◌, ◌%◌, ◌==◌, codes, cond, decimal, nat_lt, slice_index_or}
 use Rattle.ant_base.proofs.Numbered.{numbered-list}
 use Rattle.ant_base.proofs.Pushes.{ends_in_lf-append}
 use Rattle.ant_base.specs.Layout.{numbered, ◌+++◌}
 use Rattle.ant_base.specs.Lines.{ends_in_lf}
+use Rattle.ant_trace.specs.Trace.{lives_in_first, told_line, trace_text, unmade_text, way_line, way_text}
+use Rattle.ant_turn.specs.Minds.{Minds}
 use Rattle.ant_turn.specs.Rounds.{after_rounds, start_of}
 use Rattle.brain_minimise.specs.Text.{minimised_text}
 use Rattle.brain_read.specs.Canonical.{brain_text, instruction_text}
 use Rattle.brain_read.specs.Forms.{fields_of}
 use Rattle.brain_read.specs.declared.instr.Instr.{Instr}
+use Rattle.brain_same.specs.Text.{comparison_text, found_text}
+use Rattle.brain_same.specs.declared.comparison.Comparison.{Comparison}
+use Rattle.brain_same.specs.declared.comparison.Comparison.TheVariants.{Same, Different}
+use Rattle.brain_same.specs.declared.comparison.Found.{Found}
 use Rattle.break_view.specs.Texts.{end_text, no_stop_line, stop_line, view_text}
 use Rattle.break_view.specs.declared.stop.Stop.{Stop}
 use Rattle.cell_world.specs.Grid.{Grid, world_of}
 use Rattle.cell_world.specs.Score.{score_of}
-use Rattle.cell_world.specs.World.{World}
+use Rattle.cell_world.specs.World.{World, place_in}
+use Rattle.hex_geometry.specs.declared.position.Pos.{Pos}
 use Rattle.cell_world.specs.declared.cell.Cell.{Cell}
 use Rattle.cell_world.specs.declared.kind.Kind.{Kind}
 use Rattle.cell_world.specs.declared.kind.Kind.TheVariants.{Rock}
 use Rattle.cell_world.specs.declared.score.Score.{Score}
-use Rattle.command_words.specs.Command.{ResumeSetup, RunSetup}
-use Rattle.dump_print.specs.Texts.{cell_line, cell_words, cells_text, dump_text, row_text, score_text, seed_text, stats_text}
+use Rattle.command_words.specs.Command.{ResumeSetup, RunSetup, TraceSetup}
+use Rattle.dump_print.specs.Texts.{cell_line, cell_words, cells_text, dump_text, row_text, score_text, seed_text, seed_words, stats_text}
 use Rattle.dump_print.specs.declared.totals.Totals.{Totals}
 use Rattle.line_tokens.specs.Fields.{LineField, field_text, further_text, line_text}
 use Rattle.match_run.specs.Counts.{counts_text, totals_of, whole_text, both}
@@ -44,7 +51,7 @@ use Rattle.world_read.specs.Bytes.{byte_of}
 use Rattle.world_read.specs.Canonical.{canonical_text, cell_text, line_of_row, space_if}
 use Rattle.ants.specs.declared.workload.Summary.{Summary}
 use Rattle.ants.specs.Help.{file_lines, game_lines, game_option_lines, head_lines, help_text, status_lines, version_text, world_option_lines}
-use Rattle.ants.specs.Outputs.{ReadGame, chosen_rounds, match_output, minds_named, resume_output, save_output, show_output, summary_lines, workload_text}
+use Rattle.ants.specs.Outputs.{ReadGame, traced_sheet, trace_output, chosen_rounds, match_output, minds_named, resume_output, save_output, show_output, summary_lines, workload_text}
 
 -- a text that ends in LF
 pub record EndsInLf (text : List ℕ) : Type 0 where
@@ -274,3 +281,48 @@ lf_standing names players worlds score lines some at =
     let each = length-map (below players) (line_of (all_played players worlds score)) in
     let all = length-below players in
     lf_flat_map (table_line_text names) lines (omega (arith, counted, each, all, some)) (lf_table_line names)
+
+-- the lines of an ant's way
+lf_way : (round : ℕ) (w : World) (place : Option Pos) → EndsInLf (way_line round w place)
+lf_way round w None = lf_last (codes "round ") (decimal round +++ codes ": dead\n") (lf_last (decimal round) (codes ": dead\n") (record { is = refl }))
+lf_way round w (Some p) =
+    let cell : List ℕ = cell_line p.x p.y (w.cells p) in
+    let after : List ℕ = codes ": " +++ cell in
+    lf_last (codes "round ") (decimal round +++ after) (lf_last (decimal round) after (lf_last (codes ": ") cell (lf_cell p.x p.y (w.cells p))))
+
+lines_told : (worlds : ℕ → World) (id from i : ℕ) → AreLines (told_line worlds id from i)
+unfolding told_line
+lines_told worlds id from i = go (lives_in_first worlds id i) where
+  go : (b : Bool) → AreLines (cond b (way_line (from + i) (worlds i) (place_in (worlds i) id)) [])
+  go true = inr (lf_way (from + i) (worlds i) (place_in (worlds i) id))
+  go false = inl refl
+
+lines_end : (unmade : Bool) (worlds : ℕ → World) (id from n : ℕ) → AreLines (cond unmade (way_text worlds id from n) (unmade_text id))
+unfolding way_text unmade_text
+lines_end true worlds id from n = lines_numbered (told_line worlds id from) n (lines_told worlds id from)
+lines_end false worlds id from n = inr (lf_last (codes "no ant of id ") (decimal id +++ codes "\n") (lf_last (decimal id) (codes "\n") lf_end))
+
+pub lf_trace : (id : ℕ) (setup : TraceSetup) (game : ReadGame) → EndsInLf (trace_output id setup game)
+unfolding trace_output trace_text seed_text
+lf_trace id setup game =
+    let minds : Minds = record { red = game.red; black = game.black; sheet = traced_sheet setup } in
+    let w : World = world_of game.world in
+    lf_then (seed_text setup.seed) _ (lf_last (seed_words setup.seed) (codes "\n") lf_end)
+    (lines_end (nat_lt id w.ids) (λ i. world_after minds setup.seed w (setup.from + i)) id setup.from (setup.rounds + 1 - setup.from))
+
+-- what two brains come to
+lf_found : (found : Found) → EndsInLf (found_text found)
+unfolding found_text
+lf_found found =
+    let line : List ℕ = instruction_text found.instruction in
+    lf_last (decimal found.state) (codes ": " +++ line) (lf_last (codes ": ") line (lf_instruction found.instruction))
+
+pub lf_comparison : (comparison : Comparison) → EndsInLf (comparison_text comparison)
+unfolding comparison_text
+lf_comparison Same = record { is = refl }
+lf_comparison (Different answers first second) =
+    let last : List ℕ = codes "second " +++ found_text second in
+    let one : List ℕ = found_text first +++ last in
+    let behind : List ℕ = codes " answers\nfirst " +++ one in
+    lf_last (codes "different after ") (decimal answers +++ behind) (lf_last (decimal answers) behind (lf_last (codes " answers\nfirst ") one
+    (lf_last (found_text first) last (lf_last (codes "second ") (found_text second) (lf_found second)))))

@@ -1,6 +1,7 @@
 -- What each command reads and writes: one equation a command.
 use Rattle.std.specs.Prelude.{◌≡◌, ℕ, Bool, true, false, List, [], ◌∷◌, ◌++◌, length, map, slice_index_or, codes, decimal, Option}
 use Rattle.ant_base.specs.Layout.{◌+++◌}
+use Rattle.ant_trace.specs.Trace.{trace_text}
 use Rattle.ant_turn.specs.Minds.{Minds, contest_minds}
 use Rattle.ant_turn.specs.Rounds.{start_of}
 use Rattle.ant_turn.specs.Sheet.{Sheet}
@@ -9,6 +10,9 @@ use Rattle.brain_minimise.specs.Text.{minimised_text}
 use Rattle.brain_read.specs.declared.instr.Instr.{Instr}
 use Rattle.brain_read.specs.Canonical.{brain_text}
 use Rattle.ant_asm.specs.Places.{Address}
+use Rattle.brain_same.specs.Difference.{IsComparison}
+use Rattle.brain_same.specs.Text.{comparison_text}
+use Rattle.brain_same.specs.declared.comparison.Comparison.{Comparison}
 use Rattle.break_view.specs.Texts.{IsViewText}
 use Rattle.break_view.specs.declared.breaks.Break.{Break}
 use Rattle.cell_world.specs.Grid.{Grid, world_of}
@@ -27,8 +31,8 @@ use Rattle.match_save.specs.Resumed.{rest_of}
 use Rattle.match_save.specs.Saved.{SavedValue, save_text}
 use Rattle.match_save.specs.Saves.{saved_after}
 use Rattle.dump_print.specs.Texts.{seed_text, dump_text, score_text, stats_text}
-use Rattle.command_words.specs.Command.{PlainCommand, ResumeSetup, RunSetup}
-use Rattle.command_words.specs.Command.PlainCommand.{ShowCommand, BrainCommand, MinimiseCommand, RunCommand, GenCommand, CupCommand, ViewCommand, WorkloadCommand, HelpCommand, VersionCommand, AsmCommand, SaveCommand, ResumeCommand}
+use Rattle.command_words.specs.Command.{PlainCommand, ResumeSetup, RunSetup, TraceSetup}
+use Rattle.command_words.specs.Command.PlainCommand.{ShowCommand, BrainCommand, MinimiseCommand, RunCommand, GenCommand, CupCommand, ViewCommand, WorkloadCommand, HelpCommand, VersionCommand, AsmCommand, SaveCommand, ResumeCommand, TraceCommand, SameCommand}
 use Rattle.tournament.specs.Text.{IsCupText}
 use Rattle.world_gen.specs.declared.shape.Shape.{Shape}
 use Rattle.world_gen.specs.Food.{food_on}
@@ -84,6 +88,8 @@ files_of VersionCommand = []
 files_of (AsmCommand file) = labelled_file file ∷ []
 files_of (SaveCommand world red black setup) = game_files world red black
 files_of (ResumeCommand save setup) = save_file save setup.rounds ∷ []
+files_of (TraceCommand world red black id setup) = game_files world red black
+files_of (SameCommand first second) = brain_file first ∷ brain_file second ∷ []
 
 -- what was read of the files of a game
 pub record ReadGame : Type 0 where
@@ -101,6 +107,11 @@ pub record ReadCup : Type 0 where
   pub worlds : List Grid
   pub players : List (List Instr)
 
+-- of two brains
+pub record ReadPair : Type 0 where
+  pub first : List Instr
+  pub second : List Instr
+
 -- of a labelled program
 pub record ReadProgram : Type 0 where
   pub brain : List Instr
@@ -115,6 +126,9 @@ world_contents grid = WorldContent grid ∷ []
 
 abbrev pub brain_contents : List Instr → List FileContent
 brain_contents list = BrainContent list ∷ []
+
+abbrev pub pair_contents : ReadPair → List FileContent
+pair_contents pair = BrainContent pair.first ∷ BrainContent pair.second ∷ []
 
 abbrev pub program_contents : ReadProgram → List FileContent
 program_contents program = LabelledContent program.brain program.places ∷ []
@@ -158,6 +172,10 @@ chosen_rounds (ChosenDumps numbers) round = has_round numbers round
 abbrev pub sheet_named : RunSetup → Sheet
 sheet_named setup = record { surround = setup.surround; corpse = setup.corpse; rest = setup.rest }
 
+-- the numbers of the rules that the words of a trace name
+abbrev pub traced_sheet : TraceSetup → Sheet
+traced_sheet setup = record { surround = setup.surround; corpse = setup.corpse; rest = setup.rest }
+
 -- both brains of a game, and the numbers of its rules
 abbrev pub minds_named : RunSetup → List Instr → List Instr → Minds
 minds_named setup red black = record { red = red; black = black; sheet = sheet_named setup }
@@ -174,6 +192,17 @@ save_output setup game = save_text (saved_after (minds_named setup game.red game
 -- the output of `resume`: the rest of a saved game's text
 unfoldable pub resume_output : ResumeSetup → SavedValue → List ℕ
 resume_output setup saved = rest_of saved setup.rounds (chosen_rounds setup.dumps) setup.stats
+
+-- the output of `trace`: the line of the seed, and the lines of one ant in the rounds from the first that is told to the last
+unfoldable pub trace_output : ℕ → TraceSetup → ReadGame → List ℕ
+trace_output id setup game =
+    trace_text (record { red = game.red; black = game.black; sheet = traced_sheet setup }) setup.seed (world_of game.world) setup.rounds id setup.from
+
+-- the output of `same`: what the two brains come to
+pub record TellsSame (pair : ReadPair) (text : List ℕ) : Type 0 where
+  pub comparison : Comparison
+  pub is : IsComparison pair.first pair.second comparison
+  pub told : text ≡ comparison_text comparison
 
 -- the output of `minimise`: what is told of this brain, minimised
 pub record TellsMinimised (old : List Instr) (text : List ℕ) : Type 0 where
@@ -277,3 +306,5 @@ IsJobText VersionCommand = Tells no_contents (is_text_of (λ nothing. version_te
 IsJobText (AsmCommand file) = Tells program_contents (is_text_of (λ program. brain_text program.brain))
 IsJobText (SaveCommand world red black setup) = Tells game_contents (is_text_of (save_output setup))
 IsJobText (ResumeCommand save setup) = Tells save_contents (is_text_of (resume_output setup))
+IsJobText (TraceCommand world red black id setup) = Tells game_contents (is_text_of (trace_output id setup))
+IsJobText (SameCommand first second) = Tells pair_contents TellsSame

@@ -47,6 +47,8 @@ impl Layout for GameLines {
             "      goes on with a saved game, and prints the rest of what run prints\n",
             "  view WORLD RED BLACK BREAKS --seed N --rounds N\n",
             "      plays a game up to the first of its breaks, and prints the world there\n",
+            "  trace WORLD RED BLACK ID --seed N --rounds N [OPTION]..\n",
+            "      plays a game, and prints where one ant is after each round\n",
             "  cup --worlds WORLD.. --brains BRAIN BRAIN.. --seed N --rounds N [--workers N]\n",
             "      plays all games between 2 to 16 brains on 1 to 16 worlds\n",
             "  workload SEED ROUNDS WORKERS\n",
@@ -74,6 +76,8 @@ impl Layout for FileLines {
             "      checks a brain, and prints it with one instruction a line\n",
             "  minimise FILE\n",
             "      merges equivalent states of a brain, and keeps what state 0 leads to\n",
+            "  same FILE FILE\n",
+            "      says whether two brains are the same but for the numbers of their states\n",
             "  asm FILE\n",
             "      prints the brain of a program with labels and blocks\n",
             "  help\n",
@@ -98,7 +102,8 @@ impl Layout for GameOptionLines {
     fn push_to<K: Sink>(&self, sink: &mut K) -> Result<(), Failed> {
         concat!(
             "Options of run, of which view and cup take the first two, save all but --dump,\n",
-            "--stats and --far, and resume --rounds, --dump, --workers and --stats:\n",
+            "--stats and --far, resume --rounds, --dump, --workers and --stats, and trace\n",
+            "--seed, --rounds, --surround, --corpse and --rest; --from is of trace alone:\n",
             "  --seed N      where the random numbers begin, 0 to 4294967295; needed\n",
             "  --rounds N    how many rounds are played, 0 to 1000000; needed\n",
             "  --dump D      dumps after rounds: none, all, or as 0,10,100; none\n",
@@ -109,6 +114,7 @@ impl Layout for GameOptionLines {
             "  --surround N  foes around an ant that kill it, 4 to 6; 5\n",
             "  --corpse N    food that a dead ant leaves, 0 to 9; 3\n",
             "  --rest N      turns that an ant rests after a step, 0 to 255; 14\n",
+            "  --from N      the first round that trace tells, 0 to 1000000; 0\n",
             "  --stats       adds the counts of turns and looks\n",
             "  --far         keeps the workers for the whole game, and sends them their jobs\n",
             "\n"

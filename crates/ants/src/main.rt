@@ -20,6 +20,7 @@ mod played;
 mod program;
 mod resume;
 mod run;
+mod same;
 mod sample;
 mod save;
 mod show;
@@ -27,6 +28,7 @@ mod status;
 mod stop;
 #[cfg(test)]
 mod tests;
+mod trace;
 mod view;
 mod workload;
 

@@ -25,10 +25,12 @@ use crate::help::{help, version};
 use crate::minimise::minimise;
 use crate::resume::resume;
 use crate::run::run;
+use crate::same::same;
 use crate::save::save;
 use crate::show::show;
 use crate::status::Status;
 use crate::stop::{CommandStop, Ended};
+use crate::trace::trace;
 use crate::view::view;
 use crate::workload::workload;
 use ant_base::{Gate, Layout, Shelf, Sink, layout};
@@ -77,6 +79,8 @@ fn dispatch<'w, R: Threads + Sync, C: Crew, S: Shelf, K: Sink>(
         Command::Version => version(shelf, out),
         Command::Asm { file } => asm(alloc, file, shelf, out),
         Command::Save(game) => save(alloc, crew, game, shelf, out),
+        Command::Trace(game) => trace(alloc, game, shelf, out),
+        Command::Same { first, second } => same(alloc, first, second, shelf, out),
         Command::Resume {
             save: name,
             options,

@@ -4,6 +4,7 @@
 // its own, or several.
 mod assembled;
 mod brains;
+mod compared;
 mod counts;
 mod cups;
 mod games;
@@ -15,6 +16,7 @@ mod saves;
 mod settle;
 mod shown;
 mod viewed;
+mod ways;
 mod words;
 mod workers;
 mod workloads;

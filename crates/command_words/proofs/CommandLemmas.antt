@@ -5,7 +5,7 @@ use Rattle.std.proofs.lemmas.Bool.{and_parts, false≢true, leb-true}
 use Rattle.std.proofs.lemmas.Slice.Eq.{bytes_eq-Decides}
 use Rattle.ant_base.specs.Number.{decimal_value, within}
 use Rattle.command_words.specs.declared.limits.NumberKind.{NumberKind}
-use Rattle.command_words.specs.declared.limits.NumberKind.TheVariants.{SeedNumber, RoundCount, WorkerCount, WindowSize, FoeCount, CorpseFood, RestRounds, SideLength, ElementCount}
+use Rattle.command_words.specs.declared.limits.NumberKind.TheVariants.{SeedNumber, RoundCount, WorkerCount, WindowSize, FoeCount, CorpseFood, RestRounds, SideLength, ElementCount, AntId}
 use Rattle.command_words.specs.declared.table.NameList.{NameList}
 use Rattle.command_words.specs.declared.table.NameList.TheVariants.{Worlds, Brains}
 use Rattle.command_words.specs.declared.slot.Slot.{Slot}
@@ -15,12 +15,12 @@ use Rattle.command_words.specs.declared.slot.Place.TheVariants.{Word, Names}
 use Rattle.command_words.specs.declared.table.CommandKind.{CommandKind}
 use Rattle.command_words.specs.declared.table.CommandKind.TheVariants as command
 use Rattle.command_words.specs.declared.table.Choice.{Choice}
-use Rattle.command_words.specs.declared.table.Choice.TheVariants.{Seed, Rounds, Dump, Workers, Window, Surround, Corpse, Rest, Width, Height, Rocks, Blobs}
+use Rattle.command_words.specs.declared.table.Choice.TheVariants.{Seed, Rounds, Dump, Workers, Window, Surround, Corpse, Rest, Width, Height, Rocks, Blobs, From}
 use Rattle.command_words.specs.Limits.{IsWithin, least_of, most_of, number_in}
 use Rattle.command_words.specs.Slots.{AreNames, DumpChoice, dumps_of, fits, is_dumps, is_file_name, numbers_of, pieces_of, with_number}
 use Rattle.command_words.specs.Slots.DumpChoice.{NoDump, EveryDump, ChosenDumps}
-use Rattle.command_words.specs.Table.{default_workers, default_window, default_surround, default_corpse, default_rest, default_side, default_rocks, default_blobs, cup_places, is_needed, keyword_of, places_of, values_of, word_of}
-use Rattle.command_words.specs.Command.{Answers, AreWithin, CommandWithin, FitAll, Given, IsCommandOf, PlainCommand, ResumeWithin, SetupWithin, ShapeWithin, ◌>>=◌, answers_in, command_in, dumps_or_none, joined, names_front, number_needed, number_or, resume_in, rounds_in, seed_in, setup_in, shape_in, workers_in}
+use Rattle.command_words.specs.Table.{default_workers, default_window, default_surround, default_corpse, default_rest, default_side, default_rocks, default_blobs, cup_places, is_needed, keyword_of, places_of, values_of, word_of, default_from}
+use Rattle.command_words.specs.Command.{Answers, AreWithin, CommandWithin, FitAll, Given, IsCommandOf, PlainCommand, ResumeWithin, SetupWithin, ShapeWithin, ◌>>=◌, answers_in, command_in, dumps_or_none, joined, names_front, number_needed, number_or, resume_in, rounds_in, seed_in, setup_in, shape_in, workers_in, TraceWithin, corpse_in, rest_in, surround_in, trace_in}
 use Rattle.command_words.specs.Inner.Walk.{names_of}
 use Rattle.command_words.proofs.TableLemmas.{keyword-no_name, keyword-not_first}
 use Rattle.command_words.proofs.WalkSearch.{names_front-run, rest_after-first, rest_after-next, rest_after-unlike}
@@ -246,18 +246,31 @@ module _ (kind : CommandKind) (a : Answers) (are : AreAnswers kind a) where
   workers_at : SomeWith (IsWithin WorkerCount) (workers_in a)
   workers_at = free_at Workers default_workers WorkerCount refl (omega arith, omega arith)
 
+  surround_at : SomeWith (IsWithin FoeCount) (surround_in a)
+  surround_at = free_at Surround default_surround FoeCount refl (omega arith, omega arith)
+
+  corpse_at : SomeWith (IsWithin CorpseFood) (corpse_in a)
+  corpse_at = free_at Corpse default_corpse CorpseFood refl (omega arith, omega arith)
+
+  rest_at : SomeWith (IsWithin RestRounds) (rest_in a)
+  rest_at = free_at Rest default_rest RestRounds refl (omega arith, omega arith)
+
   setup_at : has_option kind Seed ≡ true → has_option kind Rounds ≡ true → SomeWith SetupWithin (setup_in a)
   setup_at has_seed has_rounds =
       go_on (seed_at has_seed) (λ seed a. go_on (rounds_at has_rounds) (λ rounds b. go_on dumps_at (λ dumps c. go_on workers_at (λ workers d.
       go_on (free_at Window default_window WindowSize refl (omega arith, omega arith)) (λ window e.
-      go_on (free_at Surround default_surround FoeCount refl (omega arith, omega arith)) (λ surround f.
-      go_on (free_at Corpse default_corpse CorpseFood refl (omega arith, omega arith)) (λ corpse g.
-      go_on (free_at Rest default_rest RestRounds refl (omega arith, omega arith)) (λ rest h.
+      go_on surround_at (λ surround f. go_on corpse_at (λ corpse g. go_on rest_at (λ rest h.
       some _ (record { seed = a; rounds = b; dumps = c; workers = d; window = e; surround = f; corpse = g; rest = h })))))))))
 
   resume_at : has_option kind Rounds ≡ true → SomeWith ResumeWithin (resume_in a)
   resume_at has_rounds =
       go_on (rounds_at has_rounds) (λ rounds a. go_on dumps_at (λ dumps b. go_on workers_at (λ workers c. some _ (record { rounds = a; dumps = b; workers = c }))))
+
+  trace_at : has_option kind Seed ≡ true → has_option kind Rounds ≡ true → SomeWith TraceWithin (trace_in a)
+  trace_at has_seed has_rounds =
+      go_on (seed_at has_seed) (λ seed a. go_on (rounds_at has_rounds) (λ rounds b.
+      go_on (free_at From default_from RoundCount refl (omega arith, omega arith)) (λ first c. go_on surround_at (λ surround d. go_on corpse_at (λ corpse e. go_on rest_at (λ rest f.
+      some _ (record { seed = a; rounds = b; from = c; surround = d; corpse = e; rest = f })))))))
 
   shape_at : SomeWith ShapeWithin (shape_in a)
   shape_at =
@@ -296,6 +309,10 @@ command-says command.Version a are = some _ tt
 command-says command.Asm a are = go_on (file_at command.Asm a are 0 refl) (λ file i. some _ tt)
 command-says command.Save a are = game_at command.Save a are refl refl refl (λ world red black. go_on (setup_at command.Save a are refl refl) (λ setup within. some _ within))
 command-says command.Resume a are = go_on (file_at command.Resume a are 0 refl) (λ save i. go_on (resume_at command.Resume a are refl) (λ setup within. some _ within))
+command-says command.Trace a are =
+    game_at command.Trace a are refl refl refl (λ world red black. go_on (number_at command.Trace a are 3 AntId refl) (λ id i.
+    go_on (trace_at command.Trace a are refl refl) (λ setup within. some _ (i, within))))
+command-says command.Same a are = go_on (file_at command.Same a are 0 refl) (λ first i. go_on (file_at command.Same a are 1 refl) (λ second j. some _ tt))
 
 pub words-say : (kind : CommandKind) (front : List (List (List ℕ))) (given : List Given) (words : List (List ℕ)) → IsCommandOf kind front given words
     → SomeWith CommandWithin (command_in kind (answers_in kind words))

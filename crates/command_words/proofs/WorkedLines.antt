@@ -5,9 +5,9 @@ use Rattle.ant_base.specs.Number.{decimal_value}
 use Rattle.command_words.specs.declared.command.GenShape.{GenShape}
 use Rattle.command_words.specs.Slots.{is_file_name, is_dumps, dumps_of, DumpChoice}
 use Rattle.command_words.specs.Slots.DumpChoice.{NoDump, EveryDump, ChosenDumps}
-use Rattle.command_words.specs.Command.{ResumeSetup, RunSetup, IsCommand, IsRefusedAt, is_among, rest_after}
+use Rattle.command_words.specs.Command.{ResumeSetup, RunSetup, IsCommand, IsRefusedAt, is_among, rest_after, TraceSetup}
 use Rattle.command_words.specs.Far.{words_without_far}
-use Rattle.command_words.specs.Command.PlainCommand.{ShowCommand, BrainCommand, MinimiseCommand, RunCommand, GenCommand, CupCommand, ViewCommand, WorkloadCommand, HelpCommand, VersionCommand, AsmCommand, SaveCommand, ResumeCommand}
+use Rattle.command_words.specs.Command.PlainCommand.{ShowCommand, BrainCommand, MinimiseCommand, RunCommand, GenCommand, CupCommand, ViewCommand, WorkloadCommand, HelpCommand, VersionCommand, AsmCommand, SaveCommand, ResumeCommand, TraceCommand, SameCommand}
 use Rattle.command_words.specs.Inner.Walk.{command_kind_of, choice_of}
 use Rattle.command_words.proofs.ReadLemmas.{read-accepts, read-refuses}
 
@@ -29,6 +29,10 @@ game seed rounds dumps workers window surround corpse rest stats = record {
   stats = stats;
   far = false;
 }
+
+-- the numbers of a game whose ant is followed
+abbrev way : ℕ → ℕ → ℕ → ℕ → ℕ → ℕ → TraceSetup
+way seed rounds from surround corpse rest = record { seed = seed; rounds = rounds; from = from; surround = surround; corpse = corpse; rest = rest }
 
 abbrev shape_of : ℕ → ℕ → ℕ → ℕ → GenShape
 shape_of width height rocks blobs = record { width = width; height = height; rocks = rocks; blobs = blobs }
@@ -205,6 +209,61 @@ view_command = read-accepts (words_of (codes "view w r b k --rounds 5 --seed 123
 pub workload_command : IsCommand (words_of (codes "workload 12345 1000 4")) (WorkloadCommand 12345 1000 4)
 unfolding command_kind_of choice_of is_among rest_after is_file_name is_dumps dumps_of decimal_value
 workload_command = read-accepts (words_of (codes "workload 12345 1000 4")) (WorkloadCommand 12345 1000 4) refl
+
+-- without its free options a trace begins at round 0, by the contest's rules
+pub trace_defaults : IsCommand (words_of (codes "trace w r b 0 --seed 1 --rounds 2")) (TraceCommand (codes "w") (codes "r") (codes "b") 0 (way 1 2 0 5 3 14))
+unfolding command_kind_of choice_of is_among rest_after is_file_name is_dumps dumps_of decimal_value
+trace_defaults = read-accepts (words_of (codes "trace w r b 0 --seed 1 --rounds 2")) (TraceCommand (codes "w") (codes "r") (codes "b") 0 (way 1 2 0 5 3 14)) refl
+
+-- each number of a trace at its greatest
+pub trace_all : IsCommand (words_of (codes "trace w r b 16383 --rest 255 --corpse 9 --surround 6 --from 1000000 --rounds 999999 --seed 4294967295")) (TraceCommand (codes "w") (codes "r") (codes "b") 16383 (way 4294967295 999999 1000000 6 9 255))
+unfolding command_kind_of choice_of is_among rest_after is_file_name is_dumps dumps_of decimal_value
+trace_all = read-accepts (words_of (codes "trace w r b 16383 --rest 255 --corpse 9 --surround 6 --from 1000000 --rounds 999999 --seed 4294967295")) (TraceCommand (codes "w") (codes "r") (codes "b") 16383 (way 4294967295 999999 1000000 6 9 255)) refl
+
+-- and at its least, with leading zeros of the id
+pub trace_least : IsCommand (words_of (codes "trace w r b 007 --seed 0 --rounds 0 --from 0 --surround 4 --corpse 0 --rest 0")) (TraceCommand (codes "w") (codes "r") (codes "b") 7 (way 0 0 0 4 0 0))
+unfolding command_kind_of choice_of is_among rest_after is_file_name is_dumps dumps_of decimal_value
+trace_least = read-accepts (words_of (codes "trace w r b 007 --seed 0 --rounds 0 --from 0 --surround 4 --corpse 0 --rest 0")) (TraceCommand (codes "w") (codes "r") (codes "b") 7 (way 0 0 0 4 0 0)) refl
+
+-- the id stands before the options
+pub trace_without_id : IsRefusedAt (words_of (codes "trace w r b --seed 1 --rounds 2")) 5
+unfolding command_kind_of choice_of is_among rest_after is_file_name is_dumps dumps_of decimal_value
+trace_without_id = read-refuses (words_of (codes "trace w r b --seed 1 --rounds 2")) 5 refl
+
+-- no ant has the id 16,384
+pub trace_id_too_great : IsRefusedAt (words_of (codes "trace w r b 16384")) 5
+unfolding command_kind_of choice_of is_among rest_after is_file_name is_dumps dumps_of decimal_value
+trace_id_too_great = read-refuses (words_of (codes "trace w r b 16384")) 5 refl
+
+-- an id is a number
+pub trace_id_a_name : IsRefusedAt (words_of (codes "trace w r b a")) 5
+unfolding command_kind_of choice_of is_among rest_after is_file_name is_dumps dumps_of decimal_value
+trace_id_a_name = read-refuses (words_of (codes "trace w r b a")) 5 refl
+
+-- 1,000,001 rounds before the first that is told
+pub trace_from_too_late : IsRefusedAt (words_of (codes "trace w r b 1 --from 1000001")) 7
+unfolding command_kind_of choice_of is_among rest_after is_file_name is_dumps dumps_of decimal_value
+trace_from_too_late = read-refuses (words_of (codes "trace w r b 1 --from 1000001")) 7 refl
+
+-- --rounds is missing
+pub trace_rounds_missing : IsRefusedAt (words_of (codes "trace w r b 1 --seed 1")) 8
+unfolding command_kind_of choice_of is_among rest_after is_file_name is_dumps dumps_of decimal_value
+trace_rounds_missing = read-refuses (words_of (codes "trace w r b 1 --seed 1")) 8 refl
+
+-- two brains
+pub same_command : IsCommand (words_of (codes "same a -")) (SameCommand (codes "a") (codes "-"))
+unfolding command_kind_of choice_of is_among rest_after is_file_name is_dumps dumps_of decimal_value
+same_command = read-accepts (words_of (codes "same a -")) (SameCommand (codes "a") (codes "-")) refl
+
+-- one brain is a beginning
+pub same_one : IsRefusedAt (words_of (codes "same a")) 3
+unfolding command_kind_of choice_of is_among rest_after is_file_name is_dumps dumps_of decimal_value
+same_one = read-refuses (words_of (codes "same a")) 3 refl
+
+-- a third may not follow
+pub same_three : IsRefusedAt (words_of (codes "same a b c")) 4
+unfolding command_kind_of choice_of is_among rest_after is_file_name is_dumps dumps_of decimal_value
+same_three = read-refuses (words_of (codes "same a b c")) 4 refl
 
 -- there is no word
 pub no_word : IsRefusedAt [] 1

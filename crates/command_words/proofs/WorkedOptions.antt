@@ -38,37 +38,37 @@ common_options = (codes "--seed") ∷ (codes "--rounds") ∷ (codes "--workers")
 
 -- all options
 abbrev all_options : List (List ℕ)
-all_options = game_options ++ shape_options ++ common_options
+all_options = game_options ++ shape_options ++ common_options ++ (codes "--from") ∷ []
 
 -- `show` takes no option
 pub show_takes_none : AreRefusedAfter (codes "show w 1") 4 all_options
 unfolding command_kind_of choice_of is_among rest_after is_file_name is_dumps dumps_of decimal_value
 show_takes_none = refused_after (codes "show w 1") 4 all_options
-    (refl, (refl, (refl, (refl, (refl, (refl, (refl, (refl, (refl, (refl, (refl, (refl, (refl, (refl, tt))))))))))))))
+    (refl, (refl, (refl, (refl, (refl, (refl, (refl, (refl, (refl, (refl, (refl, (refl, (refl, (refl, (refl, tt)))))))))))))))
 
 -- `brain` takes no option
 pub brain_takes_none : AreRefusedAfter (codes "brain b") 3 all_options
 unfolding command_kind_of choice_of is_among rest_after is_file_name is_dumps dumps_of decimal_value
 brain_takes_none = refused_after (codes "brain b") 3 all_options
-    (refl, (refl, (refl, (refl, (refl, (refl, (refl, (refl, (refl, (refl, (refl, (refl, (refl, (refl, tt))))))))))))))
+    (refl, (refl, (refl, (refl, (refl, (refl, (refl, (refl, (refl, (refl, (refl, (refl, (refl, (refl, (refl, tt)))))))))))))))
 
 -- `minimise` takes no option
 pub minimise_takes_none : AreRefusedAfter (codes "minimise b") 3 all_options
 unfolding command_kind_of choice_of is_among rest_after is_file_name is_dumps dumps_of decimal_value
 minimise_takes_none = refused_after (codes "minimise b") 3 all_options
-    (refl, (refl, (refl, (refl, (refl, (refl, (refl, (refl, (refl, (refl, (refl, (refl, (refl, (refl, tt))))))))))))))
+    (refl, (refl, (refl, (refl, (refl, (refl, (refl, (refl, (refl, (refl, (refl, (refl, (refl, (refl, (refl, tt)))))))))))))))
 
 -- `asm` takes no option
 pub asm_takes_none : AreRefusedAfter (codes "asm p") 3 all_options
 unfolding command_kind_of choice_of is_among rest_after is_file_name is_dumps dumps_of decimal_value
 asm_takes_none = refused_after (codes "asm p") 3 all_options
-    (refl, (refl, (refl, (refl, (refl, (refl, (refl, (refl, (refl, (refl, (refl, (refl, (refl, (refl, tt))))))))))))))
+    (refl, (refl, (refl, (refl, (refl, (refl, (refl, (refl, (refl, (refl, (refl, (refl, (refl, (refl, (refl, tt)))))))))))))))
 
 -- `workload` takes no option
 pub workload_takes_none : AreRefusedAfter (codes "workload 1 2 3") 5 all_options
 unfolding command_kind_of choice_of is_among rest_after is_file_name is_dumps dumps_of decimal_value
 workload_takes_none = refused_after (codes "workload 1 2 3") 5 all_options
-    (refl, (refl, (refl, (refl, (refl, (refl, (refl, (refl, (refl, (refl, (refl, (refl, (refl, (refl, tt))))))))))))))
+    (refl, (refl, (refl, (refl, (refl, (refl, (refl, (refl, (refl, (refl, (refl, (refl, (refl, (refl, (refl, tt)))))))))))))))
 
 -- `run` takes no option of a world
 pub run_takes_no_shape : AreRefusedAfter (codes "run w r b") 5 shape_options
@@ -108,6 +108,23 @@ pub view_takes_two : AreRefusedAfter (codes "view w r b k") 6 ((codes "--workers
 unfolding command_kind_of choice_of is_among rest_after is_file_name is_dumps dumps_of decimal_value
 view_takes_two = refused_after (codes "view w r b k") 6 ((codes "--workers") ∷ (game_options ++ shape_options))
     (refl, (refl, (refl, (refl, (refl, (refl, (refl, (refl, (refl, (refl, (refl, (refl, tt))))))))))))
+
+-- `trace` takes no dumps, no workers, no windows, no counts, and no option of a world
+pub trace_takes_few : AreRefusedAfter (codes "trace w r b 1") 6 ((codes "--dump") ∷ (codes "--workers") ∷ (codes "--window") ∷ (codes "--stats") ∷ (codes "--far") ∷ shape_options)
+unfolding command_kind_of choice_of is_among rest_after is_file_name is_dumps dumps_of decimal_value
+trace_takes_few = refused_after (codes "trace w r b 1") 6 ((codes "--dump") ∷ (codes "--workers") ∷ (codes "--window") ∷ (codes "--stats") ∷ (codes "--far") ∷ shape_options)
+    (refl, (refl, (refl, (refl, (refl, (refl, (refl, (refl, (refl, tt)))))))))
+
+-- `same` takes no option
+pub same_takes_none : AreRefusedAfter (codes "same a b") 4 all_options
+unfolding command_kind_of choice_of is_among rest_after is_file_name is_dumps dumps_of decimal_value
+same_takes_none = refused_after (codes "same a b") 4 all_options
+    (refl, (refl, (refl, (refl, (refl, (refl, (refl, (refl, (refl, (refl, (refl, (refl, (refl, (refl, (refl, tt)))))))))))))))
+
+-- no other command takes `--from`
+pub run_takes_no_from : IsRefusedAt (words_of (codes "run w r b --from 1")) 5
+unfolding command_kind_of choice_of is_among rest_after is_file_name is_dumps dumps_of decimal_value
+run_takes_no_from = read-refuses (words_of (codes "run w r b --from 1")) 5 refl
 
 -- a game of the greatest seed and the most rounds
 abbrev greatest : RunSetup

@@ -7,19 +7,20 @@ use Rattle.command_words.specs.declared.command.Command.TheVariants as read
 use Rattle.command_words.specs.declared.command.GenShape.{GenShape}
 use Rattle.command_words.specs.declared.command.ResumeOptions.{ResumeOptions}
 use Rattle.command_words.specs.declared.command.RunOptions.{RunOptions}
+use Rattle.command_words.specs.declared.command.TracedGame.{TracedGame}
 use Rattle.command_words.specs.declared.limits.NumberKind.{NumberKind}
-use Rattle.command_words.specs.declared.limits.NumberKind.TheVariants.{SeedNumber, RoundCount, WorkerCount, WindowSize, FoeCount, CorpseFood, RestRounds, SideLength, ElementCount}
+use Rattle.command_words.specs.declared.limits.NumberKind.TheVariants.{SeedNumber, RoundCount, WorkerCount, WindowSize, FoeCount, CorpseFood, RestRounds, SideLength, ElementCount, AntId}
 use Rattle.command_words.specs.declared.table.NameList.{NameList}
 use Rattle.command_words.specs.declared.table.NameList.TheVariants.{Worlds, Brains}
 use Rattle.command_words.specs.declared.slot.Place.{Place}
 use Rattle.command_words.specs.declared.table.CommandKind.{CommandKind}
-use Rattle.command_words.specs.declared.table.CommandKind.TheVariants.{Show, Brain, Minimise, Run, Gen, Cup, View, Workload, Help, HelpWord, Version, Asm, Save, Resume}
+use Rattle.command_words.specs.declared.table.CommandKind.TheVariants.{Show, Brain, Minimise, Run, Gen, Cup, View, Workload, Help, HelpWord, Version, Asm, Save, Resume, Trace, Same}
 use Rattle.command_words.specs.declared.table.Choice.{Choice}
-use Rattle.command_words.specs.declared.table.Choice.TheVariants.{Seed, Rounds, Dump, Workers, Window, Surround, Corpse, Rest, Stats, Far, Width, Height, Rocks, Blobs}
+use Rattle.command_words.specs.declared.table.Choice.TheVariants.{Seed, Rounds, Dump, Workers, Window, Surround, Corpse, Rest, Stats, Far, Width, Height, Rocks, Blobs, From}
 use Rattle.command_words.specs.Limits.{IsWithin, number_in}
 use Rattle.command_words.specs.Slots.{AreNames, DumpChoice, FitsPlace, dumps_of, is_file_name}
 use Rattle.command_words.specs.Slots.DumpChoice.{NoDump, EveryDump, ChosenDumps}
-use Rattle.command_words.specs.Table.{kinds, word_of, places_of, choices_of, option_of, values_of, is_needed, keyword_of, default_workers, default_window, default_surround, default_corpse, default_rest, default_side, default_rocks, default_blobs}
+use Rattle.command_words.specs.Table.{kinds, word_of, places_of, choices_of, option_of, values_of, is_needed, keyword_of, default_workers, default_window, default_surround, default_corpse, default_rest, default_side, default_rocks, default_blobs, default_from}
 use Rattle.command_words.specs.Words.{plain_dumps, texts}
 
 -- what the options of `run` say
@@ -42,6 +43,15 @@ pub record ResumeSetup : Type 0 where
   pub workers : ℕ
   pub stats : Bool
 
+-- what the options of `trace` say
+pub record TraceSetup : Type 0 where
+  pub seed : ℕ
+  pub rounds : ℕ
+  pub from : ℕ
+  pub surround : ℕ
+  pub corpse : ℕ
+  pub rest : ℕ
+
 -- a command as data, with names as their bytes; `save` has the options of `run` but for the dumps and the counts, of which it asks for none
 pub data PlainCommand : Type 0 where
   ShowCommand : (world : List ℕ) (seed : ℕ) → PlainCommand
@@ -57,6 +67,8 @@ pub data PlainCommand : Type 0 where
   AsmCommand : (file : List ℕ) → PlainCommand
   SaveCommand : (world red black : List ℕ) (setup : RunSetup) → PlainCommand
   ResumeCommand : (save : List ℕ) (setup : ResumeSetup) → PlainCommand
+  TraceCommand : (world red black : List ℕ) (id : ℕ) (setup : TraceSetup) → PlainCommand
+  SameCommand : (first second : List ℕ) → PlainCommand
 
 -- words place by place, one after another
 abbrev pub joined : List (List (List ℕ)) → List (List ℕ)
@@ -168,6 +180,16 @@ rounds_in a = number_needed RoundCount (a.value Rounds)
 abbrev pub workers_in : Answers → Option ℕ
 workers_in a = number_or default_workers WorkerCount (a.value Workers)
 
+-- what the options say of the numbers of the rules
+abbrev pub surround_in : Answers → Option ℕ
+surround_in a = number_or default_surround FoeCount (a.value Surround)
+
+abbrev pub corpse_in : Answers → Option ℕ
+corpse_in a = number_or default_corpse CorpseFood (a.value Corpse)
+
+abbrev pub rest_in : Answers → Option ℕ
+rest_in a = number_or default_rest RestRounds (a.value Rest)
+
 -- what the options of `run` say
 abbrev pub setup_in : Answers → Option RunSetup
 setup_in a =
@@ -176,9 +198,9 @@ setup_in a =
     dumps_or_none (a.value Dump) >>= λ dumps.
     workers_in a >>= λ workers.
     number_or default_window WindowSize (a.value Window) >>= λ window.
-    number_or default_surround FoeCount (a.value Surround) >>= λ surround.
-    number_or default_corpse CorpseFood (a.value Corpse) >>= λ corpse.
-    number_or default_rest RestRounds (a.value Rest) >>= λ rest.
+    surround_in a >>= λ surround.
+    corpse_in a >>= λ corpse.
+    rest_in a >>= λ rest.
     Some (record {
       seed = seed;
       rounds = rounds;
@@ -209,6 +231,17 @@ shape_in a =
     number_or default_blobs ElementCount (a.value Blobs) >>= λ blobs.
     Some (record { width = width; height = height; rocks = rocks; blobs = blobs })
 
+-- what the options of `trace` say
+abbrev pub trace_in : Answers → Option TraceSetup
+trace_in a =
+    seed_in a >>= λ seed.
+    rounds_in a >>= λ rounds.
+    number_or default_from RoundCount (a.value From) >>= λ from.
+    surround_in a >>= λ surround.
+    corpse_in a >>= λ corpse.
+    rest_in a >>= λ rest.
+    Some (record { seed = seed; rounds = rounds; from = from; surround = surround; corpse = corpse; rest = rest })
+
 -- the command that the words of a kind say
 abbrev pub command_in : CommandKind → Answers → Option PlainCommand
 command_in Show a = a.place 1 >>= λ world. number_needed SeedNumber (a.place 2) >>= λ seed. Some (ShowCommand world seed)
@@ -230,6 +263,10 @@ command_in Version a = Some VersionCommand
 command_in Asm a = a.place 1 >>= λ file. Some (AsmCommand file)
 command_in Save a = a.place 1 >>= λ world. a.place 2 >>= λ red. a.place 3 >>= λ black. setup_in a >>= λ setup. Some (SaveCommand world red black setup)
 command_in Resume a = a.place 1 >>= λ save. resume_in a >>= λ setup. Some (ResumeCommand save setup)
+command_in Trace a =
+    a.place 1 >>= λ world. a.place 2 >>= λ red. a.place 3 >>= λ black. number_needed AntId (a.place 4) >>= λ id.
+    trace_in a >>= λ setup. Some (TraceCommand world red black id setup)
+command_in Same a = a.place 1 >>= λ first. a.place 2 >>= λ second. Some (SameCommand first second)
 
 -- the words are this command: they are one of its kind, and say it
 pub record IsCommand (words : List (List ℕ)) (command : PlainCommand) : Type 0 where
@@ -292,6 +329,15 @@ pub record CupWithin (worlds brains : List (List ℕ)) (seed rounds workers : �
   pub rounds_within : IsWithin RoundCount rounds
   pub workers_within : IsWithin WorkerCount workers
 
+-- the numbers of a game whose ant is followed are within the limits
+pub record TraceWithin (setup : TraceSetup) : Type 0 where
+  pub seed : IsWithin SeedNumber setup.seed
+  pub rounds : IsWithin RoundCount setup.rounds
+  pub from : IsWithin RoundCount setup.from
+  pub surround : IsWithin FoeCount setup.surround
+  pub corpse : IsWithin CorpseFood setup.corpse
+  pub rest : IsWithin RestRounds setup.rest
+
 -- the numbers and the names of a command are within the limits
 abbrev pub CommandWithin : PlainCommand → Type 0
 CommandWithin (ShowCommand world seed) = IsWithin SeedNumber seed
@@ -307,6 +353,8 @@ CommandWithin VersionCommand = Unit {0}
 CommandWithin (AsmCommand file) = Unit {0}
 CommandWithin (SaveCommand world red black setup) = SetupWithin setup
 CommandWithin (ResumeCommand save setup) = ResumeWithin setup
+CommandWithin (TraceCommand world red black id setup) = IsWithin AntId id × TraceWithin setup
+CommandWithin (SameCommand first second) = Unit {0}
 
 -- the options of `run` that were read
 abbrev pub plain_setup : RunOptions → RunSetup
@@ -327,6 +375,17 @@ plain_setup options = record {
 abbrev pub plain_resume : ResumeOptions → ResumeSetup
 plain_resume options = record { rounds = options.rounds; dumps = plain_dumps options.dumps; workers = options.workers; stats = options.stats }
 
+-- the options of `trace` that were read
+abbrev pub plain_trace : TracedGame → TraceSetup
+plain_trace game = record {
+  seed = game.seed;
+  rounds = game.rounds;
+  from = game.from;
+  surround = game.surround;
+  corpse = game.corpse;
+  rest = game.rest;
+}
+
 -- the command that was read
 abbrev pub plain : Command → PlainCommand
 plain (read.Show world seed) = ShowCommand world.now seed
@@ -342,3 +401,5 @@ plain read.Version = VersionCommand
 plain (read.Asm file) = AsmCommand file.now
 plain (read.Save asked) = SaveCommand asked.names.world.now asked.names.red.now asked.names.black.now (plain_setup asked.options)
 plain (read.Resume save options) = ResumeCommand save.now (plain_resume options)
+plain (read.Trace game) = TraceCommand game.names.world.now game.names.red.now game.names.black.now game.id (plain_trace game)
+plain (read.Same first second) = SameCommand first.now second.now

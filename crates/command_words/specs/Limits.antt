@@ -2,7 +2,7 @@
 use Rattle.std.specs.Prelude.{ℕ, ◌≤◌, List, Option}
 use Rattle.ant_base.specs.Number.{number_within}
 use Rattle.command_words.specs.declared.limits.NumberKind.{NumberKind}
-use Rattle.command_words.specs.declared.limits.NumberKind.TheVariants.{SeedNumber, RoundCount, WorkerCount, WindowSize, FoeCount, CorpseFood, RestRounds, SideLength, ElementCount}
+use Rattle.command_words.specs.declared.limits.NumberKind.TheVariants.{SeedNumber, RoundCount, WorkerCount, WindowSize, FoeCount, CorpseFood, RestRounds, SideLength, ElementCount, AntId}
 
 -- the least number of a kind
 abbrev pub least_of : NumberKind → ℕ
@@ -15,6 +15,7 @@ least_of CorpseFood = 0
 least_of RestRounds = 0
 least_of SideLength = 3
 least_of ElementCount = 0
+least_of AntId = 0
 
 -- the greatest number of a kind
 abbrev pub most_of : NumberKind → ℕ
@@ -27,6 +28,7 @@ most_of CorpseFood = 9
 most_of RestRounds = 255
 most_of SideLength = 512
 most_of ElementCount = 255
+most_of AntId = 16383
 
 -- the number of a kind that a word says: 1 to 10 decimal digits, within the kind's limits
 abbrev pub number_in : NumberKind → List ℕ → Option ℕ

@@ -1,7 +1,7 @@
 -- The commands, their options and their lists of names, a row each.
 use Rattle.std.specs.Prelude.{ℕ, Bool, true, false, List, [], ◌∷◌, codes}
 use Rattle.command_words.specs.declared.limits.NumberKind.{NumberKind}
-use Rattle.command_words.specs.declared.limits.NumberKind.TheVariants.{SeedNumber, RoundCount, WorkerCount, WindowSize, FoeCount, CorpseFood, RestRounds, SideLength, ElementCount}
+use Rattle.command_words.specs.declared.limits.NumberKind.TheVariants.{SeedNumber, RoundCount, WorkerCount, WindowSize, FoeCount, CorpseFood, RestRounds, SideLength, ElementCount, AntId}
 use Rattle.command_words.specs.declared.table.NameList.{NameList}
 use Rattle.command_words.specs.declared.table.NameList.TheVariants.{Worlds, Brains}
 use Rattle.command_words.specs.declared.slot.Slot.{Slot}
@@ -9,9 +9,9 @@ use Rattle.command_words.specs.declared.slot.Slot.TheVariants.{FileName, Number,
 use Rattle.command_words.specs.declared.slot.Place.{Place}
 use Rattle.command_words.specs.declared.slot.Place.TheVariants.{Word, Names}
 use Rattle.command_words.specs.declared.table.CommandKind.{CommandKind}
-use Rattle.command_words.specs.declared.table.CommandKind.TheVariants.{Show, Brain, Minimise, Run, Gen, Cup, View, Workload, Help, HelpWord, Version, Asm, Save, Resume}
+use Rattle.command_words.specs.declared.table.CommandKind.TheVariants.{Show, Brain, Minimise, Run, Gen, Cup, View, Workload, Help, HelpWord, Version, Asm, Save, Resume, Trace, Same}
 use Rattle.command_words.specs.declared.table.Choice.{Choice}
-use Rattle.command_words.specs.declared.table.Choice.TheVariants.{Seed, Rounds, Dump, Workers, Window, Surround, Corpse, Rest, Stats, Far, Width, Height, Rocks, Blobs}
+use Rattle.command_words.specs.declared.table.Choice.TheVariants.{Seed, Rounds, Dump, Workers, Window, Surround, Corpse, Rest, Stats, Far, Width, Height, Rocks, Blobs, From}
 
 -- a command: its first word, what stands after that, and its options, which follow in any order
 pub record CommandRow : Type 0 where
@@ -22,7 +22,7 @@ pub record CommandRow : Type 0 where
 abbrev pub command_row : List ℕ → List Place → List Choice → CommandRow
 command_row word places choices = record { word = word; places = places; choices = choices }
 
--- a place for a number, the place of one file, those of a game's files, and those of a cup's lists
+-- a place for a number, the place of one file, those of a game's files, of these and an ant's id, and of a cup's lists
 abbrev pub number_place : NumberKind → Place
 number_place kind = Word (Number kind)
 
@@ -32,12 +32,15 @@ one_file = Word FileName ∷ []
 abbrev pub game_places : List Place
 game_places = Word FileName ∷ Word FileName ∷ Word FileName ∷ []
 
+abbrev pub trace_places : List Place
+trace_places = Word FileName ∷ Word FileName ∷ Word FileName ∷ number_place AntId ∷ []
+
 abbrev pub cup_places : List Place
 cup_places = Word (Keyword Worlds) ∷ Names Worlds ∷ Word (Keyword Brains) ∷ Names Brains ∷ []
 
 -- all commands that are known
 abbrev pub kinds : List CommandKind
-kinds = Show ∷ Brain ∷ Minimise ∷ Run ∷ Gen ∷ Cup ∷ View ∷ Workload ∷ Help ∷ HelpWord ∷ Version ∷ Asm ∷ Save ∷ Resume ∷ []
+kinds = Show ∷ Brain ∷ Minimise ∷ Run ∷ Gen ∷ Cup ∷ View ∷ Workload ∷ Help ∷ HelpWord ∷ Version ∷ Asm ∷ Save ∷ Resume ∷ Trace ∷ Same ∷ []
 
 abbrev pub row_of : CommandKind → CommandRow
 row_of Show = command_row (codes "show") (Word FileName ∷ number_place SeedNumber ∷ []) []
@@ -54,6 +57,8 @@ row_of Version = command_row (codes "--version") [] []
 row_of Asm = command_row (codes "asm") one_file []
 row_of Save = command_row (codes "save") game_places (Seed ∷ Rounds ∷ Workers ∷ Window ∷ Surround ∷ Corpse ∷ Rest ∷ [])
 row_of Resume = command_row (codes "resume") one_file (Rounds ∷ Dump ∷ Workers ∷ Stats ∷ [])
+row_of Trace = command_row (codes "trace") trace_places (Seed ∷ Rounds ∷ From ∷ Surround ∷ Corpse ∷ Rest ∷ [])
+row_of Same = command_row (codes "same") (Word FileName ∷ one_file) []
 
 abbrev pub word_of : CommandKind → List ℕ
 word_of kind = (row_of kind).word
@@ -94,6 +99,7 @@ option_row Width = free_option (codes "--width") (Number SideLength)
 option_row Height = free_option (codes "--height") (Number SideLength)
 option_row Rocks = free_option (codes "--rocks") (Number ElementCount)
 option_row Blobs = free_option (codes "--blobs") (Number ElementCount)
+option_row From = free_option (codes "--from") (Number RoundCount)
 
 abbrev pub option_of : Choice → List ℕ
 option_of choice = (option_row choice).word
@@ -128,6 +134,9 @@ default_rocks = 14
 
 abbrev pub default_blobs : ℕ
 default_blobs = 11
+
+abbrev pub default_from : ℕ
+default_from = 0
 
 -- the word before a list of names
 abbrev pub keyword_of : NameList → List ℕ

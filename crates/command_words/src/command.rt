@@ -61,6 +61,15 @@ pub enum Command<'w> {
         /// the name of the labelled program's file
         file: &'w str,
     },
+    /// `trace WORLD RED BLACK ID`, and its options
+    Trace(TracedGame<'w>),
+    /// `same FILE FILE`
+    Same {
+        /// the name of the first brain's file
+        first: &'w str,
+        /// the name of the second brain's file
+        second: &'w str,
+    },
 }
 
 /// The names of the files of a game.
@@ -94,6 +103,27 @@ pub struct ViewedGame<'w> {
     pub seed: u32,
     /// how many rounds are played, from 0 to 1,000,000
     pub rounds: u32,
+}
+
+/// A game of which an ant is followed.
+#[derive(Clone, Copy)]
+pub struct TracedGame<'w> {
+    /// the names of its files
+    pub names: FileNames<'w>,
+    /// the id of the ant, from 0 to 16,383; there may be none of this id
+    pub id: u32,
+    /// the seed of the random numbers, from 0 to 4,294,967,295
+    pub seed: u32,
+    /// how many rounds are played, from 0 to 1,000,000
+    pub rounds: u32,
+    /// the first round that is told, from 0 to 1,000,000; it may be above `rounds`
+    pub from: u32,
+    /// how many foes surround an ant, from 4 to 6
+    pub surround: u8,
+    /// how many food particles a killed ant leaves, from 0 to 9
+    pub corpse: u8,
+    /// how many rounds an ant rests after a step, from 0 to 255
+    pub rest: u8,
 }
 
 /// The entry of a cup: who plays whom, and where.

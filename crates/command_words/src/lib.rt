@@ -23,7 +23,7 @@ mod walk;
 
 pub use command::{
     AskedGame, Command, CupEntry, FileNames, GenShape, Refused, ResumeOptions, RunOptions,
-    ViewedGame,
+    TracedGame, ViewedGame,
 };
 pub use dumps::DumpWord;
 pub use far::{is_far_run, read_words_without_far};

@@ -25,6 +25,8 @@ pub enum NumberKind {
     SideLength,
     /// rocks or blobs of a generated world, from 0 to 255
     ElementCount,
+    /// an ant's id, from 0 to 16,383
+    AntId,
 }
 
 impl NumberKind {
@@ -41,6 +43,7 @@ impl NumberKind {
             NumberKind::RestRounds => 0,
             NumberKind::SideLength => 3,
             NumberKind::ElementCount => 0,
+            NumberKind::AntId => 0,
         }
     }
 
@@ -58,6 +61,7 @@ impl NumberKind {
             NumberKind::RestRounds => 255,
             NumberKind::SideLength => 512,
             NumberKind::ElementCount => 255,
+            NumberKind::AntId => 16_383,
         }
     }
 

@@ -1,13 +1,13 @@
 // The command that the words are.
 ghost use Rattle.std.specs.Prelude.{IfErr, IfOk, option_map, ◌≡◌};
 ghost use Rattle.command_words.specs.Command.{IsCommand, IsRefusedAt, PlainCommand, answers_in, command_in, number_or, plain, plain_resume, plain_setup, resume_in, setup_in, shape_in};
-ghost use Rattle.command_words.specs.Inner.Walk.{names_in, plain_names, plain_result, read_of, word_after};
-ghost use Rattle.command_words.specs.Table.{default_workers};
+ghost use Rattle.command_words.specs.Inner.Walk.{names_in, plain_names, plain_result, read_of, traced_in, traced_of, word_after};
+ghost use Rattle.command_words.specs.Table.{default_corpse, default_rest, default_surround, default_workers};
 ghost use Rattle.command_words.specs.Words.{texts};
 
 use crate::table::{
-    DEFAULT_BLOBS, DEFAULT_CORPSE, DEFAULT_REST, DEFAULT_ROCKS, DEFAULT_SIDE, DEFAULT_SURROUND,
-    DEFAULT_WINDOW, DEFAULT_WORKERS,
+    DEFAULT_BLOBS, DEFAULT_CORPSE, DEFAULT_FROM, DEFAULT_REST, DEFAULT_ROCKS, DEFAULT_SIDE,
+    DEFAULT_SURROUND, DEFAULT_WINDOW, DEFAULT_WORKERS,
 };
 use crate::values::{
     dumps_or_none, names_of, number_needed, number_or, side_or, small_or, word_after, word_at,
@@ -15,7 +15,7 @@ use crate::values::{
 use crate::walk::{is_among, is_finished, kind_of, walk};
 use crate::{
     AskedGame, Choice, Command, CommandKind, CupEntry, FileNames, GenShape, NameList, NumberKind,
-    Refused, ResumeOptions, RunOptions, ViewedGame,
+    Refused, ResumeOptions, RunOptions, TracedGame, ViewedGame,
 };
 
 /// The command that the program's words are, without the program's own name. Refused exactly where they are none, at the first word,
@@ -67,6 +67,8 @@ fn command_in<'w>(kind: CommandKind, words: &'w [String]) -> Option<Command<'w>>
         CommandKind::Help | CommandKind::HelpWord => Some(Command::Help),
         CommandKind::Version => Some(Command::Version),
         CommandKind::Asm => asm_in(words),
+        CommandKind::Trace => trace_in(words),
+        CommandKind::Same => same_in(words),
     }
 }
 
@@ -131,19 +133,9 @@ fn options_in<'w>(words: &'w [String]) -> Option<RunOptions<'w>>
         Choice::Window,
         words,
     )?;
-    let surround = small_or(
-        DEFAULT_SURROUND,
-        NumberKind::FoeCount,
-        Choice::Surround,
-        words,
-    )?;
-    let corpse = small_or(
-        DEFAULT_CORPSE,
-        NumberKind::CorpseFood,
-        Choice::Corpse,
-        words,
-    )?;
-    let rest = small_or(DEFAULT_REST, NumberKind::RestRounds, Choice::Rest, words)?;
+    let surround = surround_in(words)?;
+    let corpse = corpse_in(words)?;
+    let rest = rest_in(words)?;
     let stats = is_among(Choice::Stats.word(), words);
     let far = is_among(Choice::Far.word(), words);
     Some(RunOptions {
@@ -170,6 +162,35 @@ fn workers_in(words: &[String]) -> Option<u32>
         Choice::Workers,
         words,
     )
+}
+
+// The numbers of the rules that the options say.
+fn surround_in(words: &[String]) -> Option<u8>
+    ensures { result ≡ number_or default_surround NumberKind.FoeCount (word_after Choice.Surround (texts words.now)) }
+{
+    small_or(
+        DEFAULT_SURROUND,
+        NumberKind::FoeCount,
+        Choice::Surround,
+        words,
+    )
+}
+
+fn corpse_in(words: &[String]) -> Option<u8>
+    ensures { result ≡ number_or default_corpse NumberKind.CorpseFood (word_after Choice.Corpse (texts words.now)) }
+{
+    small_or(
+        DEFAULT_CORPSE,
+        NumberKind::CorpseFood,
+        Choice::Corpse,
+        words,
+    )
+}
+
+fn rest_in(words: &[String]) -> Option<u8>
+    ensures { result ≡ number_or default_rest NumberKind.RestRounds (word_after Choice.Rest (texts words.now)) }
+{
+    small_or(DEFAULT_REST, NumberKind::RestRounds, Choice::Rest, words)
 }
 
 fn gen_in<'w>(words: &'w [String]) -> Option<Command<'w>>
@@ -257,6 +278,45 @@ fn save_in<'w>(words: &'w [String]) -> Option<Command<'w>>
     let names = names_in(words)?;
     let options = options_in(words)?;
     Some(Command::Save(AskedGame { names, options }))
+}
+
+fn trace_in<'w>(words: &'w [String]) -> Option<Command<'w>>
+    ensures { option_map plain result ≡ command_in CommandKind.Trace (answers_in CommandKind.Trace (texts words.now)) }
+{
+    let names = names_in(words)?;
+    let id = number_needed(NumberKind::AntId, word_at(words, 4))?;
+    let game = traced_in(names, id, words)?;
+    Some(Command::Trace(game))
+}
+
+// The game of these files in which an ant is followed, by what the options say.
+fn traced_in<'w>(names: FileNames<'w>, id: u32, words: &[String]) -> Option<TracedGame<'w>>
+    ensures { option_map traced_of result ≡ traced_in (plain_names names.entry) id (texts words.now) }
+{
+    let seed = number_needed(NumberKind::SeedNumber, word_after(Choice::Seed, words))?;
+    let rounds = number_needed(NumberKind::RoundCount, word_after(Choice::Rounds, words))?;
+    let from = number_or(DEFAULT_FROM, NumberKind::RoundCount, Choice::From, words)?;
+    let surround = surround_in(words)?;
+    let corpse = corpse_in(words)?;
+    let rest = rest_in(words)?;
+    Some(TracedGame {
+        names,
+        id,
+        seed,
+        rounds,
+        from,
+        surround,
+        corpse,
+        rest,
+    })
+}
+
+fn same_in<'w>(words: &'w [String]) -> Option<Command<'w>>
+    ensures { option_map plain result ≡ command_in CommandKind.Same (answers_in CommandKind.Same (texts words.now)) }
+{
+    let first = word_at(words, 1)?;
+    let second = word_at(words, 2)?;
+    Some(Command::Same { first, second })
 }
 
 fn resume_in<'w>(words: &'w [String]) -> Option<Command<'w>>

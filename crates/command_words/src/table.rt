@@ -35,6 +35,10 @@ pub enum CommandKind {
     Save,
     /// `resume SAVE`, and its options: the rest of a game that was saved
     Resume,
+    /// `trace WORLD RED BLACK ID`, and its options: an ant's way, round by round
+    Trace,
+    /// `same FILE FILE`: whether two brains are the same, or where they first differ
+    Same,
 }
 
 /// An option that may follow the words of a command's places, in any order and at most once.
@@ -68,6 +72,8 @@ pub enum Choice {
     Rocks,
     /// `--blobs N`; without it 11
     Blobs,
+    /// `--from N`, the first round that is told; without it 0
+    From,
 }
 
 /// A list of file names, after a word of its own.
@@ -99,6 +105,8 @@ pub(crate) const DEFAULT_ROCKS: u8 = 14;
 
 pub(crate) const DEFAULT_BLOBS: u8 = 11;
 
+pub(crate) const DEFAULT_FROM: u32 = 0;
+
 pub(crate) fn kinds() -> &'static [CommandKind]
     ensures { result.now ≡ kinds }
 {
@@ -117,6 +125,8 @@ pub(crate) fn kinds() -> &'static [CommandKind]
         CommandKind::Asm,
         CommandKind::Save,
         CommandKind::Resume,
+        CommandKind::Trace,
+        CommandKind::Same,
     ]
 }
 
@@ -237,6 +247,28 @@ impl CommandKind {
                 places: &[FILE],
                 choices: &[Choice::Rounds, Choice::Dump, Choice::Workers, Choice::Stats],
             },
+            CommandKind::Trace => CommandRow {
+                word: "trace",
+                places: &[
+                    FILE,
+                    FILE,
+                    FILE,
+                    Place::Word(Slot::Number(NumberKind::AntId)),
+                ],
+                choices: &[
+                    Choice::Seed,
+                    Choice::Rounds,
+                    Choice::From,
+                    Choice::Surround,
+                    Choice::Corpse,
+                    Choice::Rest,
+                ],
+            },
+            CommandKind::Same => CommandRow {
+                word: "same",
+                places: &[FILE, FILE],
+                choices: &[],
+            },
         }
     }
 
@@ -341,6 +373,10 @@ impl Choice {
             Choice::Blobs => free(
                 "--blobs",
                 &[Place::Word(Slot::Number(NumberKind::ElementCount))],
+            ),
+            Choice::From => free(
+                "--from",
+                &[Place::Word(Slot::Number(NumberKind::RoundCount))],
             ),
         }
     }

@@ -2,6 +2,7 @@
 use Rattle.std.specs.Prelude.{◌≡◌, ℕ, ◌<◌, ◌≤◌, List, Option, Some, None, Result, Ok, Err}
 use Rattle.ant_turn.specs.Minds.{Minds}
 use Rattle.ant_turn.specs.Sheet.{sheet_of}
+use Rattle.ant_turn.specs.declared.sheet.Sheet.{Sheet as SheetNumbers}
 use Rattle.command_words.specs.Command.{PlainCommand, RunSetup}
 use Rattle.command_words.specs.Command.PlainCommand.{ResumeCommand, RunCommand, SaveCommand, WorkloadCommand}
 use Rattle.cell_world.specs.Grid.{Grid, world_of}
@@ -17,11 +18,12 @@ use Rattle.world_gen.specs.Generated.{IsGenerated}
 use Rattle.world_gen.specs.Placing.{HasNoRoom}
 use Rattle.ants.specs.declared.run.PlannedGame.{PlannedGame}
 use Rattle.ants.specs.declared.run.Setting.{Setting}
+use Rattle.ants.specs.declared.same.Pair.{Pair}
 use Rattle.ants.specs.declared.stop.FileFault.TheVariants.{AlreadyAt}
 use Rattle.ants.specs.declared.stop.CommandStop.{CommandStop}
 use Rattle.ants.specs.declared.stop.CommandStop.TheVariants as stop
 use Rattle.ants.specs.Files.{FileContent}
-use Rattle.ants.specs.Outputs.{ReadGame, chosen_rounds, game_contents, sheet_named}
+use Rattle.ants.specs.Outputs.{ReadGame, ReadPair, chosen_rounds, game_contents, sheet_named}
 use Rattle.ants.specs.FaultLines.{Reason, reason_of}
 use Rattle.ants.specs.FaultLines.Reason.{AtInput}
 
@@ -65,6 +67,14 @@ IsGenerating seed shape (Ok world) = IsGenerated seed shape world
 IsGenerating seed shape (Err (stop.NoRoom element)) = HasNoRoom seed shape element
 IsGenerating seed shape (Err stop.Memory) = Unit {0}
 IsGenerating seed shape (Err other) = ⊥
+
+-- what the files of two brains were read as
+abbrev pub pair_read : Pair → ReadPair
+pair_read pair = record { first = pair.first; second = pair.second }
+
+-- the brains of a game that were read, and this sheet
+abbrev pub minds_by : Setting → SheetNumbers → Minds
+minds_by setting sheet = record { red = setting.red; black = setting.black; sheet = sheet_of sheet }
 
 -- what the files of a game were read as
 abbrev pub game_read : Setting → ReadGame

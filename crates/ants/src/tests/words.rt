@@ -107,7 +107,7 @@ const REFUSED_CUPS: [(&str, &str); 12] = [
 ];
 
 // The same of other commands.
-const REFUSED_OTHERS: [(&str, &str); 22] = [
+const REFUSED_OTHERS: [(&str, &str); 28] = [
     ("gen 1 --width 2", "ants: word 4 refused\n"),
     ("gen 1 --height 513", "ants: word 4 refused\n"),
     ("gen 1 --rocks 256", "ants: word 4 refused\n"),
@@ -119,6 +119,12 @@ const REFUSED_OTHERS: [(&str, &str); 22] = [
     ("view w r b --seed 1", "ants: word 5 refused\n"),
     ("view w r b k --rounds 1", "ants: word 8 refused\n"),
     ("view w r b k --surround 5", "ants: word 6 refused\n"),
+    ("trace w r b", "ants: word 5 refused\n"),
+    ("trace w r b 16384", "ants: word 5 refused\n"),
+    ("trace w r b 1 --from 1000001", "ants: word 7 refused\n"),
+    ("trace w r b 1 --workers 2", "ants: word 6 refused\n"),
+    ("same r", "ants: word 3 refused\n"),
+    ("same r b w", "ants: word 4 refused\n"),
     ("workload", "ants: word 2 refused\n"),
     ("workload 1 1000001 1", "ants: word 3 refused\n"),
     ("workload 1 2", "ants: word 4 refused\n"),

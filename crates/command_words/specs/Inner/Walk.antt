@@ -5,15 +5,17 @@ use Rattle.std.specs.List.{list_all}
 use Rattle.std.specs.Str.{bytes_eq}
 use Rattle.command_words.specs.declared.command.Command.{Command}
 use Rattle.command_words.specs.declared.command.FileNames.{FileNames}
+use Rattle.command_words.specs.declared.command.TracedGame.{TracedGame}
 use Rattle.command_words.specs.declared.command.Refused.{Refused}
 use Rattle.command_words.specs.declared.table.NameList.{NameList}
 use Rattle.command_words.specs.declared.slot.Place.{Place}
 use Rattle.command_words.specs.declared.slot.Place.TheVariants.{Word, Names}
 use Rattle.command_words.specs.declared.table.CommandKind.{CommandKind}
+use Rattle.command_words.specs.declared.table.CommandKind.TheVariants.{Trace}
 use Rattle.command_words.specs.declared.table.Choice.{Choice}
 use Rattle.command_words.specs.Slots.{is_file_name, fits}
 use Rattle.command_words.specs.Table.{kinds, word_of, places_of, choices_of, option_of, values_of, is_needed, keyword_of, fewest_names, most_names, must_differ}
-use Rattle.command_words.specs.Command.{PlainCommand, ◌>>=◌, answers_in, command_in, first_word, is_among, names_front, plain, rest_after}
+use Rattle.command_words.specs.Command.{PlainCommand, TraceSetup, ◌>>=◌, answers_in, command_in, first_word, is_among, names_front, plain, plain_trace, rest_after, trace_in}
 
 -- the known command of this first word
 unfoldable pub command_kind_of : List ℕ → Option CommandKind
@@ -112,6 +114,13 @@ plain_names names = record { world = names.world.now; red = names.red.now; black
 abbrev pub names_in : List (List ℕ) → Option PlainNames
 names_in words =
     slice_get words 1 >>= λ world. slice_get words 2 >>= λ red. slice_get words 3 >>= λ black. Some (record { world = world; red = red; black = black })
+
+-- a traced game, without addresses: the names of its files, the id of its ant, and what the options say
+abbrev pub traced_of : TracedGame → PlainNames × ℕ × TraceSetup
+traced_of game = (plain_names game.names, game.id, plain_trace game)
+
+abbrev pub traced_in : PlainNames → ℕ → List (List ℕ) → Option (PlainNames × ℕ × TraceSetup)
+traced_in names id words = trace_in (answers_in Trace words) >>= λ setup. Some (names, id, setup)
 
 -- the words are a command, or are refused after the last
 abbrev pub finish : CommandKind → List (List ℕ) → Result (List Place) ℕ → Result PlainCommand ℕ
