@@ -5,7 +5,7 @@ _ants() {
     local word=${COMP_WORDS[COMP_CWORD]} before=${COMP_WORDS[COMP_CWORD-1]} options=
     COMPREPLY=()
     if [ "$COMP_CWORD" -eq 1 ]; then
-        COMPREPLY=($(compgen -W 'show brain minimise run gen cup view workload --help help --version asm save resume' -- "$word"))
+        COMPREPLY=($(compgen -W 'show brain minimise run gen cup view workload --help help --version asm save resume trace same' -- "$word"))
         return
     fi
     case ${COMP_WORDS[1]} in
@@ -15,9 +15,10 @@ _ants() {
     view) options='--seed --rounds' ;;
     save) options='--seed --rounds --workers --window --surround --corpse --rest' ;;
     resume) options='--rounds --dump --workers --stats' ;;
+    trace) options='--seed --rounds --from --surround --corpse --rest' ;;
     esac
     case $before in
-    --seed | --rounds | --workers | --window | --surround | --corpse | --rest | --width | --height | --rocks | --blobs) return ;;
+    --seed | --rounds | --workers | --window | --surround | --corpse | --rest | --width | --height | --rocks | --blobs | --from) return ;;
     --dump) COMPREPLY=($(compgen -W 'none all' -- "$word")); return ;;
     esac
     case $word in

@@ -1,5 +1,5 @@
 -- the files were accepted, and an ant's way through their game was written
-use Rattle.std.proofs.Common.{ap, subst}
+use Rattle.std.proofs.Common.{subst}
 use Rattle.ant_base.specs.Sink.{Pushed}
 use Rattle.ant_trace.specs.Trace.{trace_text}
 use Rattle.ant_turn.specs.Sheet.{Sheet, sheet_of}
