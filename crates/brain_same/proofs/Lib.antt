@@ -4,6 +4,7 @@ pub mod AnswersLemmas
 -- The search, and what it comes to.
 pub mod SearchLemmas
 pub mod ComparisonLemmas
+pub mod HasComparison
 -- What it is to be the same, and games.
 pub mod SameLaws
 pub mod PairedBrains

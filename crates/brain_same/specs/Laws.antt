@@ -23,3 +23,7 @@ SameIsNotApart = (first second : List Instr) → AreSame first second → (answe
 -- two brains come to one comparison
 abbrev pub OneComparison : Type 0
 OneComparison = (first second : List Instr) (one other : Comparison) → IsComparison first second one → IsComparison first second other → one ≡ other
+
+-- two brains come to some comparison
+abbrev pub HasComparison : Type 0
+HasComparison = (first second : List Instr) → IsBrain first → IsBrain second → (comparison : Comparison) × IsComparison first second comparison

@@ -1,6 +1,6 @@
 // Laws of brains that are the same.
 ghost use Rattle.brain_same.specs.Games.{BothPlaySame, PlaysSame};
-ghost use Rattle.brain_same.specs.Laws.{MinimisedIsSame, OneComparison, SameIsEquivalence, SameIsNotApart};
+ghost use Rattle.brain_same.specs.Laws.{HasComparison, MinimisedIsSame, OneComparison, SameIsEquivalence, SameIsNotApart};
 
 /// A law: to be the same is an equivalence: each brain is the same as itself, and what is the same as another is so the other way round
 /// and through a third.
@@ -21,6 +21,11 @@ pub fn same_is_not_apart()
 /// A law: two brains come to one comparison: what `compare` promises leaves nothing open.
 pub fn one_comparison()
     ensures { OneComparison }
+{}
+
+/// A law: two brains come to some comparison.
+pub fn has_comparison()
+    ensures { HasComparison }
 {}
 
 /// A law: by any opening world, other brain, numbers of the rules, seed, side and number of rounds, the game with a brain that is the same

@@ -15,7 +15,7 @@ mod search;
 pub use comparison::{Comparison, Found};
 pub use hex_geometry::OutOfMemory;
 pub use laws::{
-    both_play_same, minimised_is_same, one_comparison, plays_same, same_is_equivalence,
-    same_is_not_apart,
+    both_play_same, has_comparison, minimised_is_same, one_comparison, plays_same,
+    same_is_equivalence, same_is_not_apart,
 };
 pub use search::compare;
