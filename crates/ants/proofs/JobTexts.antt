@@ -9,6 +9,7 @@ use Rattle.brain_minimise.proofs.Uniqueness.{one_minimised}
 use Rattle.brain_minimise.specs.Text.{minimised_text}
 use Rattle.brain_read.proofs.SoundnessLemmas.{brain_of}
 use Rattle.brain_read.specs.declared.instr.Instr.{Instr}
+use Rattle.brain_same.proofs.HasComparison.{has_comparison}
 use Rattle.brain_same.proofs.SameLaws.{one_comparison}
 use Rattle.brain_same.specs.Text.{comparison_text}
 use Rattle.break_view.proofs.ViewLaws.{one_first_stop}
@@ -31,7 +32,7 @@ use Rattle.world_read.specs.Canonical.{canonical_text}
 use Rattle.world_read.specs.Opened.{kinds_of}
 use Rattle.ants.specs.Files.{AreAccepted, FileContent}
 use Rattle.ants.specs.Help.{help_text, version_text}
-use Rattle.ants.specs.Outputs.{IsCupOutput, IsViewOutput, ReadCup, ReadGame, ReadPair, ReadProgram, ReadView, Tells, TellsGenerated, TellsMinimised, TellsSame, TellsWorkload, brain_contents, brain_file, contest_shape, roster_contents, cup_files, game_contents, is_text_of, labelled_file, match_output, program_contents, resume_output, save_output, score_between, shape_named, show_output, summary_of, trace_output, workload_text}
+use Rattle.ants.specs.Outputs.{IsCupOutput, IsViewOutput, ReadCup, ReadGame, ReadPair, ReadProgram, ReadView, Tells, TellsGenerated, TellsMinimised, TellsSame, TellsWorkload, brain_contents, brain_file, pair_contents, contest_shape, roster_contents, cup_files, game_contents, is_text_of, labelled_file, match_output, program_contents, resume_output, save_output, score_between, shape_named, show_output, summary_of, trace_output, workload_text}
 use Rattle.ants.specs.Laws.{HasOutput, OneText, TextsEndInLf, WindowsChangeCountsAlone, WorkersChangeNothing}
 use Rattle.ants.proofs.Cups.{players_counted}
 use Rattle.ants.proofs.ReadContents.{has_text_of, has_told, one_text_of, one_told, read_brain, read_cup, read_game, read_none, read_pair, read_program, read_save, read_view, read_world}
@@ -127,6 +128,13 @@ has-minimised name (fetch ∷ fetches) list are =
     let minimised = has_minimised list (brain_of are.0.bytes list are.0.reads) in
     (minimised_text list minimised.0, record { new = minimised.0; numbers = minimised.1; minimised = minimised.2; told = refl })
 
+has-same : (one two : List ℕ) (fetches : List Fetched) (pair : ReadPair) → AreAccepted (brain_file one ∷ brain_file two ∷ []) fetches (pair_contents pair) → (text : List ℕ) × TellsSame pair text
+has-same one two [] pair are = absurd are
+has-same one two (first ∷ []) pair are = absurd are.1
+has-same one two (first ∷ second ∷ fetches) pair are =
+    let found = has_comparison pair.first pair.second (brain_of are.0.bytes pair.first are.0.reads) (brain_of are.1.0.bytes pair.second are.1.0.reads) in
+    (comparison_text found.0, record { comparison = found.0; is = found.1; told = refl })
+
 has-cup : (names : List (List ℕ)) (seed rounds : ℕ) (cup : ReadCup) → (text : List ℕ) × IsCupOutput names seed rounds cup text
 has-cup names seed rounds cup =
     let standing = has_standing (length cup.players) (length cup.worlds) (score_between cup.worlds cup.players seed rounds) in
@@ -158,22 +166,22 @@ has-workload seed rounds room =
     (workload_text seed rounds (summary_of seed rounds (world_of world.0)), record { world = world.0; generated = world.1; told = refl })
 
 pub has_output : HasOutput
-has_output (ShowCommand world seed) fetches contents by_law within are room = has_text_of (read_world world) (show_output seed) fetches contents are
-has_output (BrainCommand file) fetches contents by_law within are room = has_told (read_brain file) fetches contents are (λ list accepted. (_, refl))
-has_output (MinimiseCommand file) fetches contents by_law within are room = has_told (read_brain file) fetches contents are (λ list accepted. has-minimised file fetches list accepted)
-has_output (RunCommand world red black setup) fetches contents by_law within are room = has_text_of (read_game world red black) (match_output setup) fetches contents are
-has_output (GenCommand seed shape) fetches contents by_law within are room =
+has_output (ShowCommand world seed) fetches contents within are room = has_text_of (read_world world) (show_output seed) fetches contents are
+has_output (BrainCommand file) fetches contents within are room = has_told (read_brain file) fetches contents are (λ list accepted. (_, refl))
+has_output (MinimiseCommand file) fetches contents within are room = has_told (read_brain file) fetches contents are (λ list accepted. has-minimised file fetches list accepted)
+has_output (RunCommand world red black setup) fetches contents within are room = has_text_of (read_game world red black) (match_output setup) fetches contents are
+has_output (GenCommand seed shape) fetches contents within are room =
     has_told read_none fetches contents are (λ nothing accepted. has-generated seed (shape_named shape) (is_shape_named shape within.1) room)
-has_output (CupCommand worlds brains seed rounds workers) fetches contents by_law within are room = has_told (read_cup worlds brains) fetches contents are (λ cup accepted. has-cup brains seed rounds cup)
-has_output (ViewCommand world red black breaks seed rounds) fetches contents by_law within are room = has_told (read_view world red black breaks) fetches contents are (λ view accepted. has-view seed rounds view)
-has_output (WorkloadCommand seed rounds workers) fetches contents by_law within are room = has_told read_none fetches contents are (λ nothing accepted. has-workload seed rounds room)
-has_output HelpCommand fetches contents by_law within are room = has_told read_none fetches contents are (λ nothing accepted. (help_text, refl))
-has_output VersionCommand fetches contents by_law within are room = has_told read_none fetches contents are (λ nothing accepted. (version_text, refl))
-has_output (AsmCommand file) fetches contents by_law within are room = has_told (read_program file) fetches contents are (λ program accepted. (_, refl))
-has_output (SaveCommand world red black setup) fetches contents by_law within are room = has_text_of (read_game world red black) (save_output setup) fetches contents are
-has_output (ResumeCommand save setup) fetches contents by_law within are room = has_text_of (read_save save setup.rounds) (resume_output setup) fetches contents are
-has_output (TraceCommand world red black id setup) fetches contents by_law within are room = has_text_of (read_game world red black) (trace_output id setup) fetches contents are
-has_output (SameCommand first second) fetches contents by_law within are room = absurd by_law
+has_output (CupCommand worlds brains seed rounds workers) fetches contents within are room = has_told (read_cup worlds brains) fetches contents are (λ cup accepted. has-cup brains seed rounds cup)
+has_output (ViewCommand world red black breaks seed rounds) fetches contents within are room = has_told (read_view world red black breaks) fetches contents are (λ view accepted. has-view seed rounds view)
+has_output (WorkloadCommand seed rounds workers) fetches contents within are room = has_told read_none fetches contents are (λ nothing accepted. has-workload seed rounds room)
+has_output HelpCommand fetches contents within are room = has_told read_none fetches contents are (λ nothing accepted. (help_text, refl))
+has_output VersionCommand fetches contents within are room = has_told read_none fetches contents are (λ nothing accepted. (version_text, refl))
+has_output (AsmCommand file) fetches contents within are room = has_told (read_program file) fetches contents are (λ program accepted. (_, refl))
+has_output (SaveCommand world red black setup) fetches contents within are room = has_text_of (read_game world red black) (save_output setup) fetches contents are
+has_output (ResumeCommand save setup) fetches contents within are room = has_text_of (read_save save setup.rounds) (resume_output setup) fetches contents are
+has_output (TraceCommand world red black id setup) fetches contents within are room = has_text_of (read_game world red black) (trace_output id setup) fetches contents are
+has_output (SameCommand first second) fetches contents within are room = has_told (read_pair first second) fetches contents are (λ pair accepted. has-same first second fetches pair accepted)
 
 -- a game's text is that of another setup where each game's is
 other_game : (setup other : RunSetup) (contents : List FileContent) (text : List ℕ) → ((game : ReadGame) → match_output setup game ≡ match_output other game)

@@ -19,7 +19,7 @@ use Rattle.cell_world.specs.Valid.{Valid}
 use Rattle.cell_world.specs.declared.ant.Colour.{Colour}
 use Rattle.cell_world.specs.declared.kind.Kind.{Kind}
 use Rattle.command_words.specs.Command.{CommandWithin, PlainCommand, ResumeSetup, RunSetup}
-use Rattle.command_words.specs.Command.PlainCommand.{RunCommand, CupCommand, ResumeCommand, SaveCommand, WorkloadCommand, SameCommand}
+use Rattle.command_words.specs.Command.PlainCommand.{RunCommand, CupCommand, ResumeCommand, SaveCommand, WorkloadCommand}
 use Rattle.command_words.specs.Slots.DumpChoice.{NoDump}
 use Rattle.dump_print.specs.Texts.{seed_text}
 use Rattle.match_run.specs.Run.{dumps_text}
@@ -62,15 +62,10 @@ WindowsChangeCountsAlone =
     (world red black : List ℕ) (setup : RunSetup) (window : ℕ) (contents : List FileContent) (text : List ℕ) → setup.stats ≡ false
     → IsJobText (RunCommand world red black setup) contents text → IsJobText (RunCommand world red black (record setup { window = window })) contents text
 
--- the definitions alone show that the command has an output. That two brains come to something is shown by the search, where it has memory
-abbrev pub HasByLaw : PlainCommand → Type 0
-HasByLaw (SameCommand first second) = ⊥
-HasByLaw command = Unit {0}
-
--- such a command, within the limits, whose files were accepted, and whose elements have room, has an output
+-- a command within the limits whose files were accepted, and whose elements have room, has an output
 abbrev pub HasOutput : Type 0
 HasOutput =
-    (command : PlainCommand) (fetches : List Fetched) (contents : List FileContent) → HasByLaw command → CommandWithin command → AreAccepted (files_of command) fetches contents → HasRoom command
+    (command : PlainCommand) (fetches : List Fetched) (contents : List FileContent) → CommandWithin command → AreAccepted (files_of command) fetches contents → HasRoom command
     → (text : List ℕ) × IsJobText command contents text
 
 -- the brain of a labelled program, minimised, plays the labelled game, whatever the opening world, the other brain, the numbers of the rules,
