@@ -1,7 +1,9 @@
 // Brains: the sections "Brains" and "Minimised brains" of docs/RULES.md.
 #include "brain.hpp"
 
+#include <deque>
 #include <map>
+#include <set>
 
 #include "files.hpp"
 
@@ -199,4 +201,25 @@ Brain minimised(const Brain& brain) {
         }
     }
     return kept;
+}
+
+// Goes through the pairs of states to which the same answers lead, fewer answers first and met before unmet.
+std::optional<Difference> difference_of(const Brain& first, const Brain& second) {
+    std::set<std::pair<uint64_t, uint64_t>> met = {{0, 0}};
+    std::deque<Difference> left = {{0, 0, 0}};
+    while (!left.empty()) {
+        const Difference pair = left.front();
+        left.pop_front();
+        const Instruction& one = first[pair.first];
+        const Instruction& other = second[pair.second];
+        if (kind_of(one) != kind_of(other)) {
+            return pair;
+        }
+        for (size_t i = 0; i < one.next.size(); i++) {
+            if (met.insert({one.next[i], other.next[i]}).second) {
+                left.push_back({pair.answers + 1, one.next[i], other.next[i]});
+            }
+        }
+    }
+    return {};
 }

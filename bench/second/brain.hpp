@@ -2,6 +2,7 @@
 #pragma once
 #include <cstdint>
 #include <functional>
+#include <optional>
 #include <string>
 #include <vector>
 
@@ -38,3 +39,13 @@ Brain read_brain(const std::string& name, const std::string& text);
 
 std::string canonical_text(const Brain& brain);
 Brain minimised(const Brain& brain);
+
+// Two states that differ, and after how many answers they are reached.
+struct Difference {
+    uint64_t answers;
+    uint64_t first;
+    uint64_t second;
+};
+
+// None where the brains are the same.
+std::optional<Difference> difference_of(const Brain& first, const Brain& second);

@@ -104,6 +104,19 @@ def brain_lines(r):
     return lines
 
 
+def moved(r, lines):
+    """The lines of a brain whose states but 0 have other numbers, with some that nothing leads to."""
+    count = len(lines)
+    order = [0] + r.sample(range(1, count + 3), count - 1)
+    other = ['Drop 0'] * (max(order) + 1)
+    for number, line in enumerate(lines):
+        tokens = line.split(' ')
+        for place in PLACES_OF_STATES[tokens[0]]:
+            tokens[place] = str(order[int(tokens[place])])
+        other[order[number]] = ' '.join(tokens)
+    return other
+
+
 def brain_with_wrong_state(r, lines):
     """A text in which one number of the lines, most often a state, is another."""
     count = len(lines)

@@ -1,9 +1,9 @@
 """Random cases: the words of a command, its files and its standard input."""
-from brains import any_brain
+from brains import any_brain, brain_lines, instruction, moved
 from breaks import Game, break_text
 from programs import any_program
 from saves import any_save, faulty_save
-from spelling import chance
+from spelling import chance, spelled
 from worlds import any_world, faulty_world, grid, world_text
 
 
@@ -164,6 +164,45 @@ def case_of_minimise(r):
     case = Case()
     name = put(case, r, 'b', any_brain(r, .1))
     case.words = ['minimise', name]
+    return case
+
+
+def case_of_same(r):
+    """`same` of two brains: of one and of what it becomes, of two that differ in a line, or of any two."""
+    case = Case()
+    lines = brain_lines(r)
+    kind = r.random()
+    other = list(lines)
+    if kind < .3:
+        other = moved(r, lines)
+    elif kind < .7:
+        other = moved(r, lines) if chance(r, .5) else other
+        other[r.randrange(len(other))] = instruction(r, len(other))
+    elif kind < .9:
+        other = brain_lines(r)
+    texts = [spelled(r, lines), spelled(r, other)] if chance(r, .97) else [any_brain(r, .5), any_brain(r, .5)]
+    names = [put(case, r, name, text, .01) for name, text in zip(('r', 'b'), texts)]
+    case.words = ['same'] + names
+    return case
+
+
+def case_of_trace(r):
+    """`trace` of an ant that is there, or of none."""
+    case = Case()
+    rows = grid(r)
+    world = put(case, r, 'w', world_text(r, rows) if chance(r, .98) else faulty_world(r), .01)
+    red = put(case, r, 'r', any_brain(r, .02), .01)
+    black = red if chance(r, .2) else put(case, r, 'b', any_brain(r, .02), .01)
+    ants = sum(cell in '+-' for row in rows for cell in row)
+    rounds = rounds_of_run(r, rows)
+    ant = r.choice([0, r.randrange(max(1, ants)), r.randrange(max(1, ants)), r.randrange(max(1, ants)), ants, 16383])
+    options = seed_and_rounds(r, rounds)
+    if chance(r, .4):
+        options.append(['--from', str(r.choice([0, rounds, rounds + 1, r.randint(0, rounds), 1000000]))])
+    for name, values in (('--surround', [4, 5, 6]), ('--corpse', range(10)), ('--rest', [0, 0, 1, 2, 14, 255])):
+        if chance(r, .3):
+            options.append([name, str(r.choice(values))])
+    case.words = ['trace', world, red, black, str(ant)] + shuffled(r, options)
     return case
 
 

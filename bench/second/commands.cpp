@@ -131,6 +131,22 @@ void minimise(Words& words) {
     print("; " + decimal(brain.size()) + " states, " + decimal(kept.size()) + " kept\n" + canonical_text(kept));
 }
 
+void same(Words& words) {
+    const std::string first_name = words.file_name();
+    const std::string second_name = words.file_name();
+    words.end();
+    const Brain first = fetch_brain(first_name);
+    const Brain second = fetch_brain(second_name);
+    const std::optional<Difference> found = difference_of(first, second);
+    if (!found) {
+        print("same\n");
+        return;
+    }
+    print("different after " + decimal(found->answers) + " answers\nfirst " + decimal(found->first) + ": " +
+          line_of(first[found->first]) + "\nsecond " + decimal(found->second) + ": " + line_of(second[found->second]) +
+          "\n");
+}
+
 void run(Words& words) {
     const std::string world_name = words.file_name();
     const std::string red_name = words.file_name();
@@ -142,6 +158,42 @@ void run(Words& words) {
     Game game(world, {{&red, &black}, run.sheet}, run.seed);
     const std::string start = run.dumps.has(0) ? dump_text(world, 0) : "";
     play(game, run, seed_line(run.seed) + start, 0, Counts());
+}
+
+void trace(Words& words) {
+    const std::string world_name = words.file_name();
+    const std::string red_name = words.file_name();
+    const std::string black_name = words.file_name();
+    const uint64_t id = words.number(0, most_ants - 1);
+    Run asked;
+    uint64_t from = 0;
+    words.options(
+        {needed_number("--seed", 0, most_of_32_bits, asked.seed), needed_number("--rounds", 0, most_rounds, asked.rounds),
+         free_number("--from", 0, most_rounds, from), free_number("--surround", 4, 6, asked.sheet.surround),
+         free_number("--corpse", 0, 9, asked.sheet.corpse), free_number("--rest", 0, 255, asked.sheet.rest)});
+    const World world = fetch_world(world_name);
+    const Brain red = fetch_brain(red_name);
+    const Brain black = fetch_brain(black_name);
+    Game game(world, {{&red, &black}, asked.sheet}, asked.seed);
+    std::string text = seed_line(asked.seed);
+    if (id >= world.places.size()) {
+        print(text + "no ant of id " + decimal(id) + "\n");
+        return;
+    }
+    for (uint64_t round = 0; round <= asked.rounds; round++) {
+        if (round > 0) {
+            game.play_round();
+        }
+        if (round < from) {
+            continue;
+        }
+        const int place = game.world.places[id];
+        text += "round " + decimal(round) + ": " + (place == dead ? "dead\n" : cell_line(game.world, place));
+        if (place == dead) {
+            break;
+        }
+    }
+    print(text);
 }
 
 void assemble(Words& words) {

@@ -15,6 +15,8 @@ void show(Words& words);
 void print_brain(Words& words);
 void minimise(Words& words);
 void run(Words& words);
+void trace(Words& words);
+void same(Words& words);
 void assemble(Words& words);
 void save(Words& words);
 void resume(Words& words);

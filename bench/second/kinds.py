@@ -11,6 +11,8 @@ KINDS = {
     'show': cases.case_of_show,
     'brain': cases.case_of_brain,
     'minimise': cases.case_of_minimise,
+    'same': cases.case_of_same,
+    'trace': cases.case_of_trace,
     'run': cases.case_of_run,
     'asm': cases.case_of_asm,
     'save': cases.case_of_save,

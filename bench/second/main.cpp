@@ -15,7 +15,8 @@ int main(int count, char** arguments) {
     const std::map<std::string, void (*)(Words&)> commands = {
         {"show", show},         {"brain", print_brain}, {"minimise", minimise}, {"run", run},   {"asm", assemble},
         {"save", save},         {"resume", resume},     {"gen", generate},      {"view", view}, {"cup", cup},
-        {"workload", workload}, {"--help", help},       {"--version", version},
+        {"workload", workload}, {"trace", trace},       {"same", same},         {"help", help}, {"--help", help},
+        {"--version", version},
     };
     Words words(all);
     const auto command = commands.find(words.next());

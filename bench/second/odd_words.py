@@ -1,12 +1,14 @@
 """Random cases of words at fault, and of numbers at their limits."""
 from cases import (
     Case, case_of_asm, case_of_brain, case_of_cup, case_of_gen, case_of_minimise, case_of_resume, case_of_run,
-    case_of_save, case_of_show, case_of_view, case_of_workload, shuffled,
+    case_of_same, case_of_save, case_of_show, case_of_trace, case_of_view, case_of_workload, shuffled,
 )
 from saves import Save
 from spelling import chance
 
-COMMANDS = ['show', 'run', 'brain', 'gen', 'minimise', 'cup', 'view', 'workload', 'asm', 'save', 'resume']
+COMMANDS = [
+    'show', 'run', 'brain', 'gen', 'minimise', 'cup', 'view', 'workload', 'asm', 'save', 'resume', 'trace', 'same', 'help',
+]
 DUMPS = [
     'none', 'all', 'None', 'ALL', '0', '1,2', '1,,2', '1,2,', ',1', ',', '', '1000000', '1000001', '00000000001',
     '0000000001', '1-3', '1, 2', '-1', 'none,1', '1,none', 'all,', '1000000,1000000', '0000000000,1', '+1', ' 1',
@@ -14,7 +16,7 @@ DUMPS = [
 ]
 OPTIONS = [
     '--seed', '--rounds', '--dump', '--workers', '--window', '--stats', '--surround', '--corpse', '--rest', '--width',
-    '--height', '--rocks', '--blobs', '--worlds', '--brains', '--far',
+    '--height', '--rocks', '--blobs', '--worlds', '--brains', '--far', '--from',
 ]
 OTHER_WORDS = [
     '--', '-', '---', '-x', '--help', '--version', '--Seed', '--seed=1', '--SEED', '', ' ', 'w', 'r', 'b', './--w',
@@ -24,12 +26,12 @@ OTHER_WORDS = [
 ]
 WORDS = COMMANDS + ['minimize', 'Show'] + OPTIONS + OTHER_WORDS + DUMPS
 FIRST_WORDS = [
-    [], ['help'], ['--help', 'x'], ['show'], ['run'], ['cup'], ['view'], ['gen'], ['workload'], ['brain'], ['minimise'],
+    [], ['help', 'x'], ['--help', 'x'], ['trace'], ['same'], ['show'], ['run'], ['cup'], ['view'], ['gen'], ['workload'], ['brain'], ['minimise'],
     ['asm'], ['save'], ['resume'], ['--version'], ['--version', '--version'],
 ]
 GOOD_CASES = [
     case_of_show, case_of_brain, case_of_minimise, case_of_run, case_of_run, case_of_gen, case_of_cup, case_of_view,
-    case_of_workload, case_of_asm, case_of_save, case_of_resume,
+    case_of_workload, case_of_asm, case_of_save, case_of_resume, case_of_trace, case_of_same,
 ]
 NEAR_LIMITS = {
     '--seed': ['0', '4294967295', '4294967296', '9999999999'],
@@ -40,6 +42,7 @@ NEAR_LIMITS = {
     '--workers': ['0', '1', '16', '17', '15'],
     '--window': ['0', '1', '16384', '16385', '16383'],
     '--dump': DUMPS,
+    '--from': ['0', '1', '1000000', '1000001'],
     '--width': ['2', '3', '13', '14', '512', '513', '0'],
     '--height': ['2', '3', '14', '15', '512', '513', '0'],
     '--rocks': ['0', '255', '256'],
@@ -52,6 +55,7 @@ HEADS = {
     'view': ['view', 'w', 'r', 'b', 'k'],
     'save': ['save', 'w', 'r', 'b'],
     'resume': ['resume', 's'],
+    'trace': ['trace', 'w', 'r', 'b', '1'],
 }
 OPTIONS_OF = {
     'run': ['--seed', '--rounds', '--surround', '--corpse', '--rest', '--dump', '--workers', '--window'],
@@ -60,6 +64,7 @@ OPTIONS_OF = {
     'view': ['--seed', '--rounds'],
     'save': ['--seed', '--rounds', '--surround', '--corpse', '--rest', '--workers', '--window'],
     'resume': ['--rounds', '--dump', '--workers'],
+    'trace': ['--seed', '--rounds', '--from', '--surround', '--corpse', '--rest'],
 }
 SMALL_SAVE = Save(['####', '#+.#', '#-.#', '####'])
 SMALL_FILES = {
@@ -140,7 +145,7 @@ def case_of_words(r):
     for _ in range(r.choice([1, 1, 1, 2, 2, 3])):
         case.words = with_other_word(r, case.words)
     case.words = without_long_games(case.words)
-    if case.words == ['--help']:  # its page stands in the program alone
+    if case.words in (['--help'], ['help']):  # its page stands in the program alone
         case.words = ['--version']
     return case
 
@@ -149,7 +154,7 @@ def case_of_limits(r):
     """Options with numbers at their limits."""
     case = Case()
     case.files = dict(SMALL_FILES)
-    command = r.choice(['run', 'run', 'gen', 'cup', 'view', 'save', 'save', 'resume'])
+    command = r.choice(['run', 'run', 'gen', 'cup', 'view', 'save', 'save', 'resume', 'trace'])
     options = []
     for name in OPTIONS_OF[command]:
         if name in ('--seed', '--rounds') or chance(r, .4):
@@ -161,4 +166,6 @@ def case_of_limits(r):
         if command in commands and chance(r, .3):
             options.append([name])
     case.words = HEADS[command] + shuffled(r, options)
+    if command == 'trace':
+        case.words[4] = r.choice(['0', '1', '2', '3', '16383', '16384', '9999999999'])
     return case

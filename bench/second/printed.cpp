@@ -50,13 +50,15 @@ std::string seed_line(uint64_t seed) {
     return "random seed: " + decimal(seed) + "\n";
 }
 
+std::string cell_line(const World& world, int place) {
+    const std::string where = decimal(place % world.width) + ", " + decimal(place / world.width);
+    return "cell (" + where + "): " + content_of(world.cells[place]) + "\n";
+}
+
 std::string cells_text(const World& world) {
     std::string text;
-    for (int y = 0; y < world.height; y++) {
-        for (int x = 0; x < world.width; x++) {
-            const Cell& cell = world.cells[static_cast<size_t>(y) * world.width + x];
-            text += "cell (" + decimal(x) + ", " + decimal(y) + "): " + content_of(cell) + "\n";
-        }
+    for (int place = 0; place < world.width * world.height; place++) {
+        text += cell_line(world, place);
     }
     return text;
 }

@@ -13,7 +13,6 @@ constexpr size_t most_digits = 11;
 constexpr uint64_t any_count = 99999999999;
 constexpr uint64_t any_state = 9999999999;
 constexpr uint64_t most_window = 16384;
-constexpr uint64_t most_ants = 16384;
 constexpr uint64_t most_weight = 2340900;
 constexpr uint64_t most_states = 10000;
 constexpr uint64_t weight_of_ant = 9;

@@ -10,7 +10,6 @@ namespace {
 
 constexpr uint64_t least_size = 3;
 constexpr uint64_t most_size = 512;
-constexpr int64_t most_ants = 16384;
 
 // By whether the row is odd, and by direction.
 constexpr int steps_right[2][6] = {{1, 0, -1, -1, -1, 0}, {1, 1, 0, -1, 0, 1}};

@@ -33,6 +33,7 @@ struct World {
 };
 
 constexpr int dead = -1;
+constexpr int64_t most_ants = 16384;
 
 struct Point {
     int64_t x;
