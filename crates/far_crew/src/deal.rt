@@ -81,6 +81,7 @@ pub fn job_of(
     requires forwards { piece.first ≤ piece.last }
     requires within { piece.last ≤ turns.now.to - turns.now.from }
 {
+    // Called for its clause: an ant's id is a machine number.
     let _ids = field.world().ant_count();
     let Piece { first, last } = piece;
     let turns = GuessedTurns {

@@ -112,6 +112,7 @@ impl Job {
     {
         let GuessedTurns { from, to, guesses } = *turns;
         let Copies { minds, base } = copies;
+        // Called for its clause: what the field's world keeps, so that a job can be made of it.
         let _fit = field.world();
         let guesses = Vec::from_slice(alloc, guesses)?;
         reserve(&mut room, (to - from) as usize)?;
