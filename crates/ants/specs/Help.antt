@@ -90,6 +90,7 @@ unfoldable pub status_lines : List ℕ
 status_lines =
     codes "Exit status:\n"
     +++ codes "  0  all of the output was written\n"
+    +++ codes "  1  a word is no UTF-8, and nothing is written\n"
     +++ codes "  2  the words are no command\n"
     +++ codes "  3  a file was not read\n"
     +++ codes "  4  the output failed\n"

@@ -156,6 +156,7 @@ impl Layout for StatusLines {
         concat!(
             "Exit status:\n",
             "  0  all of the output was written\n",
+            "  1  a word is no UTF-8, and nothing is written\n",
             "  2  the words are no command\n",
             "  3  a file was not read\n",
             "  4  the output failed\n",
