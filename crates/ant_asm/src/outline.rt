@@ -50,7 +50,7 @@ impl<'t> Outlines<'t> {
         }
     }
 
-    // A line more, of this number. A program's lines are spelled well, so one that isn't read is one for want of memory.
+    // A line more, of this number. A program's lines are spelled well, so one that isn't read is one for which memory was refused.
     pub(crate) fn read(
         &mut self,
         alloc: Global,

@@ -8,7 +8,7 @@
 //! positions of a world and their numbers in row order lead to each other, and that its rim is all but its inner positions. Nothing here but
 //! the list of a ball takes memory.
 //!
-//! It stands on the want of memory of `ant_base`, and on lemmas.
+//! It stands on `OutOfMemory` of `ant_base`, and on lemmas.
 //!
 //! What names no section of the contest's task is this project's own.
 #![tactic(auto)]
