@@ -1,0 +1,4 @@
+-- Games that begin with a world as a text opens it.
+pub mod Openings
+-- What is seen of a game after each round.
+pub mod Seen
