@@ -7,6 +7,7 @@ pub mod Texts
 pub mod JobTexts
 -- What is fetched and judged, file by file.
 pub mod Readings
+pub mod ToldCups
 pub mod Verdicts
 pub mod Judgements
 pub mod Accepted
