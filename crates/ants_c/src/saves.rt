@@ -1,5 +1,5 @@
 // Games that are saved and go on, as texts.
-ghost use Rattle.std.specs.Prelude.{◌≡◌, ◌≤◌, IfErr, IfOk, OnErr, false, length, true};
+ghost use Rattle.std.specs.Prelude.{◌≡◌, ◌≤◌, IfErr, IfOk, OnErr, false, length};
 ghost use Rattle.ant_base.specs.Shelf.{longest};
 ghost use Rattle.match_run.specs.Dumps.{chooses, has_round};
 ghost use Rattle.match_run.specs.Run.{most_rounds};
