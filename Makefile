@@ -17,10 +17,8 @@ $(PROGRAM): crates.txt $(shell find crates -name out -prune -o \( -name '*.rt' -
 run: build
 	@$(PROGRAM) $(ARGS)
 
-# `rt try` runs the program in a folder of its own, so it is handed each file that the words name.
 try:
-	@top=$$PWD; set --; for word in $(ARGS); do [ ! -f "$$word" ] || set -- "$$@" --data "$$word=$$top/$$word"; done; \
-	cd crates/ants && rt try "$$@" -- $(ARGS)
+	@.ci/try $(ARGS)
 
 test:
 	rt ci
