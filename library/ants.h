@@ -28,8 +28,9 @@
 
    TO LINK. One file is enough; it needs the C library alone.
 
-       cc -O2 game.c libants.a -o game                          the static library
-       cc -O2 game.c -o game $(pkg-config --cflags --libs ants) the library that `make install` has put in its place, libants.so
+       cc -O2 game.c libants.a -o game                           the static library
+       cc -O2 game.c -o game $(pkg-config --cflags --libs ants)  libants.so, where `make install` or a package has put it; the system
+                                                                 finds it as any, by ldconfig, LD_LIBRARY_PATH or -Wl,-rpath
 
    EACH CALL answers a status:
 
