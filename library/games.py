@@ -6,8 +6,8 @@ import ants
 
 def main() -> None:
     texts = [open(name, "rb").read() for name in sys.argv[1:4]]
-    for seed, (red, black) in enumerate(ants.scores(*texts, seeds=range(1000), rounds=int(sys.argv[4]))):
-        print(seed, red, black)
+    found = ants.scores(*texts, seeds=range(1000), rounds=int(sys.argv[4]))
+    print("\n".join("%d %d %d" % (seed, *score) for seed, score in enumerate(found)))
 
 
 if __name__ == "__main__":
