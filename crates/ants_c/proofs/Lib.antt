@@ -1,2 +1,3 @@
 mod Overlaid
+mod PlayedSaves
 mod Stops

@@ -1,5 +1,5 @@
 -- Why texts are not opened, by why they are not read.
-use Rattle.std.proofs.Common.{◌≡◌, ℕ, List, refl, arith}
+use Rattle.std.proofs.Common.{◌≡◌, ◌<◌, ℕ, List, refl, arith}
 use Rattle.ant_asm.specs.declared.fault.AsmFault.{AsmFault}
 use Rattle.ant_asm.specs.declared.fault.AsmFault.TheVariants as labelled
 use Rattle.ant_asm.specs.Answers as labelled_answers
@@ -9,6 +9,10 @@ use Rattle.brain_read.specs.declared.instr.Instr.{Instr}
 use Rattle.brain_read.specs.Answers as brain_answers
 use Rattle.brain_read.specs.Grammar.{IsBrainText}
 use Rattle.cell_world.specs.Grid.{Grid}
+use Rattle.match_save.specs.declared.fault.SaveFault.{SaveFault}
+use Rattle.match_save.specs.declared.fault.SaveFault.TheVariants as save
+use Rattle.match_save.specs.Answers as save_answers
+use Rattle.match_save.specs.Saved.{IsSaveText, SavedValue}
 use Rattle.world_read.specs.declared.fault.WorldFault.{WorldFault}
 use Rattle.world_read.specs.declared.fault.WorldFault.TheVariants as world
 use Rattle.world_read.specs.Answers as world_answers
@@ -17,8 +21,9 @@ use Rattle.ants_c.specs.declared.fault.AntsFault.{AntsFault}
 use Rattle.ants_c.specs.declared.refusal.Refusal.{Refusal}
 use Rattle.ants_c.specs.declared.refusal.Stop.{Stop}
 use Rattle.ants_c.specs.declared.refusal.Stop.TheVariants.{OutOfMemory, Refused}
-use Rattle.ants_c.specs.Refused.{IsRefusedBrain, IsRefusedGame, IsRefusedPair, IsRefusedProgram, IsRefusedWorld}
-use Rattle.ants_c.specs.Stops.{brain_stop, labelled_stop, world_stop}
+use Rattle.ants_c.specs.declared.refusal.TextFault.TheVariants as fault
+use Rattle.ants_c.specs.Refused.{IsRefusedBrain, IsRefusedGame, IsRefusedPair, IsRefusedProgram, IsRefusedSave, IsRefusedWorld}
+use Rattle.ants_c.specs.Stops.{brain_stop, labelled_stop, refused, save_stop, world_stop}
 use Rattle.ants_c.specs.Told.{IsStopped, IsTold, StopsAt}
 
 -- a fault of a world's text stops a call
@@ -63,6 +68,17 @@ stops_at_program text (labelled.TooMany line) is = IsRefusedProgram.NoProgram (l
 stops_at_program text (labelled.EmptyBlock line) is = IsRefusedProgram.NoProgram (labelled.EmptyBlock line) is refl
 stops_at_program text labelled.Empty is = IsRefusedProgram.NoProgram labelled.Empty is refl
 stops_at_program text (labelled.NoLabel line) is = IsRefusedProgram.NoProgram (labelled.NoLabel line) is refl
+
+-- a fault of a save's text stops a call
+pub stops_at_save : (rounds : ℕ) (text : List ℕ) (fault : SaveFault) → save_answers.IsFaultOf text fault → StopsAt (IsRefusedSave rounds text) (save_stop fault)
+stops_at_save rounds text save.OutOfMemory is = tt
+stops_at_save rounds text (save.BadLine line) is = IsRefusedSave.NoSave (save.BadLine line) is refl
+stops_at_save rounds text save.BadState is = IsRefusedSave.NoSave save.BadState is refl
+
+-- a save of which too many rounds are done stops a call
+pub stops_too_far : (rounds round : ℕ) (text : List ℕ) (saved : SavedValue) (stop : Stop) → IsSaveText text saved → round ≡ saved.round → rounds < round
+    → stop ≡ refused 1 (fault.AlreadyAt round) → StopsAt (IsRefusedSave rounds text) stop
+stops_too_far rounds round text saved stop is at far stopped = rw stopped (IsRefusedSave.TooFar saved is (rw (← at) far) (rw at refl))
 
 -- a call that stops at the first, the second or the third text of a game
 pub stops_at_first : (world red black : List ℕ) (stop : Stop) → StopsAt (IsRefusedWorld world) stop → StopsAt (IsRefusedGame world red black) stop

@@ -3,6 +3,7 @@ pub mod Played
 pub mod Refused
 pub mod Rooms
 pub mod RoomSinks
+pub mod Saves
 pub mod Stops
 pub mod Texts
 pub mod Told

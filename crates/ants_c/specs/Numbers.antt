@@ -4,11 +4,13 @@ use Rattle.ant_asm.specs.declared.fault.AsmFault.{AsmFault}
 use Rattle.ant_asm.specs.declared.fault.AsmFault.TheVariants as labelled
 use Rattle.brain_read.specs.declared.fault.BrainFault.{BrainFault}
 use Rattle.brain_read.specs.declared.fault.BrainFault.TheVariants as brain
+use Rattle.match_save.specs.declared.fault.SaveFault.{SaveFault}
+use Rattle.match_save.specs.declared.fault.SaveFault.TheVariants as save
 use Rattle.world_read.specs.declared.fault.WorldFault.{WorldFault}
 use Rattle.world_read.specs.declared.fault.WorldFault.TheVariants as world
 use Rattle.ants_c.specs.declared.numbers.Numbers.{Numbers}
 use Rattle.ants_c.specs.declared.refusal.TextFault.{TextFault}
-use Rattle.ants_c.specs.declared.refusal.TextFault.TheVariants.{TooLong, World, Brain, Labelled, NoRoom}
+use Rattle.ants_c.specs.declared.refusal.TextFault.TheVariants.{TooLong, World, Brain, Labelled, Save, AlreadyAt, NoRoom}
 
 -- a kind without further numbers
 abbrev pub bare : ℕ → Numbers
@@ -61,10 +63,18 @@ labelled_numbers labelled.Empty = bare 42
 labelled_numbers (labelled.NoLabel line) = at_line 43 line
 labelled_numbers labelled.OutOfMemory = bare 0
 
+-- of a save's fault: its kind and line
+abbrev pub save_numbers : SaveFault → Numbers
+save_numbers (save.BadLine line) = at_line 50 line
+save_numbers save.BadState = bare 51
+save_numbers save.OutOfMemory = bare 0
+
 -- of what is wrong with a text
 abbrev pub numbers_of : TextFault → Numbers
 numbers_of TooLong = bare 1
 numbers_of (World why) = world_numbers why
 numbers_of (Brain why) = brain_numbers why
 numbers_of (Labelled why) = labelled_numbers why
+numbers_of (Save why) = save_numbers why
+numbers_of (AlreadyAt round) = record { kind = 52; line = 0; column = 0; number = round }
 numbers_of (NoRoom element) = record { kind = 60; line = 0; column = 0; number = element }

@@ -8,6 +8,9 @@ use Rattle.brain_read.specs.declared.instr.Instr.{Instr}
 use Rattle.brain_read.specs.Faulty.{IsBrainFault}
 use Rattle.brain_read.specs.Grammar.{IsBrainText}
 use Rattle.cell_world.specs.Grid.{Grid}
+use Rattle.match_save.specs.declared.fault.SaveFault.{SaveFault}
+use Rattle.match_save.specs.Faulty.{IsSaveFault}
+use Rattle.match_save.specs.Saved.{IsSaveText, SavedValue}
 use Rattle.world_gen.specs.declared.shape.Shape.{Shape}
 use Rattle.world_gen.specs.Placing.{HasNoRoom}
 use Rattle.world_read.specs.declared.fault.WorldFault.{WorldFault}
@@ -47,3 +50,10 @@ pub record IsRefusedShape (seed : ℕ) (shape : Shape) (refusal : Refusal) : Typ
   pub element : ℕ
   pub none : HasNoRoom seed shape element
   pub is : refusal ≡ record { text = 0; fault = fault.NoRoom element }
+
+-- the first text is too long to be read, or it is no save's and has this fault, or it is that of a save of which more rounds are done than these
+pub data IsRefusedSave (rounds : ℕ) (text : List ℕ) (refusal : Refusal) : Type 0 where
+  TooLong : longest < length text → refusal ≡ record { text = 1; fault = fault.TooLong } → IsRefusedSave rounds text refusal
+  NoSave : (why : SaveFault) → IsSaveFault text why → refusal ≡ record { text = 1; fault = fault.Save why } → IsRefusedSave rounds text refusal
+  TooFar : (saved : SavedValue) → IsSaveText text saved → rounds < saved.round → refusal ≡ record { text = 1; fault = fault.AlreadyAt saved.round }
+      → IsRefusedSave rounds text refusal

@@ -4,6 +4,8 @@ use Rattle.ant_asm.specs.declared.fault.AsmFault.{AsmFault}
 use Rattle.ant_asm.specs.declared.fault.AsmFault.TheVariants as labelled
 use Rattle.brain_read.specs.declared.fault.BrainFault.{BrainFault}
 use Rattle.brain_read.specs.declared.fault.BrainFault.TheVariants as brain
+use Rattle.match_save.specs.declared.fault.SaveFault.{SaveFault}
+use Rattle.match_save.specs.declared.fault.SaveFault.TheVariants as save
 use Rattle.world_read.specs.declared.fault.WorldFault.{WorldFault}
 use Rattle.world_read.specs.declared.fault.WorldFault.TheVariants as world
 use Rattle.ants_c.specs.declared.refusal.Stop.{Stop}
@@ -15,7 +17,7 @@ use Rattle.ants_c.specs.declared.refusal.TextFault.TheVariants as fault
 abbrev pub refused : ℕ → TextFault → Stop
 refused number why = Refused (record { text = number; fault = why })
 
--- why a call stops at this fault of a world, of the brain in a text, or of a labelled program
+-- why a call stops at this fault of a world, of the brain in a text, of a labelled program, or of a save
 abbrev pub world_stop : WorldFault → Stop
 world_stop world.OutOfMemory = OutOfMemory
 world_stop why = refused 1 (fault.World why)
@@ -27,3 +29,7 @@ brain_stop number why = refused number (fault.Brain why)
 abbrev pub labelled_stop : AsmFault → Stop
 labelled_stop labelled.OutOfMemory = OutOfMemory
 labelled_stop why = refused 1 (fault.Labelled why)
+
+abbrev pub save_stop : SaveFault → Stop
+save_stop save.OutOfMemory = OutOfMemory
+save_stop why = refused 1 (fault.Save why)

@@ -9,8 +9,9 @@
 ghost use Rattle.std.specs.Prelude.{◌≡◌, ◌⊎◌, ◌↔◌, ◌<◌, length};
 ghost use Rattle.match_run.specs.Run.{most_rounds};
 ghost use Rattle.ants_c.specs.Played.{AreScored, IsRunText, IsScored, IsStatus};
-ghost use Rattle.ants_c.specs.Refused.{IsRefusedBrain, IsRefusedGame, IsRefusedPair, IsRefusedProgram, IsRefusedShape};
+ghost use Rattle.ants_c.specs.Refused.{IsRefusedBrain, IsRefusedGame, IsRefusedPair, IsRefusedProgram, IsRefusedSave, IsRefusedShape};
 ghost use Rattle.ants_c.specs.Rooms.{Answers, Writes};
+ghost use Rattle.ants_c.specs.Saves.{IsRestOf, IsSaveOf};
 ghost use Rattle.ants_c.specs.Texts.{IsAssembledOf, IsCanonicalOf, IsComparisonOf, IsGeneratedText, IsMinimisedOf, IsWithin};
 ghost use Rattle.ants_c.specs.Told.{IsTold};
 
@@ -21,6 +22,8 @@ mod refusal;
 mod room_log;
 mod room_sink;
 mod run;
+mod save;
+mod saves;
 mod score;
 mod scores;
 mod shapes;
@@ -30,11 +33,13 @@ mod texts;
 
 use crate::read::{Pair, Setting, open_brain, open_pair, open_program, open_texts};
 use crate::run::put_run;
+use crate::save::saved_setting;
+use crate::saves::{open_save, put_rest};
 use crate::scores::{score_of_game, scores_of_setting};
 use crate::shapes::{generated, shape_of};
 use crate::status::{DONE, MEMORY, NO_ROOM, NUMBER};
 use crate::tell::stopped;
-use crate::texts::{BrainText, put, put_world};
+use crate::texts::{BrainText, SaveText, put, put_world};
 use ant_turn::{Brains, Sheet};
 use brain_minimise::minimise;
 use brain_same::compare;
@@ -311,5 +316,77 @@ pub extern "C" fn ants_gen(
     match generated(alloc, seed, shape) {
         Ok(world) => put_world(&world, out, used),
         Err(stop) => stopped(stop, fault, words),
+    }
+}
+
+/// Plays a game as `ants_score` does, and lays the text of its save after so many rounds over `out`, as the program's `save` (this project's own).
+/// The status is 0, 2, 4, 5 or 6, and what is written is so, as at `ants_run`. Nothing is written before the last round is played.
+#[unsafe(no_mangle)]
+pub extern "C" fn ants_save(
+    alloc: Global,
+    world: &[u8],
+    red: &[u8],
+    black: &[u8],
+    seed: u32,
+    rounds: u32,
+    out: &mut [u8],
+    used: &mut usize,
+    fault: &mut AntsFault,
+    words: &mut [u8],
+) -> u32
+    ensures status { IsStatus result }
+    ensures text { Writes result → Answers (IsSaveOf world.now red.now black.now seed rounds) out.old out.new used.new result }
+    ensures rounds { (result ≡ 2) ↔ (most_rounds < rounds) }
+    ensures refused { result ≡ 5 → IsTold (IsRefusedGame world.now red.now black.now) fault.new words.old words.new }
+    ensures out { Writes result ⊎ ((out.new ≡ out.old) × (used.new ≡ used.old)) }
+    ensures fault { (result ≡ 5) ⊎ ((fault.new ≡ fault.old) × (words.new ≡ words.old)) }
+{
+    if rounds > MOST_ROUNDS {
+        return NUMBER;
+    }
+    let setting = match open_texts(alloc, world, red, black) {
+        Ok(setting) => setting,
+        Err(stop) => return stopped(stop, fault, words),
+    };
+    match saved_setting(alloc, setting, seed, rounds) {
+        Ok(saved) => put(&SaveText(&saved), out, used),
+        Err(_) => MEMORY,
+    }
+}
+
+/// Goes on with the game of a save until so many rounds are done in all, and lays the rest of its text over `out`, as the program's `resume` with
+/// one worker: the later rounds' dumps of these, and the score (this project's own). The status is 0, 2, 4 or 6 as at `ants_run`, or
+/// - 5: the text is no save's, or that of a save of which more rounds are done.
+///
+/// What is written is so as at `ants_run`, but that the front of the text may lie over `out` at 6.
+#[unsafe(no_mangle)]
+pub extern "C" fn ants_resume(
+    alloc: Global,
+    save: &[u8],
+    rounds: u32,
+    dumps: &[u32],
+    out: &mut [u8],
+    used: &mut usize,
+    fault: &mut AntsFault,
+    words: &mut [u8],
+) -> u32
+    ensures status { IsStatus result }
+    ensures text { Writes result → Answers (IsRestOf save.now rounds dumps.now) out.old out.new used.new result }
+    ensures rounds { (result ≡ 2) ↔ (most_rounds < rounds) }
+    ensures refused { result ≡ 5 → IsTold (IsRefusedSave rounds save.now) fault.new words.old words.new }
+    ensures out { (Writes result ⊎ (result ≡ 6)) ⊎ (out.new ≡ out.old) }
+    ensures used { Writes result ⊎ (used.new ≡ used.old) }
+    ensures fault { (result ≡ 5) ⊎ ((fault.new ≡ fault.old) × (words.new ≡ words.old)) }
+{
+    if rounds > MOST_ROUNDS {
+        return NUMBER;
+    }
+    let saved = match open_save(alloc, save, rounds) {
+        Ok(saved) => saved,
+        Err(stop) => return stopped(stop, fault, words),
+    };
+    match put_rest(alloc, &saved, rounds, dumps, out, used) {
+        Ok(status) => status,
+        Err(_) => MEMORY,
     }
 }

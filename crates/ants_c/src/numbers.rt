@@ -1,10 +1,11 @@
 // The numbers of faults.
 ghost use Rattle.std.specs.Prelude.{◌≡◌};
-ghost use Rattle.ants_c.specs.Numbers.{at_line, bare, brain_numbers, labelled_numbers, numbers_of, world_numbers};
+ghost use Rattle.ants_c.specs.Numbers.{at_line, bare, brain_numbers, labelled_numbers, numbers_of, save_numbers, world_numbers};
 
 use crate::refusal::TextFault;
 use ant_asm::AsmFault;
 use brain_read::BrainFault;
+use match_save::SaveFault;
 use world_read::WorldFault;
 
 /// What is told of a fault in numbers: its kind, a line or row, a column, and a number more.
@@ -105,6 +106,17 @@ fn labelled_numbers(fault: AsmFault) -> Numbers
     }
 }
 
+// The numbers of a save's fault.
+fn save_numbers(fault: SaveFault) -> Numbers
+    ensures { result ≡ save_numbers fault }
+{
+    match fault {
+        SaveFault::BadLine { line } => at_line(50, line),
+        SaveFault::BadState => bare(51),
+        SaveFault::OutOfMemory => bare(0),
+    }
+}
+
 /// The numbers of what is wrong with a text.
 pub fn numbers_of(fault: TextFault) -> Numbers
     ensures { result ≡ numbers_of fault }
@@ -114,6 +126,11 @@ pub fn numbers_of(fault: TextFault) -> Numbers
         TextFault::World(why) => world_numbers(why),
         TextFault::Brain(why) => brain_numbers(why),
         TextFault::Labelled(why) => labelled_numbers(why),
+        TextFault::Save(why) => save_numbers(why),
+        TextFault::AlreadyAt(round) => Numbers {
+            number: u64::from(round),
+            ..bare(52)
+        },
         TextFault::NoRoom(element) => Numbers {
             number: u64::from(element),
             ..bare(60)

@@ -2,6 +2,7 @@
 use ant_asm::AsmFault;
 use ant_base::{Failed, FetchFault, Layout, Sink, layout};
 use brain_read::BrainFault;
+use match_save::SaveFault;
 use world_gen::GenFault;
 use world_read::WorldFault;
 
@@ -16,6 +17,10 @@ pub enum TextFault {
     Brain(BrainFault),
     /// It is no labelled program.
     Labelled(AsmFault),
+    /// It is no save.
+    Save(SaveFault),
+    /// It is a save of which this many rounds are done, more than are to be played in all.
+    AlreadyAt(u32),
     /// This element has no room.
     NoRoom(u32),
 }
@@ -31,6 +36,8 @@ impl Layout for TextFault {
             TextFault::World(fault) => fault.push_to(sink),
             TextFault::Brain(fault) => fault.push_to(sink),
             TextFault::Labelled(fault) => fault.push_to(sink),
+            TextFault::Save(fault) => fault.push_to(sink),
+            TextFault::AlreadyAt(round) => layout!("already at round ", round).push_to(sink),
             TextFault::NoRoom(element) => GenFault::NoRoom { element }.push_to(sink),
         }
     }

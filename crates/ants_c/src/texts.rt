@@ -1,6 +1,7 @@
 // Texts that are laid over the caller's room.
 ghost use Rattle.std.specs.Prelude.{◌≡◌};
 ghost use Rattle.brain_read.specs.Canonical.{brain_text};
+ghost use Rattle.match_save.specs.Saved.{save_text};
 ghost use Rattle.world_read.specs.Opened.{IsOpeningWorld};
 ghost use Rattle.ants_c.specs.Rooms.{IsPut, Writes, counted, overlaid, room_status};
 ghost use Rattle.ants_c.specs.Texts.{world_text};
@@ -10,6 +11,7 @@ use crate::status::{DONE, NO_ROOM};
 use ant_base::{Failed, Layout, Sink};
 use brain_read::{Brain, write_brain};
 use cell_world::World;
+use match_save::{Saved, write_saved};
 use world_read::write_world;
 
 /// Lays the text of a value over the room, as far as the room goes, and says how many bytes it has.
@@ -48,6 +50,18 @@ impl Layout for BrainText<'_> {
 
     fn push_to<K: Sink>(&self, sink: &mut K) -> Result<(), Failed> {
         write_brain(self.0, sink)
+    }
+}
+
+/// The text of a save.
+#[derive(Clone, Copy)]
+pub struct SaveText<'s>(pub &'s Saved);
+
+impl Layout for SaveText<'_> {
+    ghost text = { λ it. save_text it.0.now };
+
+    fn push_to<K: Sink>(&self, sink: &mut K) -> Result<(), Failed> {
+        write_saved(self.0, sink)
     }
 }
 
