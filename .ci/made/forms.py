@@ -16,7 +16,7 @@ from items import (
     joined, laid_out, last_name, last_of, nested, split, stripped, text_of, width,
 )
 from shown import Gap, Token, anchor
-from tree import Unknown
+from tree import CodeType, Unknown
 
 SHORT = 48  # columns of a row or a field that shares its line with others
 
@@ -163,8 +163,14 @@ class Forms:
         """The lines of a definition, each its tokens; comments are among them."""
         if id(it) not in self.cached:
             lines = self.members(it) if it.shape else self.equations(it)
-            self.cached[id(it)] = [[Token(token.text, None, it) if token.it is it and not isinstance(token, Head) else token for token in line] for line in lines]
+            self.cached[id(it)] = [[self.shown(token, it) for token in line] for line in lines]
         return self.cached[id(it)]
+
+    def shown(self, token, it):
+        """A token in the text of a definition, whose own name leads nowhere there; a case of a type of the code without what its file calls the type."""
+        if isinstance(token.it, CodeType) and "." in token.text:
+            return self.linker.to(token.it, last_name(token))
+        return Token(token.text, None, it) if token.it is it and not isinstance(token, Head) else token
 
     @staticmethod
     def head(it, text=None):

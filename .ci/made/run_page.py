@@ -187,15 +187,22 @@ class RunPage:
     def is_cut(self, it):
         return bool(self.cases.get(it.name)) and it is self.kept[it.name][0] if isinstance(it, CodeType) else len(self.lines(it)) < len(it.text)
 
-    def count(self, it):
+    def to_believe(self, it):
         """The lines of a definition or a type on the page, but for comments."""
         lines = self.type_lines(it) if isinstance(it, CodeType) else ["".join(token.text for token in line) for line in self.forms.lines(it)]
-        return sum(1 for line in lines if not line.strip().startswith(("--", "//")))
+        return [line for line in lines if not line.strip().startswith(("--", "//"))]
+
+    def count(self, it):
+        return len(self.to_believe(it))
+
+    def words(self, it):
+        """How many words, signs and numbers they have."""
+        return sum(len(re.findall(r"[^\s(){};,]+", line)) for line in self.to_believe(it))
 
     def named(self, it):
         """What a definition or a type names on the page."""
         if isinstance(it, CodeType):
-            kept = "\n".join(line for line in self.type_lines(it) if not line.startswith("//"))
+            kept = "\n".join(self.to_believe(it))
             return [other for other in it.named(self.tree) if re.search(r"\b%s\b" % other.name, kept) and other.name not in self.left_out]
         found = [token.it for line in self.forms.lines(it) for token in line] + (self.tree.named_in(it, it.header) if it.header else [])
         return [other for other in found if isinstance(other, (Definition, CodeType)) and other is not it and other.name not in self.left_out]
@@ -257,7 +264,11 @@ class RunPage:
                 asked = [name for names in self.dropped.values() for name in names if re.search(r"\.%s(?![\w'-])" % re.escape(name), text)]
                 if asked:
                     raise Unknown("%s: %s asks for the field %s, which is dropped" % (ORDER, it.name, " ".join(asked)))
-                met |= {token.it.name for line in self.forms.lines(it) for token in line if isinstance(token.it, (Definition, CodeType))}
+                named = [token.it for line in self.forms.lines(it) for token in line if isinstance(token.it, (Definition, CodeType))]
+                lost = [other.name for other in named if self.place(other) is None]
+                if lost:
+                    raise Unknown("%s: %s names %s, which no page has" % (ORDER, it.name, " ".join(lost)))
+                met |= {other.name for other in named}
         stale = sorted(self.left_out - met) + [it.name for it in self.inside if id(it) not in self.forms.put]
         if stale:
             raise Unknown("%s: nothing that the page has names %s" % (ORDER, " ".join(stale)))
@@ -307,23 +318,24 @@ class RunPage:
         law = Contract.of(CRATE, "headline")
         yield (
             "Made from the tree by `.ci/make-documents`; not edited by hand. All that has to be believed of `ants run WORLD RED BLACK --seed N --rounds N ..` without `--stats`: "
-            "%d lines of at most %d columns, types of the code counted and comments not; %d minutes at %d lines a minute. A name leads to where it is defined; what a definition names stands above it."
-            % (self.total(), items.MOST, round(self.total() / PACE), PACE)
+            "%d lines of at most %d columns with %s words, types of the code counted and comments not; %d minutes at %d lines a minute. A name leads to where it is defined; what a definition names stands above it."
+            % (self.total(), items.MOST, "{:,}".format(sum(self.words(it) for it in self.parts)), round(self.total() / PACE), PACE)
         )
         yield (
             "The promise is [`KeepsPromise`](#the-promise), of which the law [`headline`](../%s) says that it holds of each run of `run_to_exit`, the one call that `main` makes. "
             "The checker accepts the program only with it. Not here, but where their names lead: %s." % (law.file, "; ".join("%s, %s" % (says, quoted(names)) for names, says in self.told_of_left))
         )
         yield (
-            "**How to read it.** `x : A` says that x is an A; `A → B` are the functions from A to B. `f (x y : A) (z : B) : C = e` defines f: at x, y and z it is e. `f (x : A) : B → C | p = e | q = d` defines it by rows: it is "
-            "what the first row says that fits, and `_` fits all. `zero` is 0 and `suc n` is n + 1. A `record` has all of its fields, a `data` is one of its rows; where a field is a fact, it says so. `Type 0` are the types, and the facts. "
-            "`(x : A) → B` says that B holds for every x, `(x : A) × B` that it does for some x; `λ x. b` is the function that gives b at x; `{A : Type 0}` stands for any type A. `record { f = y }` has y for its field f, and `record x { f = y }` is x but for that. "
-            "`Unit {0}` always holds. A text between quotes is its bytes. A `u8`, `u16`, `u32` or `u64` of a type of the code is a whole number in a definition, a `bool` a test, a `Vec` or a `&[T]` a list. "
+            "**How to read it.** `x : A` says that x is an A; `A → B` are the functions from A to B, and of facts it says that B holds where A does. `f (x y : A) (z : B) : C = e` defines f: at x, y and z it is e. `f (x : A) : B → C | p = e | q = d` defines it by rows: it is "
+            "what the first row says that fits, and `_` fits all. `zero` is 0 and `suc n` is n + 1. A `record` has all of its fields, a `data` or an `enum` is one of its rows; where a field is a fact, it says so. `Type 0` are the types, and the facts. "
+            "`(x : A) → B` says that B holds for every x, `(x : A) × B` that it does for some x; `λ x. b` is the function that gives b at x; `{A : Type 0}` stands for any type A. `r.f` is the field f of r, `record { f = y }` has y for its field f, "
+            "and `record r { f = y }` is r but for that. `let x = a in b` is b, where x is a. `Unit {0}` has one value; as a fact it always holds. A text between quotes is its bytes. "
+            "A `u8`, `u16`, `u32` or `u64` of a type of the code is a whole number in a definition, a `bool` a test, a `Vec` or a `&[T]` a list; a case `C { a, b }` of it is `C a b`. "
             "`*`, `/` and `%` bind before `+` and `-`, these before `∷`, `++` and `+++`, and these before `==`, `≡`, `≤` and their like; a function binds before all of them."
         )
         yield (
-            "Each definition has the words of its source, to which its file's name leads, in fewer lines: `abbrev`, `unfoldable` and `pub`, which mean nothing to a reader, are left out, and a function's name stands once. "
-            "In place of %s stands what they are." % quoted([it.name for it in self.inside])
+            "Each definition has the words of its source, to which its file's name leads, in fewer lines. `abbrev`, `unfoldable` and `pub`, which mean nothing to a reader, are left out, a function's name stands once, "
+            "and of an enum of mere names its comment alone. In place of %s stands what they are." % quoted([it.name for it in self.inside])
         )
 
     def library(self):
