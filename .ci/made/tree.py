@@ -413,7 +413,7 @@ class CodeType:
                     where[name.strip()] = path.split("::")
         found = []
         body = re.sub(r"//[^\n]*", "", "\n".join(self.text))
-        for name in re.findall(r"\b[A-Z]\w*", body):
+        for name in re.findall(r"\b[A-Z]\w*", re.sub(r"^    [A-Z]\w*", "", body, flags=re.M)):  # a variant may be called as a type is
             if name == self.name:
                 continue
             it = CodeType.find(self.crate, self.file, name)
