@@ -22,7 +22,7 @@ from tree import CodeType, Contract, Definition, Tree, Unknown, goes_on, left_of
 
 ORDER, WORDS = "docs/run_page.txt", "docs/library_words.txt"
 CRATE, ROOT = "ants", "KeepsPromise"
-MOST_LINES = 640
+MOST_LINES = 620
 PACE = 10  # lines a minute, of a reader who reads each
 
 
