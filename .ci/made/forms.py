@@ -19,6 +19,7 @@ from shown import Gap, Token, anchor
 from tree import CodeType, Unknown
 
 SHORT = 48  # columns of a row or a field that shares its line with others
+VALUES = {"ℕ", "Bool", "List", "Option"}  # with what the types of values begin
 
 
 class Equation:
@@ -58,6 +59,14 @@ class Forms:
                 equations.append(Equation(says, [found[0], found[2]], right, found[1]) if "◌" in it.name else Equation(says, found[1:], right))
             self.taken[id(it)] = halves(head, ":")[1], equations
         return self.taken[id(it)]
+
+    def is_value(self, it, name):
+        """Whether a record has a field of this name that is a value, and no fact."""
+        for _, items in list(self.pieces(it))[1:]:
+            names, type_of = halves(items, ":")
+            if name in [text_of(atom) for atom in atoms(names)]:
+                return text_of(atoms(split(type_of, "→")[-1])[0]) in VALUES
+        return False
 
     # What is dropped, and what is put inside.
 

@@ -4,7 +4,7 @@ docs/run_page.txt has the order. Its lines are
 
     keep TYPE: NAMES            of this data or type only these constructors are met, and equations on others are left out
     leave out NAMES: WHAT       these definitions stand on other pages, to which links lead; what they are
-    drop RECORD: NAMES          these fields of the record are left out: nothing that the page has asks for them
+    drop FILE: RECORD: NAMES    these fields of the record, which are values, are left out: nothing that the page has asks for them
     inside FILE: NAMES          these definitions stand where they are named (forms.py)
     # CHAPTER                   text below it, up to an empty line, is the chapter's first paragraph
     FILE: NAMES                 a block: definitions or types of this file, in this order
@@ -41,7 +41,7 @@ class RunPage:
         """`elsewhere` gives the address of what stands on the pages of the specification."""
         self.tree, self.elsewhere = tree, elsewhere
         self.kept, self.left_out, self.told_of_left, self.chapters = {}, set(), [], []
-        self.dropped, self.inside = {}, []
+        self.dropped, self.told_of_dropped, self.inside = {}, [], []
         self.by_file = {}
         for definition in tree.definitions():
             self.by_file.setdefault((definition.module.file, definition.name), definition)
@@ -80,7 +80,9 @@ class RunPage:
                 self.told_of_left.append((names.split(), says))
             elif line.startswith("drop "):
                 file, name, names = line[len("drop "):].split(": ")
-                self.dropped[id(self.of_file(file, name, where))] = set(names.split())
+                it = self.of_file(file, name, where)
+                self.dropped[id(it)] = set(names.split())
+                self.told_of_dropped.append(it)
             elif line.startswith("inside "):
                 file, _, names = line[len("inside "):].partition(": ")
                 self.inside += [self.of_file(file, it, where) for it in names.split()]
@@ -221,6 +223,10 @@ class RunPage:
         return found
 
     def check(self):
+        for it in self.told_of_dropped:
+            facts = [name for name in sorted(self.dropped[id(it)]) if not self.forms.is_value(it, name)]
+            if facts:
+                raise Unknown("%s: %s has no value %s, so it can't be dropped" % (ORDER, it.name, " ".join(facts)))
         listed = self.listed
         if len(listed) < len(self.parts):
             twice = [it.name for it in self.parts if self.parts.count(it) > 1]
