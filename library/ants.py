@@ -57,6 +57,10 @@ _DECLARED = {
     "ants_same": [c_char_p, c_size_t, c_char_p, c_size_t, c_char_p, c_size_t, POINTER(c_size_t), POINTER(_Fault), c_char_p, c_size_t],
     "ants_gen": [c_uint32, c_uint32, c_uint32, c_uint32, c_uint32, c_char_p, c_size_t, POINTER(c_size_t), POINTER(_Fault), c_char_p,
         c_size_t],
+    "ants_save": [c_char_p, c_size_t, c_char_p, c_size_t, c_char_p, c_size_t, c_uint32, c_uint32, c_char_p, c_size_t, POINTER(c_size_t),
+        POINTER(_Fault), c_char_p, c_size_t],
+    "ants_resume": [c_char_p, c_size_t, c_uint32, POINTER(c_uint32), c_size_t, c_char_p, c_size_t, POINTER(c_size_t), POINTER(_Fault),
+        c_char_p, c_size_t],
 }
 # end
 
