@@ -41,6 +41,6 @@ def gate_page():
     return (
         "# The gate\n\nMade by `.ci/make-documents` from `docs/gate_costs.txt`, `docs/planted.txt` and the wrong bodies on disk.\n\n## What it costs\n\nProcessor seconds of `rt ci`; `docs/gate_costs.txt` says how they were measured. A tilde marks the time of\n"
         "the proof that wrong bodies begin with, where the first one's was not measured.\n\n" + cost_table()
-        + "\n## Bugs that were planted\n\n`rt plant` tries wrong bodies of a function against its clauses: in how many functions, how many bodies were refused, how many were not run for want of time. By hand: bugs in the real\n"
+        + "\n## Bugs that were tried\n\n`rt plant` tries wrong bodies of a function against its clauses: in how many functions, how many bodies were refused, how many were not run for want of time. By hand: bugs in the real\n"
         "code, one at a time. A body that answers out of memory in place of its work passes every clause, since that may be answered at any time; tests call each such function once where there is memory.\n\n" + planted_table()
     )
