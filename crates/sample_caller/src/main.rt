@@ -7,6 +7,7 @@
 
 mod fetcher;
 mod files;
+mod laws;
 mod played;
 mod refusal;
 #[cfg(test)]
