@@ -45,8 +45,9 @@
        ANTS_MEMORY   memory could not be had; nothing was kept
 
    The numbers are looked at first, then the room for scores, then the texts in their order. A result is written at ANTS_DONE alone, `used`
-   and `out` at ANTS_NO_ROOM too, `fault` and `words` at ANTS_REFUSED alone; all else stays as it was. A text that is done is in the first
-   `used` bytes of `out`, and those behind stay. What the numbers of a fault mean stands at the struct.
+   and `out` at ANTS_NO_ROOM too, `fault` and `words` at ANTS_REFUSED alone; all else stays as it was, but for `out` of ants_resume at
+   ANTS_MEMORY. A text that is done is in the first `used` bytes of `out`, and those behind stay. What the numbers of a fault mean stands
+   at the struct.
 
    WHAT A CALLER OWES, and nobody checks. The functions are proved for callers that keep to this:
 
@@ -189,6 +190,22 @@ uint32_t ants_same(
 uint32_t ants_gen(
     uint32_t seed, uint32_t width, uint32_t height, uint32_t rocks, uint32_t blobs, uint8_t *out, size_t out_len,
     size_t *used, struct ants_fault_data *fault, uint8_t *words, size_t words_len);
+
+// Plays a game as `ants_score` does, and lays the text of its save after so many rounds over `out`, as the program's `save` (this project's own).
+// The status is 0, 2, 4, 5 or 6, and what is written is so, as at `ants_run`. Nothing is written before the last round is played.
+uint32_t ants_save(
+    const uint8_t *world, size_t world_len, const uint8_t *red, size_t red_len, const uint8_t *black, size_t black_len,
+    uint32_t seed, uint32_t rounds, uint8_t *out, size_t out_len, size_t *used, struct ants_fault_data *fault,
+    uint8_t *words, size_t words_len);
+
+// Goes on with the game of a save until so many rounds are done in all, and lays the rest of its text over `out`, as the program's `resume` with
+// one worker: the later rounds' dumps of these, and the score (this project's own). The status is 0, 2, 4 or 6 as at `ants_run`, or
+// - 5: the text is no save's, or that of a save of which more rounds are done.
+//
+// What is written is so as at `ants_run`, but that the front of the text may lie over `out` at 6.
+uint32_t ants_resume(
+    const uint8_t *save, size_t save_len, uint32_t rounds, const uint32_t *dumps, size_t dumps_len, uint8_t *out,
+    size_t out_len, size_t *used, struct ants_fault_data *fault, uint8_t *words, size_t words_len);
 
 #ifdef __cplusplus
 }

@@ -19,7 +19,7 @@ import sys
 from ctypes import POINTER, byref, c_char_p, c_size_t, c_uint32, c_uint64
 from typing import Dict, Iterable, List, NamedTuple, Sequence, Union
 
-__all__ = ["Refused", "Score", "asm", "brain", "gen", "minimise", "run", "same", "score", "scores"]
+__all__ = ["Refused", "Score", "asm", "brain", "gen", "minimise", "resume", "run", "same", "save", "score", "scores"]
 
 Text = Union[str, bytes, bytearray, memoryview]
 
@@ -57,6 +57,10 @@ _DECLARED = {
     "ants_same": [c_char_p, c_size_t, c_char_p, c_size_t, c_char_p, c_size_t, POINTER(c_size_t), POINTER(_Fault), c_char_p, c_size_t],
     "ants_gen": [c_uint32, c_uint32, c_uint32, c_uint32, c_uint32, c_char_p, c_size_t, POINTER(c_size_t), POINTER(_Fault), c_char_p,
         c_size_t],
+    "ants_save": [c_char_p, c_size_t, c_char_p, c_size_t, c_char_p, c_size_t, c_uint32, c_uint32, c_char_p, c_size_t, POINTER(c_size_t),
+        POINTER(_Fault), c_char_p, c_size_t],
+    "ants_resume": [c_char_p, c_size_t, c_uint32, POINTER(c_uint32), c_size_t, c_char_p, c_size_t, POINTER(c_size_t), POINTER(_Fault),
+        c_char_p, c_size_t],
 }
 # end
 
@@ -181,6 +185,17 @@ def run(world: Text, red: Text, black: Text, seed: int, rounds: int, dumps: Sequ
     numbers, count = _numbers("dump", dumps)
     room = _room_of_dumps(count, rounds, world)
     return _text("ants_run", {"world": world, "red": red, "black": black}, _number("seed", seed), _number("rounds", rounds), numbers, count, room=room)
+
+
+def save(world: Text, red: Text, black: Text, seed: int, rounds: int) -> str:
+    """The game as it stands after so many rounds, as `ants save` prints it."""
+    return _text("ants_save", {"world": world, "red": red, "black": black}, _number("seed", seed), _number("rounds", rounds))
+
+
+def resume(save: Text, rounds: int, dumps: Sequence[int] = ()) -> str:
+    """What `ants resume` prints of a saved game that goes on up to so many rounds."""
+    numbers, count = _numbers("dump", dumps)
+    return _text("ants_resume", {"save": save}, _number("rounds", rounds), numbers, count, room=_room_of_dumps(count, rounds, save))
 
 
 def brain(text: Text) -> str:

@@ -211,6 +211,62 @@ pub fn ants_gen(
     unsafe { c::ants_gen(seed, width, height, rocks, blobs, out.as_mut_ptr(), out.len(), used, fault, words.as_mut_ptr(), words.len()) }
 }
 
+/// Plays a game as `ants_score` does, and lays the text of its save after so many rounds over `out`, as the program's `save` (this project's own).
+/// The status is 0, 2, 4, 5 or 6, and what is written is so, as at `ants_run`. Nothing is written before the last round is played.
+pub fn ants_save(
+    world: &[u8],
+    red: &[u8],
+    black: &[u8],
+    seed: u32,
+    rounds: u32,
+    out: &mut [u8],
+    used: &mut usize,
+    fault: &mut Fault,
+    words: &mut [u8],
+) -> u32 {
+    unsafe {
+        c::ants_save(
+            world.as_ptr(),
+            world.len(),
+            red.as_ptr(),
+            red.len(),
+            black.as_ptr(),
+            black.len(),
+            seed,
+            rounds,
+            out.as_mut_ptr(),
+            out.len(),
+            used,
+            fault,
+            words.as_mut_ptr(),
+            words.len(),
+        )
+    }
+}
+
+/// Goes on with the game of a save until so many rounds are done in all, and lays the rest of its text over `out`, as the program's `resume` with
+/// one worker: the later rounds' dumps of these, and the score (this project's own). The status is 0, 2, 4 or 6 as at `ants_run`, or
+/// - 5: the text is no save's, or that of a save of which more rounds are done.
+///
+/// What is written is so as at `ants_run`, but that the front of the text may lie over `out` at 6.
+pub fn ants_resume(save: &[u8], rounds: u32, dumps: &[u32], out: &mut [u8], used: &mut usize, fault: &mut Fault, words: &mut [u8]) -> u32 {
+    unsafe {
+        c::ants_resume(
+            save.as_ptr(),
+            save.len(),
+            rounds,
+            dumps.as_ptr(),
+            dumps.len(),
+            out.as_mut_ptr(),
+            out.len(),
+            used,
+            fault,
+            words.as_mut_ptr(),
+            words.len(),
+        )
+    }
+}
+
 mod c {
     use super::{Fault, Score};
 
@@ -311,6 +367,35 @@ mod c {
             height: u32,
             rocks: u32,
             blobs: u32,
+            out: *mut u8,
+            out_len: usize,
+            used: *mut usize,
+            fault: *mut Fault,
+            words: *mut u8,
+            words_len: usize,
+        ) -> u32;
+        pub fn ants_save(
+            world: *const u8,
+            world_len: usize,
+            red: *const u8,
+            red_len: usize,
+            black: *const u8,
+            black_len: usize,
+            seed: u32,
+            rounds: u32,
+            out: *mut u8,
+            out_len: usize,
+            used: *mut usize,
+            fault: *mut Fault,
+            words: *mut u8,
+            words_len: usize,
+        ) -> u32;
+        pub fn ants_resume(
+            save: *const u8,
+            save_len: usize,
+            rounds: u32,
+            dumps: *const u32,
+            dumps_len: usize,
             out: *mut u8,
             out_len: usize,
             used: *mut usize,
