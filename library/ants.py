@@ -19,7 +19,7 @@ import sys
 from ctypes import POINTER, byref, c_char_p, c_size_t, c_uint32, c_uint64
 from typing import Dict, Iterable, List, NamedTuple, Sequence, Union
 
-__all__ = ["Refused", "Score", "asm", "brain", "gen", "minimise", "run", "same", "score", "scores"]
+__all__ = ["Refused", "Score", "asm", "brain", "gen", "minimise", "resume", "run", "same", "save", "score", "scores"]
 
 Text = Union[str, bytes, bytearray, memoryview]
 
@@ -160,9 +160,14 @@ def _text(function: str, texts: Dict[str, Text], *more, room: int = 1 << 16) -> 
         room = used.value
 
 
-def _room_of_dumps(count: int, rounds: int, world: Text) -> int:
-    """A guess of how long the text of a run with so many dumps is: a cell has two bytes of a world's text, and some 25 of a dump."""
-    return (1 << 12) + min(count, rounds + 1) * len(world) * 13
+def _cells(world: Text) -> int:
+    """How many cells a world's text has, or some more."""
+    return len(world) - _bytes(world).count(b" ")
+
+
+def _room_of_run(count: int, cells: int) -> int:
+    """A guess of how long the text of a game with so many dumps is, so that it is seldom played twice: a cell of a dump has some 20 bytes."""
+    return (1 << 12) + count * cells * 32
 
 
 def score(world: Text, red: Text, black: Text, seed: int, rounds: int) -> Score:
@@ -183,8 +188,20 @@ def scores(world: Text, red: Text, black: Text, seeds: Iterable[int], rounds: in
 def run(world: Text, red: Text, black: Text, seed: int, rounds: int, dumps: Sequence[int] = ()) -> str:
     """What `ants run` prints of a game, with a dump after each of these rounds."""
     numbers, count = _numbers("dump", dumps)
-    room = _room_of_dumps(count, rounds, world)
+    room = _room_of_run(min(count, rounds + 1), _cells(world))
     return _text("ants_run", {"world": world, "red": red, "black": black}, _number("seed", seed), _number("rounds", rounds), numbers, count, room=room)
+
+
+def save(world: Text, red: Text, black: Text, seed: int, rounds: int) -> str:
+    """The game as it stands after so many rounds, as `ants save` prints it."""
+    room = (1 << 12) + 8 * _cells(world) + 4 * (len(red) + len(black))  # a cell has four bytes of a save
+    return _text("ants_save", {"world": world, "red": red, "black": black}, _number("seed", seed), _number("rounds", rounds), room=room)
+
+
+def resume(save: Text, rounds: int, dumps: Sequence[int] = ()) -> str:
+    """What `ants resume` prints of a saved game that goes on up to so many rounds."""
+    numbers, count = _numbers("dump", dumps)
+    return _text("ants_resume", {"save": save}, _number("rounds", rounds), numbers, count, room=_room_of_run(min(count, rounds + 1), len(save) // 4))
 
 
 def brain(text: Text) -> str:

@@ -83,13 +83,29 @@ class Games(Beside):
             self.assertEqual(ants.score(**game, seed=seed, rounds=1000), score)
         self.assertEqual(ants.scores(**game, seeds=[], rounds=1000), [])
 
+    def test_save_and_resume(self):
+        game = self.game("contest.world", "sample.brain", "trail.brain")
+        saved = ants.save(**game, seed=12345, rounds=100)
+        self.assertEqual(saved, self.written(*self.run_words("save", 12345, 100), **game))
+        words = ["resume", "save", "--rounds", 300, "--dump", "150,300"]
+        self.assertEqual(ants.resume(saved, rounds=300, dumps=(300, 150)), self.written(*words, save=saved))
+        fault = self.assert_refused(lambda: ants.resume(saved, rounds=99), "resume", "save", "--rounds", 99, save=saved)
+        self.assertEqual((fault.name, fault.number), ("save", 100))
+
+    def test_each_fault_of_a_save(self):
+        save = example("one_ant.save")
+        for text, rounds, fault_number in ((save.replace("taken 1", "taken 2"), 5, 0), (save, 0, 1), (save.replace("end\n", ""), 5, 0), ("", 5, 0)):
+            fault = self.assert_refused(lambda: ants.resume(text, rounds=rounds), "resume", "save", "--rounds", rounds, save=text)
+            self.assertEqual((fault.name, fault.number), ("save", fault_number))
+
     def test_refused_texts_in_their_order(self):
         good = self.game("heap.world", "bring_home.brain", "trail.brain")
         for name, text in (("world", "3\n"), ("red", "hop 0\n"), ("black", "Move 0 7\n")):
             game = {**good, name: text}
             fault = self.assert_refused(lambda: ants.score(**game, seed=1, rounds=1), *self.run_words("run", 1, 1), **game)
             self.assertEqual(fault.name, name)
-            self.assertRaisesRegex(ants.Refused, "^" + name, lambda: ants.run(**game, seed=1, rounds=1))
+            for call in (ants.run, ants.save):
+                self.assertRaisesRegex(ants.Refused, "^" + name, lambda: call(**game, seed=1, rounds=1))
             self.assertRaisesRegex(ants.Refused, "^" + name, lambda: ants.scores(**game, seeds=[1], rounds=1))
         self.assertRaisesRegex(ants.Refused, "^red", lambda: ants.score(good["world"], "", "", seed=1, rounds=1))
 
@@ -161,7 +177,7 @@ class Texts(Beside):
         for call in (
             lambda: ants.score(WORLD, "Drop 0\n", "Drop 0\n", 1, 1000001), lambda: ants.score(WORLD, "Drop 0\n", "Drop 0\n", MOST_SEED + 1, 1),
             lambda: ants.scores(WORLD, "Drop 0\n", "Drop 0\n", [0, -1], 1), lambda: ants.run(WORLD, "Drop 0\n", "Drop 0\n", 1, 1, [MOST_SEED + 1]),
-            lambda: ants.gen(1, width=2), lambda: ants.gen(1, height=513), lambda: ants.gen(1, rocks=256),
+            lambda: ants.gen(1, width=2), lambda: ants.gen(1, height=513), lambda: ants.gen(1, rocks=256), lambda: ants.resume("", 1000001),
         ):
             with self.assertRaises(ValueError) as caught:
                 call()

@@ -84,6 +84,16 @@ impl Game<'_> {
     pub fn run(self, seed: u32, rounds: u32, dumps: &[u32]) -> Result<String, Stop> {
         text(|out, used, fault, words| raw::ants_run(self.world, self.red, self.black, seed, rounds, dumps, out, used, fault, words))
     }
+
+    /// The game as it stands after so many rounds, as `ants save` prints it.
+    pub fn save(self, seed: u32, rounds: u32) -> Result<String, Stop> {
+        text(|out, used, fault, words| raw::ants_save(self.world, self.red, self.black, seed, rounds, out, used, fault, words))
+    }
+}
+
+/// What `ants resume` prints of a saved game that goes on up to so many rounds.
+pub fn resume(save: &[u8], rounds: u32, dumps: &[u32]) -> Result<String, Stop> {
+    text(|out, used, fault, words| raw::ants_resume(save, rounds, dumps, out, used, fault, words))
 }
 
 /// The canonical text of a brain.

@@ -38,6 +38,14 @@ fn games_are_those_of_the_program() {
 }
 
 #[test]
+fn a_saved_game_goes_on() {
+    let saved = GAME.save(7, 10).unwrap();
+    assert_eq!(saved, written("save", "save world red black --seed 7 --rounds 10"));
+    let whole = GAME.run(7, 20, &[]).unwrap();
+    assert_eq!(ants::resume(saved.as_bytes(), 20, &[]).unwrap().lines().last(), whole.lines().last());
+}
+
+#[test]
 fn texts_are_those_of_the_program() {
     assert_eq!(ants::brain(RED).unwrap(), written("brain", "brain red"));
     assert_eq!(ants::minimise(RED).unwrap(), written("minimise", "minimise red").split_once('\n').unwrap().1);
