@@ -18,11 +18,6 @@ front_laid [] (code ∷ piece) = simp unary_clauses refl
 front_laid (byte ∷ room) [] = simp unary_clauses refl
 front_laid (byte ∷ room) (code ∷ piece) = simp unary_clauses (ap (λ (more : List ℕ). code ∷ more) (front_laid room piece))
 
--- a room with nothing laid over it
-pub overlaid-nil : (room : List ℕ) → overlaid room [] ≡ room
-overlaid-nil [] = refl
-overlaid-nil (byte ∷ room) = refl
-
 -- a room keeps its length
 pub overlaid-length : (room text : List ℕ) → length (overlaid room text) ≡ length room
 overlaid-length [] text = refl
