@@ -10,8 +10,8 @@ use Rattle.tournament.proofs.ToldLemmas.{told_text-front}
 use Rattle.tournament.specs.Games.{all_played}
 use Rattle.tournament.specs.Text.{standing_text}
 use Rattle.tournament.specs.Told.{IsToldCupText, Told, cup_played, games_text}
-use Rattle.tournament.specs.declared.told.CupFault.{CupFault}
-use Rattle.tournament.specs.declared.told.CupFault.TheVariants as fault
+use Rattle.tournament.specs.declared.fault.CupFault.{CupFault}
+use Rattle.tournament.specs.declared.fault.CupFault.TheVariants as fault
 use Rattle.ants.specs.declared.stop.CommandStop.{CommandStop}
 use Rattle.ants.specs.Inner.Plans.{cup_ending}
 use Rattle.ants.specs.Inner.Reading.{CarriesOut, ReadsFiles, ending_of}

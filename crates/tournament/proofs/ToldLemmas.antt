@@ -10,8 +10,8 @@ use Rattle.ant_base.proofs.Pushes.{all_then, front_more, front_then}
 use Rattle.cell_world.specs.declared.score.Score.{Score}
 use Rattle.tournament.specs.declared.games.Played.{Played}
 use Rattle.tournament.specs.declared.standing.Line.{Line}
-use Rattle.tournament.specs.declared.told.CupFault.{CupFault}
-use Rattle.tournament.specs.declared.told.CupFault.TheVariants.{WriteFault, OutOfMemory}
+use Rattle.tournament.specs.declared.fault.CupFault.{CupFault}
+use Rattle.tournament.specs.declared.fault.CupFault.TheVariants.{WriteFault, OutOfMemory}
 use Rattle.tournament.specs.Games.{IsGame, all_played, below, games_of, games_on, played_by, world_played}
 use Rattle.tournament.specs.Inner.Worlds.{WorldStops}
 use Rattle.tournament.specs.Laws.{GamesAddUp, WorldsInOrder}

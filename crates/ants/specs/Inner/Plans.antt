@@ -13,8 +13,8 @@ use Rattle.match_run.specs.Counts.{whole_text}
 use Rattle.match_run.specs.Dumps.{chooses}
 use Rattle.match_run.specs.Run.{most_rounds}
 use Rattle.match_save.specs.Saved.{SavedValue}
-use Rattle.tournament.specs.declared.told.CupFault.{CupFault}
-use Rattle.tournament.specs.declared.told.CupFault.TheVariants as cup
+use Rattle.tournament.specs.declared.fault.CupFault.{CupFault}
+use Rattle.tournament.specs.declared.fault.CupFault.TheVariants as cup
 use Rattle.world_gen.specs.declared.shape.Shape.{Shape}
 use Rattle.world_gen.specs.Generated.{IsGenerated}
 use Rattle.world_gen.specs.Placing.{HasNoRoom}
