@@ -6,7 +6,7 @@
 //! readers, on `match_run`, and on what is done with brains and worlds.
 #![tactic(auto)]
 
-ghost use Rattle.std.specs.Prelude.{◌≡◌, ◌⊎◌, ◌↔◌, ◌<◌, length};
+ghost use Rattle.std.specs.Prelude.{◌≡◌, ◌⊎◌, ◌↔◌, ◌<◌, ◌≤◌, length};
 ghost use Rattle.match_run.specs.Run.{most_rounds};
 ghost use Rattle.ants_c.specs.Played.{AreScored, IsRunText, IsScored, IsStatus};
 ghost use Rattle.ants_c.specs.Refused.{IsRefusedBrain, IsRefusedGame, IsRefusedPair, IsRefusedProgram, IsRefusedSave, IsRefusedShape};
@@ -114,7 +114,8 @@ pub extern "C" fn ants_scores(
     ensures status { IsStatus result }
     ensures done { result ≡ 0 → AreScored world.now red.now black.now seeds.now rounds scores.old scores.new }
     ensures rounds { (result ≡ 2) ↔ (most_rounds < rounds) }
-    ensures room { result ≡ 4 → length scores.old < length seeds.now }
+    ensures few { result ≡ 4 → length scores.old < length seeds.now }
+    ensures room { (result ≡ 4) ⊎ ((result ≡ 2) ⊎ (length seeds.now ≤ length scores.old)) }
     ensures refused { result ≡ 5 → IsTold (IsRefusedGame world.now red.now black.now) fault.new words.old words.new }
     ensures scores { (result ≡ 0) ⊎ (scores.new ≡ scores.old) }
     ensures fault { (result ≡ 5) ⊎ ((fault.new ≡ fault.old) × (words.new ≡ words.old)) }
