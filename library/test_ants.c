@@ -22,25 +22,26 @@ static void clear(void) {
     used = 99;
 }
 
-static int is_fault(uint32_t text, uint32_t kind, uint32_t line, uint32_t column, uint64_t number, const char *told) {
+static int is_fault(uint32_t text, uint32_t kind, uint32_t line, uint32_t column, uint64_t number, const char *expected) {
+    size_t length = strlen(expected);
     return fault.text == text && fault.kind == kind && fault.line == line && fault.column == column && fault.number == number &&
-           fault.words == strlen(told) && memcmp(words, told, strlen(told)) == 0 && words[strlen(told)] == '.';
+           fault.words == length && memcmp(words, expected, length) == 0 && words[length] == '.';
 }
 
-static int is_untold(void) { return fault.text == 0x55555555 && fault.words == 0x5555555555555555 && words[0] == '.'; }
+static int stays(void) { return fault.text == 0x55555555 && fault.words == 0x5555555555555555 && words[0] == '.'; }
 
 static void play_rows(void) {
     const uint32_t seeds[2] = {12345, 7};
     clear();
     ROW(ants_score(TEXT(world), TEXT(brain), TEXT(brain), 12345, 10, &scores[0], &fault, words, 64) == ANTS_DONE);
-    ROW(scores[0].red == 0 && scores[0].black == 0 && scores[1].red == 0x55555555 && is_untold());
+    ROW(scores[0].red == 0 && scores[0].black == 0 && scores[1].red == 0x55555555 && stays());
     clear();
     ROW(ants_scores(TEXT(world), TEXT(brain), TEXT(brain), seeds, 2, 10, scores, 3, &fault, words, 64) == ANTS_DONE);
-    ROW(scores[1].red == 0 && scores[1].black == 0 && scores[2].red == 0x55555555 && is_untold());
+    ROW(scores[1].red == 0 && scores[1].black == 0 && scores[2].red == 0x55555555 && stays());
     clear();
     ROW(ants_scores(TEXT(world), TEXT(brain), TEXT(brain), seeds, 2, 10, scores, 1, &fault, words, 64) == ANTS_NO_ROOM);
-    ROW(scores[0].red == 0x55555555 && is_untold());
-    ROW(ants_score(TEXT(world), TEXT(brain), TEXT(brain), 1, 1000001, scores, &fault, words, 64) == ANTS_NUMBER && is_untold());
+    ROW(scores[0].red == 0x55555555 && stays());
+    ROW(ants_score(TEXT(world), TEXT(brain), TEXT(brain), 1, 1000001, scores, &fault, words, 64) == ANTS_NUMBER && stays());
     ROW(ants_score(TEXT(""), TEXT(brain), TEXT(brain), 1, 1, scores, &fault, words, 64) == ANTS_REFUSED && is_fault(1, 10, 0, 0, 0, "bad width"));
     clear();
     ROW(ants_score(TEXT(world), TEXT(brain), TEXT("Move 0 7\n"), 1, 1, scores, &fault, words, 64) == ANTS_REFUSED);
@@ -50,7 +51,7 @@ static void play_rows(void) {
 static void text_rows(void) {
     clear();
     ROW(ants_brain(TEXT("flip 02 0 0\n"), out, 10, &used, &fault, words, 64) == ANTS_NO_ROOM);
-    ROW(used == 11 && memcmp(out, "Flip 2 0 0.", 11) == 0 && is_untold());
+    ROW(used == 11 && memcmp(out, "Flip 2 0 0.", 11) == 0 && stays());
     ROW(ants_brain(TEXT("flip 02 0 0\n"), out, 11, &used, &fault, words, 64) == ANTS_DONE && used == 11 && memcmp(out, "Flip 2 0 0\n.", 12) == 0);
     clear();
     ROW(ants_brain(TEXT(""), out, 64, &used, &fault, words, 64) == ANTS_REFUSED && is_fault(1, 26, 0, 0, 0, "no instruction"));
@@ -65,7 +66,7 @@ static void text_rows(void) {
     clear();
     ROW(ants_same(TEXT(drop), TEXT("Drop\n"), out, 64, &used, &fault, words, 64) == ANTS_REFUSED && is_fault(2, 22, 1, 0, 0, "line 1: missing token"));
     clear();
-    ROW(ants_gen(1, 2, 3, 0, 0, out, 64, &used, &fault, words, 64) == ANTS_NUMBER && used == 99 && out[0] == '.' && is_untold());
+    ROW(ants_gen(1, 2, 3, 0, 0, out, 64, &used, &fault, words, 64) == ANTS_NUMBER && used == 99 && out[0] == '.' && stays());
     ROW(ants_gen(1, 12, 12, 0, 0, out, 64, &used, &fault, words, 64) == ANTS_REFUSED && is_fault(0, 60, 0, 0, 0, "no room for element 0"));
     clear();
     ROW(ants_resume(TEXT("ants save 2\n"), 1, &(uint32_t){0}, 0, out, 64, &used, &fault, words, 64) == ANTS_REFUSED);
@@ -73,10 +74,10 @@ static void text_rows(void) {
 }
 
 static void run_row(void) {
-    const char *told = "random seed: 7\n\nscore: red 0 black 0\n";
+    const char *text = "random seed: 7\n\nscore: red 0 black 0\n";
     clear();
     ROW(ants_run(TEXT(world), TEXT(drop), TEXT(drop), 7, 0, &(uint32_t){1}, 1, out, 64, &used, &fault, words, 64) == ANTS_DONE);
-    ROW(used == strlen(told) && memcmp(out, told, used) == 0 && out[used] == '.');
+    ROW(used == strlen(text) && memcmp(out, text, used) == 0 && out[used] == '.');
 }
 
 int main(void) {
