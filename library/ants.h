@@ -38,7 +38,7 @@
        ANTS_NUMBER   a number is beyond its limits: more than 1,000,000 rounds; a width or height that isn't 3 to 512; more than 255
                      rocks or blobs
        ANTS_NO_ROOM  the room is too small. A call that writes a text into `out` has written the length that the text has to `used`,
-                     and as much of the text as has room to `out`: give so much room, and call again
+                     and as much of the text as has room to `out`: call again with room for `used` bytes
        ANTS_REFUSED  a text is refused, the first one that is: `fault` says which text and why in numbers, and `words` in words, as
                      many bytes as have room (no zero byte ends them; they have fault.words bytes in full). Or an element of a
                      generated world has no room
@@ -52,7 +52,7 @@
    WHAT A CALLER OWES, and nobody checks. The functions are proved for callers that keep to this:
 
     1. No pointer is NULL, and each is aligned for its type, also where its length is 0.
-    2. So many elements lie there as the length says, in one block of at most 2^63 - 1 bytes that may be read, and written to where the
+    2. As many elements lie there as the length says, in one block of at most 2^63 - 1 bytes that may be read, and written to where the
        parameter has no `const`.
     3. What a call may write to (score, scores, out, used, fault, words) overlaps nothing else that it is passed, is initialised before
        the call, and is read and written by nobody else during it. What it only reads is written by nobody during it.

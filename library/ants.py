@@ -144,8 +144,8 @@ def _done(function: str, texts: Dict[str, Text], *more) -> bool:
     if status == _NUMBER:
         raise ValueError("a number is beyond its limits: " + LIMITS)
     if status == _REFUSED:
-        told = words.raw[:fault.words].decode("utf-8", "replace")
-        raise Refused(["", *texts][fault.text], told, fault.kind, fault.line, fault.column, fault.number)
+        line = words.raw[:fault.words].decode("utf-8", "replace")
+        raise Refused(["", *texts][fault.text], line, fault.kind, fault.line, fault.column, fault.number)
     if status == _MEMORY:
         raise MemoryError("memory could not be had")
     return status == _DONE
@@ -166,12 +166,12 @@ def _cells(world: Text) -> int:
 
 
 def _room_of_run(count: int, cells: int) -> int:
-    """A guess of how long the text of a game with so many dumps is, so that it is seldom played twice: a cell of a dump has some 20 bytes."""
+    """A guess of how long the text of a game with this number of dumps is, so that it is seldom played twice: a cell of a dump has some 20 bytes."""
     return (1 << 12) + count * cells * 32
 
 
 def score(world: Text, red: Text, black: Text, seed: int, rounds: int) -> Score:
-    """The score of a game after so many rounds."""
+    """The score of a game after this number of rounds."""
     found = _Score()
     _done("ants_score", {"world": world, "red": red, "black": black}, _number("seed", seed), _number("rounds", rounds), byref(found))
     return Score(found.red, found.black)
@@ -193,13 +193,13 @@ def run(world: Text, red: Text, black: Text, seed: int, rounds: int, dumps: Sequ
 
 
 def save(world: Text, red: Text, black: Text, seed: int, rounds: int) -> str:
-    """The game as it stands after so many rounds, as `ants save` prints it."""
+    """The game as it stands after this number of rounds, as `ants save` prints it."""
     room = (1 << 12) + 8 * _cells(world) + 4 * (len(red) + len(black))  # a cell has four bytes of a save
     return _text("ants_save", {"world": world, "red": red, "black": black}, _number("seed", seed), _number("rounds", rounds), room=room)
 
 
 def resume(save: Text, rounds: int, dumps: Sequence[int] = ()) -> str:
-    """What `ants resume` prints of a saved game that goes on up to so many rounds."""
+    """What `ants resume` prints of a saved game that goes on to this number of rounds in all."""
     numbers, count = _numbers("dump", dumps)
     return _text("ants_resume", {"save": save}, _number("rounds", rounds), numbers, count, room=_room_of_run(min(count, rounds + 1), len(save) // 4))
 

@@ -28,10 +28,10 @@ def row(name, data):
 
 def build_wheel(wheel_directory, config_settings=None, metadata_directory=None):
     """Writes the wheel into a folder, and gives its name: what pip calls."""
-    told = dict(re.findall(r'^([a-z-]+) = "(.*)"$', content("pyproject.toml").decode().partition("[project]")[2], re.M))
-    stem = "%(name)s-%(version)s" % told
+    project = dict(re.findall(r'^([a-z-]+) = "(.*)"$', content("pyproject.toml").decode().partition("[project]")[2], re.M))
+    stem = "%(name)s-%(version)s" % project
     files = {name: content(name) for name in FILES}
-    files[stem + ".dist-info/METADATA"] = (METADATA % told).encode()
+    files[stem + ".dist-info/METADATA"] = (METADATA % project).encode()
     files[stem + ".dist-info/WHEEL"] = WHEEL.encode()
     record = stem + ".dist-info/RECORD"
     files[record] = ("".join(row(*it) for it in files.items()) + record + ",,\n").encode()

@@ -149,7 +149,7 @@ class Library:
             out.append("%s#[repr(C)]\n#[derive(Clone, Copy, Debug, Default, PartialEq, Eq)]\npub struct %s {\n%s}\n" % (comment(it.docs, "/// "), it.plain_name, fields))
         out += [self.rust_export(it) for it in self.exports]
         declared = "".join(self.rust_declaration(it) for it in self.exports)
-        return "\n".join(out) + "\nmod c {\n    use super::{%s};\n\n    unsafe extern \"C\" {\n%s    }\n}\n" % (", ".join(it.plain_name for it in self.structs.values()), declared)
+        return "\n".join(out) + "\nmod c {\n    use super::{%s};\n\n    extern \"C\" {\n%s    }\n}\n" % (", ".join(it.plain_name for it in self.structs.values()), declared)
 
     def rust_type(self, kind):
         return self.structs[kind].plain_name if kind in self.structs else kind

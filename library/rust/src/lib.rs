@@ -66,7 +66,7 @@ fn text(call: impl Fn(&mut [u8], &mut usize, &mut Fault, &mut [u8]) -> u32) -> R
 }
 
 impl Game<'_> {
-    /// The score after so many rounds.
+    /// The score after this number of rounds.
     pub fn score(self, seed: u32, rounds: u32) -> Result<Score, Stop> {
         let mut score = Score::default();
         done(|fault, words| raw::ants_score(self.world, self.red, self.black, seed, rounds, &mut score, fault, words))?;
@@ -85,13 +85,13 @@ impl Game<'_> {
         text(|out, used, fault, words| raw::ants_run(self.world, self.red, self.black, seed, rounds, dumps, out, used, fault, words))
     }
 
-    /// The game as it stands after so many rounds, as `ants save` prints it.
+    /// The game as it stands after this number of rounds, as `ants save` prints it.
     pub fn save(self, seed: u32, rounds: u32) -> Result<String, Stop> {
         text(|out, used, fault, words| raw::ants_save(self.world, self.red, self.black, seed, rounds, out, used, fault, words))
     }
 }
 
-/// What `ants resume` prints of a saved game that goes on up to so many rounds.
+/// What `ants resume` prints of a saved game that goes on to this number of rounds in all.
 pub fn resume(save: &[u8], rounds: u32, dumps: &[u32]) -> Result<String, Stop> {
     text(|out, used, fault, words| raw::ants_resume(save, rounds, dumps, out, used, fault, words))
 }

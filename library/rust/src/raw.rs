@@ -270,7 +270,7 @@ pub fn ants_resume(save: &[u8], rounds: u32, dumps: &[u32], out: &mut [u8], used
 mod c {
     use super::{Fault, Score};
 
-    unsafe extern "C" {
+    extern "C" {
         pub fn ants_score(
             world: *const u8,
             world_len: usize,
