@@ -18,7 +18,6 @@ pub mod Generated
 pub mod Planned
 pub mod Untouched
 pub mod Workloads
-pub mod Saves
 -- The laws: labelled games, saves, the headline.
 pub mod LabelledGames
 pub mod ResumedGames

@@ -1,3 +1,2 @@
 mod Overlaid
-mod PlayedSaves
 mod Stops
