@@ -11,6 +11,7 @@ use ant_random::Stream;
 use ant_turn::Brains;
 use cell_world::World;
 use std::marker::Model;
+use std::mem;
 
 /// A game that is just played, round after round and each turn after turn (the task's game play): no look is made ahead, nothing is counted, and
 /// it takes no memory. It knows its world, its brains, its stream of random numbers, and how many rounds are done.
@@ -84,7 +85,10 @@ impl<'b> SequentialGame<'b> {
         requires few { self.old.done < most_rounds }
         ensures { IsPlayedOn self.old self.new 1 }
     {
-        play_round(&mut self.world, self.brains, &mut self.stream);
+        // the stream stands in a place of its own meanwhile, which no write to the world can reach: so a turn keeps it in registers
+        let mut stream = mem::replace(&mut self.stream, Stream::from_seed(0));
+        play_round(&mut self.world, self.brains, &mut stream);
+        self.stream = stream;
         self.done += 1;
     }
 
