@@ -1,26 +1,26 @@
 # The doors of the repository; each is a line or two over `rt`.
 #   make try ARGS="show examples/one_ant.world 12345"      a quick look, without a proof
 #   make run ARGS="show examples/one_ant.world 12345"
-#   make test · make documents · make install PREFIX=DIR · make bench
+#   make test · make documents · make library · make install PREFIX=DIR · make dist · make deb · make bench
 PREFIX ?= /usr/local
 PROGRAM = crates/ants/out/ants
+ARCHIVE = crates/ants_c/out/libants_c.a
+SOURCES = crates.txt $(shell find crates -name out -prune -o \( -name '*.rt' -o -name '*.antt' \) -print)
 
-.PHONY: build run try test documents install bench
+.PHONY: build run try test documents library install dist deb bench
 
 build: $(PROGRAM)
 
 # `rt run` builds before it runs, and there is no command that builds alone: so a command is run that needs no file.
-$(PROGRAM): crates.txt $(shell find crates -name out -prune -o \( -name '*.rt' -o -name '*.antt' \) -print)
+$(PROGRAM): $(SOURCES)
 	@cd crates/ants && rt run -- show - 1 < stdin > /dev/null
 	@touch $@
 
 run: build
 	@$(PROGRAM) $(ARGS)
 
-# `rt try` runs the program in a folder of its own, so it is handed each file that the words name.
 try:
-	@top=$$PWD; set --; for word in $(ARGS); do [ ! -f "$$word" ] || set -- "$$@" --data "$$word=$$top/$$word"; done; \
-	cd crates/ants && rt try "$$@" -- $(ARGS)
+	@.ci/try $(ARGS)
 
 test:
 	rt ci
@@ -29,10 +29,26 @@ documents:
 	@.ci/make-documents
 	@.ci/documents
 
-install: build
-	install -D -m 755 $(PROGRAM) $(DESTDIR)$(PREFIX)/bin/ants
-	install -D -m 644 docs/ants.1 $(DESTDIR)$(PREFIX)/share/man/man1/ants.1
-	install -D -m 644 docs/ants.bash $(DESTDIR)$(PREFIX)/share/bash-completion/completions/ants
+# libants.a and libants.so, in library/.
+library: library/libants.a library/libants.so
+
+$(ARCHIVE): $(SOURCES)
+	cd crates/ants_c && rt lib
+	@touch $@
+
+library/libants.a: $(ARCHIVE) library/link library/exports
+	library/link $(ARCHIVE) library
+
+library/libants.so: library/libants.a
+
+install: build library
+	package/install $(DESTDIR)$(PREFIX)
+
+dist: build library
+	package/make tar
+
+deb: build library
+	package/make deb
 
 bench: build
 	bench/run

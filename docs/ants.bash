@@ -9,10 +9,12 @@ _ants() {
         return
     fi
     case ${COMP_WORDS[1]} in
+    minimise) options='--states' ;;
     run) options='--seed --rounds --dump --workers --window --surround --corpse --rest --stats --far' ;;
     gen) options='--width --height --rocks --blobs' ;;
-    cup) options='--worlds --brains --seed --rounds --workers' ;;
+    cup) options='--worlds --brains --seed --rounds --workers --games' ;;
     view) options='--seed --rounds' ;;
+    asm) options='--labels' ;;
     save) options='--seed --rounds --workers --window --surround --corpse --rest' ;;
     resume) options='--rounds --dump --workers --stats' ;;
     trace) options='--seed --rounds --from --surround --corpse --rest' ;;

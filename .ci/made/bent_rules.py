@@ -12,7 +12,7 @@ from tree import Unknown, crates, exists, read, source_files
 
 FILE = "docs/bent_rules.txt"
 EXAMPLES = {"RULES": "docs/RULES.md", "README": "README.md"}
-HOW = {"place": "in place", "copy": "in a copy", "code": "with its code", "read": "read off"}
+HOW = {"place": "in place", "copy": "in a copy", "code": "with its code", "read": "by eye"}
 
 
 class Evidence:
@@ -108,9 +108,9 @@ def page():
         "# Bent rules",
         "",
         "Made from [bent_rules.txt](bent_rules.txt), which has the rows, by `.ci/make-documents`; not edited by hand. Code is proved against definitions. A definition that is wrong together with its",
-        "code would be proved as well, and only a value from outside both can refuse it: a computed lemma, a row of a test, or an example of RULES that is run. So %d rules were bent, or it was read what would refuse the bent one, and" % len(found),
-        "each has what refuses it in its row. How it was tried: in place, in the definitions themselves; in a copy of them, whose values were computed; with its code, in a copy of both, or the code alone;",
-        "or not bent, but read off the law or the rows, whose values were worked by hand.",
+        "code would be proved as well; only a value from outside both can refuse it: a computed lemma, a row of a test, or an example of RULES that is run. So each of %d bent rules has a row there, with" % len(found),
+        "what refuses it. How that was tried: in place, in the definitions themselves; in a copy of them, whose values were computed; with its code, in a copy of both, or the code alone;",
+        "or by eye, from the law or the rows, whose values were worked by hand: then nothing was changed or run.",
         "",
         "| rules | bends | " + " | ".join("by a " + it if it != "example" else "by an example" for it in kinds) + " | " + " | ".join(HOW.values()) + " |",
         "|" + "---|" * (2 + len(kinds) + len(HOW)),

@@ -3,21 +3,26 @@
 docs/run_page.txt has the order. Its lines are
 
     keep TYPE: NAMES            of this data or type only these constructors are met, and equations on others are left out
-    leave out NAMES             these definitions stand on other pages
+    leave out NAMES: WHAT       these definitions stand on other pages, to which links lead; what they are
+    drop FILE: RECORD: NAMES    these fields of the record, which are values, are left out: nothing that the page has asks for them
+    inside FILE: NAMES          these definitions stand where they are named (forms.py)
     # CHAPTER                   text below it, up to an empty line, is the chapter's first paragraph
     FILE: NAMES                 a block: definitions or types of this file, in this order
 
 The list has to be exactly what the law's page reaches, what a definition names has to stand before it or in its own block, and no equation that
-stays may make what is left out.
+stays may make what is left out, nor ask for a field that is dropped. forms.py has how a definition is laid out.
 """
+import html
 import re
 
+import forms
+import items
 import shown
-from tree import CodeType, Contract, Definition, Tree, Unknown, goes_on, left_of, names_of, read, source_files, words_of
+from tree import CodeType, Contract, Definition, Tree, Unknown, below, goes_on, left_of, names_of, read, source_files, words_of
 
 ORDER, WORDS = "docs/run_page.txt", "docs/library_words.txt"
 CRATE, ROOT = "ants", "KeepsPromise"
-MOST_LINES = 1060
+MOST_LINES = 620
 PACE = 10  # lines a minute, of a reader who reads each
 
 
@@ -32,16 +37,33 @@ class Chapter:
 
 
 class RunPage:
-    def __init__(self, tree):
-        self.tree = tree
-        self.kept, self.left_out, self.chapters = {}, set(), []
+    def __init__(self, tree, elsewhere):
+        """`elsewhere` gives the address of what stands on the pages of the specification."""
+        self.tree, self.elsewhere = tree, elsewhere
+        self.kept, self.left_out, self.told_of_left, self.chapters = {}, set(), [], []
+        self.dropped, self.told_of_dropped, self.inside = {}, [], []
         self.by_file = {}
         for definition in tree.definitions():
             self.by_file.setdefault((definition.module.file, definition.name), definition)
+        self.files_of_types = self.types_by_name()
         self.read_order()
         self.cases = {name: set(shown.members_of(it)) - kept for name, (it, kept) in self.kept.items()}
         self.parts = [part for chapter in self.chapters for block in chapter.blocks for part in block.parts]
+        self.listed = {id(it) for it in self.parts}
+        fields = {}
+        for it in self.parts:
+            if isinstance(it, CodeType) or it.shape == "record":
+                for name in shown.members_of(it):
+                    fields.setdefault(name, []).append(it)
+        self.linker = shown.Linker(tree, self.place, fields)
+        self.forms = forms.Forms(self.linker, self.lines, {id(it) for it in self.inside}, self.dropped)
         self.check()
+
+    def place(self, it):
+        """Where a definition or a type stands: on this page, or, where it is left out, on one of the specification."""
+        if id(it) in self.listed:
+            return "#" + shown.anchor(it)
+        return self.elsewhere(it) if it is not None and it.name in self.left_out else None
 
     # The order.
 
@@ -53,7 +75,17 @@ class RunPage:
                 name, _, names = line[len("keep "):].partition(": ")
                 self.kept[name] = self.of_name(name, where), set(names.split())
             elif line.startswith("leave out "):
-                self.left_out |= set(line[len("leave out "):].split())
+                names, _, says = line[len("leave out "):].partition(": ")
+                self.left_out |= set(names.split())
+                self.told_of_left.append((names.split(), says))
+            elif line.startswith("drop "):
+                file, name, names = line[len("drop "):].split(": ")
+                it = self.of_file(file, name, where)
+                self.dropped[id(it)] = set(names.split())
+                self.told_of_dropped.append(it)
+            elif line.startswith("inside "):
+                file, _, names = line[len("inside "):].partition(": ")
+                self.inside += [self.of_file(file, it, where) for it in names.split()]
             elif line.startswith("# "):
                 self.chapters.append(Chapter(line[2:]))
                 told = self.chapters[-1].says
@@ -79,17 +111,22 @@ class RunPage:
     def of_name(self, name, where):
         """The one data or type that has this name and more than one case."""
         found = [it for it in self.tree.definitions() if it.name == name and it.shape == "data"]
-        for file in self.code_files():
+        for file in self.files_of_types.get(name, ()):
             it = CodeType.find(file.split("/")[1], file, name)
-            if it and len(shown.members_of(it)) > 1:
+            if len(shown.members_of(it)) > 1:
                 found.append(self.tree.types.setdefault((file, name), it))
         if len(found) != 1:
             raise Unknown("%s: there are %d types %s" % (where, len(found), name))
         return found[0]
 
-    def code_files(self):
-        for crate in sorted(self.tree.own):
-            yield from source_files("crates/%s/src" % crate, ".rt")
+    def types_by_name(self):
+        """The files of the code of the program's crates that have a type of a name."""
+        found = {}
+        for crate in sorted(below(CRATE)):
+            for file in source_files("crates/%s/src" % crate, ".rt"):
+                for name in re.findall(r"^(?:pub(?:\([a-z]+\))? )?(?:enum|struct) (\w+)", read(file), re.M):
+                    found.setdefault(name, []).append(file)
+        return found
 
     # What is left of a definition.
 
@@ -113,9 +150,7 @@ class RunPage:
         return found
 
     def lines(self, it):
-        """The lines of a definition or a type, without the equations and cases that no `run` meets."""
-        if isinstance(it, CodeType):
-            return self.type_lines(it)
+        """The lines of a definition in its source, without the equations and cases that no `run` meets."""
         if it.name in self.kept and it is self.kept[it.name][0]:
             left = self.cases[it.name]
             return self.without(it.text, lambda line: re.match(r"  (?:pub )?([^\s:]+) :", line) and re.match(r"  (?:pub )?([^\s:]+) :", line)[1] in left, "--")
@@ -134,18 +169,8 @@ class RunPage:
         return out
 
     def type_lines(self, it):
-        """A type without the cases that are left out, a variant a line, and without the braces around them all."""
-        lines = it.text
-        if it.name in self.kept and it is self.kept[it.name][0]:
-            left = self.cases[it.name]
-            lines = self.without(lines, lambda line: re.match(r"    (\w+)", line) and re.match(r"    (\w+)", line)[1] in left, "//")
-        out = []
-        for line in lines:
-            if re.match(r"    (\w+) \{$", out[-1] if out else "") or out and out[-1].startswith("    ") and out[-1].count("{") > out[-1].count("}"):
-                out[-1] += " " + line.strip()
-            elif line != "}":
-                out.append(line)
-        return [re.sub(r" \{$", "", re.sub(r",? \},$", " }", line)) for line in out]
+        """The lines of a type of the code on the page, without the cases that no `run` meets."""
+        return forms.type_lines(it, self.cases.get(it.name, ()) if it is self.kept.get(it.name, (None,))[0] else ())
 
     @staticmethod
     def without(lines, is_left, comment):
@@ -162,18 +187,27 @@ class RunPage:
         return out + above
 
     def is_cut(self, it):
-        return len(self.lines(it)) < len(it.text)
+        return bool(self.cases.get(it.name)) and it is self.kept[it.name][0] if isinstance(it, CodeType) else len(self.lines(it)) < len(it.text)
+
+    def to_believe(self, it):
+        """The lines of a definition or a type on the page, but for comments."""
+        lines = self.type_lines(it) if isinstance(it, CodeType) else ["".join(token.text for token in line) for line in self.forms.lines(it)]
+        return [line for line in lines if not line.strip().startswith(("--", "//"))]
 
     def count(self, it):
-        comment = "//" if isinstance(it, CodeType) else "--"
-        return sum(1 for line in self.lines(it) if line.strip() and not line.strip().startswith(comment))
+        return len(self.to_believe(it))
+
+    def words(self, it):
+        """How many words, signs and numbers they have."""
+        return sum(len(re.findall(r"[^\s(){};,]+", line)) for line in self.to_believe(it))
 
     def named(self, it):
+        """What a definition or a type names on the page."""
         if isinstance(it, CodeType):
-            kept = "\n".join(re.sub(r"//.*", "", line) for line in self.lines(it))
+            kept = "\n".join(self.to_believe(it))
             return [other for other in it.named(self.tree) if re.search(r"\b%s\b" % other.name, kept) and other.name not in self.left_out]
-        text = "\n".join(self.lines(it) + ([it.header] if it.header else []))
-        return [other for other in self.tree.named_in(it, text) if other.name not in self.left_out]
+        found = [token.it for line in self.forms.lines(it) for token in line] + (self.tree.named_in(it, it.header) if it.header else [])
+        return [other for other in found if isinstance(other, (Definition, CodeType)) and other is not it and other.name not in self.left_out]
 
     # The checks.
 
@@ -189,7 +223,11 @@ class RunPage:
         return found
 
     def check(self):
-        listed = {id(it) for it in self.parts}
+        for it in self.told_of_dropped:
+            facts = [name for name in sorted(self.dropped[id(it)]) if not self.forms.is_value(it, name)]
+            if facts:
+                raise Unknown("%s: %s has no value %s, so it can't be dropped" % (ORDER, it.name, " ".join(facts)))
+        listed = self.listed
         if len(listed) < len(self.parts):
             twice = [it.name for it in self.parts if self.parts.count(it) > 1]
             raise Unknown("%s: twice there: %s" % (ORDER, " ".join(sorted(set(twice)))))
@@ -209,15 +247,37 @@ class RunPage:
                     late = [other.name for other in self.named(it) if id(other) not in stands]
                     if late:
                         raise Unknown("%s: %s names %s, which stands below it" % (ORDER, it.name, " ".join(late)))
-        for it in self.parts:
+        for it in self.parts + self.inside:
             if isinstance(it, Definition):
                 for line in self.lines(it):
                     made = self.left_cases(it, line)
                     if made and not line.startswith("--"):
                         raise Unknown("%s: %s names %s, which the page leaves out" % (ORDER, it.name, " ".join(made)))
+        self.check_forms()
         total = self.total()
         if total > MOST_LINES:
             raise Unknown("%s: %d lines to believe, more than %d" % (ORDER, total, MOST_LINES))
+
+    def check_forms(self):
+        """What is dropped, left out or put inside is so with reason: no field is asked for, and each name is met."""
+        met = set()
+        for it in self.parts:
+            shared = [name for names in self.dropped.values() for name in names if id(it) not in self.dropped and name in shown.members_of(it)]
+            if shared:
+                raise Unknown("%s: %s has a field %s too, so it can't be dropped" % (ORDER, it.name, " ".join(shared)))
+            if isinstance(it, Definition):
+                text = "".join(token.text for line in self.forms.lines(it) for token in line)
+                asked = [name for names in self.dropped.values() for name in names if re.search(r"\.%s(?![\w'-])" % re.escape(name), text)]
+                if asked:
+                    raise Unknown("%s: %s asks for the field %s, which is dropped" % (ORDER, it.name, " ".join(asked)))
+                named = [token.it for line in self.forms.lines(it) for token in line if isinstance(token.it, (Definition, CodeType))]
+                lost = [other.name for other in named if self.place(other) is None]
+                if lost:
+                    raise Unknown("%s: %s names %s, which no page has" % (ORDER, it.name, " ".join(lost)))
+                met |= {other.name for other in named}
+        stale = sorted(self.left_out - met) + [it.name for it in self.inside if id(it) not in self.forms.put]
+        if stale:
+            raise Unknown("%s: nothing that the page has names %s" % (ORDER, " ".join(stale)))
 
     def total(self):
         return sum(self.count(it) for it in self.parts)
@@ -225,13 +285,6 @@ class RunPage:
     # The page.
 
     def shown(self):
-        ids = {id(it) for it in self.parts}
-        fields = {}
-        for it in self.parts:
-            if isinstance(it, CodeType) or it.shape == "record":
-                for name in shown.members_of(it):
-                    fields.setdefault(name, []).append(it)
-        linker = shown.Linker(self.tree, lambda it: "#" + shown.anchor(it) if id(it) in ids else None, fields)
         types = {it.name: it for it in self.parts if isinstance(it, CodeType)}
         out = [("#", "What one run promises")]
         out += [("p", it) for it in self.introduction()]
@@ -242,38 +295,56 @@ class RunPage:
             out.append(("p", " ".join(chapter.says)))
             for block in chapter.blocks:
                 out.append(("p", "[%s](../%s)%s" % (re.sub("^crates/", "", block.file), block.file, self.remark(block))))
-                out.append(("pre", "\n\n".join(linker.whole(it, self.lines(it), types) for it in block.parts)))
+                out.append(("pre", "\n\n".join(self.whole(it, types) for it in block.parts)))
         out.append(("##", "Words of the library"))
-        out += self.library(linker)
+        out += self.library()
         return out
+
+    def whole(self, it, types):
+        """A definition or a type with its comment as HTML."""
+        if isinstance(it, CodeType):
+            return self.linker.type_block(it, self.type_lines(it), types)
+        says = ["<i>%s</i>" % html.escape(line) for line in it.comment]
+        return "\n".join(says + ["".join(token.html for token in line) for line in self.forms.lines(it)])
 
     def of_chapter(self, chapter):
         return sum(self.count(it) for block in chapter.blocks for it in block.parts)
 
     def remark(self, block):
         cut = [it.name for it in block.parts if self.is_cut(it)]
-        says = block.parts[0].module.says if isinstance(block.parts[0], Definition) else "Types of the code."
-        return ": " + says + (" Rows that no `run` meets are left out of %s." % ", ".join("`%s`" % it for it in cut) if cut else "")
+        says = ": " + (block.parts[0].module.says if isinstance(block.parts[0], Definition) else "Types of the code.")
+        if cut:
+            says += " Rows that no `run` meets are left out of %s." % quoted(cut)
+        for it in block.parts:
+            if id(it) in self.dropped:
+                says += " %s has a field %s too, for which nothing here asks." % (quoted([it.name]), quoted(sorted(self.dropped[id(it)])))
+        return says
 
     def introduction(self):
         law = Contract.of(CRATE, "headline")
         yield (
-            "Made from the tree by `.ci/make-documents`; not edited by hand. All that has to be believed of `ants run WORLD RED BLACK --seed N --rounds N ..` without `--stats`, and no more: "
-            "%d lines without comments, types of the code counted, %d minutes at %d lines a minute. A name leads to where it is defined; what a definition names stands above it." % (self.total(), round(self.total() / PACE), PACE)
+            "Made from the tree by `.ci/make-documents`; not edited by hand. All that has to be believed of `ants run WORLD RED BLACK --seed N --rounds N ..` without `--stats`: "
+            "%d lines of at most %d columns with %s words, types of the code counted and comments not; %d minutes at %d lines a minute. A name leads to where it is defined; what a definition names stands above it."
+            % (self.total(), items.MOST, "{:,}".format(sum(self.words(it) for it in self.parts)), round(self.total() / PACE), PACE)
         )
         yield (
-            "The promise is `KeepsPromise`, of which the law [`headline`](../%s) says that it holds of each run of `run_to_exit`, the one call that `main` makes. "
-            "The checker accepts the program only with it. Here are not: what other commands read and write, the counts that `--stats` adds, and the fault of each text that is refused; "
-            "[SPECIFICATION.md](SPECIFICATION.md) has them." % law.file
+            "The promise is [`KeepsPromise`](#the-promise), of which the law [`headline`](../%s) says that it holds of each run of `run_to_exit`, the one call that `main` makes. "
+            "The checker accepts the program only with it. Not here, but where their names lead: %s." % (law.file, "; ".join("%s, %s" % (says, quoted(names)) for names, says in self.told_of_left))
         )
         yield (
-            "**How to read it.** `x : A` says that x is an A; `A → B` is a function from A to B. A `record` has all of its fields, a `data` is one of its rows; where a field is a fact, it says so. "
-            "A definition by several equations means the first that fits, and `_` fits all. `(x : A) → B` says that B holds for every x, `(x : A) × B` that it does for some x; `λ x. b` is the function that gives b at x; "
-            "`record x { f = y }` is x with y for its field f. A `u8`, `u16`, `u32` or `u64` of a type of the code is a whole number in a definition, a `bool` a test, a `Vec` or a `&[T]` a list. "
-            "`*`, `/` and `%` bind before `+` and `-`, these before `∷`, `++` and `+++`, and these before `==`, `≡`, `≤` and their like; a function binds before all of them. `pub`, `abbrev` and `unfoldable` mean nothing to a reader."
+            "**How to read it.** `x : A` says that x is an A; `A → B` are the functions from A to B, and of facts it says that B holds where A does. `f (x y : A) (z : B) : C = e` defines f: at x, y and z it is e. `f (x : A) : B → C | p = e | q = d` defines it by rows: it is "
+            "what the first row says that fits, and `_` fits all. `zero` is 0 and `suc n` is n + 1. A `record` has all of its fields, a `data` or an `enum` is one of its rows; where a field is a fact, it says so. `Type 0` are the types, and the facts. "
+            "`(x : A) → B` says that B holds for every x, `(x : A) × B` that it does for some x; `λ x. b` is the function that gives b at x; `{A : Type 0}` stands for any type A. `r.f` is the field f of r, `record { f = y }` has y for its field f, "
+            "and `record r { f = y }` is r but for that. `let x = a in b` is b, where x is a. `Unit {0}` has one value; as a fact it always holds. A text between quotes is its bytes. "
+            "A `u8`, `u16`, `u32` or `u64` of a type of the code is a whole number in a definition, a `bool` a test, a `Vec` or a `&[T]` a list; a case `C { a, b }` of it is `C a b`. "
+            "`*`, `/` and `%` bind before `+` and `-`, these before `∷`, `++` and `+++`, and these before `==`, `≡`, `≤` and their like; a function binds before all of them."
+        )
+        yield (
+            "Each definition has the words of its source, to which its file's name leads, in fewer lines. `abbrev`, `unfoldable` and `pub`, which mean nothing to a reader, are left out, a function's name stands once, "
+            "and of an enum of mere names its comment alone. In place of %s stands what they are." % quoted([it.name for it in self.inside])
         )
 
-    def library(self, linker):
+    def library(self):
         rows, told = [], {}
         for number, line in enumerate(read(WORDS).split("\n"), 1):
             if line and not line.startswith("#"):
@@ -281,10 +352,11 @@ class RunPage:
                 if not bar:
                     raise Unknown("%s:%d: a row is a word, a bar and what it is" % (WORDS, number))
                 told[word.strip()] = says
-        missing = sorted(set(linker.library) - set(told))
+        met = {token.it for it in self.parts if isinstance(it, Definition) for line in self.forms.lines(it) for token in line if isinstance(token.it, str)}
+        missing = sorted(met - set(told))
         if missing:
-            raise Unknown("%s: says nothing of %s" % (WORDS, " ".join("%s (%s)" % (it, linker.library[it]) for it in missing)))
-        more = sorted(set(told) - set(linker.library))
+            raise Unknown("%s: says nothing of %s" % (WORDS, " ".join("%s (%s)" % (it, self.linker.library[it]) for it in missing)))
+        more = sorted(set(told) - met)
         if more:
             raise Unknown("%s: the page doesn't have %s" % (WORDS, " ".join(more)))
         for word in sorted(told, key=lambda it: (it[0].isalpha(), it.lower())):
@@ -292,8 +364,13 @@ class RunPage:
         return [("table", ["word", "what it is"], rows)]
 
 
-def pages(tree):
-    page = RunPage(tree)
+def quoted(names):
+    """Names between backticks, one after another."""
+    said = ["`%s`" % it for it in names]
+    return " and ".join([", ".join(said[:-1])] * (len(said) > 1) + said[-1:])
+
+
+def pages(page):
     parts = page.shown()
     blocks = "\n".join(part[1] for part in parts if part[0] == "pre")
     places = re.findall(r'id="([^"]*)"', blocks)

@@ -6,7 +6,7 @@ A page is a list of parts: ("#", text) is a heading, ("##", text) one below it, 
 import html
 import re
 
-from tree import LANGUAGE, WORD, CodeType, Tree, Unknown, bound_in, goes_on, left_of, words_of
+from tree import LANGUAGE, WORD, CodeType, Tree, Unknown, bound_in, goes_on, words_of
 
 TOKEN = re.compile(r'(?P<string>"(?:[^"\\]|\\.)*")|(?P<comment>--.*|//.*)|(?P<name>(?<![\w\'\-])%s)(?:\.(?P<member>%s))?|(?P<sign>[^\s\w(){}\[\],;."\']+)' % (WORD, WORD))
 # Signs of the language itself.
@@ -45,6 +45,17 @@ def pieces_with_comments(lines):
     return pieces
 
 
+class Token:
+    """A word of a definition: its text, its HTML, and what it leads to, a definition or a type of the code, or a word of the library."""
+
+    def __init__(self, text, code=None, it=None):
+        self.text, self.html, self.it = text, html.escape(text) if code is None else code, it
+
+
+class Gap(Token):
+    """What stands between the words: spaces, numbers, brackets."""
+
+
 class Linker:
     """Puts links into the texts of definitions. `place` gives the address of a definition or type, or None where no page has it."""
 
@@ -58,6 +69,10 @@ class Linker:
 
     def block(self, lines, definition):
         """The lines of a definition as HTML."""
+        return "\n".join("".join(it.html for it in line) for piece in self.pieces(lines, definition) for line in piece)
+
+    def pieces(self, lines, definition):
+        """A definition piece by piece, each its lines, and each line its tokens."""
         out, outer = [], set()
         module = definition.module
         known = bound_in(definition.header, module) if definition.header else set()
@@ -77,64 +92,67 @@ class Linker:
                 bound |= set(found[1].split()) if found else set()
             else:
                 bound = bound | bound_in(code, module)
-            out += [self.line(line, definition, bound) for line in piece]
-        return "\n".join(out)
+            out.append([self.tokens(line, definition, bound) for line in piece])
+        return out
 
-    def line(self, text, definition, bound):
+    def tokens(self, text, definition, bound):
+        """A line as its tokens; what stands between words is one too."""
         out, last = [], 0
         for it in TOKEN.finditer(text):
-            out.append(html.escape(text[last: it.start()]))
+            if it.start() > last:
+                out.append(Gap(text[last: it.start()]))
             last = it.end()
             if it["comment"]:
-                out.append("<i>%s</i>" % html.escape(it[0]))
+                out.append(Token(it[0], "<i>%s</i>" % html.escape(it[0])))
             elif it["string"]:
-                out.append(html.escape(it[0]))
+                out.append(Token(it[0]))
             elif it["sign"]:
                 out.append(self.sign(it["sign"], definition))
             else:
                 out.append(self.name(it, text[it.start() - 1: it.start()], definition, bound))
-        return "".join(out) + html.escape(text[last:])
+        return out + ([Gap(text[last:])] if last < len(text) else [])
+
+    def to(self, it, text, tail=("", "")):
+        """A token that leads to a definition or a type."""
+        return Token(text + tail[0], self.link(it, text) + tail[1], it)
+
+    def of_library(self, text, name, tail=("", ""), file=""):
+        self.library.setdefault(name, file)
+        return Token(text + tail[0], html.escape(text) + tail[1], name)
 
     def sign(self, sign, definition):
         module = definition.module
         if sign == definition.name:
-            return '<b id="%s">%s</b>' % (anchor(definition), html.escape(sign))
+            return Token(sign, '<b id="%s">%s</b>' % (anchor(definition), html.escape(sign)), definition)
         for name in list(module.definitions) + list(module.names):
             if "◌" in name and sign in name.split("◌"):
                 it = module.definitions.get(name) or self.tree.resolve(*module.names[name], where=module.file)
                 if it is not None:
-                    return self.link(it, sign)
-        if sign not in PLAIN:
-            self.library.setdefault(sign, module.file)
-        return html.escape(sign)
+                    return self.to(it, sign)
+        return self.of_library(sign, sign, file=module.file) if sign not in PLAIN else Token(sign)
 
     def name(self, it, before, definition, bound):
         module, name, member = definition.module, it["name"], it["member"]
-        tail = "." + self.field(member) if member else ""
+        tail = ("." + member, "." + self.field(member)) if member else ("", "")
         if name in module.aliases:
-            found = self.tree.resolve(module.aliases[name], member or name, module.file)
-            return self.link(found, it[0])
+            return self.to(self.tree.resolve(module.aliases[name], member or name, module.file), it[0])
         if before == ".":
-            return self.field(name) + tail
+            return Token(name + tail[0], self.field(name) + tail[1])
         if name == definition.name:
             at = html.escape(name) if definition.shape else '<b id="%s">%s</b>' % (anchor(definition), html.escape(name))
-            return at + tail
+            return Token(name + tail[0], at + tail[1], definition)
         if name in bound or name in LANGUAGE:
-            return html.escape(name) + tail
+            return Token(name + tail[0], html.escape(name) + tail[1])
         if name in module.names:
             found = self.tree.resolve(*module.names[name], where=module.file)
-            if found is None:
-                self.library.setdefault(module.names[name][1], module.file)
-                return html.escape(name) + tail
-            return self.link(found, name) + tail
+            return self.of_library(name, module.names[name][1], tail, module.file) if found is None else self.to(found, name, tail)
         found = module.definitions.get(name) or Tree.constructed(module, name)
         if found is not None:
-            return self.link(found, name) + tail
+            return self.to(found, name, tail)
         if any(name in known.split("◌") for known in list(module.names) + list(module.definitions)):
-            self.library.setdefault(name, module.file)  # a word of an operator, as `if`
-            return html.escape(name) + tail
+            return self.of_library(name, name, tail, module.file)  # a word of an operator, as `if`
         if name in self.fields:
-            return self.field(name) + tail
+            return Token(name + tail[0], self.field(name) + tail[1])
         raise Unknown("%s: %s of %s leads nowhere" % (module.file, name, definition.name))
 
     def field(self, name):

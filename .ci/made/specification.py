@@ -209,6 +209,12 @@ class Specification:
         return [sum(it.lines for it in chapter.definitions if id(it) in these) for chapter in self.chapters]
 
 
+    def place(self, it):
+        """The address of a definition or a type from docs/, or None where no chapter has it."""
+        chapter = next((chapter for chapter in [self.headline] + self.chapters if chapter and any(part is it for part in chapter.parts)), None)
+        return chapter and "specification/%s#%s" % (chapter.file, shown.anchor(it))
+
+
 def file_of(it):
     return it.file if isinstance(it, CodeType) else it.module.file
 
@@ -250,6 +256,7 @@ def introduction(spec):
         "and no other: whoever believes them, and the types of the code that they name, knows what the program does. Nothing on these pages is code or proof. A name leads to "
         "where it is defined; what a definition names stands above it, or in a chapter that it leads to." % links
     )
+    yield "For one `run`, [RUN.md](RUN.md) has all of it on one page, in fewer lines."
     yield (
         "The contest is %s lines without comments; a game from its files to its text %s; all that a `run` rests on, with words and endings, %s; and all commands together %s."
         % (number(contest), number(game), number(run), number(whole))
@@ -316,17 +323,17 @@ def index(spec):
     return "\n".join(out).rstrip() + "\n"
 
 
-def in_readme(spec):
-    """How many lines are to be believed."""
-    contest, game, run, whole = counts(spec)
+def in_readme(spec, run_lines, pace):
+    """How many lines are to be believed, types of the code counted, and how long it takes at a pace; of one `run` those of its own page."""
+    chapters = [sum(it.lines for it in chapter.parts) for chapter in spec.chapters]
+    these = {id(it) for it in spec.needed(dict((word, it) for it, word in spec.commands)["run"])}
     rows = [
-        ["the contest's rules", number(contest)],
-        ["a game: rules, texts of worlds and brains, text of a game", number(game)],
-        ["all that a `run` rests on, with words, faults and endings", number(run)],
-        ["all commands", number(whole)],
+        ["one `run` without `--stats`, at every status: [one page](docs/RUN.md), which has the same definitions in fewer lines", run_lines],
+        ["the contest's rules", chapters[0]],
+        ["a game: rules, texts of worlds and brains, text of a game", sum(chapters[: len(FIRST)])],
+        ["all that a `run` rests on, with its counts and the fault of each text", sum(it.lines for chapter in spec.chapters for it in chapter.parts if id(it) in these)],
+        ["all commands", sum(chapters)],
     ]
     if spec.headline:
-        game, uncounted, words = spec.game_lines()
-        rows.insert(2, ["the promise on one page, the law `%s`" % LAW, number(spec.headline.lines)])
-        rows.insert(3, ["what it says of a `run` rests on, without the counts of `--stats`, and on what words mean", "%s and %s" % (number(uncounted), number(words))])
-    return table(["to believe", "lines"], rows)
+        rows.insert(3, ["the promise of every command on one page, the law `%s`" % LAW, spec.headline.lines])
+    return table(["to believe", "lines", "minutes at %d a minute" % pace], [[says, number(lines), number(round(lines / pace))] for says, lines in rows])

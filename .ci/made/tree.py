@@ -67,6 +67,18 @@ def crates():
     return found
 
 
+def below(name):
+    """The names of a crate and of those of the repository that it stands on."""
+    stands_on = {it.name: it.stands_on for it in crates()}
+    found, left = set(), [name]
+    while left:
+        it = left.pop()
+        if it in stands_on and it not in found:
+            found.add(it)
+            left += stands_on[it]
+    return found
+
+
 def anchor_of(heading):
     """What a link to a heading of a page has behind its `#`."""
     return re.sub(r"[^\w\- ]", "", heading.strip().lower()).replace(" ", "-")
@@ -413,7 +425,7 @@ class CodeType:
                     where[name.strip()] = path.split("::")
         found = []
         body = re.sub(r"//[^\n]*", "", "\n".join(self.text))
-        for name in re.findall(r"\b[A-Z]\w*", body):
+        for name in re.findall(r"\b[A-Z]\w*", re.sub(r"^    [A-Z]\w*", "", body, flags=re.M)):  # a variant may be called as a type is
             if name == self.name:
                 continue
             it = CodeType.find(self.crate, self.file, name)

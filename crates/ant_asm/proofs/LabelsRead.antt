@@ -1,11 +1,11 @@
 -- What was read of a program is its labels.
-use Rattle.std.proofs.Common.{◌≡◌, ℕ, List, [], sym, ap, ap₂, ◌∙◌, arith}
+use Rattle.std.proofs.Common.{◌≡◌, ℕ, List, [], sym, ap, ap₂, ◌∙◌, refl, arith}
 use Rattle.line_tokens.specs.TokenLines.{lines_with_tokens}
 use Rattle.ant_asm.specs.declared.body.Body.{Body}
 use Rattle.ant_asm.specs.declared.fault.AsmFault.{AsmFault}
 use Rattle.ant_asm.specs.declared.named.NamedBody.{NamedBody}
 use Rattle.ant_asm.specs.Program.{Items, size_of}
-use Rattle.ant_asm.specs.Text.{IsAsmFault}
+use Rattle.ant_asm.specs.Text.{IsAsmFault, IsAsmText}
 use Rattle.ant_asm.specs.Labels.{AreLabelsOf, LabelState, Outline, labels_of, outline_of}
 use Rattle.ant_asm.specs.Inner.Flat.{tree_at}
 use Rattle.ant_asm.specs.Inner.Outlines.{AreListed, AreOutlinesOf, all_states, lines_said, listed, main_of, outline_at, outline_size}
@@ -39,7 +39,11 @@ module _ (text : List ℕ) (bodies : List Body) (named : List NamedBody) (are : 
     are = ap (λ (o : Outline). all_states o 0 0 []) outlines.main ∙ sym (labels-are main (outline_of (lines_said text)) fits (main-some text bodies are));
   }
 
--- a program has one list of labels
+-- a program has a list of labels
+pub has-labels : (text : List ℕ) (main : Items) → IsAsmText text main → (labels : List LabelState) × AreLabelsOf text labels
+has-labels text main is = (labels_of main (lines_said text), record { main = main; is = is; lines = lines_said text; said = text-said text main is; are = refl })
+
+-- and one
 pub one-labels : (text : List ℕ) (a b : List LabelState) → AreLabelsOf text a → AreLabelsOf text b → a ≡ b
 one-labels text a b first second =
     first.are ∙ ap₂ labels_of (one_program lines_decide text first.main second.main first.is second.is) (one-said (lines_with_tokens text) first.lines second.lines first.said second.said) ∙ sym second.are

@@ -32,6 +32,9 @@ pub struct Assembled {
 /// `OutOfMemory` may be answered at any text; every other answer follows from the text alone, since every text has one program or one
 /// fault. The places are the addresses of all instructions of main's expansion, in order, and the brain's instruction `i` is the one at
 /// place `i`, with the number of its target's place for each label.
+///
+/// Given `go:\nMove go next\nTurn Left go\n` it answers the brain `Move 0 1`, `Turn Left 0`. Given `Move go go\n` it answers
+/// `NoLabel { line: 1 }`, and given `go:\n` `Empty`.
 pub fn assemble(alloc: Global, text: &[u8]) -> Result<Assembled, AsmFault>
     requires { length text.now ≤ longest }
     ensures program { IfOk result (λ made. IsAssembledText text.now made.brain made.places) }

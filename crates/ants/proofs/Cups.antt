@@ -85,7 +85,11 @@ ready world_names names seed rounds workers fetches worlds players within are =
       sound = is.sound;
     }
 
--- there is a name for each player
+-- there is a name for each world, and for each player
+pub worlds_counted : (world_names names : List (List ℕ)) (fetches : List Fetched) (worlds : List Grid) (players : List (List Instr)) → AreAccepted (cup_files world_names names) fetches (cup_contents worlds players)
+    → length worlds ≡ length world_names
+worlds_counted world_names names fetches worlds players are = (roster world_names names fetches worlds players are).worlds_counted
+
 pub players_counted : (world_names names : List (List ℕ)) (fetches : List Fetched) (worlds : List Grid) (players : List (List Instr)) → AreAccepted (cup_files world_names names) fetches (cup_contents worlds players)
     → length players ≡ length names
 players_counted world_names names fetches worlds players are = (roster world_names names fetches worlds players are).players_counted

@@ -21,6 +21,8 @@ use Rattle.ants.specs.Status.{status_number}
 use Rattle.ants.specs.FaultLines.{Ending, Reason, ending_status}
 use Rattle.ants.specs.FaultLines.Ending.{Done, RefusedWord, Stopped}
 use Rattle.ants.specs.FaultLines.Reason.{AtFile, AtInput, AtMemory, AtOutput, AtRoom}
+use Rattle.ants.proofs.JobTexts.{ends}
+use Rattle.ants.proofs.TextEnds.{lf_match}
 
 -- a run that ended so
 record HasEnded (words : List (List ℕ)) (before after : Outside) (ending : Ending) : Type 0 where
@@ -41,6 +43,7 @@ printed words before after it = record {
   is_text = it.ends.done.is_text;
   written = it.ends.done.written;
   flushed = it.ends.flushed;
+  kept = it.ends.kept;
   silent = it.reports;
 }
 
@@ -86,15 +89,16 @@ game_of world red black setup before after (a ∷ b ∷ c ∷ fetches) read text
 
 game_done : (world red black : List ℕ) (setup : RunSetup) (before after : Outside) (fetches : List Fetched) (contents : List FileContent) (text : List ℕ) → FetchesEach before.shelf after.shelf fetches
     → AreAccepted (game_files world red black) fetches contents → IsJobText (RunCommand world red black setup) contents text → PushedAll before.out after.out text
-    → NothingWaits after.out.waiting → after.err ≡ before.err → PrintsAll world red black setup before after
-game_done world red black setup before after fetches contents text fetched are is written flushed silent =
-    game_of world red black setup before after fetches is.value text fetched (subst (AreAccepted (game_files world red black) fetches) is.read are) is.told written flushed silent
+    → after.err ≡ before.err → PrintsAll world red black setup before after
+game_done world red black setup before after fetches contents text fetched are is written silent =
+    game_of world red black setup before after fetches is.value text fetched (subst (AreAccepted (game_files world red black) fetches) is.read are) is.told written
+    (written.flushed (ends is.told (lf_match setup is.value))) silent
 
 game : (words : List (List ℕ)) (before after : Outside) → HasEnded words before after Done → (world red black : List ℕ) (setup : RunSetup) → IsCommand words (RunCommand world red black setup) → PrintsAll world red black setup before after
 game words before after it world red black setup is =
     let done : IsDone (RunCommand world red black setup) before after it.fetches =
     subst (λ (command : PlainCommand). IsDone command before after it.fetches) (words_laws.one_command words it.ends.command (RunCommand world red black setup) it.ends.is_command is) it.ends.done in
-    game_done world red black setup before after it.fetches done.contents done.text it.fetched done.accepted done.is_text done.written it.ends.flushed it.reports
+    game_done world red black setup before after it.fetches done.contents done.text it.fetched done.accepted done.is_text done.written it.reports
 
 no_command : (words : List (List ℕ)) (before after : Outside) (word : ℕ) → HasEnded words before after (RefusedWord word) → NamesTheWord words before after
 no_command words before after word it = record {

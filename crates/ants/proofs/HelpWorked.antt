@@ -11,7 +11,7 @@ use Rattle.command_words.specs.declared.limits.NumberKind.{NumberKind}
 use Rattle.command_words.specs.declared.limits.NumberKind.TheVariants.{SeedNumber, RoundCount, WorkerCount, WindowSize, FoeCount, CorpseFood, RestRounds, SideLength, ElementCount}
 use Rattle.command_words.specs.declared.table.Choice.{Choice}
 use Rattle.command_words.specs.declared.table.Choice.TheVariants.{Seed, Rounds, Workers, Window, Surround, Corpse, Rest, Width, Height, Rocks, Blobs}
-use Rattle.ants.specs.Help.{file_lines, game_lines, game_option_lines, head_lines, help_text, status_lines, world_option_lines}
+use Rattle.ants.specs.Help.{file_lines, game_lines, game_option_lines, head_lines, help_text, print_option_lines, status_lines, world_option_lines}
 
 -- whether a line begins with this text, and whether it ends with it
 pub begins : List ℕ → List ℕ → Bool
@@ -47,19 +47,19 @@ number_rows =
     ∷ number_row Rocks ElementCount (decimal default_rocks) ∷ number_row Blobs ElementCount (decimal default_blobs) ∷ []
 
 pub lines_are_short : list_all (λ (line : List ℕ). nat_le (length line) 80) (lines_of help_text) ≡ true
-unfolding help_text head_lines game_lines file_lines game_option_lines world_option_lines status_lines
+unfolding help_text head_lines game_lines file_lines game_option_lines world_option_lines print_option_lines status_lines
 lines_are_short = refl
 
 pub commands_have_lines : list_all (λ kind. has_line (codes "  " +++ word_of kind) []) kinds ≡ true
-unfolding has_line ends is_text begins help_text head_lines game_lines file_lines game_option_lines world_option_lines status_lines
+unfolding has_line ends is_text begins help_text head_lines game_lines file_lines game_option_lines world_option_lines print_option_lines status_lines
 commands_have_lines = refl
 
 pub options_have_lines : list_all (λ kind. list_all (λ choice. has_line (codes "  " +++ option_of choice +++ codes " ") []) (choices_of kind)) kinds ≡ true
-unfolding has_line ends is_text begins help_text head_lines game_lines file_lines game_option_lines world_option_lines status_lines
+unfolding has_line ends is_text begins help_text head_lines game_lines file_lines game_option_lines world_option_lines print_option_lines status_lines
 options_have_lines = refl
 
 pub limits_have_lines :
     list_all (λ (row : NumberRow). has_line (codes "  " +++ option_of row.choice +++ codes " ")
     (codes ", " +++ decimal (least_of row.kind) +++ codes " to " +++ decimal (most_of row.kind) +++ codes "; " +++ row.without)) number_rows ≡ true
-unfolding digits number_rows number_row has_line ends is_text begins help_text head_lines game_lines file_lines game_option_lines world_option_lines status_lines
+unfolding digits number_rows number_row has_line ends is_text begins help_text head_lines game_lines file_lines game_option_lines world_option_lines print_option_lines status_lines
 limits_have_lines = refl

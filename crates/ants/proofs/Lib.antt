@@ -7,6 +7,7 @@ pub mod Texts
 pub mod JobTexts
 -- What is fetched and judged, file by file.
 pub mod Readings
+pub mod ToldCups
 pub mod Verdicts
 pub mod Judgements
 pub mod Accepted
@@ -17,7 +18,6 @@ pub mod Generated
 pub mod Planned
 pub mod Untouched
 pub mod Workloads
-pub mod Saves
 -- The laws: labelled games, saves, the headline.
 pub mod LabelledGames
 pub mod ResumedGames

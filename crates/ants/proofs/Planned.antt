@@ -69,4 +69,4 @@ module _ (setup : RunSetup) (game : PlannedGame) (setting : Setting) (plans : Pl
     carries_game_stopped result fault same pushed =
         carries_fault (RunCommand world red black setup) shelf new_shelf out new_out (setting_contents setting) result fault same reads
         (match_output setup (game_read setting)) (tells setting (match_output setup))
-        (subst (λ text. StoppedBy out new_out text fault) output_planned pushed) tt
+        (subst (λ text. StoppedBy out new_out text fault) output_planned pushed) (λ front. tt)

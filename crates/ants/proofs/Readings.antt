@@ -1,9 +1,10 @@
 -- Files read one after another: what the reading of some and then of others comes to.
-use Rattle.std.proofs.Common.{◌≡◌, ℕ, Bool, true, false, List, [], ◌∷◌, ◌++◌, refl, sym, ap, subst, inl, inr, Result, Ok, Err, Option, None, Some}
+use Rattle.std.proofs.Common.{◌≡◌, ◌⊎◌, ℕ, Bool, true, false, List, [], ◌∷◌, ◌++◌, refl, sym, ap, subst, inl, inr, Result, Ok, Err, Option, None, Some}
 use Rattle.std.specs.Prelude.{IsErrAnd}
 use Rattle.ant_base.proofs.Fetches.{fetches_none, fetches_then}
 use Rattle.ant_base.proofs.Pushes.{rose_later}
 use Rattle.ant_base.specs.Fetched.{Fetched}
+use Rattle.ant_base.specs.Lines.{ends_in_lf}
 use Rattle.ant_base.specs.Shelf.{FetchesEach, ShelfState}
 use Rattle.ant_base.specs.Sink.{SinkState, Pushed, PushedAll, PushedFront}
 use Rattle.ant_base.specs.declared.sink.Failed.{Failed}
@@ -20,9 +21,10 @@ use Rattle.ants.specs.Files.{File, FileContent, AreAccepted, AreBegun, IsRefused
 use Rattle.ants.specs.Inner.Plans.{play_ending, stop_of}
 use Rattle.ants.specs.Inner.Reading.{CarriesOut, CarriesOutWords, ComesTo, EndsBy, ReadOutcome, ReadingStops, ReadsFiles, ending_of, outcome_of, push_ending}
 use Rattle.ants.specs.Inner.Reading.ReadOutcome.{Contents, Stopped}
+use Rattle.ants.specs.Laws.{TellsNoLabel}
 use Rattle.ants.specs.Outputs.{files_of, IsJobText}
 use Rattle.ants.specs.Verdict.{IsRefusedAs}
-use Rattle.ants.specs.Endings.{IsUnsure, StopsFor, WritesInPlay}
+use Rattle.ants.specs.Endings.{IsDone, IsUnsure, StopsFor, WritesInPlay}
 use Rattle.ants.specs.Run.{Ends}
 use Rattle.ants.specs.Outside.{Outside, outside_of}
 use Rattle.ants.specs.FaultLines.{Reason, ending_by, reason_of}
@@ -183,14 +185,20 @@ carries_cut command shelf new_shelf out new_out contents reads text is pushed =
     record { fetches = reads.fetches; fetched = reads.fetched; ends = λ err new_err. record { contents = contents; accepted = reads.comes; text = text; is_text = is; cut = pushed } }
 
 -- a command's files were read, and a proper prefix of its text was written before memory was wanting
-carries_broken : (command : PlainCommand) (shelf new_shelf : ShelfState) (out new_out : SinkState) (contents : List FileContent) → ReadsFiles shelf new_shelf (files_of command) (Contents contents)
-    → (text : List ℕ) → IsJobText command contents text → PushedProperPrefix out new_out text → WritesInPlay command → CarriesOut command shelf new_shelf out new_out (Some AtMemory)
+pub carries_broken : (command : PlainCommand) (shelf new_shelf : ShelfState) (out new_out : SinkState) (contents : List FileContent) → ReadsFiles shelf new_shelf (files_of command) (Contents contents)
+    → (text : List ℕ) → IsJobText command contents text → (broken : PushedProperPrefix out new_out text) → WritesInPlay command contents broken.front
+    → CarriesOut command shelf new_shelf out new_out (Some AtMemory)
 carries_broken command shelf new_shelf out new_out contents reads text is pushed in_play =
     record { fetches = reads.fetches; fetched = reads.fetched; ends = λ err new_err. inr (record { contents = contents; accepted = reads.comes; text = text; is_text = is; broken = pushed; in_play = in_play }) }
 
 -- memory was wanting before a file was fetched
 pub carries_nothing : (command : PlainCommand) (shelf : ShelfState) (out : SinkState) → CarriesOut command shelf shelf out out (Some AtMemory)
 carries_nothing command shelf out = record { fetches = []; fetched = fetches_none shelf; ends = λ err new_err. inl (record { begun = begun_none (files_of command); unwritten = refl }) }
+
+-- what was written ends in LF, or has no bytes
+last_byte : (words : List (List ℕ)) (command : PlainCommand) (before after : Outside) (fetches : List Fetched) → IsCommand words command → (done : IsDone command before after fetches)
+    → (ends_in_lf done.text ≡ true) ⊎ TellsNoLabel command done.text
+last_byte words command before after fetches is done = texts_end_in_lf command fetches done.contents done.text (within_limits words command is) done.accepted done.is_text
 
 ends_as : (words : List (List ℕ)) (command : PlainCommand) (before after : Outside) (fetches : List Fetched) (stop : Option Reason) → IsCommand words command → EndsBy command before after fetches stop
     → Ends words before after fetches (ending_by stop)
@@ -199,7 +207,8 @@ ends_as words command before after fetches None is ends =
       command = command;
       is_command = is;
       done = ends;
-      flushed = ends.written.flushed (texts_end_in_lf command fetches ends.contents ends.text (within_limits words command is) ends.accepted ends.is_text);
+      flushed = λ some. elim (last_byte words command before after fetches is ends) [ inl last ↦ ends.written.flushed last | inr none ↦ absurd (some none.empty) ];
+      kept = λ quiet. elim (last_byte words command before after fetches is ends) [ inl last ↦ ends.written.flushed last | inr none ↦ ends.written.kept none.empty quiet ];
     }
 ends_as words command before after fetches (Some reason) is ends = record { command = command; is_command = is; stopped = ends }
 
@@ -261,21 +270,22 @@ carries_pushed command shelf new_shelf out new_out contents result (Err failed) 
 
 -- a command that answers with the fault of a play
 pub carries_fault : {U : Type 0} (command : PlainCommand) (shelf new_shelf : ShelfState) (out new_out : SinkState) (contents : List FileContent) (result : Result U CommandStop) (fault : PlayFault) → IsErrAnd result (λ other. other ≡ stop_of fault)
-    → ReadsFiles shelf new_shelf (files_of command) (Contents contents) → (text : List ℕ) → IsJobText command contents text → StoppedBy out new_out text fault → WritesInPlay command
+    → ReadsFiles shelf new_shelf (files_of command) (Contents contents) → (text : List ℕ) → IsJobText command contents text → StoppedBy out new_out text fault → ((front : List ℕ) → WritesInPlay command contents front)
     → CarriesOut command shelf new_shelf out new_out (ending_of result)
 carries_fault command shelf new_shelf out new_out contents result play.WriteFault same reads text is pushed in_play = carries_failure command shelf new_shelf out new_out contents result same reads text is pushed
 carries_fault command shelf new_shelf out new_out contents result play.OutOfMemory same reads text is pushed in_play =
-    subst (CarriesOut command shelf new_shelf out new_out) (ending_stopped result stop.Memory same) (carries_broken command shelf new_shelf out new_out contents reads text is pushed in_play)
+    subst (CarriesOut command shelf new_shelf out new_out) (ending_stopped result stop.Memory same) (carries_broken command shelf new_shelf out new_out contents reads text is pushed (in_play pushed.front))
 
 -- a command that plays a game last, and answers as that went
 pub carries_played : {U V : Type 0} (command : PlainCommand) (shelf new_shelf : ShelfState) (out new_out : SinkState) (contents : List FileContent) (result : Result U CommandStop) (last : Result V PlayFault) → ending_of result ≡ play_ending last
-    → ReadsFiles shelf new_shelf (files_of command) (Contents contents) → (text : List ℕ) → IsJobText command contents text → PushedBy out new_out text last → WritesInPlay command → CarriesOut command shelf new_shelf out new_out (ending_of result)
+    → ReadsFiles shelf new_shelf (files_of command) (Contents contents) → (text : List ℕ) → IsJobText command contents text → PushedBy out new_out text last → ((front : List ℕ) → WritesInPlay command contents front)
+    → CarriesOut command shelf new_shelf out new_out (ending_of result)
 carries_played command shelf new_shelf out new_out contents result (Ok done) same reads text is pushed in_play =
     subst (CarriesOut command shelf new_shelf out new_out) (sym same) (carries_done command shelf new_shelf out new_out contents reads text is pushed)
 carries_played command shelf new_shelf out new_out contents result (Err play.WriteFault) same reads text is pushed in_play =
     subst (CarriesOut command shelf new_shelf out new_out) (sym same) (carries_cut command shelf new_shelf out new_out contents reads text is pushed)
 carries_played command shelf new_shelf out new_out contents result (Err play.OutOfMemory) same reads text is pushed in_play =
-    subst (CarriesOut command shelf new_shelf out new_out) (sym same) (carries_broken command shelf new_shelf out new_out contents reads text is pushed in_play)
+    subst (CarriesOut command shelf new_shelf out new_out) (sym same) (carries_broken command shelf new_shelf out new_out contents reads text is pushed (in_play pushed.front))
 
 -- a command that answers out of memory before a file was fetched
 pub carries_wanting : {U : Type 0} (command : PlainCommand) (shelf : ShelfState) (out : SinkState) (result : Result U CommandStop) → IsErrAnd result (λ other. other ≡ stop.Memory) → CarriesOut command shelf shelf out out (ending_of result)

@@ -5,6 +5,7 @@ use Rattle.std.proofs.lemmas.List.{length-map}
 use Rattle.std.proofs.lemmas.List.Sorted.{length_permutation}
 use Rattle.std.specs.List.{flat_map}
 use Rattle.std.specs.Prelude.{◌-◌, ◌*◌, ◌%◌, ◌==◌, codes, cond, decimal, nat_lt, slice_index_or}
+use Rattle.ant_asm.specs.Labels.{LabelState, label_text, labels_text, way_text as label_way_text}
 use Rattle.ant_base.proofs.Numbered.{numbered-list}
 use Rattle.ant_base.proofs.Pushes.{ends_in_lf-append}
 use Rattle.ant_base.specs.Layout.{numbered, ◌+++◌}
@@ -12,7 +13,8 @@ use Rattle.ant_base.specs.Lines.{ends_in_lf}
 use Rattle.ant_trace.specs.Trace.{lives_in_first, told_line, trace_text, unmade_text, way_line, way_text}
 use Rattle.ant_turn.specs.Minds.{Minds}
 use Rattle.ant_turn.specs.Rounds.{after_rounds, start_of}
-use Rattle.brain_minimise.specs.Text.{minimised_text}
+use Rattle.brain_minimise.specs.Minimised.{new_number}
+use Rattle.brain_minimise.specs.Text.{became_text, minimised_text, state_line, states_text}
 use Rattle.brain_read.specs.Canonical.{brain_text, instruction_text}
 use Rattle.brain_read.specs.Forms.{fields_of}
 use Rattle.brain_read.specs.declared.instr.Instr.{Instr}
@@ -46,11 +48,12 @@ use Rattle.tournament.specs.Games.{all_played, below}
 use Rattle.tournament.specs.Names.{name_of}
 use Rattle.tournament.specs.Standing.{Ranks, line_of}
 use Rattle.tournament.specs.Text.{standing_text, table_line_text}
+use Rattle.tournament.specs.Told.{IsToldCupText, cup_played, games_text}
 use Rattle.tournament.specs.declared.standing.Line.{Line}
 use Rattle.world_read.specs.Bytes.{byte_of}
 use Rattle.world_read.specs.Canonical.{canonical_text, cell_text, line_of_row, space_if}
 use Rattle.ants.specs.declared.workload.Summary.{Summary}
-use Rattle.ants.specs.Help.{file_lines, game_lines, game_option_lines, head_lines, help_text, status_lines, version_text, world_option_lines}
+use Rattle.ants.specs.Help.{file_lines, game_lines, game_option_lines, head_lines, help_text, print_option_lines, status_lines, version_text, world_option_lines}
 use Rattle.ants.specs.Outputs.{ReadGame, traced_sheet, trace_output, chosen_rounds, match_output, minds_named, resume_output, save_output, show_output, summary_lines, workload_text}
 
 -- a text that ends in LF
@@ -61,8 +64,13 @@ pub record EndsInLf (text : List ℕ) : Type 0 where
 abbrev pub AreLines : List ℕ → Type 0
 AreLines text = (text ≡ []) ⊎ EndsInLf text
 
+-- such a text has a byte
+pub lf_some : (text : List ℕ) → EndsInLf text → 1 ≤ length text
+lf_some [] ends = absurd (false≢true ends.is)
+lf_some (byte ∷ text) ends = omega arith
+
 -- what stands before a text that ends in LF changes nothing
-lf_last : (a b : List ℕ) → EndsInLf b → EndsInLf (a ++ b)
+pub lf_last : (a b : List ℕ) → EndsInLf b → EndsInLf (a ++ b)
 lf_last a [] ends = absurd (false≢true ends.is)
 lf_last a (byte ∷ b) ends = record { is = ends_in_lf-append a byte b ∙ ends.is }
 
@@ -129,6 +137,27 @@ lf_minimised old new =
     let all : List ℕ = decimal (length old) +++ states in
     lf_last (codes "; ") all (lf_last (decimal (length old)) states (lf_last (codes " states, ") counted (lf_last (decimal (length new)) kept
     (lf_then (codes " kept\n") (flat_map instruction_text new) (record { is = refl }) (lines_flat_map instruction_text new lf_instruction)))))
+
+-- the lines of old states
+lf_state : (numbers : List (Option ℕ)) (state : ℕ) → EndsInLf (state_line numbers state)
+lf_state numbers state =
+    let became : List ℕ = became_text (new_number numbers state) +++ codes "\n" in
+    lf_last (decimal state) (codes " " +++ became) (lf_last (codes " ") became (lf_last (became_text (new_number numbers state)) (codes "\n") lf_end))
+
+pub lf_states : (numbers : List (Option ℕ)) → 1 ≤ length numbers → EndsInLf (states_text numbers)
+unfolding states_text
+lf_states numbers some = lf_numbered (state_line numbers) (length numbers) some (lf_state numbers)
+
+-- the lines of labels; a program may have none
+lf_label : (label : LabelState) → EndsInLf (label_text label)
+lf_label label =
+    let name : List ℕ = label.name +++ codes "\n" in
+    let way : List ℕ = label_way_text label.way +++ name in
+    lf_last (decimal label.state) (codes " " +++ way) (lf_last (codes " ") way (lf_last (label_way_text label.way) name (lf_last label.name (codes "\n") lf_end)))
+
+pub lines_labels : (labels : List LabelState) → AreLines (labels_text labels)
+lines_labels [] = inl refl
+lines_labels (label ∷ labels) = inr (lf_then (label_text label) (labels_text labels) (lf_label label) (lines_labels labels))
 
 -- a dump's lines
 lf_cell : (x y : ℕ) (cell : Cell) → EndsInLf (cell_line x y cell)
@@ -268,7 +297,7 @@ lf_workload seed rounds summary =
 pub lf_help : EndsInLf help_text
 unfolding help_text status_lines
 lf_help =
-    lf_last head_lines _ (lf_last game_lines _ (lf_last file_lines _ (lf_last game_option_lines _ (lf_last world_option_lines status_lines (record { is = refl })))))
+    lf_last head_lines _ (lf_last game_lines _ (lf_last file_lines _ (lf_last game_option_lines _ (lf_last world_option_lines _ (lf_last print_option_lines status_lines (record { is = refl }))))))
 
 pub lf_version : EndsInLf version_text
 unfolding version_text
@@ -281,6 +310,12 @@ lf_standing names players worlds score lines some at =
     let each = length-map (below players) (line_of (all_played players worlds score)) in
     let all = length-below players in
     lf_flat_map (table_line_text names) lines (omega (arith, counted, each, all, some)) (lf_table_line names)
+
+-- the lines of games stand before it
+pub lf_told : (worlds names : List (List ℕ)) (score : ℕ → ℕ → ℕ → Score) (text : List ℕ) → 1 ≤ length names → IsToldCupText worlds names score text → EndsInLf text
+lf_told worlds names score text some told =
+    subst EndsInLf (sym told.is)
+    (lf_last (games_text worlds names (cup_played worlds names score) 1) (standing_text names told.lines) (lf_standing names (length names) (length worlds) score told.lines some told.standing))
 
 -- the lines of an ant's way
 lf_way : (round : ℕ) (w : World) (place : Option Pos) → EndsInLf (way_line round w place)

@@ -1,12 +1,15 @@
 -- The bytes of a file of each kind: they are read in one way or refused in one way, and never both.
-use Rattle.std.proofs.Common.{◌≡◌, ◌⊎◌, inl, inr, ℕ, ◌≤◌, List, Result, Ok, Err, refl, sym, ◌∙◌, ap, subst, arith}
+use Rattle.std.proofs.Common.{◌≡◌, ◌⊎◌, inl, inr, ℕ, ◌≤◌, Bool, true, false, List, Result, Ok, Err, refl, sym, ◌∙◌, ap, subst, arith}
 use Rattle.std.proofs.lemmas.Bool.{cases_lt}
 use Rattle.ant_asm.proofs.HasAssembled.{one-reading, some-reading}
 use Rattle.ant_asm.proofs.Expansion.{no-fault}
+use Rattle.ant_asm.proofs.LabelsRead.{has-labels, labels-fault, one-labels}
 use Rattle.ant_asm.proofs.LineLemmas.{lines_decide}
 use Rattle.ant_asm.proofs.TextLemmas as program_text
 use Rattle.ant_asm.specs.Answers as labelled_answers
+use Rattle.ant_asm.specs.Labels.{AreLabelsOf, LabelState}
 use Rattle.ant_asm.specs.Places.{Address}
+use Rattle.ant_asm.specs.Text.{IsAsmFault}
 use Rattle.ant_asm.specs.declared.fault.AsmFault.{AsmFault}
 use Rattle.ant_asm.specs.declared.fault.AsmFault.TheVariants as labelled
 use Rattle.brain_read.proofs.FaultyLemmas as whole
@@ -36,7 +39,7 @@ use Rattle.ants.specs.declared.stop.FileFault.{FileFault}
 use Rattle.ants.specs.declared.stop.FileFault.TheVariants.{TooLong, World, Brain, Breaks, Labelled, Save, AlreadyAt}
 use Rattle.ants.specs.Files.{FileContent, FileKind, IsPast, Reads, Refuses}
 use Rattle.ants.specs.Inner.Plans.{IsUpTo}
-use Rattle.ants.specs.Files.FileContent.{WorldContent, BrainContent, BreakContent, LabelledContent, SaveContent}
+use Rattle.ants.specs.Files.FileContent.{WorldContent, BrainContent, BreakContent, LabelledContent, LabelsContent, SaveContent}
 use Rattle.ants.specs.Files.FileKind.{WorldFile, BrainFile, BreakFile, LabelledFile, SaveFile}
 use Rattle.ants.specs.Inner.Reading.{TextStops, ReadsText, save_reason, brain_reason, break_reason, labelled_reason, world_reason}
 
@@ -66,6 +69,7 @@ never_both WorldFile bytes (WorldContent grid) (World fault) reads refuses = nev
 never_both WorldFile bytes (BrainContent list) (World fault) reads refuses = reads
 never_both WorldFile bytes (BreakContent items) (World fault) reads refuses = reads
 never_both WorldFile bytes (LabelledContent made places) (World fault) reads refuses = reads
+never_both WorldFile bytes (LabelsContent labels) (World fault) reads refuses = reads
 never_both WorldFile bytes content (Save fault) reads refuses = refuses
 never_both WorldFile bytes content (AlreadyAt round) reads refuses = refuses
 never_both WorldFile bytes (SaveContent saved) (World fault) reads refuses = reads
@@ -77,6 +81,7 @@ never_both BrainFile bytes (WorldContent grid) (Brain fault) reads refuses = rea
 never_both BrainFile bytes (BrainContent list) (Brain fault) reads refuses = whole.never_both bytes list fault reads refuses
 never_both BrainFile bytes (BreakContent items) (Brain fault) reads refuses = reads
 never_both BrainFile bytes (LabelledContent made places) (Brain fault) reads refuses = reads
+never_both BrainFile bytes (LabelsContent labels) (Brain fault) reads refuses = reads
 never_both BrainFile bytes content (Save fault) reads refuses = refuses
 never_both BrainFile bytes content (AlreadyAt round) reads refuses = refuses
 never_both BrainFile bytes (SaveContent saved) (Brain fault) reads refuses = reads
@@ -88,20 +93,28 @@ never_both BreakFile bytes (WorldContent grid) (Breaks fault) reads refuses = re
 never_both BreakFile bytes (BrainContent list) (Breaks fault) reads refuses = reads
 never_both BreakFile bytes (BreakContent items) (Breaks fault) reads refuses = break_whole.never_both bytes items fault reads refuses
 never_both BreakFile bytes (LabelledContent made places) (Breaks fault) reads refuses = reads
+never_both BreakFile bytes (LabelsContent labels) (Breaks fault) reads refuses = reads
 never_both BreakFile bytes content (Save fault) reads refuses = refuses
 never_both BreakFile bytes content (AlreadyAt round) reads refuses = refuses
 never_both BreakFile bytes (SaveContent saved) (Breaks fault) reads refuses = reads
-never_both LabelledFile bytes content TooLong reads refuses = refuses
-never_both LabelledFile bytes content (World fault) reads refuses = refuses
-never_both LabelledFile bytes content (Brain fault) reads refuses = refuses
-never_both LabelledFile bytes content (Breaks fault) reads refuses = refuses
-never_both LabelledFile bytes (WorldContent grid) (Labelled fault) reads refuses = reads
-never_both LabelledFile bytes (BrainContent list) (Labelled fault) reads refuses = reads
-never_both LabelledFile bytes (BreakContent items) (Labelled fault) reads refuses = reads
-never_both LabelledFile bytes (LabelledContent made places) (Labelled fault) reads refuses = no-fault bytes made places reads fault refuses
-never_both LabelledFile bytes content (Save fault) reads refuses = refuses
-never_both LabelledFile bytes content (AlreadyAt round) reads refuses = refuses
-never_both LabelledFile bytes (SaveContent saved) (Labelled fault) reads refuses = reads
+never_both (LabelledFile labels) bytes content TooLong reads refuses = refuses
+never_both (LabelledFile labels) bytes content (World fault) reads refuses = refuses
+never_both (LabelledFile labels) bytes content (Brain fault) reads refuses = refuses
+never_both (LabelledFile labels) bytes content (Breaks fault) reads refuses = refuses
+never_both (LabelledFile false) bytes (WorldContent grid) (Labelled fault) reads refuses = reads
+never_both (LabelledFile false) bytes (BrainContent list) (Labelled fault) reads refuses = reads
+never_both (LabelledFile false) bytes (BreakContent items) (Labelled fault) reads refuses = reads
+never_both (LabelledFile false) bytes (LabelledContent made places) (Labelled fault) reads refuses = no-fault bytes made places reads fault refuses
+never_both (LabelledFile false) bytes (LabelsContent labels) (Labelled fault) reads refuses = reads
+never_both (LabelledFile false) bytes (SaveContent saved) (Labelled fault) reads refuses = reads
+never_both (LabelledFile true) bytes (WorldContent grid) (Labelled fault) reads refuses = reads
+never_both (LabelledFile true) bytes (BrainContent list) (Labelled fault) reads refuses = reads
+never_both (LabelledFile true) bytes (BreakContent items) (Labelled fault) reads refuses = reads
+never_both (LabelledFile true) bytes (LabelledContent made places) (Labelled fault) reads refuses = reads
+never_both (LabelledFile labels) bytes content (Save fault) reads refuses = refuses
+never_both (LabelledFile labels) bytes content (AlreadyAt round) reads refuses = refuses
+never_both (LabelledFile true) bytes (LabelsContent labels) (Labelled fault) reads refuses = labels-fault bytes labels reads fault refuses
+never_both (LabelledFile true) bytes (SaveContent saved) (Labelled fault) reads refuses = reads
 never_both (SaveFile rounds) bytes content TooLong reads refuses = refuses
 never_both (SaveFile rounds) bytes content (World fault) reads refuses = refuses
 never_both (SaveFile rounds) bytes content (Brain fault) reads refuses = refuses
@@ -111,11 +124,13 @@ never_both (SaveFile rounds) bytes (WorldContent other) (Save fault) reads refus
 never_both (SaveFile rounds) bytes (BrainContent other) (Save fault) reads refuses = reads
 never_both (SaveFile rounds) bytes (BreakContent other) (Save fault) reads refuses = reads
 never_both (SaveFile rounds) bytes (LabelledContent made places) (Save fault) reads refuses = reads
+never_both (SaveFile rounds) bytes (LabelsContent labels) (Save fault) reads refuses = reads
 never_both (SaveFile rounds) bytes (SaveContent saved) (Save fault) reads refuses = every_verdict.never_both bytes saved fault reads.0 refuses
 never_both (SaveFile rounds) bytes (WorldContent other) (AlreadyAt round) reads refuses = reads
 never_both (SaveFile rounds) bytes (BrainContent other) (AlreadyAt round) reads refuses = reads
 never_both (SaveFile rounds) bytes (BreakContent other) (AlreadyAt round) reads refuses = reads
 never_both (SaveFile rounds) bytes (LabelledContent made places) (AlreadyAt round) reads refuses = reads
+never_both (SaveFile rounds) bytes (LabelsContent labels) (AlreadyAt round) reads refuses = reads
 never_both (SaveFile rounds) bytes (SaveContent saved) (AlreadyAt round) reads refuses = never_past bytes rounds round saved reads refuses
 
 one_world : (bytes : List ℕ) (a b : Grid) → OpensAs bytes a → OpensAs bytes b → a ≡ b
@@ -143,47 +158,68 @@ one_reading WorldFile bytes (WorldContent a) (WorldContent b) first second = ap 
 one_reading WorldFile bytes (WorldContent a) (BrainContent b) first second = absurd second
 one_reading WorldFile bytes (WorldContent a) (BreakContent b) first second = absurd second
 one_reading WorldFile bytes (WorldContent a) (LabelledContent made places) first second = absurd second
+one_reading WorldFile bytes (WorldContent a) (LabelsContent labels) first second = absurd second
 one_reading WorldFile bytes (BrainContent a) b first second = absurd first
 one_reading WorldFile bytes (BreakContent a) b first second = absurd first
 one_reading WorldFile bytes (LabelledContent made places) b first second = absurd first
+one_reading WorldFile bytes (LabelsContent labels) b first second = absurd first
 one_reading WorldFile bytes (WorldContent a) (SaveContent b) first second = absurd second
 one_reading WorldFile bytes (SaveContent a) b first second = absurd first
 one_reading BrainFile bytes (BrainContent a) (BrainContent b) first second = ap BrainContent (whole.one_brain bytes a b first second)
 one_reading BrainFile bytes (BrainContent a) (WorldContent b) first second = absurd second
 one_reading BrainFile bytes (BrainContent a) (BreakContent b) first second = absurd second
 one_reading BrainFile bytes (BrainContent a) (LabelledContent made places) first second = absurd second
+one_reading BrainFile bytes (BrainContent a) (LabelsContent labels) first second = absurd second
 one_reading BrainFile bytes (WorldContent a) b first second = absurd first
 one_reading BrainFile bytes (BreakContent a) b first second = absurd first
 one_reading BrainFile bytes (LabelledContent made places) b first second = absurd first
+one_reading BrainFile bytes (LabelsContent labels) b first second = absurd first
 one_reading BrainFile bytes (BrainContent a) (SaveContent b) first second = absurd second
 one_reading BrainFile bytes (SaveContent a) b first second = absurd first
 one_reading BreakFile bytes (BreakContent a) (BreakContent b) first second = ap BreakContent (break_whole.one_list bytes a b first second)
 one_reading BreakFile bytes (BreakContent a) (WorldContent b) first second = absurd second
 one_reading BreakFile bytes (BreakContent a) (BrainContent b) first second = absurd second
 one_reading BreakFile bytes (BreakContent a) (LabelledContent made places) first second = absurd second
+one_reading BreakFile bytes (BreakContent a) (LabelsContent labels) first second = absurd second
 one_reading BreakFile bytes (WorldContent a) b first second = absurd first
 one_reading BreakFile bytes (BrainContent a) b first second = absurd first
 one_reading BreakFile bytes (LabelledContent made places) b first second = absurd first
+one_reading BreakFile bytes (LabelsContent labels) b first second = absurd first
 one_reading BreakFile bytes (BreakContent a) (SaveContent b) first second = absurd second
 one_reading BreakFile bytes (SaveContent a) b first second = absurd first
-one_reading LabelledFile bytes (LabelledContent made places) (LabelledContent other others) first second = one_labelled bytes made other places others first second
-one_reading LabelledFile bytes (LabelledContent made places) (WorldContent b) first second = absurd second
-one_reading LabelledFile bytes (LabelledContent made places) (BrainContent b) first second = absurd second
-one_reading LabelledFile bytes (LabelledContent made places) (BreakContent b) first second = absurd second
-one_reading LabelledFile bytes (WorldContent a) b first second = absurd first
-one_reading LabelledFile bytes (BrainContent a) b first second = absurd first
-one_reading LabelledFile bytes (BreakContent a) b first second = absurd first
-one_reading LabelledFile bytes (LabelledContent made places) (SaveContent b) first second = absurd second
-one_reading LabelledFile bytes (SaveContent a) b first second = absurd first
+one_reading (LabelledFile false) bytes (LabelledContent made places) (LabelledContent other others) first second = one_labelled bytes made other places others first second
+one_reading (LabelledFile false) bytes (LabelledContent made places) (LabelsContent labels) first second = absurd second
+one_reading (LabelledFile false) bytes (LabelsContent labels) b first second = absurd first
+one_reading (LabelledFile false) bytes (LabelledContent made places) (WorldContent b) first second = absurd second
+one_reading (LabelledFile false) bytes (LabelledContent made places) (BrainContent b) first second = absurd second
+one_reading (LabelledFile false) bytes (LabelledContent made places) (BreakContent b) first second = absurd second
+one_reading (LabelledFile false) bytes (WorldContent a) b first second = absurd first
+one_reading (LabelledFile false) bytes (BrainContent a) b first second = absurd first
+one_reading (LabelledFile false) bytes (BreakContent a) b first second = absurd first
+one_reading (LabelledFile false) bytes (LabelledContent made places) (SaveContent b) first second = absurd second
+one_reading (LabelledFile false) bytes (SaveContent a) b first second = absurd first
+one_reading (LabelledFile true) bytes (LabelsContent labels) (LabelsContent others) first second = ap LabelsContent (one-labels bytes labels others first second)
+one_reading (LabelledFile true) bytes (LabelsContent labels) (LabelledContent made places) first second = absurd second
+one_reading (LabelledFile true) bytes (LabelledContent made places) b first second = absurd first
+one_reading (LabelledFile true) bytes (LabelsContent labels) (WorldContent b) first second = absurd second
+one_reading (LabelledFile true) bytes (LabelsContent labels) (BrainContent b) first second = absurd second
+one_reading (LabelledFile true) bytes (LabelsContent labels) (BreakContent b) first second = absurd second
+one_reading (LabelledFile true) bytes (WorldContent a) b first second = absurd first
+one_reading (LabelledFile true) bytes (BrainContent a) b first second = absurd first
+one_reading (LabelledFile true) bytes (BreakContent a) b first second = absurd first
+one_reading (LabelledFile true) bytes (LabelsContent labels) (SaveContent b) first second = absurd second
+one_reading (LabelledFile true) bytes (SaveContent a) b first second = absurd first
 one_reading (SaveFile rounds) bytes (SaveContent a) (SaveContent b) first second = ap SaveContent (every_verdict.one_save bytes a b first.0 second.0)
 one_reading (SaveFile rounds) bytes (SaveContent a) (WorldContent b) first second = absurd second
 one_reading (SaveFile rounds) bytes (SaveContent a) (BrainContent b) first second = absurd second
 one_reading (SaveFile rounds) bytes (SaveContent a) (BreakContent b) first second = absurd second
 one_reading (SaveFile rounds) bytes (SaveContent a) (LabelledContent made places) first second = absurd second
+one_reading (SaveFile rounds) bytes (SaveContent a) (LabelsContent labels) first second = absurd second
 one_reading (SaveFile rounds) bytes (WorldContent a) b first second = absurd first
 one_reading (SaveFile rounds) bytes (BrainContent a) b first second = absurd first
 one_reading (SaveFile rounds) bytes (BreakContent a) b first second = absurd first
 one_reading (SaveFile rounds) bytes (LabelledContent made places) b first second = absurd first
+one_reading (SaveFile rounds) bytes (LabelsContent labels) b first second = absurd first
 
 -- bytes are refused in one way
 pub one_refusal : (kind : FileKind) (bytes : List ℕ) (a b : FileFault) → Refuses kind bytes a → Refuses kind bytes b → a ≡ b
@@ -226,19 +262,19 @@ one_refusal BreakFile bytes (Breaks a) (Save b) first second = absurd second
 one_refusal BreakFile bytes (Breaks a) (AlreadyAt b) first second = absurd second
 one_refusal BreakFile bytes (Save a) b first second = absurd first
 one_refusal BreakFile bytes (AlreadyAt a) b first second = absurd first
-one_refusal LabelledFile bytes (Labelled a) (Labelled b) first second = ap Labelled (program_text.one_fault lines_decide bytes a b first second)
-one_refusal LabelledFile bytes (Labelled a) TooLong first second = absurd second
-one_refusal LabelledFile bytes (Labelled a) (World b) first second = absurd second
-one_refusal LabelledFile bytes (Labelled a) (Brain b) first second = absurd second
-one_refusal LabelledFile bytes (Labelled a) (Breaks b) first second = absurd second
-one_refusal LabelledFile bytes TooLong b first second = absurd first
-one_refusal LabelledFile bytes (World a) b first second = absurd first
-one_refusal LabelledFile bytes (Brain a) b first second = absurd first
-one_refusal LabelledFile bytes (Breaks a) b first second = absurd first
-one_refusal LabelledFile bytes (Labelled a) (Save b) first second = absurd second
-one_refusal LabelledFile bytes (Labelled a) (AlreadyAt b) first second = absurd second
-one_refusal LabelledFile bytes (Save a) b first second = absurd first
-one_refusal LabelledFile bytes (AlreadyAt a) b first second = absurd first
+one_refusal (LabelledFile labels) bytes (Labelled a) (Labelled b) first second = ap Labelled (program_text.one_fault lines_decide bytes a b first second)
+one_refusal (LabelledFile labels) bytes (Labelled a) TooLong first second = absurd second
+one_refusal (LabelledFile labels) bytes (Labelled a) (World b) first second = absurd second
+one_refusal (LabelledFile labels) bytes (Labelled a) (Brain b) first second = absurd second
+one_refusal (LabelledFile labels) bytes (Labelled a) (Breaks b) first second = absurd second
+one_refusal (LabelledFile labels) bytes TooLong b first second = absurd first
+one_refusal (LabelledFile labels) bytes (World a) b first second = absurd first
+one_refusal (LabelledFile labels) bytes (Brain a) b first second = absurd first
+one_refusal (LabelledFile labels) bytes (Breaks a) b first second = absurd first
+one_refusal (LabelledFile labels) bytes (Labelled a) (Save b) first second = absurd second
+one_refusal (LabelledFile labels) bytes (Labelled a) (AlreadyAt b) first second = absurd second
+one_refusal (LabelledFile labels) bytes (Save a) b first second = absurd first
+one_refusal (LabelledFile labels) bytes (AlreadyAt a) b first second = absurd first
 one_refusal (SaveFile rounds) bytes (Save a) (Save b) first second = ap Save (every_verdict.one_fault bytes a b first second)
 one_refusal (SaveFile rounds) bytes (Save a) (AlreadyAt b) first second = absurd (every_verdict.never_both bytes second.saved a second.is first)
 one_refusal (SaveFile rounds) bytes (Save a) TooLong first second = absurd second
@@ -266,6 +302,10 @@ some_world bytes = go (world_of_text bytes) refl
     go (Ok grid) is = inl (grid, told.OpensAs-known bytes grid is)
     go (Err fault) is = inr (fault, told.IsWorldFault-known bytes fault is)
 
+-- the labels of a program, or its fault
+some-labels : (bytes : List ℕ) → ((labels : List LabelState) × AreLabelsOf bytes labels) ⊎ ((fault : AsmFault) × IsAsmFault bytes fault)
+some-labels bytes = elim (some-reading bytes) [ inl is ↦ inl (has-labels bytes is.2.main is.2.is) | inr wrong ↦ inr wrong ]
+
 -- a save of which so many rounds are done, or too many
 some_save : (bytes : List ℕ) (rounds : ℕ) (saved : SavedValue) → IsSaveText bytes saved → ((content : FileContent) × Reads (SaveFile rounds) bytes content) ⊎ ((fault : FileFault) × Refuses (SaveFile rounds) bytes fault)
 some_save bytes rounds saved is = elim (cases_lt rounds saved.round) [
@@ -278,7 +318,8 @@ pub some_reading : (kind : FileKind) (bytes : List ℕ) → ((content : FileCont
 some_reading WorldFile bytes = elim (some_world bytes) [ inl opens ↦ inl (WorldContent opens.0, opens.1) | inr wrong ↦ inr (World wrong.0, wrong.1) ]
 some_reading BrainFile bytes = elim (whole.some_answer bytes) [ inl is ↦ inl (BrainContent is.0, is.1) | inr wrong ↦ inr (Brain wrong.0, wrong.1) ]
 some_reading BreakFile bytes = elim (break_whole.some_answer bytes) [ inl is ↦ inl (BreakContent is.0, is.1) | inr wrong ↦ inr (Breaks wrong.0, wrong.1) ]
-some_reading LabelledFile bytes = elim (some-reading bytes) [ inl is ↦ inl (LabelledContent is.0 is.1, is.2) | inr wrong ↦ inr (Labelled wrong.0, wrong.1) ]
+some_reading (LabelledFile false) bytes = elim (some-reading bytes) [ inl is ↦ inl (LabelledContent is.0 is.1, is.2) | inr wrong ↦ inr (Labelled wrong.0, wrong.1) ]
+some_reading (LabelledFile true) bytes = elim (some-labels bytes) [ inl are ↦ inl (LabelsContent are.0, are.1) | inr wrong ↦ inr (Labelled wrong.0, wrong.1) ]
 some_reading (SaveFile rounds) bytes = elim (every_verdict.some bytes) [ inl is ↦ some_save bytes rounds is.0 is.1 | inr wrong ↦ inr (Save wrong.0, wrong.1) ]
 
 -- bytes are never refused as too long: such a file gives no bytes
@@ -286,7 +327,7 @@ pub never_long : (kind : FileKind) (bytes : List ℕ) → Refuses kind bytes Too
 never_long WorldFile bytes refuses = refuses
 never_long BrainFile bytes refuses = refuses
 never_long BreakFile bytes refuses = refuses
-never_long LabelledFile bytes refuses = refuses
+never_long (LabelledFile labels) bytes refuses = refuses
 never_long (SaveFile rounds) bytes refuses = refuses
 
 -- the fault of a world's text stops the reading of its file
@@ -324,22 +365,22 @@ break_stops name bytes (breaks.TooMany line) is = (refl, is)
 break_stops name bytes breaks.OutOfMemory is = tt
 
 -- the fault of a labelled program's text stops the reading of its file
-pub labelled_stops : (name bytes : List ℕ) (fault : AsmFault) → labelled_answers.IsFaultOf bytes fault → TextStops LabelledFile bytes name (labelled_reason name fault)
-labelled_stops name bytes (labelled.BadByte line) is = (refl, is)
-labelled_stops name bytes (labelled.UnknownWord line) is = (refl, is)
-labelled_stops name bytes (labelled.MissingToken line) is = (refl, is)
-labelled_stops name bytes (labelled.BadNumber line) is = (refl, is)
-labelled_stops name bytes (labelled.ExtraToken line) is = (refl, is)
-labelled_stops name bytes (labelled.BadName line) is = (refl, is)
-labelled_stops name bytes (labelled.Misplaced line) is = (refl, is)
-labelled_stops name bytes (labelled.Twice line) is = (refl, is)
-labelled_stops name bytes (labelled.NoBlock line) is = (refl, is)
-labelled_stops name bytes (labelled.WrongCount line) is = (refl, is)
-labelled_stops name bytes (labelled.TooMany line) is = (refl, is)
-labelled_stops name bytes (labelled.EmptyBlock line) is = (refl, is)
-labelled_stops name bytes labelled.Empty is = (refl, is)
-labelled_stops name bytes (labelled.NoLabel line) is = (refl, is)
-labelled_stops name bytes labelled.OutOfMemory is = tt
+pub labelled_stops : (labels : Bool) (name bytes : List ℕ) (fault : AsmFault) → labelled_answers.IsFaultOf bytes fault → TextStops (LabelledFile labels) bytes name (labelled_reason name fault)
+labelled_stops labels name bytes (labelled.BadByte line) is = (refl, is)
+labelled_stops labels name bytes (labelled.UnknownWord line) is = (refl, is)
+labelled_stops labels name bytes (labelled.MissingToken line) is = (refl, is)
+labelled_stops labels name bytes (labelled.BadNumber line) is = (refl, is)
+labelled_stops labels name bytes (labelled.ExtraToken line) is = (refl, is)
+labelled_stops labels name bytes (labelled.BadName line) is = (refl, is)
+labelled_stops labels name bytes (labelled.Misplaced line) is = (refl, is)
+labelled_stops labels name bytes (labelled.Twice line) is = (refl, is)
+labelled_stops labels name bytes (labelled.NoBlock line) is = (refl, is)
+labelled_stops labels name bytes (labelled.WrongCount line) is = (refl, is)
+labelled_stops labels name bytes (labelled.TooMany line) is = (refl, is)
+labelled_stops labels name bytes (labelled.EmptyBlock line) is = (refl, is)
+labelled_stops labels name bytes labelled.Empty is = (refl, is)
+labelled_stops labels name bytes (labelled.NoLabel line) is = (refl, is)
+labelled_stops labels name bytes labelled.OutOfMemory is = tt
 
 -- the fault of a save's text stops the reading of its file
 pub save_stops : (name bytes : List ℕ) (rounds : ℕ) (fault : SaveFault) → save_answers.IsFaultOf bytes fault → TextStops (SaveFile rounds) bytes name (save_reason name fault)

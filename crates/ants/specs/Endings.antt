@@ -1,16 +1,16 @@
 -- How a command ends, by the fetches that it made.
-use Rattle.std.specs.Prelude.{◌≡◌, ◌⊎◌, ℕ, false, List, Err}
+use Rattle.std.specs.Prelude.{◌≡◌, ◌⊎◌, ℕ, true, false, List, Err}
 use Rattle.ant_base.specs.Faults.{Rose}
 use Rattle.ant_base.specs.Fetched.{Fetched}
 use Rattle.ant_base.specs.Shelf.{ShelfState}
 use Rattle.ant_base.specs.Sink.{PushedAll, PushedFront}
 use Rattle.ant_base.specs.declared.shelf.FetchFault.TheVariants as answer
 use Rattle.command_words.specs.Command.{PlainCommand}
-use Rattle.command_words.specs.Command.PlainCommand.{ResumeCommand, RunCommand}
+use Rattle.command_words.specs.Command.PlainCommand.{CupCommand, ResumeCommand, RunCommand}
 use Rattle.match_run.specs.Play.{PushedProperPrefix}
 use Rattle.ants.specs.declared.stop.FileFault.{FileFault}
 use Rattle.ants.specs.Files.{File, FileContent, AreAccepted, AreBegun, StopsAt}
-use Rattle.ants.specs.Outputs.{files_of, IsJobText, LacksRoom}
+use Rattle.ants.specs.Outputs.{files_of, IsJobText, LacksRoom, Tells, TellsFirstWorlds, roster_contents}
 use Rattle.ants.specs.Verdict.{IsRefusedAs}
 use Rattle.ants.specs.Outside.{Outside}
 use Rattle.ants.specs.FaultLines.{Reason}
@@ -61,11 +61,13 @@ pub record IsUnbegun (command : PlainCommand) (before after : Outside) (fetches 
   pub begun : AreBegun (files_of command) fetches
   pub unwritten : after.out ≡ before.out
 
--- the command writes while it plays; every other has all memory that it needs before it writes
-abbrev pub WritesInPlay : PlainCommand → Type 0
-WritesInPlay (RunCommand world red black setup) = Unit {0}
-WritesInPlay (ResumeCommand save setup) = Unit {0}
-WritesInPlay command = ⊥
+-- the command writes while it plays, and this may be what it has written by then: `run` and `resume` any part, a `cup` whose games are told
+-- the lines of all games on its first worlds; every other has all memory that it needs before it writes
+abbrev pub WritesInPlay : PlainCommand → List FileContent → List ℕ → Type 0
+WritesInPlay (RunCommand world red black setup) contents front = Unit {0}
+WritesInPlay (ResumeCommand save setup) contents front = Unit {0}
+WritesInPlay (CupCommand worlds brains seed rounds workers true) contents front = Tells roster_contents (TellsFirstWorlds worlds brains seed rounds) contents front
+WritesInPlay command contents front = ⊥
 
 -- all files were accepted, and a proper prefix of the text was written before memory could not be had; only a command that writes while it plays ends so
 pub record IsBrokenOff (command : PlainCommand) (before after : Outside) (fetches : List Fetched) : Type 0 where
@@ -74,7 +76,7 @@ pub record IsBrokenOff (command : PlainCommand) (before after : Outside) (fetche
   pub text : List ℕ
   pub is_text : IsJobText command contents text
   pub broken : PushedProperPrefix before.out after.out text
-  pub in_play : WritesInPlay command
+  pub in_play : WritesInPlay command contents broken.front
 
 -- memory could not be had
 abbrev pub WantsMemory : PlainCommand → Outside → Outside → List Fetched → Type 0

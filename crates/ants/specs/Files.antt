@@ -1,6 +1,7 @@
 -- The files of a command, and what is accepted of them.
-use Rattle.std.specs.Prelude.{◌≡◌, ℕ, ◌<◌, ◌≤◌, List, [], ◌∷◌, ◌++◌, map, Ok, Err, ◌⊎◌}
+use Rattle.std.specs.Prelude.{◌≡◌, ℕ, ◌<◌, ◌≤◌, Bool, true, false, List, [], ◌∷◌, ◌++◌, map, Ok, Err, ◌⊎◌}
 use Rattle.ant_asm.specs.Answers.{IsAssembledText}
+use Rattle.ant_asm.specs.Labels.{AreLabelsOf, LabelState}
 use Rattle.ant_asm.specs.Places.{Address}
 use Rattle.ant_asm.specs.Text.{IsAsmFault}
 use Rattle.ant_base.specs.Fetched.{Fetched}
@@ -19,12 +20,12 @@ use Rattle.world_read.specs.Opened.{OpensAs}
 use Rattle.ants.specs.declared.stop.FileFault.{FileFault}
 use Rattle.ants.specs.declared.stop.FileFault.TheVariants.{TooLong, World, Brain, Breaks, Labelled, Save, AlreadyAt}
 
--- what a file is read as; a save is one of which at most so many rounds are done
+-- what a file is read as; of a labelled program the brain is wanted, or else its labels; a save is one of which at most so many rounds are done
 pub data FileKind : Type 0 where
   WorldFile : FileKind
   BrainFile : FileKind
   BreakFile : FileKind
-  LabelledFile : FileKind
+  LabelledFile : (labels : Bool) → FileKind
   SaveFile : (rounds : ℕ) → FileKind
 
 -- a file that a command names
@@ -39,6 +40,8 @@ pub data FileContent : Type 0 where
   BreakContent : List Break → FileContent
   -- of a labelled program: its brain, and the address of each of the brain's instructions
   LabelledContent : (brain : List Instr) → (places : List Address) → FileContent
+  -- or its labels, each with the state to which it leads
+  LabelsContent : List LabelState → FileContent
   SaveContent : SavedValue → FileContent
 
 -- bytes are read as this content in a file of this kind
@@ -46,7 +49,8 @@ abbrev pub Reads : FileKind → List ℕ → FileContent → Type 0
 Reads WorldFile bytes (WorldContent grid) = OpensAs bytes grid
 Reads BrainFile bytes (BrainContent list) = IsBrainText bytes list
 Reads BreakFile bytes (BreakContent items) = IsBreakText bytes items
-Reads LabelledFile bytes (LabelledContent brain places) = IsAssembledText bytes brain places
+Reads (LabelledFile false) bytes (LabelledContent brain places) = IsAssembledText bytes brain places
+Reads (LabelledFile true) bytes (LabelsContent labels) = AreLabelsOf bytes labels
 Reads (SaveFile rounds) bytes (SaveContent saved) = IsSaveText bytes saved × (saved.round ≤ rounds)
 Reads kind bytes content = ⊥
 
@@ -62,7 +66,7 @@ abbrev pub Refuses : FileKind → List ℕ → FileFault → Type 0
 Refuses WorldFile bytes (World fault) = IsWorldFault bytes fault
 Refuses BrainFile bytes (Brain fault) = IsBrainFault bytes fault
 Refuses BreakFile bytes (Breaks fault) = IsBreakFault bytes fault
-Refuses LabelledFile bytes (Labelled fault) = IsAsmFault bytes fault
+Refuses (LabelledFile labels) bytes (Labelled fault) = IsAsmFault bytes fault
 Refuses (SaveFile rounds) bytes (Save fault) = IsSaveFault bytes fault
 Refuses (SaveFile rounds) bytes (AlreadyAt round) = IsPast bytes rounds round
 Refuses kind bytes fault = ⊥

@@ -1,7 +1,7 @@
 -- The promise on one page, to be read from the top down. Each run of `run_to_exit` ends with one of six statuses, and each status says what was
 -- fetched, accepted and written (this project's own). `IsRunTo` is what the call that `main` makes ensures; the law `headline` says that all
 -- below follows from it.
-use Rattle.std.specs.Prelude.{◌≡◌, ◌⊎◌, ℕ, ◌+◌, false, List, [], ◌∷◌, Ok}
+use Rattle.std.specs.Prelude.{◌≡◌, ◌≢◌, ◌⊎◌, ℕ, ◌+◌, false, List, [], ◌∷◌, Ok}
 use Rattle.ant_base.specs.Fetched.{Fetched}
 use Rattle.ant_base.specs.Layout.{◌+++◌}
 use Rattle.ant_base.specs.Shelf.{FetchesEach}
@@ -41,8 +41,9 @@ pub record PrintsItsOutput (words : List (List ℕ)) (before after : Outside) : 
   pub text : List ℕ
   pub is_text : IsJobText command contents text
   pub written : PushedAll before.out after.out text
-  -- where the output can tell, all of it was flushed
-  pub flushed : NothingWaits after.out.waiting
+  -- where the output can tell, all of it was flushed; and where the text has no bytes, nothing waits that didn't before
+  pub flushed : text ≢ [] → NothingWaits after.out.waiting
+  pub kept : NothingWaits before.out.waiting → NothingWaits after.out.waiting
   -- the errors got nothing
   pub silent : after.err ≡ before.err
 
@@ -106,7 +107,8 @@ pub record KeepsPromise (words : List (List ℕ)) (before after : Outside) (numb
   pub output_failed : number ≡ 4 → NamesTheReason words before after AtOutput
   pub refused : number ≡ 5 → ((name : List ℕ) × (fault : FileFault) × NamesTheReason words before after (AtInput name fault))
       ⊎ ((element : ℕ) × NamesTheReason words before after (AtRoom element))
-  -- nothing was written; or, by a `run` or a `resume`, a proper prefix of its text
+  -- nothing was written; or a proper prefix of its text, by a `run` or a `resume`, and by a `cup` with `--games` the lines of the games on its
+  -- first worlds
   pub out_of_memory : number ≡ 6 → NamesTheReason words before after AtMemory
   pub no_other : (number ≡ 0) ⊎ (number ≡ 2) ⊎ (number ≡ 3) ⊎ (number ≡ 4) ⊎ (number ≡ 5) ⊎ (number ≡ 6)
 

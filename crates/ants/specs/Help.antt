@@ -27,7 +27,7 @@ game_lines =
     +++ codes "      plays a game up to the first of its breaks, and prints the world there\n"
     +++ codes "  trace WORLD RED BLACK ID --seed N --rounds N [OPTION]..\n"
     +++ codes "      plays a game, and prints where one ant is after each round\n"
-    +++ codes "  cup --worlds WORLD.. --brains BRAIN BRAIN.. --seed N --rounds N [--workers N]\n"
+    +++ codes "  cup --worlds WORLD.. --brains BRAIN BRAIN.. --seed N --rounds N [OPTION]..\n"
     +++ codes "      plays all games between 2 to 16 brains on 1 to 16 worlds\n"
     +++ codes "  workload SEED ROUNDS WORKERS\n"
     +++ codes "      plays the sample brain against itself on a world that gen makes\n"
@@ -41,11 +41,11 @@ file_lines =
     +++ codes "      prints a world in the contest's manner, made from a number\n"
     +++ codes "  brain FILE\n"
     +++ codes "      checks a brain, and prints it with one instruction a line\n"
-    +++ codes "  minimise FILE\n"
+    +++ codes "  minimise FILE [--states]\n"
     +++ codes "      merges equivalent states of a brain, and keeps what state 0 leads to\n"
     +++ codes "  same FILE FILE\n"
     +++ codes "      says whether two brains are the same but for the numbers of their states\n"
-    +++ codes "  asm FILE\n"
+    +++ codes "  asm FILE [--labels]\n"
     +++ codes "      prints the brain of a program with labels and blocks\n"
     +++ codes "  help\n"
     +++ codes "  --help\n"
@@ -85,6 +85,15 @@ world_option_lines =
     +++ codes "  --blobs N     heaps of food that are placed, 0 to 255; 11\n"
     +++ codes "\n"
 
+-- the options of one command each that choose what is printed
+unfoldable pub print_option_lines : List ℕ
+print_option_lines =
+    codes "Options of cup, minimise and asm:\n"
+    +++ codes "  --games       cup: prints the line of each game before the standing\n"
+    +++ codes "  --states      minimise: prints the new number of each state, not the brain\n"
+    +++ codes "  --labels      asm: prints which state each label leads to, not the brain\n"
+    +++ codes "\n"
+
 -- the exit statuses, and where to read on
 unfoldable pub status_lines : List ℕ
 status_lines =
@@ -101,7 +110,7 @@ status_lines =
 
 -- the output of `--help`
 unfoldable pub help_text : List ℕ
-help_text = head_lines +++ game_lines +++ file_lines +++ game_option_lines +++ world_option_lines +++ status_lines
+help_text = head_lines +++ game_lines +++ file_lines +++ game_option_lines +++ world_option_lines +++ print_option_lines +++ status_lines
 
 -- the output of `--version`
 unfoldable pub version_text : List ℕ

@@ -1,5 +1,5 @@
 -- Laws on the texts of the commands.
-use Rattle.std.specs.Prelude.{◌≡◌, ℕ, ◌+◌, ◌≤◌, Bool, true, false, List, [], ◌∷◌, ◌++◌, Option, Some}
+use Rattle.std.specs.Prelude.{◌≡◌, ◌⊎◌, ℕ, ◌+◌, ◌≤◌, Bool, true, false, List, [], ◌∷◌, ◌++◌, Option, Some}
 use Rattle.ant_asm.specs.Assembled.{IsAssembled}
 use Rattle.ant_asm.specs.Match.{label_game, numbered_moment}
 use Rattle.ant_asm.specs.Places.{Address}
@@ -19,7 +19,7 @@ use Rattle.cell_world.specs.Valid.{Valid}
 use Rattle.cell_world.specs.declared.ant.Colour.{Colour}
 use Rattle.cell_world.specs.declared.kind.Kind.{Kind}
 use Rattle.command_words.specs.Command.{CommandWithin, PlainCommand, ResumeSetup, RunSetup}
-use Rattle.command_words.specs.Command.PlainCommand.{RunCommand, CupCommand, ResumeCommand, SaveCommand, WorkloadCommand}
+use Rattle.command_words.specs.Command.PlainCommand.{RunCommand, AsmCommand, CupCommand, ResumeCommand, SaveCommand, WorkloadCommand}
 use Rattle.command_words.specs.Slots.DumpChoice.{NoDump}
 use Rattle.dump_print.specs.Texts.{seed_text}
 use Rattle.match_run.specs.Run.{dumps_text}
@@ -31,11 +31,18 @@ use Rattle.ants.specs.Outputs.{HasRoom, IsJobText, ReadGame, chosen_rounds, file
 use Rattle.ants.specs.Verdict.{IsJudged}
 use Rattle.ants.specs.Verdict.FilesVerdict.{AllAccepted}
 
--- each output of a command whose numbers and names are within the limits, and whose files were accepted, ends in LF
+-- a text without bytes, of `asm` with `--labels`: its program has no labels
+pub record TellsNoLabel (command : PlainCommand) (text : List ℕ) : Type 0 where
+  pub file : List ℕ
+  pub is : command ≡ AsmCommand file true
+  pub empty : text ≡ []
+
+-- each output of a command whose numbers and names are within the limits, and whose files were accepted, ends in LF, or tells no label
 abbrev pub TextsEndInLf : Type 0
 TextsEndInLf =
     (command : PlainCommand) (fetches : List Fetched) (contents : List FileContent) (text : List ℕ) → CommandWithin command
-    → AreAccepted (files_of command) fetches contents → IsJobText command contents text → ends_in_lf text ≡ true
+    → AreAccepted (files_of command) fetches contents → IsJobText command contents text
+    → (ends_in_lf text ≡ true) ⊎ TellsNoLabel command text
 
 -- a command has at most one output for the same contents of its files
 abbrev pub OneText : Type 0
@@ -51,8 +58,8 @@ pub record WorkersChangeNothing : Type 0 where
       → IsJobText (SaveCommand world red black setup) contents text → IsJobText (SaveCommand world red black (record setup { workers = workers })) contents text
   pub resume : (save : List ℕ) (setup : ResumeSetup) (workers : ℕ) (contents : List FileContent) (text : List ℕ)
       → IsJobText (ResumeCommand save setup) contents text → IsJobText (ResumeCommand save (record setup { workers = workers })) contents text
-  pub cup : (worlds brains : List (List ℕ)) (seed rounds workers others : ℕ) (contents : List FileContent) (text : List ℕ)
-      → IsJobText (CupCommand worlds brains seed rounds workers) contents text → IsJobText (CupCommand worlds brains seed rounds others) contents text
+  pub cup : (worlds brains : List (List ℕ)) (seed rounds workers others : ℕ) (games : Bool) (contents : List FileContent) (text : List ℕ)
+      → IsJobText (CupCommand worlds brains seed rounds workers games) contents text → IsJobText (CupCommand worlds brains seed rounds others games) contents text
   pub workload : (seed rounds workers others : ℕ) (contents : List FileContent) (text : List ℕ)
       → IsJobText (WorkloadCommand seed rounds workers) contents text → IsJobText (WorkloadCommand seed rounds others) contents text
 

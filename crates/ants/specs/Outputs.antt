@@ -1,14 +1,15 @@
 -- What each command reads and writes: one equation a command.
-use Rattle.std.specs.Prelude.{◌≡◌, ℕ, Bool, true, false, List, [], ◌∷◌, ◌++◌, length, map, slice_index_or, codes, decimal, Option}
+use Rattle.std.specs.Prelude.{◌≡◌, ℕ, ◌≤◌, Bool, true, false, List, [], ◌∷◌, ◌++◌, length, map, slice_index_or, codes, decimal, Option}
 use Rattle.ant_base.specs.Layout.{◌+++◌}
 use Rattle.ant_trace.specs.Trace.{trace_text}
 use Rattle.ant_turn.specs.Minds.{Minds, contest_minds}
 use Rattle.ant_turn.specs.Rounds.{start_of}
 use Rattle.ant_turn.specs.Sheet.{Sheet}
 use Rattle.brain_minimise.specs.Minimised.{IsMinimised}
-use Rattle.brain_minimise.specs.Text.{minimised_text}
+use Rattle.brain_minimise.specs.Text.{minimised_text, states_text}
 use Rattle.brain_read.specs.declared.instr.Instr.{Instr}
 use Rattle.brain_read.specs.Canonical.{brain_text}
+use Rattle.ant_asm.specs.Labels.{LabelState, labels_text}
 use Rattle.ant_asm.specs.Places.{Address}
 use Rattle.brain_same.specs.Difference.{IsComparison}
 use Rattle.brain_same.specs.Text.{comparison_text}
@@ -33,7 +34,9 @@ use Rattle.match_save.specs.Saves.{saved_after}
 use Rattle.dump_print.specs.Texts.{seed_text, dump_text, score_text, stats_text}
 use Rattle.command_words.specs.Command.{PlainCommand, ResumeSetup, RunSetup, TraceSetup}
 use Rattle.command_words.specs.Command.PlainCommand.{ShowCommand, BrainCommand, MinimiseCommand, RunCommand, GenCommand, CupCommand, ViewCommand, WorkloadCommand, HelpCommand, VersionCommand, AsmCommand, SaveCommand, ResumeCommand, TraceCommand, SameCommand}
+use Rattle.tournament.specs.Games.{all_played}
 use Rattle.tournament.specs.Text.{IsCupText}
+use Rattle.tournament.specs.Told.{IsToldCupText, games_text}
 use Rattle.world_gen.specs.declared.shape.Shape.{Shape}
 use Rattle.world_gen.specs.Food.{food_on}
 use Rattle.world_gen.specs.Generated.{IsGenerated}
@@ -43,7 +46,7 @@ use Rattle.world_read.specs.Opened.{kinds_of}
 use Rattle.ants.specs.declared.workload.Summary.{Summary}
 use Rattle.ants.specs.Files.{File, FileContent}
 use Rattle.ants.specs.Files.FileKind.{WorldFile, BrainFile, BreakFile, LabelledFile, SaveFile}
-use Rattle.ants.specs.Files.FileContent.{WorldContent, BrainContent, BreakContent, LabelledContent, SaveContent}
+use Rattle.ants.specs.Files.FileContent.{WorldContent, BrainContent, BreakContent, LabelledContent, LabelsContent, SaveContent}
 use Rattle.ants.specs.Help.{help_text, version_text}
 use Rattle.ants.specs.Sample.{sample_brain}
 
@@ -57,9 +60,9 @@ brain_file name = record { name = name; kind = BrainFile }
 abbrev pub break_file : List ℕ → File
 break_file name = record { name = name; kind = BreakFile }
 
--- a file with a labelled program
-abbrev pub labelled_file : List ℕ → File
-labelled_file name = record { name = name; kind = LabelledFile }
+-- a file with a labelled program, of which the brain is wanted, or else its labels
+abbrev pub labelled_file : Bool → List ℕ → File
+labelled_file labels name = record { name = name; kind = LabelledFile labels }
 
 -- a file with a save of which at most so many rounds are done
 abbrev pub save_file : List ℕ → ℕ → File
@@ -77,15 +80,15 @@ cup_files worlds brains = map world_file worlds ++ map brain_file brains
 abbrev pub files_of : PlainCommand → List File
 files_of (ShowCommand world seed) = world_file world ∷ []
 files_of (BrainCommand file) = brain_file file ∷ []
-files_of (MinimiseCommand file) = brain_file file ∷ []
+files_of (MinimiseCommand file states) = brain_file file ∷ []
 files_of (RunCommand world red black setup) = game_files world red black
 files_of (GenCommand seed shape) = []
-files_of (CupCommand worlds brains seed rounds workers) = cup_files worlds brains
+files_of (CupCommand worlds brains seed rounds workers games) = cup_files worlds brains
 files_of (ViewCommand world red black breaks seed rounds) = game_files world red black ++ break_file breaks ∷ []
 files_of (WorkloadCommand seed rounds workers) = []
 files_of HelpCommand = []
 files_of VersionCommand = []
-files_of (AsmCommand file) = labelled_file file ∷ []
+files_of (AsmCommand file labels) = labelled_file labels file ∷ []
 files_of (SaveCommand world red black setup) = game_files world red black
 files_of (ResumeCommand save setup) = save_file save setup.rounds ∷ []
 files_of (TraceCommand world red black id setup) = game_files world red black
@@ -132,6 +135,9 @@ pair_contents pair = BrainContent pair.first ∷ BrainContent pair.second ∷ []
 
 abbrev pub program_contents : ReadProgram → List FileContent
 program_contents program = LabelledContent program.brain program.places ∷ []
+
+abbrev pub labels_contents : List LabelState → List FileContent
+labels_contents labels = LabelsContent labels ∷ []
 
 abbrev pub save_contents : SavedValue → List FileContent
 save_contents saved = SaveContent saved ∷ []
@@ -204,12 +210,17 @@ pub record TellsSame (pair : ReadPair) (text : List ℕ) : Type 0 where
   pub is : IsComparison pair.first pair.second comparison
   pub told : text ≡ comparison_text comparison
 
+-- what `minimise` tells: the brain after a line of comment, or else what became of each old state
+abbrev pub minimise_output : Bool → List Instr → List Instr → List (Option ℕ) → List ℕ
+minimise_output false old new numbers = minimised_text old new
+minimise_output true old new numbers = states_text numbers
+
 -- the output of `minimise`: what is told of this brain, minimised
-pub record TellsMinimised (old : List Instr) (text : List ℕ) : Type 0 where
+pub record TellsMinimised (states : Bool) (old : List Instr) (text : List ℕ) : Type 0 where
   pub new : List Instr
   pub numbers : List (Option ℕ)
   pub minimised : IsMinimised old new numbers
-  pub told : text ≡ minimised_text old new
+  pub told : text ≡ minimise_output states old new numbers
 
 -- the output of `view`: the view of the game, by the contest's rules, with these breaks
 abbrev pub IsViewOutput : ℕ → ℕ → ReadView → List ℕ → Type 0
@@ -228,9 +239,17 @@ unfoldable pub score_between : List Grid → List (List Instr) → ℕ → ℕ �
 score_between worlds players seed rounds world red black =
     score_of (world_after (minds_between players red black) seed (world_of (slice_index_or worlds world nowhere)) rounds)
 
--- the output of `cup`: that of all games between the players, on all worlds, with this seed and so many rounds each
-abbrev pub IsCupOutput : List (List ℕ) → ℕ → ℕ → ReadCup → List ℕ → Type 0
-IsCupOutput names seed rounds cup text = IsCupText names (length cup.players) (length cup.worlds) (score_between cup.worlds cup.players seed rounds) text
+-- the output of `cup`: that of all games between the players, on all worlds, with this seed and so many rounds each; the standing alone, or
+-- the lines of the games before it
+abbrev pub IsCupOutput : Bool → List (List ℕ) → List (List ℕ) → ℕ → ℕ → ReadCup → List ℕ → Type 0
+IsCupOutput false worlds names seed rounds cup text = IsCupText names (length cup.players) (length cup.worlds) (score_between cup.worlds cup.players seed rounds) text
+IsCupOutput true worlds names seed rounds cup text = IsToldCupText worlds names (score_between cup.worlds cup.players seed rounds) text
+
+-- the lines of all games on the first worlds of such a cup, on none or on all
+pub record TellsFirstWorlds (worlds names : List (List ℕ)) (seed rounds : ℕ) (cup : ReadCup) (text : List ℕ) : Type 0 where
+  pub told : ℕ
+  pub some : told ≤ length worlds
+  pub is : text ≡ games_text worlds names (all_played (length names) told (score_between cup.worlds cup.players seed rounds)) 1
 
 -- the shape that the words of `gen` name
 abbrev pub shape_named : GenShape → Shape
@@ -295,15 +314,16 @@ HasRoom command = (element : ℕ) → ¬ LacksRoom command element
 abbrev pub IsJobText : PlainCommand → List FileContent → List ℕ → Type 0
 IsJobText (ShowCommand world seed) = Tells world_contents (is_text_of (show_output seed))
 IsJobText (BrainCommand file) = Tells brain_contents (is_text_of brain_text)
-IsJobText (MinimiseCommand file) = Tells brain_contents TellsMinimised
+IsJobText (MinimiseCommand file states) = Tells brain_contents (TellsMinimised states)
 IsJobText (RunCommand world red black setup) = Tells game_contents (is_text_of (match_output setup))
-IsJobText (CupCommand worlds brains seed rounds workers) = Tells roster_contents (IsCupOutput brains seed rounds)
+IsJobText (CupCommand worlds brains seed rounds workers games) = Tells roster_contents (IsCupOutput games worlds brains seed rounds)
 IsJobText (ViewCommand world red black breaks seed rounds) = Tells view_contents (IsViewOutput seed rounds)
 IsJobText (GenCommand seed shape) = Tells no_contents (λ nothing. TellsGenerated seed (shape_named shape))
 IsJobText (WorkloadCommand seed rounds workers) = Tells no_contents (λ nothing. TellsWorkload seed rounds)
 IsJobText HelpCommand = Tells no_contents (is_text_of (λ nothing. help_text))
 IsJobText VersionCommand = Tells no_contents (is_text_of (λ nothing. version_text))
-IsJobText (AsmCommand file) = Tells program_contents (is_text_of (λ program. brain_text program.brain))
+IsJobText (AsmCommand file false) = Tells program_contents (is_text_of (λ program. brain_text program.brain))
+IsJobText (AsmCommand file true) = Tells labels_contents (is_text_of labels_text)
 IsJobText (SaveCommand world red black setup) = Tells game_contents (is_text_of (save_output setup))
 IsJobText (ResumeCommand save setup) = Tells save_contents (is_text_of (resume_output setup))
 IsJobText (TraceCommand world red black id setup) = Tells game_contents (is_text_of (trace_output id setup))

@@ -19,12 +19,14 @@ use Rattle.ants.specs.Status.{status_number}
 use Rattle.ants.specs.FaultLines.{Ending, Reason, ending_status, fault_line, word_line}
 use Rattle.ants.specs.FaultLines.Ending.{Done, RefusedWord, Stopped}
 
--- the words are a command, which is done; where the output can tell, nothing waits to be flushed
+-- the words are a command, which is done; where the output can tell, nothing waits to be flushed behind a text, and a text without bytes
+-- leaves nothing to wait
 pub record IsFinished (words : List (List ℕ)) (before after : Outside) (fetches : List Fetched) : Type 0 where
   pub command : PlainCommand
   pub is_command : IsCommand words command
   pub done : IsDone command before after fetches
-  pub flushed : NothingWaits after.out.waiting
+  pub flushed : done.text ≢ [] → NothingWaits after.out.waiting
+  pub kept : NothingWaits before.out.waiting → NothingWaits after.out.waiting
 
 -- the words are a command, which stopped for this reason
 pub record IsStopped (words : List (List ℕ)) (before after : Outside) (fetches : List Fetched) (reason : Reason) : Type 0 where

@@ -8,12 +8,13 @@ ghost use Rattle.command_words.specs.declared.limits.NumberKind.TheVariants.{Wor
 ghost use Rattle.command_words.specs.Slots.{AllDiffer};
 ghost use Rattle.match_run.specs.Run.{most_rounds};
 ghost use Rattle.tournament.specs.Standing.{IsStandingOf};
+ghost use Rattle.tournament.specs.Told.{Told};
 ghost use Rattle.ants.specs.Inner.Cups.{AreReady, CanBePlayed};
 ghost use Rattle.ants.specs.Inner.Reading.{CarriesOut, ReadsFiles, ending_of, outcome_of};
 ghost use Rattle.ants.specs.Outputs.{cup_contents, cup_files, score_between};
 
 use crate::files::read_files;
-use crate::stop::{CommandStop, after_push};
+use crate::stop::{CommandStop, after_cup, after_push};
 use ant_base::{Shelf, Sink};
 use ant_turn::{Brains, Sheet};
 use brain_read::Brain;
@@ -22,7 +23,7 @@ use command_words::CupEntry;
 use match_run::{OutOfMemory, play_score};
 use std::alloc::Global;
 use std::thread::Threads;
-use tournament::{Names, Referee, Standing, play_all, push_standing};
+use tournament::{CupFault, Names, Referee, Standing, play_all, push_standing, tell_cup};
 
 // What the files of a cup were read as.
 #[derive(Drop)]
@@ -99,6 +100,32 @@ fn standing_of<R: Threads + Sync>(
     play_all(rt, alloc, &games, players, worlds, workers)
 }
 
+// Plays the games world by world, and pushes their lines after each world; the standing comes last.
+fn tell_games<R: Threads + Sync, K: Sink>(
+    rt: &R,
+    alloc: Global,
+    roster: &Roster,
+    entry: CupEntry<'_>,
+    names: &Names,
+    out: &mut K,
+) -> Result<(), CupFault>
+    requires within { CupWithin (texts entry.worlds.now) (texts entry.brains.now) entry.seed entry.rounds entry.workers }
+    requires ready { AreReady roster.now.worlds.items roster.now.players.items }
+    requires worlds { length roster.now.worlds.items ≡ length (texts entry.worlds.now) }
+    requires players { length roster.now.players.items ≡ length (texts entry.brains.now) }
+    requires names { names.now ≡ texts entry.brains.now }
+    ensures { Told (K.state out.old) (K.state out.new) (texts entry.entry.worlds.now) (texts entry.entry.brains.now)
+        (score_between roster.now.worlds.items roster.now.players.items entry.entry.seed entry.entry.rounds) result }
+{
+    let games = Games {
+        worlds: &roster.worlds,
+        players: &roster.players,
+        seed: entry.seed,
+        rounds: entry.rounds,
+    };
+    tell_cup(rt, alloc, &games, entry.worlds, names, entry.workers, out)
+}
+
 // The names of the players, which are different.
 fn names_of(alloc: Global, words: &[String]) -> Result<Names, OutOfMemory>
     requires { AllDiffer (texts words.now) }
@@ -111,7 +138,8 @@ fn names_of(alloc: Global, words: &[String]) -> Result<Names, OutOfMemory>
     Ok(names)
 }
 
-/// Plays all games of a cup by the contest's rules, and writes its standing. All files are read before the first game.
+/// Plays all games of a cup by the contest's rules, and writes its standing; where the games are wanted, their lines before it. All files are
+/// read before the first game.
 pub fn cup<'w, R: Threads + Sync, S: Shelf, K: Sink>(
     rt: &R,
     alloc: Global,
@@ -121,11 +149,14 @@ pub fn cup<'w, R: Threads + Sync, S: Shelf, K: Sink>(
 ) -> Result<(), CommandStop<'w>>
     requires { CupWithin (texts entry.worlds.now) (texts entry.brains.now) entry.seed entry.rounds entry.workers }
     ensures { CarriesOut
-        (CupCommand (texts entry.entry.worlds.now) (texts entry.entry.brains.now) entry.entry.seed entry.entry.rounds entry.entry.workers)
+        (CupCommand (texts entry.entry.worlds.now) (texts entry.entry.brains.now) entry.entry.seed entry.entry.rounds entry.entry.workers entry.entry.games)
         (S.state shelf.old) (S.state shelf.new) (K.state out.old) (K.state out.new) (ending_of result) }
 {
     let roster = roster_of(alloc, entry, shelf)?;
-    let standing = standing_of(rt, alloc, &roster, entry.seed, entry.rounds, entry.workers)?;
     let names = names_of(alloc, entry.brains)?;
+    if entry.games {
+        return after_cup(tell_games(rt, alloc, &roster, entry, &names, out));
+    }
+    let standing = standing_of(rt, alloc, &roster, entry.seed, entry.rounds, entry.workers)?;
     after_push(push_standing(&standing, &names, out))
 }

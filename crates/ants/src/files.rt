@@ -8,7 +8,7 @@ ghost use Rattle.ants.specs.Inner.Reading.{FetchesFile, ReadsFiles, ReadsText, b
 ghost use Rattle.ants.specs.FaultLines.{reason_of};
 
 use crate::stop::{CommandStop, FileFault};
-use ant_asm::{AsmFault, Assembled, assemble};
+use ant_asm::{AsmFault, Assembled, Labels, assemble, read_labels};
 use ant_base::{FetchFault, Shelf};
 use brain_read::{Brain, BrainFault, read_brain};
 use break_view::{BreakFault, Breaks, read_breaks};
@@ -79,16 +79,34 @@ impl FileText for Breaks {
 }
 
 impl FileText for Assembled {
+    ghost use Rattle.std.specs.Prelude.{false};
     ghost use Rattle.ants.specs.Files.FileKind.{LabelledFile};
     ghost use Rattle.ants.specs.Files.FileContent.{LabelledContent};
 
-    ghost kind = { LabelledFile };
+    ghost kind = { LabelledFile false };
 
     ghost content = { λ made. LabelledContent made.brain made.places };
 
     fn read<'w>(alloc: Global, name: &'w str, bytes: &[u8]) -> Result<Assembled, CommandStop<'w>> {
         match assemble(alloc, bytes) {
             Ok(made) => Ok(made),
+            Err(fault) => Err(labelled_stop(name, fault)),
+        }
+    }
+}
+
+impl FileText for Labels {
+    ghost use Rattle.std.specs.Prelude.{true};
+    ghost use Rattle.ants.specs.Files.FileKind.{LabelledFile};
+    ghost use Rattle.ants.specs.Files.FileContent.{LabelsContent};
+
+    ghost kind = { LabelledFile true };
+
+    ghost content = { LabelsContent };
+
+    fn read<'w>(alloc: Global, name: &'w str, bytes: &[u8]) -> Result<Labels, CommandStop<'w>> {
+        match read_labels(alloc, bytes) {
+            Ok(labels) => Ok(labels),
             Err(fault) => Err(labelled_stop(name, fault)),
         }
     }

@@ -1,7 +1,7 @@
 // The commands `--help` and `--version`.
 ghost use Rattle.ant_base.specs.Sink.{Pushed};
 ghost use Rattle.command_words.specs.Command.PlainCommand.{HelpCommand, VersionCommand};
-ghost use Rattle.ants.specs.Help.{file_lines, game_lines, game_option_lines, head_lines, help_text, status_lines, version_text, world_option_lines};
+ghost use Rattle.ants.specs.Help.{file_lines, game_lines, game_option_lines, head_lines, help_text, print_option_lines, status_lines, version_text, world_option_lines};
 ghost use Rattle.ants.specs.Inner.Reading.{CarriesOut, ending_of};
 
 use crate::stop::{CommandStop, after_push};
@@ -49,7 +49,7 @@ impl Layout for GameLines {
             "      plays a game up to the first of its breaks, and prints the world there\n",
             "  trace WORLD RED BLACK ID --seed N --rounds N [OPTION]..\n",
             "      plays a game, and prints where one ant is after each round\n",
-            "  cup --worlds WORLD.. --brains BRAIN BRAIN.. --seed N --rounds N [--workers N]\n",
+            "  cup --worlds WORLD.. --brains BRAIN BRAIN.. --seed N --rounds N [OPTION]..\n",
             "      plays all games between 2 to 16 brains on 1 to 16 worlds\n",
             "  workload SEED ROUNDS WORKERS\n",
             "      plays the sample brain against itself on a world that gen makes\n"
@@ -74,11 +74,11 @@ impl Layout for FileLines {
             "      prints a world in the contest's manner, made from a number\n",
             "  brain FILE\n",
             "      checks a brain, and prints it with one instruction a line\n",
-            "  minimise FILE\n",
+            "  minimise FILE [--states]\n",
             "      merges equivalent states of a brain, and keeps what state 0 leads to\n",
             "  same FILE FILE\n",
             "      says whether two brains are the same but for the numbers of their states\n",
-            "  asm FILE\n",
+            "  asm FILE [--labels]\n",
             "      prints the brain of a program with labels and blocks\n",
             "  help\n",
             "  --help\n",
@@ -144,6 +144,26 @@ impl Layout for WorldOptionLines {
     }
 }
 
+// The options of one command each that choose what is printed.
+#[derive(Clone, Copy)]
+struct PrintOptionLines;
+
+impl Layout for PrintOptionLines {
+    ghost text = { λ _. print_option_lines };
+
+    #[tactic(auto, unfolding(crate::specs::Help::print_option_lines))]
+    fn push_to<K: Sink>(&self, sink: &mut K) -> Result<(), Failed> {
+        concat!(
+            "Options of cup, minimise and asm:\n",
+            "  --games       cup: prints the line of each game before the standing\n",
+            "  --states      minimise: prints the new number of each state, not the brain\n",
+            "  --labels      asm: prints which state each label leads to, not the brain\n",
+            "\n"
+        )
+        .push_to(sink)
+    }
+}
+
 // The exit statuses, and where to read on.
 #[derive(Clone, Copy)]
 struct StatusLines;
@@ -180,6 +200,7 @@ fn push_help<K: Sink>(out: &mut K) -> Result<(), Failed>
         FileLines,
         GameOptionLines,
         WorldOptionLines,
+        PrintOptionLines,
         StatusLines
     )
     .push_to(out)

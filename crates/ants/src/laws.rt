@@ -15,8 +15,9 @@ pub fn contents_judge_once()
     ensures { JudgesOnce }
 {}
 
-/// Each output of a command whose numbers and names are within the limits, and whose files were accepted, ends in LF. So where the output
-/// can tell, nothing of it waits to be flushed once all of it was written.
+/// Each output of a command whose numbers and names are within the limits, and whose files were accepted, ends in LF; or it has no bytes, and
+/// is that of `asm` with `--labels`, whose program has no label. So where the output can tell, nothing of it waits to be flushed once all of it
+/// was written.
 pub fn texts_end_in_lf()
     ensures { TextsEndInLf }
 {}

@@ -1,8 +1,8 @@
 //! The program `ants`: a simulator of the ant world of the ICFP Programming Contest 2004.
 //!
-//! `run_ants` does all that the program does, over any shelf of files and any two sinks; `main` hands it the real ones. `run_here` does it
-//! where nobody may wait for a worker, but for `run --far`. Each command's
-//! files, its text, its faults and their lines are definitions in specs/, and the clauses of `run_ants` say how every run ends.
+//! `run_ants` does all that the program does, over any shelf of files and any two sinks; `main` hands it the real ones. `run_here` does all of
+//! it except `run --far`, which has to wait for workers. Each command's files, its text, its faults and their lines are definitions in specs/,
+//! and the clauses of `run_ants` say how every run ends.
 //!
 //! What names no section of the contest's task is this project's own: the commands and what they print, the faults, and the statuses.
 #![tactic(auto)]

@@ -65,7 +65,7 @@ fn dispatch<'w, R: Threads + Sync, C: Crew, S: Shelf, K: Sink>(
     match command {
         Command::Show { world, seed } => show(alloc, world, seed, shelf, out),
         Command::Brain { file } => brain(alloc, file, shelf, out),
-        Command::Minimise { file } => minimise(alloc, file, shelf, out),
+        Command::Minimise { file, states } => minimise(alloc, file, states, shelf, out),
         Command::Gen { seed, shape } => gen_world(alloc, seed, shape, shelf, out),
         Command::Run(game) => run(alloc, crew, game, shelf, out),
         Command::Cup(entry) => cup(rt, alloc, entry, shelf, out),
@@ -77,7 +77,7 @@ fn dispatch<'w, R: Threads + Sync, C: Crew, S: Shelf, K: Sink>(
         } => workload(alloc, crew, seed, rounds, shelf, out),
         Command::Help => help(shelf, out),
         Command::Version => version(shelf, out),
-        Command::Asm { file } => asm(alloc, file, shelf, out),
+        Command::Asm { file, labels } => asm(alloc, file, labels, shelf, out),
         Command::Save(game) => save(alloc, crew, game, shelf, out),
         Command::Trace(game) => trace(alloc, game, shelf, out),
         Command::Same { first, second } => same(alloc, first, second, shelf, out),
@@ -191,7 +191,8 @@ fn read_and_carry_out_far<'w, R: Threads + Wait + Sync, S: Shelf, K: Sink, G: Ga
 /// - `Input`: the last file that was fetched is too long, not in its grammar or a save beyond the rounds, and each before it was accepted; or
 ///   an element of the world to be generated has no room; the output got nothing.
 /// - `Memory`: memory could not be had; no fetch failed or was too long. Either each file but perhaps the last was accepted, and the output
-///   got nothing; or all files of a `run` or a `resume`, which write while they play, were accepted, and the output got a proper prefix of the text.
+///   got nothing; or all files of a `run`, a `resume` or a `cup` with `--games`, which write while they play, were accepted, and the output
+///   got a proper prefix of the text: of a cup the lines of all games on its first worlds.
 ///
 /// At each but `Done` the errors got one line, which names the word (from 1) or the file and the place in it; or a prefix of that line,
 /// where they failed. The shelf keeps its contents and all of which it is sure, its log grows by the fetches, and its count of faults rises

@@ -29,6 +29,9 @@ pub struct Minimised {
 /// Each round parts every class into the states that do as its least member and the others, in one pass; there are at most as many
 /// rounds as classes come out. So the worst case is quadratic: 10,000 states in a chain, or of 10,000 kinds, take 10,000 rounds of
 /// 10,000 short steps.
+///
+/// Given the brain `Turn Left 1`, `Turn Left 0`, `Drop 2` it answers the brain `Turn Left 0`, and a map that says 0, 0 and `None`: states 0
+/// and 1 lead to each other and do the same, and nothing leads to state 2.
 pub fn minimise(alloc: Global, brain: &Brain) -> Result<Minimised, OutOfMemory>
     ensures { IfOk result (λ minimised. IsMinimised brain.now minimised.brain minimised.map) }
 {

@@ -48,14 +48,39 @@ unfolding command_kind_of choice_of is_among rest_after is_file_name is_dumps du
 brain_command = read-accepts (words_of (codes "brain -b")) (BrainCommand (codes "-b")) refl
 
 -- `minimise`
-pub minimise_command : IsCommand (words_of (codes "minimise b")) (MinimiseCommand (codes "b"))
+pub minimise_command : IsCommand (words_of (codes "minimise b")) (MinimiseCommand (codes "b") false)
 unfolding command_kind_of choice_of is_among rest_after is_file_name is_dumps dumps_of decimal_value
-minimise_command = read-accepts (words_of (codes "minimise b")) (MinimiseCommand (codes "b")) refl
+minimise_command = read-accepts (words_of (codes "minimise b")) (MinimiseCommand (codes "b") false) refl
 
 -- `asm`
-pub asm_command : IsCommand (words_of (codes "asm p")) (AsmCommand (codes "p"))
+pub asm_command : IsCommand (words_of (codes "asm p")) (AsmCommand (codes "p") false)
 unfolding command_kind_of choice_of is_among rest_after is_file_name is_dumps dumps_of decimal_value
-asm_command = read-accepts (words_of (codes "asm p")) (AsmCommand (codes "p")) refl
+asm_command = read-accepts (words_of (codes "asm p")) (AsmCommand (codes "p") false) refl
+
+-- the new numbers of its states
+pub minimise_states : IsCommand (words_of (codes "minimise b --states")) (MinimiseCommand (codes "b") true)
+unfolding command_kind_of choice_of is_among rest_after is_file_name is_dumps dumps_of decimal_value
+minimise_states = read-accepts (words_of (codes "minimise b --states")) (MinimiseCommand (codes "b") true) refl
+
+-- `--states` takes no word
+pub states_with_a_value : IsRefusedAt (words_of (codes "minimise b --states 1")) 4
+unfolding command_kind_of choice_of is_among rest_after is_file_name is_dumps dumps_of decimal_value
+states_with_a_value = read-refuses (words_of (codes "minimise b --states 1")) 4 refl
+
+-- what its labels lead to
+pub asm_labels : IsCommand (words_of (codes "asm p --labels")) (AsmCommand (codes "p") true)
+unfolding command_kind_of choice_of is_among rest_after is_file_name is_dumps dumps_of decimal_value
+asm_labels = read-accepts (words_of (codes "asm p --labels")) (AsmCommand (codes "p") true) refl
+
+-- `--labels` stands twice
+pub labels_given_twice : IsRefusedAt (words_of (codes "asm p --labels --labels")) 4
+unfolding command_kind_of choice_of is_among rest_after is_file_name is_dumps dumps_of decimal_value
+labels_given_twice = read-refuses (words_of (codes "asm p --labels --labels")) 4 refl
+
+-- and not before the file
+pub labels_before_the_file : IsRefusedAt (words_of (codes "asm --labels p")) 2
+unfolding command_kind_of choice_of is_among rest_after is_file_name is_dumps dumps_of decimal_value
+labels_before_the_file = read-refuses (words_of (codes "asm --labels p")) 2 refl
 
 -- without its free options a game has no dump, one worker, a whole round a window, the contest's rules and no stats
 pub run_defaults : IsCommand (words_of (codes "run w r b --seed 1 --rounds 1000000"))
@@ -101,30 +126,41 @@ unfolding command_kind_of choice_of is_among rest_after is_file_name is_dumps du
 gen_least = read-accepts (words_of (codes "gen 7 --width 3 --height 4 --rocks 0 --blobs 1")) (GenCommand 7 (shape_of 3 4 0 1)) refl
 
 -- one world and two brains, and one worker
-pub cup_command : IsCommand (words_of (codes "cup --worlds w --brains a b --seed 1 --rounds 2")) (CupCommand ((codes "w") ∷ []) ((codes "a") ∷ (codes "b") ∷ []) 1 2 1)
+pub cup_command : IsCommand (words_of (codes "cup --worlds w --brains a b --seed 1 --rounds 2")) (CupCommand ((codes "w") ∷ []) ((codes "a") ∷ (codes "b") ∷ []) 1 2 1 false)
 unfolding command_kind_of choice_of is_among rest_after is_file_name is_dumps dumps_of decimal_value
 cup_command = read-accepts (words_of (codes "cup --worlds w --brains a b --seed 1 --rounds 2"))
-    (CupCommand ((codes "w") ∷ []) ((codes "a") ∷ (codes "b") ∷ []) 1 2 1) refl
+    (CupCommand ((codes "w") ∷ []) ((codes "a") ∷ (codes "b") ∷ []) 1 2 1 false) refl
 
 -- the same world twice, a name among both lists, names that are `-` or begin with one, and options in another order
 pub cup_same_world : IsCommand (words_of (codes "cup --worlds w w a --brains a - -b --workers 16 --rounds 0 --seed 3"))
-    (CupCommand ((codes "w") ∷ (codes "w") ∷ (codes "a") ∷ []) ((codes "a") ∷ (codes "-") ∷ (codes "-b") ∷ []) 3 0 16)
+    (CupCommand ((codes "w") ∷ (codes "w") ∷ (codes "a") ∷ []) ((codes "a") ∷ (codes "-") ∷ (codes "-b") ∷ []) 3 0 16 false)
 unfolding command_kind_of choice_of is_among rest_after is_file_name is_dumps dumps_of decimal_value
 cup_same_world = read-accepts (words_of (codes "cup --worlds w w a --brains a - -b --workers 16 --rounds 0 --seed 3"))
-    (CupCommand ((codes "w") ∷ (codes "w") ∷ (codes "a") ∷ []) ((codes "a") ∷ (codes "-") ∷ (codes "-b") ∷ []) 3 0 16) refl
+    (CupCommand ((codes "w") ∷ (codes "w") ∷ (codes "a") ∷ []) ((codes "a") ∷ (codes "-") ∷ (codes "-b") ∷ []) 3 0 16 false) refl
+
+-- the games too, with `--games` among the other options
+pub cup_games : IsCommand (words_of (codes "cup --worlds w --brains a b --seed 1 --games --rounds 2")) (CupCommand ((codes "w") ∷ []) ((codes "a") ∷ (codes "b") ∷ []) 1 2 1 true)
+unfolding command_kind_of choice_of is_among rest_after is_file_name is_dumps dumps_of decimal_value
+cup_games = read-accepts (words_of (codes "cup --worlds w --brains a b --seed 1 --games --rounds 2"))
+    (CupCommand ((codes "w") ∷ []) ((codes "a") ∷ (codes "b") ∷ []) 1 2 1 true) refl
+
+-- `--games` is no file name, and one brain is too few
+pub cup_games_among_the_names : IsRefusedAt (words_of (codes "cup --worlds w --brains a --games")) 6
+unfolding command_kind_of choice_of is_among rest_after is_file_name is_dumps dumps_of decimal_value
+cup_games_among_the_names = read-refuses (words_of (codes "cup --worlds w --brains a --games")) 6 refl
 
 -- 16 worlds and 16 brains
 pub cup_sixteen : IsCommand (words_of (codes "cup --worlds a b c d e f g h i j k l m n o p --brains a b c d e f g h i j k l m n o p --seed 1 --rounds 1"))
     (CupCommand ((codes "a") ∷ (codes "b") ∷ (codes "c") ∷ (codes "d") ∷ (codes "e") ∷ (codes "f") ∷ (codes "g") ∷ (codes "h") ∷ (codes "i") ∷ (codes "j") ∷
     (codes "k") ∷ (codes "l") ∷ (codes "m") ∷ (codes "n") ∷ (codes "o") ∷ (codes "p") ∷ [])
     ((codes "a") ∷ (codes "b") ∷ (codes "c") ∷ (codes "d") ∷ (codes "e") ∷ (codes "f") ∷ (codes "g") ∷ (codes "h") ∷ (codes "i") ∷ (codes "j") ∷ (codes "k") ∷
-    (codes "l") ∷ (codes "m") ∷ (codes "n") ∷ (codes "o") ∷ (codes "p") ∷ []) 1 1 1)
+    (codes "l") ∷ (codes "m") ∷ (codes "n") ∷ (codes "o") ∷ (codes "p") ∷ []) 1 1 1 false)
 unfolding command_kind_of choice_of is_among rest_after is_file_name is_dumps dumps_of decimal_value
 cup_sixteen = read-accepts (words_of (codes "cup --worlds a b c d e f g h i j k l m n o p --brains a b c d e f g h i j k l m n o p --seed 1 --rounds 1"))
     (CupCommand ((codes "a") ∷ (codes "b") ∷ (codes "c") ∷ (codes "d") ∷ (codes "e") ∷ (codes "f") ∷ (codes "g") ∷ (codes "h") ∷ (codes "i") ∷ (codes "j") ∷
     (codes "k") ∷ (codes "l") ∷ (codes "m") ∷ (codes "n") ∷ (codes "o") ∷ (codes "p") ∷ [])
     ((codes "a") ∷ (codes "b") ∷ (codes "c") ∷ (codes "d") ∷ (codes "e") ∷ (codes "f") ∷ (codes "g") ∷ (codes "h") ∷ (codes "i") ∷ (codes "j") ∷ (codes "k") ∷
-    (codes "l") ∷ (codes "m") ∷ (codes "n") ∷ (codes "o") ∷ (codes "p") ∷ []) 1 1 1) refl
+    (codes "l") ∷ (codes "m") ∷ (codes "n") ∷ (codes "o") ∷ (codes "p") ∷ []) 1 1 1 false) refl
 
 -- `save` has the options of a game but for the dumps and the counts
 pub save_defaults : IsCommand (words_of (codes "save w r b --rounds 2 --seed 1")) (SaveCommand (codes "w") (codes "r") (codes "b") (game 1 2 NoDump 1 16384 5 3 14 false))

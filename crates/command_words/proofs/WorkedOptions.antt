@@ -36,39 +36,46 @@ shape_options = (codes "--width") ∷ (codes "--height") ∷ (codes "--rocks") �
 abbrev common_options : List (List ℕ)
 common_options = (codes "--seed") ∷ (codes "--rounds") ∷ (codes "--workers") ∷ []
 
+-- the options of several commands, and those of one command alone
+abbrev shared_options : List (List ℕ)
+shared_options = game_options ++ shape_options ++ common_options
+
+abbrev own_options : List (List ℕ)
+own_options = (codes "--from") ∷ (codes "--labels") ∷ (codes "--states") ∷ (codes "--games") ∷ []
+
 -- all options
 abbrev all_options : List (List ℕ)
-all_options = game_options ++ shape_options ++ common_options ++ (codes "--from") ∷ []
+all_options = shared_options ++ own_options
 
 -- `show` takes no option
 pub show_takes_none : AreRefusedAfter (codes "show w 1") 4 all_options
 unfolding command_kind_of choice_of is_among rest_after is_file_name is_dumps dumps_of decimal_value
 show_takes_none = refused_after (codes "show w 1") 4 all_options
-    (refl, (refl, (refl, (refl, (refl, (refl, (refl, (refl, (refl, (refl, (refl, (refl, (refl, (refl, (refl, tt)))))))))))))))
+    (refl, (refl, (refl, (refl, (refl, (refl, (refl, (refl, (refl, (refl, (refl, (refl, (refl, (refl, (refl, (refl, (refl, (refl, tt))))))))))))))))))
 
 -- `brain` takes no option
 pub brain_takes_none : AreRefusedAfter (codes "brain b") 3 all_options
 unfolding command_kind_of choice_of is_among rest_after is_file_name is_dumps dumps_of decimal_value
 brain_takes_none = refused_after (codes "brain b") 3 all_options
-    (refl, (refl, (refl, (refl, (refl, (refl, (refl, (refl, (refl, (refl, (refl, (refl, (refl, (refl, (refl, tt)))))))))))))))
+    (refl, (refl, (refl, (refl, (refl, (refl, (refl, (refl, (refl, (refl, (refl, (refl, (refl, (refl, (refl, (refl, (refl, (refl, tt))))))))))))))))))
 
--- `minimise` takes no option
-pub minimise_takes_none : AreRefusedAfter (codes "minimise b") 3 all_options
+-- `minimise` takes `--states` alone
+pub minimise_takes_one : AreRefusedAfter (codes "minimise b") 3 (shared_options ++ (codes "--from") ∷ (codes "--labels") ∷ (codes "--games") ∷ [])
 unfolding command_kind_of choice_of is_among rest_after is_file_name is_dumps dumps_of decimal_value
-minimise_takes_none = refused_after (codes "minimise b") 3 all_options
-    (refl, (refl, (refl, (refl, (refl, (refl, (refl, (refl, (refl, (refl, (refl, (refl, (refl, (refl, (refl, tt)))))))))))))))
+minimise_takes_one = refused_after (codes "minimise b") 3 (shared_options ++ (codes "--from") ∷ (codes "--labels") ∷ (codes "--games") ∷ [])
+    (refl, (refl, (refl, (refl, (refl, (refl, (refl, (refl, (refl, (refl, (refl, (refl, (refl, (refl, (refl, (refl, (refl, tt)))))))))))))))))
 
--- `asm` takes no option
-pub asm_takes_none : AreRefusedAfter (codes "asm p") 3 all_options
+-- `asm` takes `--labels` alone
+pub asm_takes_one : AreRefusedAfter (codes "asm p") 3 (shared_options ++ (codes "--from") ∷ (codes "--states") ∷ (codes "--games") ∷ [])
 unfolding command_kind_of choice_of is_among rest_after is_file_name is_dumps dumps_of decimal_value
-asm_takes_none = refused_after (codes "asm p") 3 all_options
-    (refl, (refl, (refl, (refl, (refl, (refl, (refl, (refl, (refl, (refl, (refl, (refl, (refl, (refl, (refl, tt)))))))))))))))
+asm_takes_one = refused_after (codes "asm p") 3 (shared_options ++ (codes "--from") ∷ (codes "--states") ∷ (codes "--games") ∷ [])
+    (refl, (refl, (refl, (refl, (refl, (refl, (refl, (refl, (refl, (refl, (refl, (refl, (refl, (refl, (refl, (refl, (refl, tt)))))))))))))))))
 
 -- `workload` takes no option
 pub workload_takes_none : AreRefusedAfter (codes "workload 1 2 3") 5 all_options
 unfolding command_kind_of choice_of is_among rest_after is_file_name is_dumps dumps_of decimal_value
 workload_takes_none = refused_after (codes "workload 1 2 3") 5 all_options
-    (refl, (refl, (refl, (refl, (refl, (refl, (refl, (refl, (refl, (refl, (refl, (refl, (refl, (refl, (refl, tt)))))))))))))))
+    (refl, (refl, (refl, (refl, (refl, (refl, (refl, (refl, (refl, (refl, (refl, (refl, (refl, (refl, (refl, (refl, (refl, (refl, tt))))))))))))))))))
 
 -- `run` takes no option of a world
 pub run_takes_no_shape : AreRefusedAfter (codes "run w r b") 5 shape_options
@@ -97,11 +104,11 @@ unfolding command_kind_of choice_of is_among rest_after is_file_name is_dumps du
 gen_takes_no_game = refused_after (codes "gen 1") 3 (game_options ++ common_options)
     (refl, (refl, (refl, (refl, (refl, (refl, (refl, (refl, (refl, (refl, tt))))))))))
 
--- `cup` takes a seed, rounds and workers alone
-pub cup_takes_few : AreRefusedAfter (codes "cup --worlds w --brains a b") 7 (game_options ++ shape_options)
+-- `cup` takes a seed, rounds, workers and `--games` alone
+pub cup_takes_few : AreRefusedAfter (codes "cup --worlds w --brains a b") 7 ((codes "--labels") ∷ (codes "--states") ∷ (game_options ++ shape_options))
 unfolding command_kind_of choice_of is_among rest_after is_file_name is_dumps dumps_of decimal_value
-cup_takes_few = refused_after (codes "cup --worlds w --brains a b") 7 (game_options ++ shape_options)
-    (refl, (refl, (refl, (refl, (refl, (refl, (refl, (refl, (refl, (refl, (refl, tt)))))))))))
+cup_takes_few = refused_after (codes "cup --worlds w --brains a b") 7 ((codes "--labels") ∷ (codes "--states") ∷ (game_options ++ shape_options))
+    (refl, (refl, (refl, (refl, (refl, (refl, (refl, (refl, (refl, (refl, (refl, (refl, (refl, tt)))))))))))))
 
 -- `view` takes a seed and rounds alone
 pub view_takes_two : AreRefusedAfter (codes "view w r b k") 6 ((codes "--workers") ∷ (game_options ++ shape_options))
@@ -119,12 +126,13 @@ trace_takes_few = refused_after (codes "trace w r b 1") 6 ((codes "--dump") ∷ 
 pub same_takes_none : AreRefusedAfter (codes "same a b") 4 all_options
 unfolding command_kind_of choice_of is_among rest_after is_file_name is_dumps dumps_of decimal_value
 same_takes_none = refused_after (codes "same a b") 4 all_options
-    (refl, (refl, (refl, (refl, (refl, (refl, (refl, (refl, (refl, (refl, (refl, (refl, (refl, (refl, (refl, tt)))))))))))))))
+    (refl, (refl, (refl, (refl, (refl, (refl, (refl, (refl, (refl, (refl, (refl, (refl, (refl, (refl, (refl, (refl, (refl, (refl, tt))))))))))))))))))
 
--- no other command takes `--from`
-pub run_takes_no_from : IsRefusedAt (words_of (codes "run w r b --from 1")) 5
+-- nor does `run` take an option of one other command
+pub run_takes_no_own : AreRefusedAfter (codes "run w r b") 5 own_options
 unfolding command_kind_of choice_of is_among rest_after is_file_name is_dumps dumps_of decimal_value
-run_takes_no_from = read-refuses (words_of (codes "run w r b --from 1")) 5 refl
+run_takes_no_own = refused_after (codes "run w r b") 5 own_options
+    (refl, (refl, (refl, (refl, tt))))
 
 -- a game of the greatest seed and the most rounds
 abbrev greatest : RunSetup
@@ -153,10 +161,10 @@ gen_greatest_seed = read-accepts (words_of (codes "gen 4294967295")) (GenCommand
 
 -- of a cup
 pub cup_greatest_seed : IsCommand (words_of (codes "cup --worlds w --brains a b --seed 4294967295 --rounds 1000000"))
-    (CupCommand ((codes "w") ∷ []) ((codes "a") ∷ (codes "b") ∷ []) 4294967295 1000000 1)
+    (CupCommand ((codes "w") ∷ []) ((codes "a") ∷ (codes "b") ∷ []) 4294967295 1000000 1 false)
 unfolding command_kind_of choice_of is_among rest_after is_file_name is_dumps dumps_of decimal_value
 cup_greatest_seed = read-accepts (words_of (codes "cup --worlds w --brains a b --seed 4294967295 --rounds 1000000"))
-    (CupCommand ((codes "w") ∷ []) ((codes "a") ∷ (codes "b") ∷ []) 4294967295 1000000 1) refl
+    (CupCommand ((codes "w") ∷ []) ((codes "a") ∷ (codes "b") ∷ []) 4294967295 1000000 1 false) refl
 
 -- of a view
 pub view_greatest_seed : IsCommand (words_of (codes "view w r b k --seed 4294967295 --rounds 1000000"))

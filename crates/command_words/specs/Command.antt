@@ -16,7 +16,7 @@ use Rattle.command_words.specs.declared.slot.Place.{Place}
 use Rattle.command_words.specs.declared.table.CommandKind.{CommandKind}
 use Rattle.command_words.specs.declared.table.CommandKind.TheVariants.{Show, Brain, Minimise, Run, Gen, Cup, View, Workload, Help, HelpWord, Version, Asm, Save, Resume, Trace, Same}
 use Rattle.command_words.specs.declared.table.Choice.{Choice}
-use Rattle.command_words.specs.declared.table.Choice.TheVariants.{Seed, Rounds, Dump, Workers, Window, Surround, Corpse, Rest, Stats, Far, Width, Height, Rocks, Blobs, From}
+use Rattle.command_words.specs.declared.table.Choice.TheVariants.{Seed, Rounds, Dump, Workers, Window, Surround, Corpse, Rest, Stats, Far, Width, Height, Rocks, Blobs, From, Labels, States, Games}
 use Rattle.command_words.specs.Limits.{IsWithin, number_in}
 use Rattle.command_words.specs.Slots.{AreNames, DumpChoice, FitsPlace, dumps_of, is_file_name}
 use Rattle.command_words.specs.Slots.DumpChoice.{NoDump, EveryDump, ChosenDumps}
@@ -56,15 +56,15 @@ pub record TraceSetup : Type 0 where
 pub data PlainCommand : Type 0 where
   ShowCommand : (world : List ℕ) (seed : ℕ) → PlainCommand
   BrainCommand : (file : List ℕ) → PlainCommand
-  MinimiseCommand : (file : List ℕ) → PlainCommand
+  MinimiseCommand : (file : List ℕ) (states : Bool) → PlainCommand
   RunCommand : (world red black : List ℕ) (setup : RunSetup) → PlainCommand
   GenCommand : (seed : ℕ) (shape : GenShape) → PlainCommand
-  CupCommand : (worlds brains : List (List ℕ)) (seed rounds workers : ℕ) → PlainCommand
+  CupCommand : (worlds brains : List (List ℕ)) (seed rounds workers : ℕ) (games : Bool) → PlainCommand
   ViewCommand : (world red black breaks : List ℕ) (seed rounds : ℕ) → PlainCommand
   WorkloadCommand : (seed rounds workers : ℕ) → PlainCommand
   HelpCommand : PlainCommand
   VersionCommand : PlainCommand
-  AsmCommand : (file : List ℕ) → PlainCommand
+  AsmCommand : (file : List ℕ) (labels : Bool) → PlainCommand
   SaveCommand : (world red black : List ℕ) (setup : RunSetup) → PlainCommand
   ResumeCommand : (save : List ℕ) (setup : ResumeSetup) → PlainCommand
   TraceCommand : (world red black : List ℕ) (id : ℕ) (setup : TraceSetup) → PlainCommand
@@ -246,11 +246,12 @@ trace_in a =
 abbrev pub command_in : CommandKind → Answers → Option PlainCommand
 command_in Show a = a.place 1 >>= λ world. number_needed SeedNumber (a.place 2) >>= λ seed. Some (ShowCommand world seed)
 command_in Brain a = a.place 1 >>= λ file. Some (BrainCommand file)
-command_in Minimise a = a.place 1 >>= λ file. Some (MinimiseCommand file)
+command_in Minimise a = a.place 1 >>= λ file. Some (MinimiseCommand file (a.has States))
 command_in Run a = a.place 1 >>= λ world. a.place 2 >>= λ red. a.place 3 >>= λ black. setup_in a >>= λ setup. Some (RunCommand world red black setup)
 command_in Gen a = number_needed SeedNumber (a.place 1) >>= λ seed. shape_in a >>= λ shape. Some (GenCommand seed shape)
 command_in Cup a =
-    seed_in a >>= λ seed. rounds_in a >>= λ rounds. workers_in a >>= λ workers. Some (CupCommand (a.names Worlds) (a.names Brains) seed rounds workers)
+    seed_in a >>= λ seed. rounds_in a >>= λ rounds. workers_in a >>= λ workers.
+    Some (CupCommand (a.names Worlds) (a.names Brains) seed rounds workers (a.has Games))
 command_in View a =
     a.place 1 >>= λ world. a.place 2 >>= λ red. a.place 3 >>= λ black. a.place 4 >>= λ breaks.
     seed_in a >>= λ seed. rounds_in a >>= λ rounds. Some (ViewCommand world red black breaks seed rounds)
@@ -260,7 +261,7 @@ command_in Workload a =
 command_in Help a = Some HelpCommand
 command_in HelpWord a = Some HelpCommand
 command_in Version a = Some VersionCommand
-command_in Asm a = a.place 1 >>= λ file. Some (AsmCommand file)
+command_in Asm a = a.place 1 >>= λ file. Some (AsmCommand file (a.has Labels))
 command_in Save a = a.place 1 >>= λ world. a.place 2 >>= λ red. a.place 3 >>= λ black. setup_in a >>= λ setup. Some (SaveCommand world red black setup)
 command_in Resume a = a.place 1 >>= λ save. resume_in a >>= λ setup. Some (ResumeCommand save setup)
 command_in Trace a =
@@ -342,15 +343,15 @@ pub record TraceWithin (setup : TraceSetup) : Type 0 where
 abbrev pub CommandWithin : PlainCommand → Type 0
 CommandWithin (ShowCommand world seed) = IsWithin SeedNumber seed
 CommandWithin (BrainCommand file) = Unit {0}
-CommandWithin (MinimiseCommand file) = Unit {0}
+CommandWithin (MinimiseCommand file states) = Unit {0}
 CommandWithin (RunCommand world red black setup) = SetupWithin setup
 CommandWithin (GenCommand seed shape) = IsWithin SeedNumber seed × ShapeWithin shape
-CommandWithin (CupCommand worlds brains seed rounds workers) = CupWithin worlds brains seed rounds workers
+CommandWithin (CupCommand worlds brains seed rounds workers games) = CupWithin worlds brains seed rounds workers
 CommandWithin (ViewCommand world red black breaks seed rounds) = IsWithin SeedNumber seed × IsWithin RoundCount rounds
 CommandWithin (WorkloadCommand seed rounds workers) = IsWithin SeedNumber seed × IsWithin RoundCount rounds × IsWithin WorkerCount workers
 CommandWithin HelpCommand = Unit {0}
 CommandWithin VersionCommand = Unit {0}
-CommandWithin (AsmCommand file) = Unit {0}
+CommandWithin (AsmCommand file labels) = Unit {0}
 CommandWithin (SaveCommand world red black setup) = SetupWithin setup
 CommandWithin (ResumeCommand save setup) = ResumeWithin setup
 CommandWithin (TraceCommand world red black id setup) = IsWithin AntId id × TraceWithin setup
@@ -390,15 +391,15 @@ plain_trace game = record {
 abbrev pub plain : Command → PlainCommand
 plain (read.Show world seed) = ShowCommand world.now seed
 plain (read.Brain file) = BrainCommand file.now
-plain (read.Minimise file) = MinimiseCommand file.now
+plain (read.Minimise file states) = MinimiseCommand file.now states
 plain (read.Run asked) = RunCommand asked.names.world.now asked.names.red.now asked.names.black.now (plain_setup asked.options)
 plain (read.Gen seed shape) = GenCommand seed shape
-plain (read.Cup entry) = CupCommand (texts entry.worlds.now) (texts entry.brains.now) entry.seed entry.rounds entry.workers
+plain (read.Cup entry) = CupCommand (texts entry.worlds.now) (texts entry.brains.now) entry.seed entry.rounds entry.workers entry.games
 plain (read.View game) = ViewCommand game.names.world.now game.names.red.now game.names.black.now game.breaks.now game.seed game.rounds
 plain (read.Workload seed rounds workers) = WorkloadCommand seed rounds workers
 plain read.Help = HelpCommand
 plain read.Version = VersionCommand
-plain (read.Asm file) = AsmCommand file.now
+plain (read.Asm file labels) = AsmCommand file.now labels
 plain (read.Save asked) = SaveCommand asked.names.world.now asked.names.red.now asked.names.black.now (plain_setup asked.options)
 plain (read.Resume save options) = ResumeCommand save.now (plain_resume options)
 plain (read.Trace game) = TraceCommand game.names.world.now game.names.red.now game.names.black.now game.id (plain_trace game)

@@ -11,7 +11,7 @@ use Rattle.command_words.specs.declared.slot.Place.TheVariants.{Word, Names}
 use Rattle.command_words.specs.declared.table.CommandKind.{CommandKind}
 use Rattle.command_words.specs.declared.table.CommandKind.TheVariants.{Show, Brain, Minimise, Run, Gen, Cup, View, Workload, Help, HelpWord, Version, Asm, Save, Resume, Trace, Same}
 use Rattle.command_words.specs.declared.table.Choice.{Choice}
-use Rattle.command_words.specs.declared.table.Choice.TheVariants.{Seed, Rounds, Dump, Workers, Window, Surround, Corpse, Rest, Stats, Far, Width, Height, Rocks, Blobs, From}
+use Rattle.command_words.specs.declared.table.Choice.TheVariants.{Seed, Rounds, Dump, Workers, Window, Surround, Corpse, Rest, Stats, Far, Width, Height, Rocks, Blobs, From, Labels, States, Games}
 
 -- a command: its first word, what stands after that, and its options, which follow in any order
 pub record CommandRow : Type 0 where
@@ -45,16 +45,16 @@ kinds = Show ∷ Brain ∷ Minimise ∷ Run ∷ Gen ∷ Cup ∷ View ∷ Workloa
 abbrev pub row_of : CommandKind → CommandRow
 row_of Show = command_row (codes "show") (Word FileName ∷ number_place SeedNumber ∷ []) []
 row_of Brain = command_row (codes "brain") one_file []
-row_of Minimise = command_row (codes "minimise") one_file []
+row_of Minimise = command_row (codes "minimise") one_file (States ∷ [])
 row_of Run = command_row (codes "run") game_places (Seed ∷ Rounds ∷ Dump ∷ Workers ∷ Window ∷ Surround ∷ Corpse ∷ Rest ∷ Stats ∷ Far ∷ [])
 row_of Gen = command_row (codes "gen") (number_place SeedNumber ∷ []) (Width ∷ Height ∷ Rocks ∷ Blobs ∷ [])
-row_of Cup = command_row (codes "cup") cup_places (Seed ∷ Rounds ∷ Workers ∷ [])
+row_of Cup = command_row (codes "cup") cup_places (Seed ∷ Rounds ∷ Workers ∷ Games ∷ [])
 row_of View = command_row (codes "view") (Word FileName ∷ game_places) (Seed ∷ Rounds ∷ [])
 row_of Workload = command_row (codes "workload") (number_place SeedNumber ∷ number_place RoundCount ∷ number_place WorkerCount ∷ []) []
 row_of Help = command_row (codes "--help") [] []
 row_of HelpWord = command_row (codes "help") [] []
 row_of Version = command_row (codes "--version") [] []
-row_of Asm = command_row (codes "asm") one_file []
+row_of Asm = command_row (codes "asm") one_file (Labels ∷ [])
 row_of Save = command_row (codes "save") game_places (Seed ∷ Rounds ∷ Workers ∷ Window ∷ Surround ∷ Corpse ∷ Rest ∷ [])
 row_of Resume = command_row (codes "resume") one_file (Rounds ∷ Dump ∷ Workers ∷ Stats ∷ [])
 row_of Trace = command_row (codes "trace") trace_places (Seed ∷ Rounds ∷ From ∷ Surround ∷ Corpse ∷ Rest ∷ [])
@@ -100,6 +100,9 @@ option_row Height = free_option (codes "--height") (Number SideLength)
 option_row Rocks = free_option (codes "--rocks") (Number ElementCount)
 option_row Blobs = free_option (codes "--blobs") (Number ElementCount)
 option_row From = free_option (codes "--from") (Number RoundCount)
+option_row Labels = flag_option (codes "--labels")
+option_row States = flag_option (codes "--states")
+option_row Games = flag_option (codes "--games")
 
 abbrev pub option_of : Choice → List ℕ
 option_of choice = (option_row choice).word

@@ -16,10 +16,12 @@ pub enum Command<'w> {
         /// the name of the brain's file
         file: &'w str,
     },
-    /// `minimise FILE`
+    /// `minimise FILE`, and its option
     Minimise {
         /// the name of the brain's file
         file: &'w str,
+        /// whether the new number of each state is wanted, and not the brain
+        states: bool,
     },
     /// `run WORLD RED BLACK`, and its options
     Run(AskedGame<'w>),
@@ -56,10 +58,12 @@ pub enum Command<'w> {
     Help,
     /// `--version`
     Version,
-    /// `asm FILE`
+    /// `asm FILE`, and its option
     Asm {
         /// the name of the labelled program's file
         file: &'w str,
+        /// whether the state that each label leads to is wanted, and not the brain
+        labels: bool,
     },
     /// `trace WORLD RED BLACK ID`, and its options
     Trace(TracedGame<'w>),
@@ -139,6 +143,8 @@ pub struct CupEntry<'w> {
     pub rounds: u32,
     /// how many workers play, from 1 to 16
     pub workers: u32,
+    /// whether the line of each game is wanted before the standing
+    pub games: bool,
 }
 
 /// What the options of `run` say, or what holds where they aren't given.

@@ -91,14 +91,16 @@ fn minimise_in<'w>(words: &'w [String]) -> Option<Command<'w>>
     ensures { option_map plain result ≡ command_in CommandKind.Minimise (answers_in CommandKind.Minimise (texts words.now)) }
 {
     let file = word_at(words, 1)?;
-    Some(Command::Minimise { file })
+    let states = is_among(Choice::States.word(), words);
+    Some(Command::Minimise { file, states })
 }
 
 fn asm_in<'w>(words: &'w [String]) -> Option<Command<'w>>
     ensures { option_map plain result ≡ command_in CommandKind.Asm (answers_in CommandKind.Asm (texts words.now)) }
 {
     let file = word_at(words, 1)?;
-    Some(Command::Asm { file })
+    let labels = is_among(Choice::Labels.word(), words);
+    Some(Command::Asm { file, labels })
 }
 
 fn run_in<'w>(words: &'w [String]) -> Option<Command<'w>>
@@ -235,12 +237,14 @@ fn cup_in<'w>(words: &'w [String]) -> Option<Command<'w>>
     let seed = number_needed(NumberKind::SeedNumber, word_after(Choice::Seed, words))?;
     let rounds = number_needed(NumberKind::RoundCount, word_after(Choice::Rounds, words))?;
     let workers = workers_in(words)?;
+    let games = is_among(Choice::Games.word(), words);
     Some(Command::Cup(CupEntry {
         worlds,
         brains,
         seed,
         rounds,
         workers,
+        games,
     }))
 }
 

@@ -11,7 +11,7 @@ pub enum CommandKind {
     Show,
     /// `brain FILE`: the canonical text of a brain
     Brain,
-    /// `minimise FILE`: a brain with as few states as serve
+    /// `minimise FILE`, and its option: a brain with as few states as serve, or its states' new numbers
     Minimise,
     /// `run WORLD RED BLACK`, and its options: a game and its score
     Run,
@@ -29,7 +29,7 @@ pub enum CommandKind {
     HelpWord,
     /// `--version`: which program this is
     Version,
-    /// `asm FILE`: the brain of a labelled program
+    /// `asm FILE`, and its option: the brain of a labelled program, or what its labels lead to
     Asm,
     /// `save WORLD RED BLACK`, and its options: a game after some rounds, to go on with
     Save,
@@ -74,6 +74,12 @@ pub enum Choice {
     Blobs,
     /// `--from N`, the first round that is told; without it 0
     From,
+    /// `--labels`, whether the state that each label leads to is wanted in place of the brain
+    Labels,
+    /// `--states`, whether the new number of each state is wanted in place of the brain
+    States,
+    /// `--games`, whether the line of each game is wanted before the standing
+    Games,
 }
 
 /// A list of file names, after a word of its own.
@@ -162,7 +168,7 @@ impl CommandKind {
             CommandKind::Minimise => CommandRow {
                 word: "minimise",
                 places: &[FILE],
-                choices: &[],
+                choices: &[Choice::States],
             },
             CommandKind::Run => CommandRow {
                 word: "run",
@@ -193,7 +199,7 @@ impl CommandKind {
                     Place::Word(Slot::Keyword(NameList::Brains)),
                     Place::Names(NameList::Brains),
                 ],
-                choices: &[Choice::Seed, Choice::Rounds, Choice::Workers],
+                choices: &[Choice::Seed, Choice::Rounds, Choice::Workers, Choice::Games],
             },
             CommandKind::View => CommandRow {
                 word: "view",
@@ -227,7 +233,7 @@ impl CommandKind {
             CommandKind::Asm => CommandRow {
                 word: "asm",
                 places: &[FILE],
-                choices: &[],
+                choices: &[Choice::Labels],
             },
             CommandKind::Save => CommandRow {
                 word: "save",
@@ -378,6 +384,9 @@ impl Choice {
                 "--from",
                 &[Place::Word(Slot::Number(NumberKind::RoundCount))],
             ),
+            Choice::Labels => free("--labels", &[]),
+            Choice::States => free("--states", &[]),
+            Choice::Games => free("--games", &[]),
         }
     }
 

@@ -1,4 +1,4 @@
-//! Makes the looks at a whole round of a game's first world, so many times over, and throws them away.
+//! Makes the looks at a whole round of a game's first world, as many times as it is asked to, and throws them away.
 //!
 //! The words are the files of a world, a red and a black brain, and how many times, at least once. It prints how many looks a round has, and how
 //! many of them draw a random number. What a look costs is the difference between a run of many times and one of few, divided by the looks. It is

@@ -92,6 +92,9 @@ fn play_rounds<K: Sink>(
 /// The score after the last round of a game, as `play_alone` gives it, without a text: the food on each colour's hill (the task's game
 /// play). Each ant's state is below the length of its colour's brain, as in every opening world; the seed is any, and the rounds are at
 /// most 1,000,000. It takes no memory and refuses nothing.
+///
+/// Given the world of `examples/ambush.world`, `Flip 2 0 0` for red and `Move 0 0` for black, and one round it answers red 3 and black 0,
+/// whatever the seed: black ant 1 steps beside red ant 2, is its fifth foe, and the killed ant leaves 3 particles on its hill.
 pub fn play_score(world: World, brains: Brains<'_>, seed: u32, rounds: u32) -> Score
     requires fit { Fits (world_of world) (minds_of brains) }
     requires few_rounds { rounds ≤ most_rounds }

@@ -95,6 +95,9 @@ impl<'b> Game<'b> {
     /// It is refused only when out of memory, where the crew refuses a window. The turns before that window are played then, and counted;
     /// no further round is done; the window's first turn is the next one, with which the next call goes on. In both cases the crew's count
     /// of turns has risen as much as that of the totals, or stands at its last value.
+    ///
+    /// Given a game of `Turn Left 0` that begins on the world of `3\n3\n###\n#+#\n###\n`, whose one ant faces direction 0, that ant faces
+    /// direction 5 after a call that is Ok, and direction 4 after the next one.
     pub fn round<C: Crew>(&mut self, alloc: Global, crew: &mut C) -> Result<(), OutOfMemory>
         requires ready { C.ready crew.old }
         requires few { self.old.done < most_rounds }

@@ -39,6 +39,7 @@ pub mod BrainForms
 pub mod RestBounds
 pub mod AfterRounds
 pub mod GameSaves
+pub mod PlayedSaves
 pub mod TextLength
 -- Worked values.
 pub mod SaveWorked

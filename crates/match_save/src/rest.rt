@@ -24,6 +24,9 @@ use std::alloc::Global;
 /// the ids times the later rounds then, or stands at its last value. It is refused where the sink failed, whose count of faults rose then, and a
 /// prefix of the text was pushed; or it is out of memory, and a proper prefix was; the crew's count has risen by no more than that of the later
 /// rounds then. The save stays as it is.
+///
+/// Given the save of `examples/one_ant.save`, which is at round 1, rounds 1 and no counts it pushes an empty line and `score: red 0 black 0`. Given
+/// rounds 2, all dumps and counts it pushes the dump after round 2, that score, and `turns 2 taken 2 redone 0`.
 pub fn resume<C: Crew, K: Sink>(
     alloc: Global,
     crew: &mut C,

@@ -1,1 +1,4 @@
+pub mod Fetcher
+pub mod Files
 pub mod Played
+pub mod Watched

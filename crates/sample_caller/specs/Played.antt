@@ -1,34 +1,56 @@
--- What was played: which score it is, by the bytes that three fetches answered.
-use Rattle.std.specs.Prelude.{◌≡◌, ℕ, List, [], ◌∷◌, ◌++◌, Ok}
+-- What comes of a game of three files (this project's own).
+use Rattle.std.specs.Prelude.{◌≡◌, ◌⊎◌, ℕ, List, Result, Ok, Err, codes}
 use Rattle.ant_base.specs.Fetched.{Fetched}
+use Rattle.ant_base.specs.Layout.{◌+++◌}
 use Rattle.ant_turn.specs.Minds.{contest_minds}
+use Rattle.brain_read.specs.declared.fault.BrainFault.TheVariants as brain
 use Rattle.brain_read.specs.declared.instr.Instr.{Instr}
-use Rattle.brain_read.specs.Grammar.{IsBrainText}
 use Rattle.cell_world.specs.declared.score.Score.{Score}
 use Rattle.cell_world.specs.Grid.{Grid, world_of}
 use Rattle.cell_world.specs.Score.{score_of}
+use Rattle.dump_print.specs.Texts.{score_text}
 use Rattle.match_run.specs.Run.{world_after}
-use Rattle.world_read.specs.Opened.{OpensAs}
+use Rattle.world_read.specs.declared.fault.WorldFault.TheVariants as world
+use Rattle.sample_caller.specs.declared.refusal.FileFault.{FileFault}
+use Rattle.sample_caller.specs.declared.refusal.FileFault.TheVariants.{Fetch, World, Brain}
+use Rattle.sample_caller.specs.declared.refusal.Refusal.{Refusal}
+use Rattle.sample_caller.specs.Files.{ReadsBrain, ReadsWorld, refusal_text}
 
 -- the seed of the random numbers
 abbrev pub sample_seed : ℕ
 sample_seed = 12345
 
--- a fetch that was answered with these bytes
-abbrev pub got : List ℕ → List ℕ → Fetched
-got name bytes = record { name = name; answer = Ok bytes }
+-- what comes of a game of the files of a world, a red brain and a black one: they are fetched and read in this order, each only where those
+-- before it were opened. The first that is refused ends it; else the score is that of the world after so many rounds by the contest's rules
+pub data PlaysFiles (log new_log : List Fetched) (world red black : List ℕ) (rounds : ℕ) : Result Score Refusal → Type 0 where
+  WorldRefused : (refusal : Refusal) → ReadsWorld log new_log world (Err refusal) → PlaysFiles log new_log world red black rounds (Err refusal)
+  RedRefused : (log_red : List Fetched) (grid : Grid) (refusal : Refusal) → ReadsWorld log log_red world (Ok grid)
+      → ReadsBrain log_red new_log red (Err refusal) → PlaysFiles log new_log world red black rounds (Err refusal)
+  BlackRefused : (log_red log_black : List Fetched) (grid : Grid) (first : List Instr) (refusal : Refusal) → ReadsWorld log log_red world (Ok grid)
+      → ReadsBrain log_red log_black red (Ok first) → ReadsBrain log_black new_log black (Err refusal) → PlaysFiles log new_log world red black rounds (Err refusal)
+  Played : (log_red log_black : List Fetched) (grid : Grid) (first second : List Instr) (score : Score) → ReadsWorld log log_red world (Ok grid)
+      → ReadsBrain log_red log_black red (Ok first) → ReadsBrain log_black new_log black (Ok second)
+      → score ≡ score_of (world_after (contest_minds first second) sample_seed (world_of grid) rounds) → PlaysFiles log new_log world red black rounds (Ok score)
 
--- each of three files was fetched once, in this order; its bytes are the text of a world that opens as this grid, or of a brain; and the score
--- is that of the world after so many rounds by the contest's rules, with that seed
-pub record IsGamePlayed (log new_log : List Fetched) (world_name red_name black_name : List ℕ) (rounds : ℕ) (score : Score) : Type 0 where
-  pub world_bytes : List ℕ
-  pub red_bytes : List ℕ
-  pub black_bytes : List ℕ
-  pub fetched : new_log ≡ ((log ++ got world_name world_bytes ∷ []) ++ got red_name red_bytes ∷ []) ++ got black_name black_bytes ∷ []
-  pub world : Grid
-  pub red : List Instr
-  pub black : List Instr
-  pub is_world : OpensAs world_bytes world
-  pub is_red : IsBrainText red_bytes red
-  pub is_black : IsBrainText black_bytes black
-  pub is_score : score ≡ score_of (world_after (contest_minds red black) sample_seed (world_of world) rounds)
+-- what is printed of it: the score, or the line of the file that was refused
+abbrev pub outcome_text : Result Score Refusal → List ℕ
+outcome_text (Ok score) = score_text score
+outcome_text (Err refusal) = refusal_text refusal.name.now refusal.fault +++ codes "\n"
+
+-- memory was wanting while bytes were read, which says nothing of them; that a fetch wanted it is told by the log
+abbrev pub IsWanting : FileFault → Type 0
+IsWanting (Fetch fault) = ⊥
+IsWanting (World fault) = fault ≡ world.OutOfMemory
+IsWanting (Brain fault) = fault ≡ brain.OutOfMemory
+
+-- two results are one: the same value, or the same fault of the same file; or memory was wanting for one of them
+abbrev pub AreOne : {A : Type 0} → Result A Refusal → Result A Refusal → Type 0
+AreOne (Ok a) (Ok b) = a ≡ b
+AreOne (Ok a) (Err b) = IsWanting b.fault
+AreOne (Err a) (Ok b) = IsWanting a.fault
+AreOne (Err a) (Err b) = ((a.name.now ≡ b.name.now) × (a.fault ≡ b.fault)) ⊎ (IsWanting a.fault ⊎ IsWanting b.fault)
+
+-- what is answered to the fetches decides what comes of a game: where the log is the same, so is the outcome
+abbrev pub OneOutcome : Type 0
+OneOutcome = (log new_log : List Fetched) (world red black : List ℕ) (rounds : ℕ) (a b : Result Score Refusal)
+    → PlaysFiles log new_log world red black rounds a → PlaysFiles log new_log world red black rounds b → AreOne a b

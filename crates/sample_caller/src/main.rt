@@ -1,86 +1,81 @@
-//! A caller of the library, as short as one can be: it reads a world and two brains, plays a game by the contest's rules, and prints the
-//! score. What it promises is the clause of `play`, in the words of the crates that it stands on. It is this project's own.
+//! Callers of the library, a page each: a game of three files, a brain that is made of instructions, and a look at the world after each round.
+//!
+//! The words are those of some games, `WORLD RED BLACK ROUNDS` of each. The program prints the score of each game, or which file was refused and
+//! why; and then what the two other callers come to, which need no file. What they promise are the clauses of [`play`], [`play_fetchers`]
+//! and [`first_laden`], in the words of the crates that they stand on. It is this project's own.
 #![tactic(auto)]
 
-ghost use Rattle.std.specs.Prelude.{◌≤◌, IfSome};
-ghost use Rattle.match_run.specs.Run.{most_rounds};
-ghost use Rattle.sample_caller.specs.Played.{IsGamePlayed};
+mod fetcher;
+mod files;
+mod laws;
+mod played;
+mod refusal;
+#[cfg(test)]
+mod tests;
+mod watched;
 
-use ant_base::{FileShelf, OutSink, Shelf, read_number_within};
+use crate::fetcher::{fetcher, play_fetchers};
+use crate::played::{play, push_outcome};
+use crate::watched::first_laden;
+use ant_base::{FileShelf, Layout, OutSink, Shelf, Sink, layout, read_u32_within};
 use ant_turn::{Brains, Sheet};
-use brain_read::read_brain;
-use cell_world::Score;
+use anyhow::{Context, Result, bail};
 use dump_print::push_score;
-use match_run::{MOST_ROUNDS, play_score};
-use std::alloc::{AllocError, Global};
+use match_run::MOST_ROUNDS;
+use std::alloc::Global;
 use std::env;
 use std::io::BufWriter;
-use std::process::ExitCode;
 use world_read::read_world;
 
-const SEED: u32 = 12345;
+// One red ant, and two particles of food on the cell after the next.
+const CORRIDOR: &str = "6\n3\n######\n#+.2.#\n######\n";
 
-/// The score after so many rounds, at most 1,000,000, of the game of two files' brains on the world of a third, by the random numbers of
-/// seed 12345; None where a file is not read, or is no world or no brain, or memory is wanting.
-fn play<S: Shelf>(
+// So many rounds are played there.
+const ROUNDS: u32 = 110;
+
+// Plays the game of four words, and prints what came of it.
+fn play_words<S: Shelf, K: Sink>(
     alloc: Global,
+    words: &[String],
     shelf: &mut S,
-    world: &str,
-    red: &str,
-    black: &str,
-    rounds: u32,
-) -> Option<Score>
-    requires { rounds ≤ most_rounds }
-    ensures { IfSome result (λ score. IsGamePlayed (S.state shelf.old).log (S.state shelf.new).log world.now red.now black.now rounds score) }
-{
-    let Ok(world_bytes) = shelf.fetch(alloc, world) else {
-        return None;
+    out: &mut K,
+) -> Result<()> {
+    let [world, red, black, rounds] = words else {
+        bail!("a game is WORLD RED BLACK ROUNDS");
     };
-    let Ok(red_bytes) = shelf.fetch(alloc, red) else {
-        return None;
-    };
-    let Ok(black_bytes) = shelf.fetch(alloc, black) else {
-        return None;
-    };
-    let (Ok(world), Ok(red), Ok(black)) = (
-        read_world(alloc, &world_bytes),
-        read_brain(alloc, &red_bytes),
-        read_brain(alloc, &black_bytes),
-    ) else {
-        return None;
-    };
-    let brains = Brains {
-        red: &red,
-        black: &black,
-        sheet: Sheet::contest(),
-    };
-    Some(play_score(world, brains, SEED, rounds))
+    let rounds = read_u32_within(rounds.as_bytes(), 0, MOST_ROUNDS).context(
+        "a game has 0 to 1,000,000 rounds",
+    )?;
+    let outcome = play(alloc, shelf, world, red, black, rounds);
+    push_outcome(outcome, out)?;
+    Ok(())
 }
 
-fn main(rt: HostRuntime) -> ExitCode {
-    let alloc = rt.alloc();
-    let Ok(args) = env::args(&rt) else {
-        return ExitCode::FAILURE;
+// Prints the score of fetchers in the corridor, and after which round its ant carries food.
+fn show_fetchers<K: Sink>(alloc: Global, out: &mut K) -> Result<()> {
+    let world = read_world(alloc, CORRIDOR.as_bytes())?;
+    push_score(play_fetchers(alloc, world, ROUNDS)?, out)?;
+    let world = read_world(alloc, CORRIDOR.as_bytes())?;
+    let brain = fetcher(alloc)?;
+    let brains = Brains {
+        red: &brain,
+        black: &brain,
+        sheet: Sheet::contest(),
     };
-    let words: Result<Vec<String>, AllocError> = args.skip(1).collect(alloc);
-    let (Ok(words), Ok(output)) = (words, BufWriter::new(alloc, rt.stdout())) else {
-        return ExitCode::FAILURE;
-    };
-    let [world, red, black, number] = words.as_slice() else {
-        return ExitCode::FAILURE;
-    };
-    let Some(rounds) = read_number_within(number.as_bytes(), 0, u64::from(MOST_ROUNDS)) else {
-        return ExitCode::FAILURE;
-    };
-    match play(
-        alloc,
-        &mut FileShelf::new(&rt),
-        world,
-        red,
-        black,
-        rounds as u32,
-    ) {
-        Some(score) if push_score(score, &mut OutSink::new(output)).is_ok() => ExitCode::SUCCESS,
-        _ => ExitCode::FAILURE,
+    match first_laden(alloc, world, brains, 0, ROUNDS)? {
+        Some(round) => layout!("ant 0 carries food after round ", round, "\n").push_to(out)?,
+        None => "ant 0 carries no food\n".push_to(out)?,
     }
+    Ok(())
+}
+
+fn main(rt: HostRuntime) -> Result<()> {
+    let alloc = rt.alloc();
+    let words: Vec<String> = env::args(&rt)?.skip(1).collect(alloc)?;
+    let mut out = OutSink::new(BufWriter::new(alloc, rt.stdout())?);
+    let mut shelf = FileShelf::new(&rt);
+    for game in words.chunks(4) {
+        play_words(alloc, game, &mut shelf, &mut out)?;
+    }
+    show_fetchers(alloc, &mut out)
 }

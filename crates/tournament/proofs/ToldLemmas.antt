@@ -10,8 +10,8 @@ use Rattle.ant_base.proofs.Pushes.{all_then, front_more, front_then}
 use Rattle.cell_world.specs.declared.score.Score.{Score}
 use Rattle.tournament.specs.declared.games.Played.{Played}
 use Rattle.tournament.specs.declared.standing.Line.{Line}
-use Rattle.tournament.specs.declared.told.CupFault.{CupFault}
-use Rattle.tournament.specs.declared.told.CupFault.TheVariants.{WriteFault, OutOfMemory}
+use Rattle.tournament.specs.declared.fault.CupFault.{CupFault}
+use Rattle.tournament.specs.declared.fault.CupFault.TheVariants.{WriteFault, OutOfMemory}
 use Rattle.tournament.specs.Games.{IsGame, all_played, below, games_of, games_on, played_by, world_played}
 use Rattle.tournament.specs.Inner.Worlds.{WorldStops}
 use Rattle.tournament.specs.Laws.{GamesAddUp, WorldsInOrder}
@@ -136,13 +136,13 @@ module _ (worlds players : List (List ℕ)) where
         ∙ games_text-append (first_played world) (world_played (length players) world score) 1
         ∙ ap (λ n. games_text worlds players (first_played world) 1 ++ games_text worlds players (world_played (length players) world score) n) at
 
-    -- the text of a cup begins with the lines of the games on its first worlds
-    pub told_text-front : (told : ℕ) (text : List ℕ) → told ≤ length worlds → IsToldCupText worlds players score text
-        → (rest : List ℕ) × (text ≡ games_text worlds players (first_played told) 1 ++ rest)
+    -- the text of a cup begins with the lines of the games on its first worlds, and ends with the standing
+    pub told_text-front : (told : ℕ) (text : List ℕ) → told ≤ length worlds → (is_text : IsToldCupText worlds players score text)
+        → (rest : List ℕ) × (text ≡ games_text worlds players (first_played told) 1 ++ (rest ++ standing_text players is_text.lines))
     told_text-front told text few is_text =
         let front = played_front (length players) told (length worlds) score few in
         let rest : List ℕ = games_text worlds players front.0 (1 + length (first_played told)) in (
-          rest ++ standing_text players is_text.lines,
+          rest,
           is_text.is
               ∙ ap (λ games. games_text worlds players games 1 ++ standing_text players is_text.lines) front.1
               ∙ ap (λ text. text ++ standing_text players is_text.lines) (games_text-append (first_played told) front.0 1)
@@ -165,7 +165,7 @@ module _ (worlds players : List (List ℕ)) where
         let is_text : IsToldCupText worlds players score text = record { lines = standing.0; standing = standing.1; is = refl } in
         let front = told_text-front (world + 1) text (omega arith) is_text in
         let lines = subst (PushedFront old new) (sym (more_lines world)) (front_then old mid new _ _ so_far stopped) in
-        record { text = text; is_text = is_text; pushed = subst (PushedFront old new) (sym front.1) (front_more old new _ front.0 lines) }
+        record { text = text; is_text = is_text; pushed = subst (PushedFront old new) (sym front.1) (front_more old new _ (front.0 ++ standing_text players standing.0) lines) }
     world_stopped old mid new world OutOfMemory early so_far stopped = record {
       told = world;
       some = omega arith;

@@ -1,4 +1,5 @@
 pub mod Existence
+pub mod FaultText
 pub mod Games
 pub mod Inner
 pub mod Laws

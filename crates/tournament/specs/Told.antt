@@ -5,8 +5,8 @@ use Rattle.ant_base.specs.Sink.{SinkState, PushedAll, PushedFront}
 use Rattle.cell_world.specs.declared.score.Score.{Score}
 use Rattle.tournament.specs.declared.games.Played.{Played}
 use Rattle.tournament.specs.declared.standing.Line.{Line}
-use Rattle.tournament.specs.declared.told.CupFault.{CupFault}
-use Rattle.tournament.specs.declared.told.CupFault.TheVariants.{WriteFault, OutOfMemory}
+use Rattle.tournament.specs.declared.fault.CupFault.{CupFault}
+use Rattle.tournament.specs.declared.fault.CupFault.TheVariants.{WriteFault, OutOfMemory}
 use Rattle.tournament.specs.Games.{all_played}
 use Rattle.tournament.specs.Names.{name_of}
 use Rattle.tournament.specs.Standing.{IsStandingOf}

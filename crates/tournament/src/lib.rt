@@ -6,11 +6,13 @@
 //!
 //! What makes a game's score is a [`Referee`], so that this crate knows no brain and no world. [`play_all`] cuts the list of games into
 //! contiguous pieces and plays each piece in a thread of its own; the standing is that of the referee's scores, whatever the number of
-//! workers is. [`tell_cup`] plays world by world instead, and pushes the games' lines after each. [`push_standing`] prints the standing with the players' [`Names`]. Pieces, texts and names are this project's own. It stands on
-//! `cell_world` for the score, on `ant_base` for texts, and on no rule of the game.
+//! workers is. [`tell_cup`] plays world by world instead, and pushes the games' lines after each. [`push_standing`] prints the standing with
+//! the players' [`Names`]. Pieces, texts and names are this project's own. It stands on `cell_world` for the score, on `ant_base` for texts,
+//! and on no rule of the game.
 #![tactic(auto)]
 
 mod existence;
+mod fault;
 mod fork;
 mod games;
 mod laws;
@@ -24,6 +26,7 @@ mod text;
 mod told;
 
 pub use existence::has_standing;
+pub use fault::CupFault;
 pub use games::{Pairing, Played};
 pub use hex_geometry::OutOfMemory;
 pub use laws::{games_add_up, one_standing, points_add_up, wins_are_losses};
@@ -33,4 +36,4 @@ pub use referee::Referee;
 pub use standing::{Line, Standing};
 pub use tally::standing_of;
 pub use text::push_standing;
-pub use told::{CupFault, push_games, tell_cup};
+pub use told::{push_games, tell_cup};

@@ -17,6 +17,9 @@ use std::thread::Threads;
 /// Plays all games of a cup of 2 to 16 players on 1 to 16 worlds with 1 to 16 workers, and gives the standing of the referee's scores, the
 /// same for every number of workers. The referee knows each of these games: any two different players, as red and as black, on each world.
 /// A worker that has no game starts no thread. It is refused only when out of memory, its own or the referee's.
+///
+/// Given 2 players, one world, and a referee by whom player 1 wins the game in which it is red and the other game is drawn, it answers two
+/// lines: player 1 with 3 points, 1 won, 1 drawn, 0 lost; and then player 0 with 1 point, 0 won, 1 drawn, 1 lost.
 pub fn play_all<R: Threads + Sync, F: Referee>(
     rt: &R,
     alloc: Global,

@@ -6,6 +6,7 @@ ghost use Rattle.tournament.specs.Names.{texts_of};
 ghost use Rattle.tournament.specs.Inner.Worlds.{CanBeTold, WorldTold};
 ghost use Rattle.tournament.specs.Told.{Told, game_line_text, games_text};
 
+use crate::fault::CupFault;
 use crate::games::Played;
 use crate::names::Names;
 use crate::play::play_world;
@@ -16,35 +17,6 @@ use ant_base::{Failed, Layout, Sink, layout};
 use hex_geometry::OutOfMemory;
 use std::alloc::Global;
 use std::thread::Threads;
-
-/// Why a cup whose games are told stopped before its whole text was pushed.
-#[derive(Clone, Copy, Debug, PartialEq, Eq)]
-pub enum CupFault {
-    /// The sink failed.
-    WriteFault,
-    /// Memory could not be had.
-    OutOfMemory,
-}
-
-impl From<Failed> for CupFault {
-    ghost use Rattle.tournament.specs.declared.told.CupFault.TheVariants.{WriteFault};
-
-    ghost from_gives = { λ _ fault. fault ≡ WriteFault };
-
-    fn from(_: Failed) -> Self {
-        CupFault::WriteFault
-    }
-}
-
-impl From<OutOfMemory> for CupFault {
-    ghost use Rattle.tournament.specs.declared.told.CupFault.TheVariants as fault;
-
-    ghost from_gives = { λ _ result. result ≡ fault.OutOfMemory };
-
-    fn from(_: OutOfMemory) -> Self {
-        CupFault::OutOfMemory
-    }
-}
 
 /// Pushes the line of each of these games, in their order, the first with this number, as `game 17: red 3 black 0, w, a, b`: the score, and
 /// the names of the world, of the red player and of the black player. Each world and player has a name, and the numbers are below 2^32. Where

@@ -68,6 +68,10 @@ impl From<OutOfMemory> for GenFault {
 /// each cell of a blob has 5 food particles, all else but the hills is clear, and an ant begins on each hill cell. An element goes to
 /// the first of its 50 tries that fits, else to the first place that fits in row order; `NoRoom` comes exactly where there is none for an
 /// element, the first such. Apart from that it is refused only when out of memory.
+///
+/// Given seed 12345 and 64 by 64 cells without rocks and with one blob it answers the world whose red hill is round (25, 52) and whose
+/// black hill is round (18, 7), with the blob's corner at (36, 40). Given 12 by 12 cells it answers `NoRoom { element: 0 }` with every
+/// seed, since a hill is 13 cells wide.
 pub fn generate(alloc: Global, seed: u32, shape: Shape) -> Result<World, GenFault>
     requires { IsShape shape }
     ensures { IsAnswer seed shape result }

@@ -13,6 +13,8 @@ use Rattle.match_run.specs.Counts.{whole_text}
 use Rattle.match_run.specs.Dumps.{chooses}
 use Rattle.match_run.specs.Run.{most_rounds}
 use Rattle.match_save.specs.Saved.{SavedValue}
+use Rattle.tournament.specs.declared.fault.CupFault.{CupFault}
+use Rattle.tournament.specs.declared.fault.CupFault.TheVariants as cup
 use Rattle.world_gen.specs.declared.shape.Shape.{Shape}
 use Rattle.world_gen.specs.Generated.{IsGenerated}
 use Rattle.world_gen.specs.Placing.{HasNoRoom}
@@ -50,6 +52,16 @@ stop_of play.OutOfMemory = stop.Memory
 abbrev pub play_ending : {A : Type 0} → Result A PlayFault → Option Reason
 play_ending (Ok done) = None
 play_ending (Err fault) = Some (reason_of (stop_of fault))
+
+-- the stop of a cup whose games are told
+abbrev pub cup_stop_of : CupFault → CommandStop
+cup_stop_of cup.WriteFault = stop.Write
+cup_stop_of cup.OutOfMemory = stop.Memory
+
+-- why a command stopped that told such a cup last, if it did
+abbrev pub cup_ending : {A : Type 0} → Result A CupFault → Option Reason
+cup_ending (Ok done) = None
+cup_ending (Err fault) = Some (reason_of (cup_stop_of fault))
 
 -- a game was planned; only memory can be wanting
 abbrev pub IsPlanned : RunSetup → Result PlannedGame CommandStop → Type 0

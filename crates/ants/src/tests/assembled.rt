@@ -1,6 +1,6 @@
 // The command `asm`.
 use crate::status::Status;
-use crate::tests::{CutRun, Given, Job, NO_JOB, Table, check_cuts, check_rows};
+use crate::tests::{CutRun, Given, Job, NO_JOB, Table, check_cuts, check_rows, check_tables};
 use std::test::Fail;
 
 // A block that turns back, put in place where an ant is stuck.
@@ -100,6 +100,53 @@ static REFUSED_PROGRAMS: Table<'static> = Table {
 fn a_labelled_program_becomes_a_brain_or_its_fault_is_told(rt: HostRuntime) -> Result<(), Fail> {
     check_rows(&rt, rt.alloc(), &ASSEMBLED_PROGRAMS)?;
     check_rows(&rt, rt.alloc(), &REFUSED_PROGRAMS)
+}
+
+// The command that tells the labels in place of the brain.
+const LABELS: Job<'static> = Job {
+    line: "asm r --labels",
+    ..NO_JOB
+};
+
+// Labelled programs, and the state to which each of their labels leads. In the first, block half has two states, and is used at the states 0
+// and 2; its second label stands at its end, and so leads to what follows the use: state 2, and state 0 behind the last item of main. In the
+// third no body that is put in place has a label.
+const TOLD: [(&str, &str); 4] = [
+    (
+        "block left on\nturn:\nTurn Left on\nend\nblock half on\nuse left next\nmid:\nuse left on\nlast:\nend\n\
+        start:\nuse half next\nuse half start\nstop:\n",
+        "0 start\n0 stop\n1 half@12/mid\n2 half@12/last\n0 half@12/left@6/turn\n1 half@12/left@8/turn\n\
+        3 half@13/mid\n0 half@13/last\n2 half@13/left@6/turn\n3 half@13/left@8/turn\n",
+    ),
+    (BACK, "0 go\n1 stuck\n"),
+    ("block idle\nhere:\nDrop here\nend\nDrop next\n", ""),
+    ("Drop next", ""),
+];
+
+// Texts that are no labelled program: the labels of none are told.
+const UNTOLD: [(&str, &str); 2] = [
+    ("Move go go", "ants: r: line 1: no such label\n"),
+    ("here:\n", "ants: r: no instruction\n"),
+];
+
+static TOLD_LABELS: [Table<'static>; 2] = [
+    Table {
+        job: LABELS,
+        given: Given::Red,
+        status: Status::Done,
+        rows: &TOLD,
+    },
+    Table {
+        job: LABELS,
+        given: Given::Red,
+        status: Status::Input,
+        rows: &UNTOLD,
+    },
+];
+
+#[test]
+fn the_labels_are_told_in_place_of_the_brain(rt: HostRuntime) -> Result<(), Fail> {
+    check_tables(&rt, rt.alloc(), &TOLD_LABELS)
 }
 
 // An assembled brain for whose second line the output has no room.

@@ -1,6 +1,8 @@
 // The command `cup`.
 use crate::status::Status;
-use crate::tests::{CLOSED, CLOSING, Given, Job, NO_JOB, Table, check_rows, check_tables};
+use crate::tests::{
+    CLOSED, CLOSING, CutRun, Given, Job, NO_JOB, Table, check_cuts, check_rows, check_tables,
+};
 use std::test::Fail;
 
 // A world on which the player that draws numbers wins as red and draws as black against one that steps ahead: the worlds w and -. On the
@@ -161,6 +163,67 @@ fn a_cup_prints_its_standing_or_names_its_first_file_at_fault(rt: HostRuntime) -
     check_rows(&rt, rt.alloc(), &DASHED_CUPS)?;
     check_rows(&rt, rt.alloc(), &REFUSED_CUPS)?;
     check_rows(&rt, rt.alloc(), &UNREAD_CUPS)
+}
+
+// Words of cups whose games are told, and their lines before the standing: on w, -c, c and d as red win 3 to 0 against a, since a red ant dies
+// on its hill, and no other game brings food.
+const TOLD: [(&str, &str); 3] = [
+    (
+        "cup --worlds w --brains a c --games --seed 12345 --rounds 1",
+        "game 1: red 0 black 0, w, a, c\ngame 2: red 3 black 0, w, c, a\n\
+        3 points: c (1 won, 1 drawn, 0 lost)\n1 points: a (0 won, 1 drawn, 1 lost)\n",
+    ),
+    (
+        "cup --worlds x w --brains a -c --seed 12345 --rounds 1 --workers 4 --games",
+        "game 1: red 0 black 0, x, a, -c\ngame 2: red 0 black 0, x, -c, a\n\
+        game 3: red 0 black 0, w, a, -c\ngame 4: red 3 black 0, w, -c, a\n\
+        5 points: -c (1 won, 3 drawn, 0 lost)\n3 points: a (0 won, 3 drawn, 1 lost)\n",
+    ),
+    (
+        "cup --worlds w --brains a d c --seed 12345 --rounds 1 --games",
+        "game 1: red 0 black 0, w, a, d\ngame 2: red 3 black 0, w, d, a\n\
+        game 3: red 0 black 0, w, a, c\ngame 4: red 3 black 0, w, c, a\n\
+        game 5: red 0 black 0, w, d, c\ngame 6: red 0 black 0, w, c, d\n\
+        5 points: d (1 won, 3 drawn, 0 lost)\n5 points: c (1 won, 3 drawn, 0 lost)\n2 points: a (0 won, 2 drawn, 2 lost)\n",
+    ),
+];
+
+// Such a cup with a file at fault: no game of it is told.
+const UNTOLD: [(&str, &str); 1] = [(
+    "cup --worlds w --brains a none --seed 12345 --rounds 1 --games",
+    "ants: none: no instruction\n",
+)];
+
+static TOLD_CUPS: [Table<'static>; 2] = [
+    Table {
+        job: CUP,
+        given: Given::Line,
+        status: Status::Done,
+        rows: &TOLD,
+    },
+    Table {
+        job: CUP,
+        given: Given::Line,
+        status: Status::Input,
+        rows: &UNTOLD,
+    },
+];
+
+// A cup for whose second game the output has no room.
+static CUT_CUPS: [CutRun<'static>; 1] = [CutRun {
+    job: Job {
+        line: "cup --worlds w --brains a c --games --seed 12345 --rounds 1",
+        room: 31,
+        ..CUP
+    },
+    held: "game 1: red 0 black 0, w, a, c\n",
+    line: "ants: output failed\n",
+}];
+
+#[test]
+fn the_games_of_a_cup_are_told_before_its_standing(rt: HostRuntime) -> Result<(), Fail> {
+    check_tables(&rt, rt.alloc(), &TOLD_CUPS)?;
+    check_cuts(&rt, rt.alloc(), &CUT_CUPS)
 }
 
 // Player r goes ahead in round 2 with each ant whose number leaves 0 modulo 2932; player b stays.

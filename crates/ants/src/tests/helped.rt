@@ -17,7 +17,7 @@ static ASKED: Table<'static> = Table {
 // How the page of all commands begins, some of its lines, and how it ends.
 static PAGE: Told<'static> = Told {
     start: "ants 1.0.0 plays the ant world of the ICFP Programming Contest 2004.\n\nusage: ants COMMAND WORD.. [OPTION]..\n",
-    lines: "  run WORLD RED BLACK --seed N --rounds N [OPTION]..\n  view WORLD RED BLACK BREAKS --seed N --rounds N\n  cup --worlds WORLD.. --brains BRAIN BRAIN.. --seed N --rounds N [--workers N]\n  workload SEED ROUNDS WORKERS\n  show WORLD SEED\n  --help\n  --dump D      dumps after rounds: none, all, or as 0,10,100; none\n  --corpse N    food that a dead ant leaves, 0 to 9; 3\n  0  all of the output was written\n  1  a word is no UTF-8, and nothing is written\n  2  the words are no command\n  3  a file was not read\n  4  the output failed\n  5  a file was refused, or an element of a world has no room\n  6  out of memory\n",
+    lines: "  run WORLD RED BLACK --seed N --rounds N [OPTION]..\n  view WORLD RED BLACK BREAKS --seed N --rounds N\n  cup --worlds WORLD.. --brains BRAIN BRAIN.. --seed N --rounds N [OPTION]..\n  workload SEED ROUNDS WORKERS\n  show WORLD SEED\n  --help\n  --dump D      dumps after rounds: none, all, or as 0,10,100; none\n  --corpse N    food that a dead ant leaves, 0 to 9; 3\n  --labels      asm: prints which state each label leads to, not the brain\n  0  all of the output was written\n  1  a word is no UTF-8, and nothing is written\n  2  the words are no command\n  3  a file was not read\n  4  the output failed\n  5  a file was refused, or an element of a world has no room\n  6  out of memory\n",
     end: "README.md and docs/RULES.md have the rules, the form of each file and examples.\n",
 };
 

@@ -141,6 +141,19 @@ const REFUSED_OTHERS: [(&str, &str); 28] = [
     ),
 ];
 
+// The same of the options that choose what is printed.
+const REFUSED_FLAGS: [(&str, &str); 6] = [
+    ("asm --labels r", "ants: word 2 refused\n"),
+    ("asm r --labels --labels", "ants: word 4 refused\n"),
+    ("minimise b --labels", "ants: word 3 refused\n"),
+    ("minimise b --states 1", "ants: word 4 refused\n"),
+    ("run w r b --games", "ants: word 5 refused\n"),
+    (
+        "cup --worlds w --brains r b --games --games",
+        "ants: word 8 refused\n",
+    ),
+];
+
 // No commands, beside a world.
 static NO_COMMANDS: Table<'static> = Table {
     job: Job {
@@ -182,12 +195,23 @@ static NO_OTHERS: Table<'static> = Table {
     rows: &REFUSED_OTHERS,
 };
 
+static NO_FLAGS: Table<'static> = Table {
+    job: Job {
+        world: CLOSED,
+        ..NO_JOB
+    },
+    given: Given::Line,
+    status: Status::Words,
+    rows: &REFUSED_FLAGS,
+};
+
 #[test]
 fn the_first_word_with_which_no_command_begins_is_refused(rt: HostRuntime) -> Result<(), Fail> {
     check_rows(&rt, rt.alloc(), &NO_COMMANDS)?;
     check_rows(&rt, rt.alloc(), &NO_RUNS)?;
     check_rows(&rt, rt.alloc(), &NO_CUPS)?;
-    check_rows(&rt, rt.alloc(), &NO_OTHERS)
+    check_rows(&rt, rt.alloc(), &NO_OTHERS)?;
+    check_rows(&rt, rt.alloc(), &NO_FLAGS)
 }
 
 // Words with `--far`, and the line that names the refused one where nobody may wait for a worker.

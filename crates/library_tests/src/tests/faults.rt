@@ -7,6 +7,7 @@ use match_run::PlayFault;
 use match_save::SaveFault;
 use std::alloc::Global;
 use std::fmt;
+use tournament::CupFault;
 use world_gen::GenFault;
 use world_read::WorldFault;
 
@@ -37,13 +38,14 @@ fn faults_are_displayed(rt: HostRuntime) {
         says(alloc, &Failed, "output failed"),
         says(alloc, &OutOfMemory, "out of memory"),
         says(alloc, &PlayFault::WriteFault, "output failed"),
+        says(alloc, &CupFault::OutOfMemory, "out of memory"),
         says(
             alloc,
             &GenFault::NoRoom { element: 13 },
             "no room for element 13",
         ),
     ];
-    assert_eq!(rt; low, [true; 6]);
+    assert_eq!(rt; low, [true; 7]);
 }
 
 #[test]

@@ -1,8 +1,8 @@
 -- A cup that is told world by world.
 use Rattle.std.specs.Prelude.{◌≡◌, ◌≢◌, ℕ, ◌<◌, ◌≤◌, List, Result, Ok, Err}
 use Rattle.ant_base.specs.Sink.{SinkState, PushedAll, PushedFront}
-use Rattle.tournament.specs.declared.told.CupFault.{CupFault}
-use Rattle.tournament.specs.declared.told.CupFault.TheVariants.{WriteFault, OutOfMemory}
+use Rattle.tournament.specs.declared.fault.CupFault.{CupFault}
+use Rattle.tournament.specs.declared.fault.CupFault.TheVariants.{WriteFault, OutOfMemory}
 
 -- so many players, worlds and workers make a cup, each game of which the referee knows
 pub record CanBeTold (knows : ℕ → ℕ → ℕ → Type 0) (players worlds workers : ℕ) : Type 0 where

@@ -1,19 +1,15 @@
--- the one file was accepted as the program whose brain was written
-use Rattle.std.proofs.Common.{◌∷◌, [], refl}
-use Rattle.brain_read.specs.Canonical.{brain_text}
+-- what is wanted was written
+use Rattle.std.proofs.Common.{Bool, sym, subst}
 use Rattle.command_words.specs.Command.PlainCommand.{AsmCommand}
-use Rattle.ants.specs.Files.FileContent.{LabelledContent}
-use Rattle.ants.proofs.Readings.{carries_pushed, carries_stop}
+use Rattle.ants.specs.Inner.Reading.{CarriesOut, ending_of}
 use Rattle.ants.proofs.asm.asm.Goals as goal
 
-pub returns-in_err-made : goal.returns-in_err-made
-returns-in_err-made g c =
-    carries_stop (AsmCommand c.args.name.now) (g.S.Shelf.state c.args.shelf.now) (g.S.Shelf.state c.read_file.new.shelf) (g.K.Sink.state c.args.out.now)
-    c.from_residual.result c.in_err-made.field-0.0 c.from_residual.ensures.1 c.in_err-made.ensures
+pub returns-then-labels : goal.returns-then-labels
+returns-then-labels g c =
+    subst (λ (labels : Bool). CarriesOut (AsmCommand c.args.name.now labels) (g.S.Shelf.state c.args.shelf.now) (g.S.Shelf.state c.asm_labels.new.shelf) (g.K.Sink.state c.args.out.now) (g.K.Sink.state c.asm_labels.new.out) (ending_of c.asm_labels.result))
+    (sym c.if-labels.true) c.asm_labels.ensures
 
 pub returns : goal.returns
 returns g c =
-    carries_pushed (AsmCommand c.args.name.now) (g.S.Shelf.state c.args.shelf.now) (g.S.Shelf.state c.read_file.new.shelf) (g.K.Sink.state c.args.out.now) (g.K.Sink.state c.write_brain.new.sink)
-    (LabelledContent c.in_ok-made.made.brain c.in_ok-made.made.places ∷ []) c.after_push.result c.write_brain.result c.after_push.ensures c.in_ok-made.ensures
-    (brain_text c.in_ok-made.made.brain)
-    (record { value = record { brain = c.in_ok-made.made.brain; places = c.in_ok-made.made.places }; read = refl; told = refl }) c.write_brain.ensures.pushed
+    subst (λ (labels : Bool). CarriesOut (AsmCommand c.args.name.now labels) (g.S.Shelf.state c.args.shelf.now) (g.S.Shelf.state c.asm_brain.new.shelf) (g.K.Sink.state c.args.out.now) (g.K.Sink.state c.asm_brain.new.out) (ending_of c.asm_brain.result))
+    (sym c.if-labels.false) c.asm_brain.ensures

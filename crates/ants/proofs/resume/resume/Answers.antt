@@ -24,7 +24,7 @@ returns g c =
     carries_played (ResumeCommand c.args.name.now (plain_resume c.args.options)) (g.S.Shelf.state c.args.shelf.now) (g.S.Shelf.state c.saved_in.new.shelf) (g.K.Sink.state c.args.out.now) (g.K.Sink.state c.resume.new.sink)
     (SaveContent c.in_ok-saved.saved ∷ []) c.after_play-2.result c.resume.result c.after_play-2.ensures c.in_ok-saved.ensures
     (resume_output (plain_resume c.args.options) c.in_ok-saved.saved) (record { value = c.in_ok-saved.saved; read = refl; told = refl })
-    (subst (λ text. PushedBy (g.K.Sink.state c.args.out.now) (g.K.Sink.state c.resume.new.sink) text c.resume.result) (ap (λ (chosen : ℕ → Bool). rest_of c.in_ok-saved.saved c.args.options.rounds chosen c.args.options.stats) c.in_ok-dumps.ensures) c.resume.ensures.text) tt
+    (subst (λ text. PushedBy (g.K.Sink.state c.args.out.now) (g.K.Sink.state c.resume.new.sink) text c.resume.result) (ap (λ (chosen : ℕ → Bool). rest_of c.in_ok-saved.saved c.args.options.rounds chosen c.args.options.stats) c.in_ok-dumps.ensures) c.resume.ensures.text) (λ front. tt)
 
 pub returns-then-not-stats : goal.returns-then-not-stats
 unfolding resume_output
@@ -34,4 +34,4 @@ returns-then-not-stats g c =
     (SaveContent c.in_ok-saved.saved ∷ []) c.after_play.result c.resume_alone.result c.after_play.ensures c.in_ok-saved.ensures
     (resume_output (plain_resume c.args.options) c.in_ok-saved.saved) (record { value = c.in_ok-saved.saved; read = refl; told = refl })
     (subst (λ text. PushedBy (g.K.Sink.state c.args.out.now) (g.K.Sink.state c.resume_alone.new.sink) text c.resume_alone.result)
-    (ap₂ (λ (chosen : ℕ → Bool) (stats : Bool). rest_of c.in_ok-saved.saved c.args.options.rounds chosen stats) c.in_ok-dumps.ensures (sym off)) c.resume_alone.ensures.text) tt
+    (ap₂ (λ (chosen : ℕ → Bool) (stats : Bool). rest_of c.in_ok-saved.saved c.args.options.rounds chosen stats) c.in_ok-dumps.ensures (sym off)) c.resume_alone.ensures.text) (λ front. tt)

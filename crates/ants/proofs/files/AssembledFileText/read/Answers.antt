@@ -1,5 +1,5 @@
 -- the bytes are those of such a file, or have a fault
-use Rattle.std.proofs.Common.{sym, subst}
+use Rattle.std.proofs.Common.{false, sym, subst}
 use Rattle.ants.specs.Files.FileKind.{LabelledFile}
 use Rattle.ants.specs.Inner.Reading.{TextStops}
 use Rattle.ants.proofs.Texts.{labelled_stops}
@@ -9,4 +9,4 @@ pub returns-in-Ok : goal.returns-in-Ok
 returns-in-Ok c = c.in-Ok.ensures.program
 
 pub returns-in-Err : goal.returns-in-Err
-returns-in-Err c = subst (TextStops LabelledFile c.args.bytes.now c.args.name.now) (sym c.labelled_stop.ensures) (labelled_stops c.args.name.now c.args.bytes.now c.in-Err.fault c.in-Err.ensures.fault)
+returns-in-Err c = subst (TextStops (LabelledFile false) c.args.bytes.now c.args.name.now) (sym c.labelled_stop.ensures) (labelled_stops false c.args.name.now c.args.bytes.now c.in-Err.fault c.in-Err.ensures.fault)

@@ -1,0 +1,223 @@
+"""The declarations of the library for C, Rust and Python, made of the exports of crates/ants_c and of the structs that they take."""
+import collections
+import re
+import textwrap
+
+from tree import Unknown, read, source_files
+
+SOURCE = "crates/ants_c/src"
+STATUSES = SOURCE + "/status.rt"
+HEAD = "library/ants.h.in"
+PLAIN = {"u8": "uint8_t", "u32": "uint32_t", "u64": "uint64_t", "usize": "size_t"}
+WIDTH, RUST_WIDTH = 120, 150
+RUST_HEAD = """//! The structs and functions of the library as `library/ants.h` has them; made of the same source by `make documents`.
+//!
+//! Each function hands on what a slice and a reference are, which is all that the library asks of a pointer. So it is safe.
+#![allow(clippy::too_many_arguments)]
+"""
+
+
+class Struct:
+    """A struct of the source: its docs, and its fields with theirs."""
+
+    def __init__(self, name, docs, fields):
+        self.name, self.docs, self.fields = name, docs, fields
+
+    @property
+    def c_name(self):
+        # a struct's tag is a type of its own in C, but not in C++, where a function of that name would hide it
+        return re.sub(r"(?<!^)([A-Z])", r"_\1", self.name).lower() + "_data"
+
+    @property
+    def plain_name(self):
+        return re.sub("^Ants", "", self.name)
+
+
+# As a caller in C gives it: whether behind a pointer, whether that is written through, and the type in the source.
+Parameter = collections.namedtuple("Parameter", "name behind changes kind")
+
+
+class Export:
+    """A function of the source that has a name for the linker, which answers a status: its docs, and its parameters but for the allocator."""
+
+    def __init__(self, name, docs, given):
+        self.name, self.docs, self.given = name, docs, given
+
+    @property
+    def parameters(self):
+        """The parameters as a caller in C gives them: a slice is a pointer and a length."""
+        for name, rust in self.given:
+            it = re.fullmatch(r"(&(?:mut )?)?(\[)?(\w+)\]?", rust)
+            if not it:
+                raise Unknown("%s: a parameter of type %s" % (self.name, rust))
+            yield Parameter(name, bool(it[1]), it[1] == "&mut ", it[3])
+            if it[2]:
+                yield Parameter(name + "_len", False, False, "usize")
+
+
+def docs_above(text, at):
+    """The lines of the doc comment that stands above this place."""
+    lines = []
+    for line in reversed(text[:at].rstrip("\n").split("\n")):
+        line = line.strip()
+        if line.startswith("///"):
+            lines.insert(0, line[4:].rstrip())
+        elif not line.startswith("#["):
+            break
+    return lines
+
+
+def sources():
+    """The text of each file of the crate, its root first."""
+    files = sorted(source_files(SOURCE, ".rt"), key=lambda it: (not it.endswith("/lib.rt"), it))
+    return [read(it) for it in files]
+
+
+def found(pattern, mark, texts):
+    """Each place of a pattern, with its text; as many as there are places of the mark that it begins with."""
+    for text in texts:
+        places = list(re.finditer(pattern, text, re.S))
+        if len(places) != text.count(mark):
+            raise Unknown("%s: %s is not before all that is read of it" % (SOURCE, mark))
+        yield from ((it, text) for it in places)
+
+
+def structs(texts):
+    """The structs that a caller in C sees, in the order of their files."""
+    for it, text in found(r"#\[repr\(C\)\]\n(?:#\[[^\n]*\]\n)*pub struct (\w+) \{\n(.*?)\n\}", "#[repr(C)]", texts):
+        fields = re.findall(r"((?: *///.*\n)*) *pub (\w+): (\w+),", it[2] + "\n")
+        yield Struct(it[1], docs_above(text, it.start()), [(name, kind, docs_above(docs, len(docs))) for docs, name, kind in fields])
+
+
+def exports(texts):
+    """The exported functions, in the order of their files."""
+    for it, text in found(r'#\[unsafe\(no_mangle\)\]\npub extern "C" fn (\w+)\(([^()]*)\) -> u32\n', "#[unsafe(no_mangle)]", texts):
+        given = [(name, kind.strip()) for name, kind in re.findall(r"(\w+): ([^,]+),?", " ".join(it[2].split()))]
+        yield Export(it[1], docs_above(text, it.start()), [(name, kind) for name, kind in given if kind != "Global"])
+
+
+def statuses():
+    """What a call answers: each name with its docs and its number."""
+    rows = re.findall(r"((?:///.*\n)*)pub const (\w+): u32 = (\d+);", read(STATUSES))
+    return [(name, " ".join(docs_above(docs, len(docs))), number) for docs, name, number in rows]
+
+
+class Library:
+    """The exports and the structs, and how each language declares them."""
+
+    def __init__(self):
+        texts = sources()
+        self.structs, self.exports, self.statuses = {it.name: it for it in structs(texts)}, list(exports(texts)), statuses()
+        if not self.exports or not self.statuses:
+            raise Unknown("%s: no exports, or no statuses" % SOURCE)
+
+    def c_type(self, rust):
+        if rust in PLAIN:
+            return PLAIN[rust]
+        if rust in self.structs:
+            return "struct " + self.structs[rust].c_name
+        raise Unknown("%s: no C type for %s" % (SOURCE, rust))
+
+    def c_statuses(self):
+        lines = ["    ANTS_%s = %s, // %s" % (name, number, docs) for name, docs, number in self.statuses]
+        return "// What a call answers.\nenum ants_status {\n" + "\n".join(lines) + "\n};\n"
+
+    def c_struct(self, struct):
+        lines = ["struct %s {" % struct.c_name]
+        for name, kind, docs in struct.fields:
+            lines += ["    // " + line for line in docs] + ["    %s %s;" % (self.c_type(kind), name)]
+        return comment(struct.docs, "// ") + "\n".join(lines) + "\n};\n"
+
+    def c_export(self, export):
+        given = ["const " * (it.behind and not it.changes) + self.c_type(it.kind) + " " + "*" * it.behind + it.name for it in export.parameters]
+        lines = textwrap.wrap(", ".join(it.replace(" ", "\0") for it in given), WIDTH - 4, break_long_words=False)
+        return comment(export.docs, "// ") + "uint32_t %s(\n    " % export.name + "\n    ".join(lines).replace("\0", " ") + ");\n"
+
+    def header(self):
+        """library/ants.h: the head, which says what a caller owes, and the declarations."""
+        declared = [self.c_statuses()] + [self.c_struct(it) for it in self.structs.values()] + [self.c_export(it) for it in self.exports]
+        head = read(HEAD)
+        if head.count("@declarations@\n") != 1:
+            raise Unknown("%s: no one place for the declarations" % HEAD)
+        return head.replace("@declarations@\n", "\n".join(declared))
+
+    def rust(self):
+        """library/rust/src/raw.rs: the same for Rust, and each function over slices and references, which have all that it asks of a pointer."""
+        out = [RUST_HEAD, "\n".join("/// %s\npub const %s: u32 = %s;" % (docs, name, number) for name, docs, number in self.statuses) + "\n"]
+        for it in self.structs.values():
+            fields = "".join("%s    pub %s: %s,\n" % (comment(docs, "    /// "), name, kind) for name, kind, docs in it.fields)
+            out.append("%s#[repr(C)]\n#[derive(Clone, Copy, Debug, Default, PartialEq, Eq)]\npub struct %s {\n%s}\n" % (comment(it.docs, "/// "), it.plain_name, fields))
+        out += [self.rust_export(it) for it in self.exports]
+        declared = "".join(self.rust_declaration(it) for it in self.exports)
+        return "\n".join(out) + "\nmod c {\n    use super::{%s};\n\n    extern \"C\" {\n%s    }\n}\n" % (", ".join(it.plain_name for it in self.structs.values()), declared)
+
+    def rust_type(self, kind):
+        return self.structs[kind].plain_name if kind in self.structs else kind
+
+    def rust_declaration(self, export):
+        given = ["%s: %s%s" % (it.name, ("*mut " if it.changes else "*const ") * it.behind, self.rust_type(it.kind)) for it in export.parameters]
+        return rust_call("        pub fn ", export.name, given, " -> u32;\n")
+
+    def rust_export(self, export):
+        given = ["%s: %s" % (name, re.sub(r"\w+(?=\]?$)", lambda it: self.rust_type(it[0]), kind)) for name, kind in export.given]
+        passed = []
+        for name, kind in export.given:
+            changes = "mut_" if "&mut" in kind else ""
+            passed += ["%s.as_%sptr()" % (name, changes), name + ".len()"] if "[" in kind else [name]
+        body = "    unsafe { c::%s(%s) }\n" % (export.name, ", ".join(passed))
+        if len(body) > RUST_WIDTH + 1:
+            body = "    unsafe {\n%s    }\n" % rust_call("        c::", export.name, passed, "\n")
+        return comment(export.docs, "/// ") + rust_call("pub fn ", export.name, given, " -> u32 {\n") + body + "}\n"
+
+    def python(self):
+        """The made part of library/ants.py: the structs, and the types of what each function is given."""
+        out = ["_%s = %s  # %s" % (name, number, docs) for name, docs, number in self.statuses] + ["", ""]
+        for it in self.structs.values():
+            fields = ", ".join('("%s", %s)' % (name, c_types(kind)) for name, kind, _ in it.fields)
+            out += ["class _%s(ctypes.Structure):" % it.plain_name] + wrapped("_fields_ = [%s]" % fields, "    ") + ["", ""]
+        out.append("_DECLARED = {")
+        for it in self.exports:
+            given = ", ".join(map(self.python_type, it.parameters))
+            out += wrapped('"%s": [%s],' % (it.name, given), "    ")
+        return "\n".join(out + ["}"]) + "\n"
+
+    def python_type(self, parameter):
+        kind = parameter.kind
+        of = "_" + self.structs[kind].plain_name if kind in self.structs else c_types(kind)
+        return "c_char_p" if parameter.behind and kind == "u8" else "POINTER(%s)" % of if parameter.behind else of
+
+
+def rust_call(before, name, given, after):
+    """A call or a signature in the layout of rustfmt: in a line, or with a line a part."""
+    line = "%s%s(%s)" % (before, name, ", ".join(given))
+    if len(line + after.rstrip("\n")) <= RUST_WIDTH:
+        return line + after
+    indent = " " * (len(before) - len(before.lstrip()))
+    return "%s%s(\n%s%s)%s" % (before, name, "".join("%s    %s,\n" % (indent, it) for it in given), indent, after)
+
+
+def c_types(kind):
+    return "c_size_t" if kind == "usize" else "c_" + PLAIN[kind][:-2]
+
+
+def wrapped(text, indent):
+    return textwrap.wrap(text, WIDTH + 20, initial_indent=indent, subsequent_indent=indent * 2, break_long_words=False)
+
+
+def comment(docs, mark):
+    return "".join((mark + line).rstrip() + "\n" for line in docs)
+
+
+def python_page(library):
+    """library/ants.py with its declarations in their place."""
+    page, count = re.subn(r"(# made: declarations\n).*?(# end\n)", lambda it: it[1] + library.python() + it[2], read("library/ants.py"), flags=re.S)
+    if count != 1:
+        raise Unknown("library/ants.py: no one place for the declarations")
+    return page
+
+
+def pages():
+    library = Library()
+    yield "library/ants.h", library.header()
+    yield "library/rust/src/raw.rs", library.rust()
+    yield "library/ants.py", python_page(library)

@@ -1,0 +1,2 @@
+mod Overlaid
+mod Stops

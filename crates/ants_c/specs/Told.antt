@@ -1,0 +1,37 @@
+-- What a caller is told of a refusal (this project's own).
+use Rattle.std.specs.Prelude.{◌≡◌, ℕ, List}
+use Rattle.ants_c.specs.Numbers.{numbers_of}
+use Rattle.ants_c.specs.Rooms.{counted, overlaid}
+use Rattle.ants_c.specs.Words.{fault_words}
+use Rattle.ants_c.specs.declared.fault.AntsFault.{AntsFault}
+use Rattle.ants_c.specs.declared.refusal.Refusal.{Refusal}
+use Rattle.ants_c.specs.declared.refusal.Stop.{Stop}
+use Rattle.ants_c.specs.declared.refusal.Stop.TheVariants.{OutOfMemory, Refused}
+
+-- a refusal in numbers: which text, those of its fault, and how many bytes its words have
+abbrev pub told_fault : Refusal → AntsFault
+told_fault refusal = record {
+  text = refusal.text;
+  kind = (numbers_of refusal.fault).kind;
+  line = (numbers_of refusal.fault).line;
+  column = (numbers_of refusal.fault).column;
+  number = (numbers_of refusal.fault).number;
+  words = counted (fault_words refusal.fault);
+}
+
+-- a refusal with this property was told: in numbers, and in words over the room for them
+pub record IsTold (Why : Refusal → Type 0) (fault : AntsFault) (before after : List ℕ) : Type 0 where
+  pub refusal : Refusal
+  pub is : Why refusal
+  pub numbers : fault ≡ told_fault refusal
+  pub words : after ≡ overlaid before (fault_words refusal.fault)
+
+-- why texts were not read: a refusal has this property; out of memory says nothing of a text
+abbrev pub StopsAt : (Refusal → Type 0) → Stop → Type 0
+StopsAt Why OutOfMemory = Unit {0}
+StopsAt Why (Refused refusal) = Why refusal
+
+-- what a stopped call answers, and what it does to the fault and to the room for words that the caller lent
+abbrev pub IsStopped : Stop → ℕ → AntsFault → AntsFault → List ℕ → List ℕ → Type 0
+IsStopped OutOfMemory status fault told before after = (status ≡ 6) × (told ≡ fault) × (after ≡ before)
+IsStopped (Refused refusal) status fault told before after = (status ≡ 5) × (told ≡ told_fault refusal) × (after ≡ overlaid before (fault_words refusal.fault))

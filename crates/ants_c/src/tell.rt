@@ -1,0 +1,42 @@
+// What a call answers where it stops.
+ghost use Rattle.std.specs.Prelude.{◌≡◌, ◌⊎◌};
+ghost use Rattle.ants_c.specs.Rooms.{overlaid};
+ghost use Rattle.ants_c.specs.Told.{IsStopped, told_fault};
+ghost use Rattle.ants_c.specs.Words.{fault_words};
+
+use crate::fault::AntsFault;
+use crate::numbers::numbers_of;
+use crate::refusal::{Refusal, Stop};
+use crate::status::{MEMORY, REFUSED};
+use crate::texts::lay;
+
+// Tells a refusal: its numbers, and its words in the room for them.
+fn tell(refusal: Refusal, fault: &mut AntsFault, words: &mut [u8])
+    ensures fault { fault.new ≡ told_fault refusal }
+    ensures words { words.new ≡ overlaid words.old (fault_words refusal.fault) }
+{
+    let numbers = numbers_of(refusal.fault);
+    let size = lay(&refusal.fault, words);
+    *fault = AntsFault {
+        text: refusal.text,
+        kind: numbers.kind,
+        line: numbers.line,
+        column: numbers.column,
+        number: numbers.number,
+        words: size as u64,
+    };
+}
+
+/// Says why texts were not read: the status; and of a refused text the numbers and the words of its fault.
+pub fn stopped(stop: Stop, fault: &mut AntsFault, words: &mut [u8]) -> u32
+    ensures ended { (result ≡ 5) ⊎ (result ≡ 6) }
+    ensures stopped { IsStopped stop result fault.old fault.new words.old words.new }
+{
+    match stop {
+        Stop::OutOfMemory => MEMORY,
+        Stop::Refused(refusal) => {
+            tell(refusal, fault, words);
+            REFUSED
+        }
+    }
+}

@@ -1,0 +1,16 @@
+-- the file was fetched, and what came was read; or it wasn't
+use Rattle.std.proofs.Common.{ℕ, List, subst}
+use Rattle.std.proofs.lemmas.Result.{err_from_is_err_and}
+use Rattle.sample_caller.specs.Files.{OpensBrain}
+use Rattle.sample_caller.specs.Files.ReadsBrain.{Opened, Unfetched}
+use Rattle.sample_caller.proofs.files.brain_in.Goals as goal
+
+pub returns-in_err-bytes : goal.returns-in_err-bytes
+returns-in_err-bytes g c =
+    let p = err_from_is_err_and c.from_residual.result c.from_residual.ensures.1 in
+    rw (p.1, p.2) (Unfetched c.in_err-bytes.field-0.0 c.in_err-bytes.ensures)
+
+pub returns : goal.returns
+returns g c =
+    Opened c.in_ok-bytes.bytes.items c.open_brain.result c.in_ok-bytes.ensures.0
+    (subst (λ (bytes : List ℕ). OpensBrain c.args.name.now bytes c.open_brain.result) c.deref.ensures.value c.open_brain.ensures)

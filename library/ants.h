@@ -1,0 +1,214 @@
+/* ants.h: the ant world of the ICFP Programming Contest 2004 as a library, for C and for all that can call C.
+   This file is made of the source of the functions and of library/ants.h.in by `make documents`.
+
+   A GAME is played by two brains on a world. All are texts: bytes with a length, which no zero byte ends. A world is its width, its height
+   and its rows of cells: # rock, . clear, 1 to 9 food, + red hill, - black hill. A brain is an instruction a line. docs/RULES.md says all
+   of it; the package has it in share/doc/ants. Nothing is opened, closed or released. This is a whole program:
+
+       #include <ants.h>
+       #include <stdio.h>
+       #include <string.h>
+
+       int main(void) {
+           const char *world = "6\n4\n######\n#+.3-#\n #.5..#\n######\n";
+           const char *red = "Move 1 0\nPickUp 0 0\n", *black = "Flip 2 0 0\n";
+           struct ants_score_data score = {0};
+           struct ants_fault_data fault = {0};
+           uint8_t words[200] = {0};
+           uint32_t status = ants_score((const uint8_t *)world, strlen(world), (const uint8_t *)red, strlen(red),
+                                        (const uint8_t *)black, strlen(black), 12345, 1000, &score, &fault, words, sizeof words);
+           if (status == ANTS_DONE)
+               printf("red %u black %u\n", score.red, score.black);
+           else if (status == ANTS_REFUSED)
+               printf("text %u is refused: %.*s\n", fault.text, (int)sizeof words, (const char *)words);
+           else
+               printf("status %u\n", status);
+           return (int)status;
+       }
+
+   TO LINK. One file is enough; it needs the C library alone.
+
+       cc -O2 game.c libants.a -o game                           the static library
+       cc -O2 game.c -o game $(pkg-config --cflags --libs ants)  libants.so, where `make install` or a package has put it; the system
+                                                                 finds it as any, by ldconfig, LD_LIBRARY_PATH or -Wl,-rpath
+
+   EACH CALL answers a status:
+
+       ANTS_DONE     it is done, and the result is written
+       ANTS_NUMBER   a number is beyond its limits: more than 1,000,000 rounds; a width or height that isn't 3 to 512; more than 255
+                     rocks or blobs
+       ANTS_NO_ROOM  the room is too small. A call that writes a text into `out` has written the length that the text has to `used`,
+                     and as much of the text as has room to `out`: call again with room for `used` bytes
+       ANTS_REFUSED  a text is refused, the first one that is: `fault` says which text and why in numbers, and `words` in words, as
+                     many bytes as have room (no zero byte ends them; they have fault.words bytes in full). Or an element of a
+                     generated world has no room
+       ANTS_MEMORY   memory could not be had; nothing was kept
+
+   The numbers are looked at first, then the room for scores, then the texts in their order. A result is written at ANTS_DONE alone, `used`
+   and `out` at ANTS_NO_ROOM too, `fault` and `words` at ANTS_REFUSED alone; all else stays as it was, but for `out` of ants_resume at
+   ANTS_MEMORY. A text that is done is in the first `used` bytes of `out`, and those behind stay. What the numbers of a fault mean stands
+   at the struct.
+
+   WHAT A CALLER OWES, and nobody checks. The functions are proved for callers that keep to this:
+
+    1. No pointer is NULL, and each is aligned for its type, also where its length is 0.
+    2. As many elements lie there as the length says, in one block of at most 2^63 - 1 bytes that may be read, and written to where the
+       parameter has no `const`.
+    3. What a call may write to (score, scores, out, used, fault, words) overlaps nothing else that it is passed, is initialised before
+       the call, and is read and written by nobody else during it. What it only reads is written by nobody during it.
+    4. This header and the library are of one version: nothing is checked at the link.
+    5. malloc, realloc and free are of one allocator, and align a block to each power of two up to 16 that divides its size. One that
+       stands in for them replaces all three.
+    6. No call comes from a signal handler, nor from the forked child of a process with threads.
+    7. There is stack enough. No proof bounds it; 16 KB were enough for the largest texts, so a thread with 64 KB is safe.
+    8. The system is Linux on x86-64 with glibc, and the processor has x86-64-v2 (SSE4.2 and POPCNT), as all have since 2013: on one
+       without it a call dies of an illegal instruction.
+    9. In a static link the names ants_*, rattle_alloc, rattle_realloc and rattle_dealloc mean the library's own functions. A second
+       library that brings these three is linked with libants.so, which shows ants_* alone.
+   10. No call is cut off halfway, as by longjmp or pthread_cancel: it would keep its memory. A call can't be stopped: 1,000,000 rounds
+       of 16,384 ants may take hours, so choose rounds with care.
+
+   NOT OWED: no initialisation, no lock and no release. Calls share nothing and keep nothing, so any threads may make them at once. None
+   prints, exits, aborts or unwinds, reads a file or the clock, or starts a thread. */
+#ifndef ANTS_H
+#define ANTS_H
+
+#include <stddef.h>
+#include <stdint.h>
+
+#ifdef __cplusplus
+extern "C" {
+#endif
+
+// What a call answers.
+enum ants_status {
+    ANTS_DONE = 0, // Done.
+    ANTS_NUMBER = 2, // A number is beyond its limits.
+    ANTS_NO_ROOM = 4, // The caller's room is too small.
+    ANTS_REFUSED = 5, // A text was refused, or an element of a generated world has no room.
+    ANTS_MEMORY = 6, // Memory could not be had.
+};
+
+// Why a text was refused, in numbers (this project's own). The kinds are
+// - 1: a text has more than 4,194,304 bytes;
+// - of a world, 10: bad width; 11: bad height; 12: a row is missing; 13: a bad cell; 14: a row is short; 15: a row is long; 16: a row more;
+//   17: the rim is open; 18: too many ants;
+// - of a brain, 20: a bad byte; 21: an unknown word; 22: a token is missing; 23: a bad number; 24: a token more; 25: too many instructions;
+//   26: no instruction; 27: no such state;
+// - of a labelled program, 30: a bad byte; 31: an unknown word; 32: a token is missing; 33: a bad number; 34: a token more; 35: a bad name;
+//   36: misplaced; 37: a name is taken; 38: no such block; 39: another number of labels; 40: too many; 41: an empty block; 42: no
+//   instruction; 43: no such label;
+// - of a save, 50: a line isn't in its form; 51: no state of a game; 52: more rounds are done than are asked for;
+// - of no text, 60: an element of a world to be generated has no room.
+struct ants_fault_data {
+    // Which text, from 1 in the order in which the texts are passed; 0 where it is of no text.
+    uint32_t text;
+    // The kind.
+    uint32_t kind;
+    // The line, from 1, or the row of a world, from 0; 0 where the kind has none.
+    uint32_t line;
+    // The column of a world, from 0; 0 where the kind has none.
+    uint32_t column;
+    // How many ants there are (18), the state that is not there (27), the round of the save (52), or the element's number (60); else 0.
+    uint64_t number;
+    // How many bytes the words of the fault have.
+    uint64_t words;
+};
+
+// The food on the cells of each colour's hill.
+struct ants_score_data {
+    // The food on the red hill.
+    uint32_t red;
+    // The food on the black hill.
+    uint32_t black;
+};
+
+// Plays a game by the contest's rules, turn after turn, and gives its score (the task's game play). The status is
+// - 0: the texts are those of a world and of two brains, and the score is that of their game after so many rounds with this seed;
+// - 2: there are more than 1,000,000 rounds;
+// - 5: a text is refused, the first one that is; the fault says which and why, and its words are laid over `words`, as far as they go;
+// - 6: memory could not be had.
+//
+// The score is written at 0 alone, the fault and the words at 5 alone.
+uint32_t ants_score(
+    const uint8_t *world, size_t world_len, const uint8_t *red, size_t red_len, const uint8_t *black, size_t black_len,
+    uint32_t seed, uint32_t rounds, struct ants_score_data *score, struct ants_fault_data *fault, uint8_t *words,
+    size_t words_len);
+
+// Plays a game as `ants_score` does for each of these seeds, and reads the texts once (the task's game play). The status is that of
+// `ants_score`, or
+// - 4: there is room for fewer scores than there are seeds.
+//
+// The scores are written at 0 alone, in the order of the seeds, and those behind them stay; the fault and the words at 5 alone. It takes
+// memory for as many scores, and for a copy of the world.
+uint32_t ants_scores(
+    const uint8_t *world, size_t world_len, const uint8_t *red, size_t red_len, const uint8_t *black, size_t black_len,
+    const uint32_t *seeds, size_t seeds_len, uint32_t rounds, struct ants_score_data *scores, size_t scores_len,
+    struct ants_fault_data *fault, uint8_t *words, size_t words_len);
+
+// Plays a game as `ants_score` does, and lays the text of its run over `out`: what the program's `run` prints with one worker, without
+// counts, with the dumps of these rounds (the task's game play). The status is that of `ants_score`, or
+// - 4: the text is longer than `out`, which holds the front of it.
+//
+// `used` is the length of the text at 0 and at 4; what it doesn't reach of `out` stays. `out` and `used` are written at 0 and 4 alone, the
+// fault and the words at 5 alone.
+uint32_t ants_run(
+    const uint8_t *world, size_t world_len, const uint8_t *red, size_t red_len, const uint8_t *black, size_t black_len,
+    uint32_t seed, uint32_t rounds, const uint32_t *dumps, size_t dumps_len, uint8_t *out, size_t out_len, size_t *used,
+    struct ants_fault_data *fault, uint8_t *words, size_t words_len);
+
+// Lays the canonical text of a brain over `out`, as the program's `brain` (the task's neurology). The status is 0, 4, 5 or 6, and what is
+// written is so, as at `ants_run`.
+uint32_t ants_brain(
+    const uint8_t *brain, size_t brain_len, uint8_t *out, size_t out_len, size_t *used, struct ants_fault_data *fault,
+    uint8_t *words, size_t words_len);
+
+// Lays the canonical text of a brain, minimised, over `out`: what the program's `minimise` writes below its first line (over the task's
+// neurology). The status is 0, 4, 5 or 6, and what is written is so, as at `ants_run`.
+uint32_t ants_minimise(
+    const uint8_t *brain, size_t brain_len, uint8_t *out, size_t out_len, size_t *used, struct ants_fault_data *fault,
+    uint8_t *words, size_t words_len);
+
+// Lays the canonical text of the brain that a labelled program becomes over `out`, as the program's `asm` (this project's own). The status is
+// 0, 4, 5 or 6, and what is written is so, as at `ants_run`.
+uint32_t ants_asm(
+    const uint8_t *program, size_t program_len, uint8_t *out, size_t out_len, size_t *used,
+    struct ants_fault_data *fault, uint8_t *words, size_t words_len);
+
+// Lays `same`, or the three lines of where two brains first differ, over `out`, as the program's `same` (over the task's neurology). The
+// status is 0, 4, 5 or 6, and what is written is so, as at `ants_run`.
+uint32_t ants_same(
+    const uint8_t *first, size_t first_len, const uint8_t *second, size_t second_len, uint8_t *out, size_t out_len,
+    size_t *used, struct ants_fault_data *fault, uint8_t *words, size_t words_len);
+
+// Lays the canonical text of the world of a seed and a shape over `out`, as the program's `gen` (the task's contest worlds). The status is 0,
+// 4 or 6, as at `ants_run`, or
+// - 2: the width or the height is not from 3 to 512, or there are more than 255 rocks or blobs of food;
+// - 5: an element has no room, the first that has none.
+//
+// What is written is so as at `ants_run`.
+uint32_t ants_gen(
+    uint32_t seed, uint32_t width, uint32_t height, uint32_t rocks, uint32_t blobs, uint8_t *out, size_t out_len,
+    size_t *used, struct ants_fault_data *fault, uint8_t *words, size_t words_len);
+
+// Plays a game as `ants_score` does, and lays the text of its save after so many rounds over `out`, as the program's `save` (this project's own).
+// The status is 0, 2, 4, 5 or 6, and what is written is so, as at `ants_run`. Nothing is written before the last round is played.
+uint32_t ants_save(
+    const uint8_t *world, size_t world_len, const uint8_t *red, size_t red_len, const uint8_t *black, size_t black_len,
+    uint32_t seed, uint32_t rounds, uint8_t *out, size_t out_len, size_t *used, struct ants_fault_data *fault,
+    uint8_t *words, size_t words_len);
+
+// Goes on with the game of a save until so many rounds are done in all, and lays the rest of its text over `out`, as the program's `resume` with
+// one worker: the later rounds' dumps of these, and the score (this project's own). The status is 0, 2, 4 or 6 as at `ants_run`, or
+// - 5: the text is no save's, or that of a save of which more rounds are done.
+//
+// What is written is so as at `ants_run`, but that the front of the text may lie over `out` at 6.
+uint32_t ants_resume(
+    const uint8_t *save, size_t save_len, uint32_t rounds, const uint32_t *dumps, size_t dumps_len, uint8_t *out,
+    size_t out_len, size_t *used, struct ants_fault_data *fault, uint8_t *words, size_t words_len);
+
+#ifdef __cplusplus
+}
+#endif
+
+#endif

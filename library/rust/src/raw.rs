@@ -1,0 +1,407 @@
+//! The structs and functions of the library as `library/ants.h` has them; made of the same source by `make documents`.
+//!
+//! Each function hands on what a slice and a reference are, which is all that the library asks of a pointer. So it is safe.
+#![allow(clippy::too_many_arguments)]
+
+/// Done.
+pub const DONE: u32 = 0;
+/// A number is beyond its limits.
+pub const NUMBER: u32 = 2;
+/// The caller's room is too small.
+pub const NO_ROOM: u32 = 4;
+/// A text was refused, or an element of a generated world has no room.
+pub const REFUSED: u32 = 5;
+/// Memory could not be had.
+pub const MEMORY: u32 = 6;
+
+/// Why a text was refused, in numbers (this project's own). The kinds are
+/// - 1: a text has more than 4,194,304 bytes;
+/// - of a world, 10: bad width; 11: bad height; 12: a row is missing; 13: a bad cell; 14: a row is short; 15: a row is long; 16: a row more;
+///   17: the rim is open; 18: too many ants;
+/// - of a brain, 20: a bad byte; 21: an unknown word; 22: a token is missing; 23: a bad number; 24: a token more; 25: too many instructions;
+///   26: no instruction; 27: no such state;
+/// - of a labelled program, 30: a bad byte; 31: an unknown word; 32: a token is missing; 33: a bad number; 34: a token more; 35: a bad name;
+///   36: misplaced; 37: a name is taken; 38: no such block; 39: another number of labels; 40: too many; 41: an empty block; 42: no
+///   instruction; 43: no such label;
+/// - of a save, 50: a line isn't in its form; 51: no state of a game; 52: more rounds are done than are asked for;
+/// - of no text, 60: an element of a world to be generated has no room.
+#[repr(C)]
+#[derive(Clone, Copy, Debug, Default, PartialEq, Eq)]
+pub struct Fault {
+    /// Which text, from 1 in the order in which the texts are passed; 0 where it is of no text.
+    pub text: u32,
+    /// The kind.
+    pub kind: u32,
+    /// The line, from 1, or the row of a world, from 0; 0 where the kind has none.
+    pub line: u32,
+    /// The column of a world, from 0; 0 where the kind has none.
+    pub column: u32,
+    /// How many ants there are (18), the state that is not there (27), the round of the save (52), or the element's number (60); else 0.
+    pub number: u64,
+    /// How many bytes the words of the fault have.
+    pub words: u64,
+}
+
+/// The food on the cells of each colour's hill.
+#[repr(C)]
+#[derive(Clone, Copy, Debug, Default, PartialEq, Eq)]
+pub struct Score {
+    /// The food on the red hill.
+    pub red: u32,
+    /// The food on the black hill.
+    pub black: u32,
+}
+
+/// Plays a game by the contest's rules, turn after turn, and gives its score (the task's game play). The status is
+/// - 0: the texts are those of a world and of two brains, and the score is that of their game after so many rounds with this seed;
+/// - 2: there are more than 1,000,000 rounds;
+/// - 5: a text is refused, the first one that is; the fault says which and why, and its words are laid over `words`, as far as they go;
+/// - 6: memory could not be had.
+///
+/// The score is written at 0 alone, the fault and the words at 5 alone.
+pub fn ants_score(world: &[u8], red: &[u8], black: &[u8], seed: u32, rounds: u32, score: &mut Score, fault: &mut Fault, words: &mut [u8]) -> u32 {
+    unsafe {
+        c::ants_score(
+            world.as_ptr(),
+            world.len(),
+            red.as_ptr(),
+            red.len(),
+            black.as_ptr(),
+            black.len(),
+            seed,
+            rounds,
+            score,
+            fault,
+            words.as_mut_ptr(),
+            words.len(),
+        )
+    }
+}
+
+/// Plays a game as `ants_score` does for each of these seeds, and reads the texts once (the task's game play). The status is that of
+/// `ants_score`, or
+/// - 4: there is room for fewer scores than there are seeds.
+///
+/// The scores are written at 0 alone, in the order of the seeds, and those behind them stay; the fault and the words at 5 alone. It takes
+/// memory for as many scores, and for a copy of the world.
+pub fn ants_scores(
+    world: &[u8],
+    red: &[u8],
+    black: &[u8],
+    seeds: &[u32],
+    rounds: u32,
+    scores: &mut [Score],
+    fault: &mut Fault,
+    words: &mut [u8],
+) -> u32 {
+    unsafe {
+        c::ants_scores(
+            world.as_ptr(),
+            world.len(),
+            red.as_ptr(),
+            red.len(),
+            black.as_ptr(),
+            black.len(),
+            seeds.as_ptr(),
+            seeds.len(),
+            rounds,
+            scores.as_mut_ptr(),
+            scores.len(),
+            fault,
+            words.as_mut_ptr(),
+            words.len(),
+        )
+    }
+}
+
+/// Plays a game as `ants_score` does, and lays the text of its run over `out`: what the program's `run` prints with one worker, without
+/// counts, with the dumps of these rounds (the task's game play). The status is that of `ants_score`, or
+/// - 4: the text is longer than `out`, which holds the front of it.
+///
+/// `used` is the length of the text at 0 and at 4; what it doesn't reach of `out` stays. `out` and `used` are written at 0 and 4 alone, the
+/// fault and the words at 5 alone.
+pub fn ants_run(
+    world: &[u8],
+    red: &[u8],
+    black: &[u8],
+    seed: u32,
+    rounds: u32,
+    dumps: &[u32],
+    out: &mut [u8],
+    used: &mut usize,
+    fault: &mut Fault,
+    words: &mut [u8],
+) -> u32 {
+    unsafe {
+        c::ants_run(
+            world.as_ptr(),
+            world.len(),
+            red.as_ptr(),
+            red.len(),
+            black.as_ptr(),
+            black.len(),
+            seed,
+            rounds,
+            dumps.as_ptr(),
+            dumps.len(),
+            out.as_mut_ptr(),
+            out.len(),
+            used,
+            fault,
+            words.as_mut_ptr(),
+            words.len(),
+        )
+    }
+}
+
+/// Lays the canonical text of a brain over `out`, as the program's `brain` (the task's neurology). The status is 0, 4, 5 or 6, and what is
+/// written is so, as at `ants_run`.
+pub fn ants_brain(brain: &[u8], out: &mut [u8], used: &mut usize, fault: &mut Fault, words: &mut [u8]) -> u32 {
+    unsafe { c::ants_brain(brain.as_ptr(), brain.len(), out.as_mut_ptr(), out.len(), used, fault, words.as_mut_ptr(), words.len()) }
+}
+
+/// Lays the canonical text of a brain, minimised, over `out`: what the program's `minimise` writes below its first line (over the task's
+/// neurology). The status is 0, 4, 5 or 6, and what is written is so, as at `ants_run`.
+pub fn ants_minimise(brain: &[u8], out: &mut [u8], used: &mut usize, fault: &mut Fault, words: &mut [u8]) -> u32 {
+    unsafe { c::ants_minimise(brain.as_ptr(), brain.len(), out.as_mut_ptr(), out.len(), used, fault, words.as_mut_ptr(), words.len()) }
+}
+
+/// Lays the canonical text of the brain that a labelled program becomes over `out`, as the program's `asm` (this project's own). The status is
+/// 0, 4, 5 or 6, and what is written is so, as at `ants_run`.
+pub fn ants_asm(program: &[u8], out: &mut [u8], used: &mut usize, fault: &mut Fault, words: &mut [u8]) -> u32 {
+    unsafe { c::ants_asm(program.as_ptr(), program.len(), out.as_mut_ptr(), out.len(), used, fault, words.as_mut_ptr(), words.len()) }
+}
+
+/// Lays `same`, or the three lines of where two brains first differ, over `out`, as the program's `same` (over the task's neurology). The
+/// status is 0, 4, 5 or 6, and what is written is so, as at `ants_run`.
+pub fn ants_same(first: &[u8], second: &[u8], out: &mut [u8], used: &mut usize, fault: &mut Fault, words: &mut [u8]) -> u32 {
+    unsafe {
+        c::ants_same(
+            first.as_ptr(),
+            first.len(),
+            second.as_ptr(),
+            second.len(),
+            out.as_mut_ptr(),
+            out.len(),
+            used,
+            fault,
+            words.as_mut_ptr(),
+            words.len(),
+        )
+    }
+}
+
+/// Lays the canonical text of the world of a seed and a shape over `out`, as the program's `gen` (the task's contest worlds). The status is 0,
+/// 4 or 6, as at `ants_run`, or
+/// - 2: the width or the height is not from 3 to 512, or there are more than 255 rocks or blobs of food;
+/// - 5: an element has no room, the first that has none.
+///
+/// What is written is so as at `ants_run`.
+pub fn ants_gen(
+    seed: u32,
+    width: u32,
+    height: u32,
+    rocks: u32,
+    blobs: u32,
+    out: &mut [u8],
+    used: &mut usize,
+    fault: &mut Fault,
+    words: &mut [u8],
+) -> u32 {
+    unsafe { c::ants_gen(seed, width, height, rocks, blobs, out.as_mut_ptr(), out.len(), used, fault, words.as_mut_ptr(), words.len()) }
+}
+
+/// Plays a game as `ants_score` does, and lays the text of its save after so many rounds over `out`, as the program's `save` (this project's own).
+/// The status is 0, 2, 4, 5 or 6, and what is written is so, as at `ants_run`. Nothing is written before the last round is played.
+pub fn ants_save(
+    world: &[u8],
+    red: &[u8],
+    black: &[u8],
+    seed: u32,
+    rounds: u32,
+    out: &mut [u8],
+    used: &mut usize,
+    fault: &mut Fault,
+    words: &mut [u8],
+) -> u32 {
+    unsafe {
+        c::ants_save(
+            world.as_ptr(),
+            world.len(),
+            red.as_ptr(),
+            red.len(),
+            black.as_ptr(),
+            black.len(),
+            seed,
+            rounds,
+            out.as_mut_ptr(),
+            out.len(),
+            used,
+            fault,
+            words.as_mut_ptr(),
+            words.len(),
+        )
+    }
+}
+
+/// Goes on with the game of a save until so many rounds are done in all, and lays the rest of its text over `out`, as the program's `resume` with
+/// one worker: the later rounds' dumps of these, and the score (this project's own). The status is 0, 2, 4 or 6 as at `ants_run`, or
+/// - 5: the text is no save's, or that of a save of which more rounds are done.
+///
+/// What is written is so as at `ants_run`, but that the front of the text may lie over `out` at 6.
+pub fn ants_resume(save: &[u8], rounds: u32, dumps: &[u32], out: &mut [u8], used: &mut usize, fault: &mut Fault, words: &mut [u8]) -> u32 {
+    unsafe {
+        c::ants_resume(
+            save.as_ptr(),
+            save.len(),
+            rounds,
+            dumps.as_ptr(),
+            dumps.len(),
+            out.as_mut_ptr(),
+            out.len(),
+            used,
+            fault,
+            words.as_mut_ptr(),
+            words.len(),
+        )
+    }
+}
+
+mod c {
+    use super::{Fault, Score};
+
+    extern "C" {
+        pub fn ants_score(
+            world: *const u8,
+            world_len: usize,
+            red: *const u8,
+            red_len: usize,
+            black: *const u8,
+            black_len: usize,
+            seed: u32,
+            rounds: u32,
+            score: *mut Score,
+            fault: *mut Fault,
+            words: *mut u8,
+            words_len: usize,
+        ) -> u32;
+        pub fn ants_scores(
+            world: *const u8,
+            world_len: usize,
+            red: *const u8,
+            red_len: usize,
+            black: *const u8,
+            black_len: usize,
+            seeds: *const u32,
+            seeds_len: usize,
+            rounds: u32,
+            scores: *mut Score,
+            scores_len: usize,
+            fault: *mut Fault,
+            words: *mut u8,
+            words_len: usize,
+        ) -> u32;
+        pub fn ants_run(
+            world: *const u8,
+            world_len: usize,
+            red: *const u8,
+            red_len: usize,
+            black: *const u8,
+            black_len: usize,
+            seed: u32,
+            rounds: u32,
+            dumps: *const u32,
+            dumps_len: usize,
+            out: *mut u8,
+            out_len: usize,
+            used: *mut usize,
+            fault: *mut Fault,
+            words: *mut u8,
+            words_len: usize,
+        ) -> u32;
+        pub fn ants_brain(
+            brain: *const u8,
+            brain_len: usize,
+            out: *mut u8,
+            out_len: usize,
+            used: *mut usize,
+            fault: *mut Fault,
+            words: *mut u8,
+            words_len: usize,
+        ) -> u32;
+        pub fn ants_minimise(
+            brain: *const u8,
+            brain_len: usize,
+            out: *mut u8,
+            out_len: usize,
+            used: *mut usize,
+            fault: *mut Fault,
+            words: *mut u8,
+            words_len: usize,
+        ) -> u32;
+        pub fn ants_asm(
+            program: *const u8,
+            program_len: usize,
+            out: *mut u8,
+            out_len: usize,
+            used: *mut usize,
+            fault: *mut Fault,
+            words: *mut u8,
+            words_len: usize,
+        ) -> u32;
+        pub fn ants_same(
+            first: *const u8,
+            first_len: usize,
+            second: *const u8,
+            second_len: usize,
+            out: *mut u8,
+            out_len: usize,
+            used: *mut usize,
+            fault: *mut Fault,
+            words: *mut u8,
+            words_len: usize,
+        ) -> u32;
+        pub fn ants_gen(
+            seed: u32,
+            width: u32,
+            height: u32,
+            rocks: u32,
+            blobs: u32,
+            out: *mut u8,
+            out_len: usize,
+            used: *mut usize,
+            fault: *mut Fault,
+            words: *mut u8,
+            words_len: usize,
+        ) -> u32;
+        pub fn ants_save(
+            world: *const u8,
+            world_len: usize,
+            red: *const u8,
+            red_len: usize,
+            black: *const u8,
+            black_len: usize,
+            seed: u32,
+            rounds: u32,
+            out: *mut u8,
+            out_len: usize,
+            used: *mut usize,
+            fault: *mut Fault,
+            words: *mut u8,
+            words_len: usize,
+        ) -> u32;
+        pub fn ants_resume(
+            save: *const u8,
+            save_len: usize,
+            rounds: u32,
+            dumps: *const u32,
+            dumps_len: usize,
+            out: *mut u8,
+            out_len: usize,
+            used: *mut usize,
+            fault: *mut Fault,
+            words: *mut u8,
+            words_len: usize,
+        ) -> u32;
+    }
+}

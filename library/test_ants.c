@@ -1,0 +1,88 @@
+/* Rows worked out by hand, of what a caller in C sees: statuses, rooms that are too small, numbers and words of faults. Says which row fails. */
+#include "ants.h"
+#include <stdio.h>
+#include <string.h>
+
+static const char *world = "3\n3\n# # #\n # + #\n# # #\n", *brain = "Flip 2 0 0\n", *drop = "Drop 0\n";
+static struct ants_fault_data fault;
+static struct ants_score_data scores[3];
+static uint8_t words[64], out[64];
+static size_t used;
+static int failures;
+
+#define TEXT(text) (const uint8_t *)(text), strlen(text)
+#define ROW(holds) do { if (!(holds)) { printf("test_ants.c: line %d: %s\n", __LINE__, #holds); failures++; } } while (0)
+
+/* All that a call may write to, as it is before the call. */
+static void clear(void) {
+    memset(&fault, 0x55, sizeof fault);
+    memset(scores, 0x55, sizeof scores);
+    memset(words, '.', sizeof words);
+    memset(out, '.', sizeof out);
+    used = 99;
+}
+
+static int is_fault(uint32_t text, uint32_t kind, uint32_t line, uint32_t column, uint64_t number, const char *expected) {
+    size_t length = strlen(expected);
+    return fault.text == text && fault.kind == kind && fault.line == line && fault.column == column && fault.number == number &&
+           fault.words == length && memcmp(words, expected, length) == 0 && words[length] == '.';
+}
+
+static int stays(void) { return fault.text == 0x55555555 && fault.words == 0x5555555555555555 && words[0] == '.'; }
+
+static void play_rows(void) {
+    const uint32_t seeds[2] = {12345, 7};
+    clear();
+    ROW(ants_score(TEXT(world), TEXT(brain), TEXT(brain), 12345, 10, &scores[0], &fault, words, 64) == ANTS_DONE);
+    ROW(scores[0].red == 0 && scores[0].black == 0 && scores[1].red == 0x55555555 && stays());
+    clear();
+    ROW(ants_scores(TEXT(world), TEXT(brain), TEXT(brain), seeds, 2, 10, scores, 3, &fault, words, 64) == ANTS_DONE);
+    ROW(scores[1].red == 0 && scores[1].black == 0 && scores[2].red == 0x55555555 && stays());
+    clear();
+    ROW(ants_scores(TEXT(world), TEXT(brain), TEXT(brain), seeds, 2, 10, scores, 1, &fault, words, 64) == ANTS_NO_ROOM);
+    ROW(scores[0].red == 0x55555555 && stays());
+    ROW(ants_score(TEXT(world), TEXT(brain), TEXT(brain), 1, 1000001, scores, &fault, words, 64) == ANTS_NUMBER && stays());
+    ROW(ants_score(TEXT(""), TEXT(brain), TEXT(brain), 1, 1, scores, &fault, words, 64) == ANTS_REFUSED && is_fault(1, 10, 0, 0, 0, "bad width"));
+    clear();
+    ROW(ants_score(TEXT(world), TEXT(brain), TEXT("Move 0 7\n"), 1, 1, scores, &fault, words, 64) == ANTS_REFUSED);
+    ROW(is_fault(3, 27, 1, 0, 7, "line 1: no such state 7") && scores[0].red == 0x55555555);
+}
+
+static void text_rows(void) {
+    clear();
+    ROW(ants_brain(TEXT("flip 02 0 0\n"), out, 10, &used, &fault, words, 64) == ANTS_NO_ROOM);
+    ROW(used == 11 && memcmp(out, "Flip 2 0 0.", 11) == 0 && stays());
+    ROW(ants_brain(TEXT("flip 02 0 0\n"), out, 11, &used, &fault, words, 64) == ANTS_DONE && used == 11 && memcmp(out, "Flip 2 0 0\n.", 12) == 0);
+    clear();
+    ROW(ants_brain(TEXT(""), out, 64, &used, &fault, words, 64) == ANTS_REFUSED && is_fault(1, 26, 0, 0, 0, "no instruction"));
+    ROW(used == 99 && out[0] == '.');
+    clear();
+    ROW(ants_brain(TEXT(""), out, 64, &used, &fault, words, 4) == ANTS_REFUSED && fault.words == 14 && memcmp(words, "no i.", 5) == 0);
+    clear();
+    ROW(ants_minimise(TEXT("Drop 1\nDrop 0\n"), out, 0, &used, &fault, words, 64) == ANTS_NO_ROOM && used == 7 && out[0] == '.');
+    ROW(ants_minimise(TEXT("Drop 1\nDrop 0\n"), out, 7, &used, &fault, words, 64) == ANTS_DONE && memcmp(out, "Drop 0\n.", 8) == 0);
+    ROW(ants_asm(TEXT("on:\ndrop on\n"), out, 64, &used, &fault, words, 64) == ANTS_DONE && used == 7 && memcmp(out, "Drop 0\n.", 8) == 0);
+    ROW(ants_same(TEXT(drop), TEXT("Drop 1\nDrop 0\n"), out, 64, &used, &fault, words, 64) == ANTS_DONE && used == 5 && memcmp(out, "same\n", 5) == 0);
+    clear();
+    ROW(ants_same(TEXT(drop), TEXT("Drop\n"), out, 64, &used, &fault, words, 64) == ANTS_REFUSED && is_fault(2, 22, 1, 0, 0, "line 1: missing token"));
+    clear();
+    ROW(ants_gen(1, 2, 3, 0, 0, out, 64, &used, &fault, words, 64) == ANTS_NUMBER && used == 99 && out[0] == '.' && stays());
+    ROW(ants_gen(1, 12, 12, 0, 0, out, 64, &used, &fault, words, 64) == ANTS_REFUSED && is_fault(0, 60, 0, 0, 0, "no room for element 0"));
+    clear();
+    ROW(ants_resume(TEXT("ants save 2\n"), 1, &(uint32_t){0}, 0, out, 64, &used, &fault, words, 64) == ANTS_REFUSED);
+    ROW(is_fault(1, 50, 1, 0, 0, "line 1: not a save"));
+}
+
+static void run_row(void) {
+    const char *text = "random seed: 7\n\nscore: red 0 black 0\n";
+    clear();
+    ROW(ants_run(TEXT(world), TEXT(drop), TEXT(drop), 7, 0, &(uint32_t){1}, 1, out, 64, &used, &fault, words, 64) == ANTS_DONE);
+    ROW(used == strlen(text) && memcmp(out, text, used) == 0 && out[used] == '.');
+}
+
+int main(void) {
+    play_rows();
+    text_rows();
+    run_row();
+    return failures != 0;
+}
