@@ -29,7 +29,8 @@ struct Body {
     std::string name;
     uint64_t line = 0;
     std::vector<std::string> parameters;
-    std::map<std::string, size_t> labels;  // the item that follows, or the number of items
+    std::map<std::string, size_t> labels;    // the item that follows, or the number of items
+    std::vector<std::string> ordered_labels;  // in the order of their lines
     std::vector<Item> items;
     size_t size = 0;  // how many instructions it expands to
 
@@ -108,6 +109,7 @@ void Program::add_label(const std::string& label) {
         fault(line, "name taken");
     }
     current().labels[label] = current().items.size();
+    current().ordered_labels.push_back(label);
 }
 
 void Program::begin_block(Places& places) {
@@ -224,8 +226,10 @@ class Expansion {
         place(program.main, 0, 0);
     }
     Brain brain() const;
+    void print_labels() const;
 
   private:
+    std::string path(size_t use) const;
     void place(const Body& body, size_t outer, size_t item);
     uint64_t target(size_t use, size_t item, const std::string& label) const;
 
@@ -261,6 +265,35 @@ uint64_t Expansion::target(size_t use, size_t item, const std::string& label) co
     return here.first[place] % emitted.size();
 }
 
+// What stands before a name in a body: each use that leads there from main, with its line.
+std::string Expansion::path(size_t use) const {
+    if (use == 0) {
+        return "";
+    }
+    const Placed& here = placed[use];
+    const Item& used = placed[here.outer].body->items[here.item];
+    return path(here.outer) + here.body->name + "@" + decimal(used.line) + "/";
+}
+
+// A body stands in `placed` before those that it uses, and these stand in the order of their uses: so do the lines.
+void Expansion::print_labels() const {
+    std::string text;
+    for (const Placed& it : placed) {
+        if (it.body->ordered_labels.empty()) {
+            continue;
+        }
+        const std::string before = path(it.use);
+        for (const std::string& label : it.body->ordered_labels) {
+            text += decimal(it.first[it.body->labels.at(label)] % emitted.size()) + " " + before + label + "\n";
+            if (text.size() > most_text) {
+                print(text);
+                text.clear();
+            }
+        }
+    }
+    print(text);
+}
+
 Brain Expansion::brain() const {
     Brain brain;
     for (const Emitted& it : emitted) {
@@ -274,9 +307,7 @@ Brain Expansion::brain() const {
     return brain;
 }
 
-}  // namespace
-
-Brain assembled(const std::string& name, const std::string& text) {
+Program read_program(const std::string& name, const std::string& text) {
     Program program(name);
     uint64_t number = 0;
     for (const std::string& line : lines_of(text)) {
@@ -287,5 +318,17 @@ Brain assembled(const std::string& name, const std::string& text) {
         }
     }
     program.end();
+    return program;
+}
+
+}  // namespace
+
+Brain assembled(const std::string& name, const std::string& text) {
+    const Program program = read_program(name, text);
     return Expansion(program).brain();
+}
+
+void print_labels(const std::string& name, const std::string& text) {
+    const Program program = read_program(name, text);
+    Expansion(program).print_labels();
 }

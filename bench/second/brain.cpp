@@ -187,15 +187,26 @@ std::string canonical_text(const Brain& brain) {
     return text;
 }
 
-Brain minimised(const Brain& brain) {
+std::vector<std::optional<size_t>> minimised_states(const Brain& brain) {
     const std::vector<bool> live = live_states(brain);
     const std::vector<size_t> classes = classes_of(brain, live);
+    std::vector<std::optional<size_t>> states(brain.size());
+    for (size_t state = 0; state < brain.size(); state++) {
+        if (live[state]) {
+            states[state] = classes[state];
+        }
+    }
+    return states;
+}
+
+Brain minimised(const Brain& brain) {
+    const std::vector<std::optional<size_t>> states = minimised_states(brain);
     Brain kept;
     for (size_t state = 0; state < brain.size(); state++) {
-        if (live[state] && classes[state] == kept.size()) {
+        if (states[state] == kept.size()) {
             Instruction it = brain[state];
             for (uint64_t& next : it.next) {
-                next = classes[next];
+                next = *states[next];
             }
             kept.push_back(it);
         }

@@ -38,6 +38,9 @@ std::string line_of(const Instruction& it);
 Brain read_brain(const std::string& name, const std::string& text);
 
 std::string canonical_text(const Brain& brain);
+
+// The state of the minimised brain that each state becomes; none where it is dropped.
+std::vector<std::optional<size_t>> minimised_states(const Brain& brain);
 Brain minimised(const Brain& brain);
 
 // Two states that differ, and after how many answers they are reached.

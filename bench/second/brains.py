@@ -117,6 +117,35 @@ def moved(r, lines):
     return other
 
 
+def copied(r, lines):
+    """The lines of a brain with two or three copies of some states; what led to one leads to any of its copies."""
+    origins = list(range(len(lines)))
+    for number in range(len(lines)):
+        origins += [number] * r.choice([0, 0, 1, 2])
+    origins = [0] + r.sample(origins[1:], len(origins) - 1)
+    copies = [[place for place, origin in enumerate(origins) if origin == number] for number in range(len(lines))]
+    other = []
+    for origin in origins:
+        tokens = lines[origin].split(' ')
+        for place in PLACES_OF_STATES[tokens[0]]:
+            tokens[place] = str(r.choice(copies[int(tokens[place])]))
+        other.append(' '.join(tokens))
+    return other
+
+
+def merging_brain(r):
+    """A text of a brain with states that are equivalent, that nothing leads to, or both; seldom a faulty one."""
+    kind = r.random()
+    if kind < .05:
+        return faulty_brain(r)
+    lines = brain_lines(r)
+    if kind < .75:
+        lines = copied(r, lines)
+    if kind > .5:
+        lines = moved(r, lines)
+    return spelled(r, copied(r, lines) if chance(r, .2) else lines)
+
+
 def brain_with_wrong_state(r, lines):
     """A text in which one number of the lines, most often a state, is another."""
     count = len(lines)

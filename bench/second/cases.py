@@ -1,7 +1,7 @@
 """Random cases: the words of a command, its files and its standard input."""
-from brains import any_brain, brain_lines, instruction, moved
+from brains import any_brain, brain_lines, instruction, merging_brain, moved
 from breaks import Game, break_text
-from programs import any_program
+from programs import any_program, labelled_program
 from saves import any_save, faulty_save
 from spelling import chance, spelled
 from worlds import any_world, faulty_world, grid, world_text
@@ -167,6 +167,16 @@ def case_of_minimise(r):
     return case
 
 
+def case_of_states(r):
+    """`minimise --states`, and most often what `minimise` prints of the same brain."""
+    case = Case()
+    name = put(case, r, 'b', merging_brain(r))
+    case.words = ['minimise', name, '--states']
+    if chance(r, .6):
+        case.further = [['minimise', name]]
+    return case
+
+
 def case_of_same(r):
     """`same` of two brains: of one and of what it becomes, of two that differ in a line, or of any two."""
     case = Case()
@@ -273,8 +283,8 @@ def case_of_gen(r):
     return Case(['gen', seed] + shuffled(r, options))
 
 
-def case_of_cup(r):
-    """`cup` of a few brains on a few worlds."""
+def case_of_cup(r, further_options=()):
+    """`cup` of a few brains on a few worlds, with these options and the usual ones."""
     case = Case()
     world_count = r.choice([1, 1, 1, 2, 3])
     brain_count = r.choice([2, 2, 3, 4])
@@ -288,7 +298,7 @@ def case_of_cup(r):
     if chance(r, .03):
         brains.append(r.choice(brains))
     rounds = r.choice([0, 1, 2, 5, r.randint(0, 40), r.randint(0, 120)])
-    options = seed_and_rounds(r, rounds)
+    options = seed_and_rounds(r, rounds) + list(further_options)
     if chance(r, .4):
         options.append(workers_option(r))
     case.words = ['cup', '--worlds'] + worlds + ['--brains'] + brains + shuffled(r, options)
@@ -325,6 +335,16 @@ def case_of_asm(r):
     case.words = ['asm', name]
     if chance(r, .3):
         case.further = [[r.choice(['brain', 'minimise']), 'printed']]
+    return case
+
+
+def case_of_labels(r):
+    """`asm --labels`, and now and then the brain of the same program."""
+    case = Case()
+    name = put(case, r, 'p', labelled_program(r))
+    case.words = ['asm', name, '--labels']
+    if chance(r, .3):
+        case.further = [['asm', name]]
     return case
 
 

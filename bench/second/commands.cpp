@@ -13,8 +13,6 @@
 
 namespace {
 
-constexpr size_t most_text = 1 << 20;  // beyond which it is printed before a game goes on
-
 struct Run {
     uint64_t seed = 0;
     uint64_t rounds = 0;
@@ -30,10 +28,7 @@ Run read_run(Words& words) {
     const auto read_dumps = [&](Words& these) {
         run.dumps = these.dumps();
     };
-    const auto read_counts = [&](Words&) {
-        run.has_counts = true;
-    };
-    const auto read_far = [](Words&) {};  // nothing that is printed depends on it
+    bool is_far = false;  // nothing that is printed depends on it
     words.options({needed_number("--seed", 0, most_of_32_bits, run.seed),
                    needed_number("--rounds", 0, most_rounds, run.rounds),
                    {"--dump", false, read_dumps},
@@ -42,8 +37,8 @@ Run read_run(Words& words) {
                    free_number("--surround", 4, 6, run.sheet.surround),
                    free_number("--corpse", 0, 9, run.sheet.corpse),
                    free_number("--rest", 0, 255, run.sheet.rest),
-                   {"--stats", false, read_counts},
-                   {"--far", false, read_far}});
+                   flag("--stats", run.has_counts),
+                   flag("--far", is_far)});
     return run;
 }
 
@@ -72,6 +67,15 @@ void play(Game& game, const Run& run, std::string text, uint64_t round, const Co
         text += counts_line(windows.counts);
     }
     print(text);
+}
+
+// A line for each state that was read: the state that it becomes, or that it is dropped.
+std::string states_text(const std::vector<std::optional<size_t>>& states) {
+    std::string text;
+    for (size_t state = 0; state < states.size(); state++) {
+        text += decimal(state) + " " + (states[state] ? decimal(*states[state]) : "dropped") + "\n";
+    }
+    return text;
 }
 
 // The number of the first break that holds, counted from 1; 0 where none does.
@@ -125,8 +129,13 @@ void print_brain(Words& words) {
 
 void minimise(Words& words) {
     const std::string name = words.file_name();
-    words.end();
+    bool tells_states = false;
+    words.options({flag("--states", tells_states)});
     const Brain brain = fetch_brain(name);
+    if (tells_states) {
+        print(states_text(minimised_states(brain)));
+        return;
+    }
     const Brain kept = minimised(brain);
     print("; " + decimal(brain.size()) + " states, " + decimal(kept.size()) + " kept\n" + canonical_text(kept));
 }
@@ -168,8 +177,9 @@ void trace(Words& words) {
     Run asked;
     uint64_t from = 0;
     words.options(
-        {needed_number("--seed", 0, most_of_32_bits, asked.seed), needed_number("--rounds", 0, most_rounds, asked.rounds),
-         free_number("--from", 0, most_rounds, from), free_number("--surround", 4, 6, asked.sheet.surround),
+        {needed_number("--seed", 0, most_of_32_bits, asked.seed),
+         needed_number("--rounds", 0, most_rounds, asked.rounds), free_number("--from", 0, most_rounds, from),
+         free_number("--surround", 4, 6, asked.sheet.surround),
          free_number("--corpse", 0, 9, asked.sheet.corpse), free_number("--rest", 0, 255, asked.sheet.rest)});
     const World world = fetch_world(world_name);
     const Brain red = fetch_brain(red_name);
@@ -198,8 +208,14 @@ void trace(Words& words) {
 
 void assemble(Words& words) {
     const std::string name = words.file_name();
-    words.end();
-    print(canonical_text(assembled(name, fetch(name))));
+    bool tells_labels = false;
+    words.options({flag("--labels", tells_labels)});
+    const std::string text = fetch(name);
+    if (tells_labels) {
+        print_labels(name, text);
+    } else {
+        print(canonical_text(assembled(name, text)));
+    }
 }
 
 void save(Words& words) {
@@ -235,13 +251,10 @@ void resume(Words& words) {
     const auto read_dumps = [&](Words& these) {
         run.dumps = these.dumps();
     };
-    const auto read_counts = [&](Words&) {
-        run.has_counts = true;
-    };
     words.options({needed_number("--rounds", 0, most_rounds, run.rounds),
                    {"--dump", false, read_dumps},
                    free_number("--workers", 1, most_workers, run.workers),
-                   {"--stats", false, read_counts}});
+                   flag("--stats", run.has_counts)});
     const Saved saved = read_saved(name, fetch(name));
     if (saved.round > run.rounds) {
         refuse(5, name + ": already at round " + decimal(saved.round));

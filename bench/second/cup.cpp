@@ -16,6 +16,7 @@ struct Cup {
     uint64_t seed = 0;
     uint64_t rounds = 0;
     uint64_t workers = 1;
+    bool tells_games = false;
 };
 
 struct Standing {
@@ -58,8 +59,31 @@ Cup read_cup(Words& words) {
     read_brain_names(words, cup);
     words.options({needed_number("--seed", 0, most_of_32_bits, cup.seed),
                    needed_number("--rounds", 0, most_rounds, cup.rounds),
-                   free_number("--workers", 1, most_workers, cup.workers)});
+                   free_number("--workers", 1, most_workers, cup.workers),
+                   flag("--games", cup.tells_games)});
     return cup;
+}
+
+// A game of a cup: the places of its world and its brains in the words.
+struct Pairing {
+    size_t world;
+    size_t red;
+    size_t black;
+};
+
+// In the order in which they are played: on each world for each brain and each that was named behind it, the first with
+// the red ants and then with the black ones.
+std::vector<Pairing> games_of(const Cup& cup) {
+    std::vector<Pairing> games;
+    for (size_t world = 0; world < cup.world_names.size(); world++) {
+        for (size_t one = 0; one < cup.brain_names.size(); one++) {
+            for (size_t other = one + 1; other < cup.brain_names.size(); other++) {
+                games.push_back({world, one, other});
+                games.push_back({world, other, one});
+            }
+        }
+    }
+    return games;
 }
 
 void settle(const Score& score, Standing& red, Standing& black) {
@@ -75,19 +99,18 @@ void settle(const Score& score, Standing& red, Standing& black) {
     }
 }
 
-void play_on(const World& world, const std::vector<Brain>& brains, const Cup& cup, std::vector<Standing>& standings) {
-    for (size_t red = 0; red < brains.size(); red++) {
-        for (size_t black = 0; black < brains.size(); black++) {
-            if (red == black) {
-                continue;
-            }
-            Game game(world, {{&brains[red], &brains[black]}, Sheet()}, cup.seed);
-            for (uint64_t round = 0; round < cup.rounds; round++) {
-                game.play_round();
-            }
-            settle(score_of(game.world), standings[red], standings[black]);
-        }
+Score score_of_game(const World& world, const Brain& red, const Brain& black, const Cup& cup) {
+    Game game(world, {{&red, &black}, Sheet()}, cup.seed);
+    for (uint64_t round = 0; round < cup.rounds; round++) {
+        game.play_round();
     }
+    return score_of(game.world);
+}
+
+// Its number is counted from 1.
+std::string game_line(const Cup& cup, size_t number, const Pairing& game, const Score& score) {
+    return "game " + decimal(number) + ": red " + decimal(score.red) + " black " + decimal(score.black) + ", " +
+           cup.world_names[game.world] + ", " + cup.brain_names[game.red] + ", " + cup.brain_names[game.black] + "\n";
 }
 
 std::string standing_line(const Standing& it) {
@@ -110,14 +133,20 @@ void cup(Words& words) {
         standings.push_back(Standing());
         standings.back().name = name;
     }
-    for (const World& world : worlds) {
-        play_on(world, brains, cup, standings);
+    std::string text;
+    size_t number = 0;
+    for (const Pairing& game : games_of(cup)) {
+        const Score score = score_of_game(worlds[game.world], brains[game.red], brains[game.black], cup);
+        settle(score, standings[game.red], standings[game.black]);
+        number++;
+        if (cup.tells_games) {
+            text += game_line(cup, number, game, score);
+        }
     }
     const auto has_more = [](const Standing& left, const Standing& right) {
         return left.points() > right.points();
     };
     std::stable_sort(standings.begin(), standings.end(), has_more);
-    std::string text;
     for (const Standing& standing : standings) {
         text += standing_line(standing);
     }

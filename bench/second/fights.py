@@ -1,6 +1,6 @@
 """Random cases of crowded games."""
 from brains import fighting_lines
-from cases import Case, shuffled, workers_option
+from cases import Case, case_of_cup, seed_and_rounds, shuffled, workers_option
 from spelling import chance, spelled
 from worlds import world_text
 
@@ -76,3 +76,25 @@ def case_of_fight(r):
         case.files[walking] = spelled(r, walker, 0)
     case.words = ['run', 'w', 'r', 'b'] + fight_options(r)
     return case
+
+
+def fighting_cup(r):
+    """`cup --games` with crowded worlds, of whose games many have points."""
+    case = Case()
+    worlds = ['w%d' % number for number in range(r.choice([1, 1, 2, 3]))]
+    brains = ['b%d' % number for number in range(r.choice([2, 3, 3, 4]))]
+    for name in worlds:
+        case.files[name] = world_text(r, crowded_rows(r), False)
+    for name in brains:
+        lines = r.choice(TAKERS + WALKERS) if chance(r, .3) else fighting_lines(r)
+        case.files[name] = spelled(r, lines, 0)
+    options = seed_and_rounds(r, r.randint(1, 400)) + [['--games']]
+    if chance(r, .5):
+        options.append(workers_option(r))
+    case.words = ['cup', '--worlds'] + worlds + ['--brains'] + brains + shuffled(r, options)
+    return case
+
+
+def case_of_games(r):
+    """`cup --games`."""
+    return fighting_cup(r) if chance(r, .6) else case_of_cup(r, [['--games']])

@@ -2,6 +2,8 @@
 #pragma once
 #include <string>
 
+constexpr size_t most_text = 1 << 20;  // beyond which a text is printed before more of it is made
+
 // Ends the program with a status and one line on standard error.
 [[noreturn]] void refuse(int status, const std::string& line);
 

@@ -1,11 +1,13 @@
 """Random cases of several faults at once, of large files, and of a full output."""
 from brains import any_brain, instruction
 from breaks import Game, break_text
-from programs import doubling, many_blocks, text_of
+from programs import doubling, many_blocks, many_labels, text_of
 from saves import Save
 from cases import (
-    Case, case_of_asm, case_of_brain, case_of_gen, case_of_resume, case_of_run, case_of_save, case_of_show,
+    Case, case_of_asm, case_of_brain, case_of_gen, case_of_labels, case_of_resume, case_of_run, case_of_save,
+    case_of_show, case_of_states,
 )
+from fights import case_of_games
 from spelling import chance
 from worlds import any_world
 
@@ -38,6 +40,7 @@ def case_of_order(r):
     if command == 'cup':
         worlds = [world(number) for number in range(r.choice([1, 2]))]
         brains = [brain(number) for number in range(r.choice([2, 3]))]
+        tail += r.choice([[], ['--games']])
         case.words = ['cup', '--worlds'] + worlds + ['--brains'] + brains + tail
         return case
     words = [command, world(0), brain(0), brain(1)]
@@ -63,9 +66,10 @@ def long_brain(r):
     size = r.choice([4194303, 4194304, 4194305, 4194306])
     case = Case()
     case.files['f'] = b'Drop 0 ;'.ljust(size)
-    case.words = [r.choice(['brain', 'minimise', 'asm']), 'f']
+    case.words = r.choice([['brain', 'f'], ['minimise', 'f'], ['minimise', 'f', '--states'], ['asm', 'f'],
+                           ['asm', 'f', '--labels']])
     if case.words[0] == 'asm':
-        case.files['f'] = b'Drop next ;'.ljust(size)
+        case.files['f'] = r.choice([b'Drop next ;', b'go: ;\n\nDrop next ;']).ljust(size)
     return case
 
 
@@ -114,7 +118,10 @@ def wide_world(r):
 
 def full_output(r):
     """A case whose output is taken by nobody."""
-    makers = [case_of_show, case_of_gen, case_of_brain, case_of_run, case_of_asm, case_of_save, case_of_resume]
+    makers = [
+        case_of_show, case_of_gen, case_of_brain, case_of_run, case_of_asm, case_of_save, case_of_resume,
+        case_of_labels, case_of_states, case_of_games,
+    ]
     case = r.choice(makers)(r)
     case.is_full = True
     case.further = []
@@ -133,29 +140,36 @@ def many_breaks(r):
 def many_states(r):
     """A brain of some hundred states to minimise."""
     count = r.choice([200, 500])
-    case = Case(['minimise', 'f'])
+    case = Case(['minimise', 'f'] + r.choice([[], ['--states']]))
     case.files['f'] = '\n'.join(instruction(r, count) for _ in range(count)).encode()
     return case
 
 
 def doubled_program(r):
     """A program whose brain has about as many instructions as there may be."""
-    case = Case(['asm', 'f'])
+    case = Case(['asm', 'f'] + r.choice([[], ['--labels']]))
     case.files['f'] = doubling(r)
     return case
 
 
 def program_of_many_blocks(r):
     """A program with about as many blocks as there may be."""
-    case = Case(['asm', 'f'])
+    case = Case(['asm', 'f'] + r.choice([[], ['--labels']]))
     case.files['f'] = many_blocks(r)
+    return case
+
+
+def program_of_many_labels(r):
+    """A program whose labels come to many lines."""
+    case = Case(['asm', 'f', '--labels'])
+    case.files['f'] = many_labels(r)
     return case
 
 
 def plain_program(r):
     """About as many instructions as a program may have, without a block."""
     count = r.choice([9999, 10000, 10001])
-    case = Case(['asm', '-'])
+    case = Case(['asm', '-'] + r.choice([[], ['--labels']]))
     case.stdin = text_of(r, ['Move next next'] * count + r.choice([[], ['@end:'], ['x'], ['end']]), 0)
     return case
 
@@ -185,7 +199,8 @@ def crowded_save(r):
 
 LARGE_CASES = [
     long_brain, long_world, many_instructions, high_states, many_ants, wide_world, full_output, many_breaks,
-    many_states, doubled_program, program_of_many_blocks, plain_program, long_save, crowded_save,
+    many_states, doubled_program, program_of_many_blocks, program_of_many_labels, plain_program, long_save,
+    crowded_save,
 ]
 
 

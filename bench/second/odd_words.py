@@ -1,13 +1,16 @@
 """Random cases of words at fault, and of numbers at their limits."""
 from cases import (
-    Case, case_of_asm, case_of_brain, case_of_cup, case_of_gen, case_of_minimise, case_of_resume, case_of_run,
-    case_of_same, case_of_save, case_of_show, case_of_trace, case_of_view, case_of_workload, shuffled,
+    Case, case_of_asm, case_of_brain, case_of_cup, case_of_gen, case_of_labels, case_of_minimise, case_of_resume,
+    case_of_run, case_of_same, case_of_save, case_of_show, case_of_states, case_of_trace, case_of_view,
+    case_of_workload, shuffled,
 )
+from fights import case_of_games
 from saves import Save
 from spelling import chance
 
 COMMANDS = [
-    'show', 'run', 'brain', 'gen', 'minimise', 'cup', 'view', 'workload', 'asm', 'save', 'resume', 'trace', 'same', 'help',
+    'show', 'run', 'brain', 'gen', 'minimise', 'cup', 'view', 'workload', 'asm', 'save', 'resume', 'trace', 'same',
+    'help',
 ]
 DUMPS = [
     'none', 'all', 'None', 'ALL', '0', '1,2', '1,,2', '1,2,', ',1', ',', '', '1000000', '1000001', '00000000001',
@@ -16,22 +19,24 @@ DUMPS = [
 ]
 OPTIONS = [
     '--seed', '--rounds', '--dump', '--workers', '--window', '--stats', '--surround', '--corpse', '--rest', '--width',
-    '--height', '--rocks', '--blobs', '--worlds', '--brains', '--far', '--from',
+    '--height', '--rocks', '--blobs', '--worlds', '--brains', '--far', '--from', '--labels', '--states', '--games',
 ]
 OTHER_WORDS = [
-    '--', '-', '---', '-x', '--help', '--version', '--Seed', '--seed=1', '--SEED', '', ' ', 'w', 'r', 'b', './--w',
-    'a b', 'é', '--é', '0', '1', '2', '3', '4', '5', '6', '7', '9', '10', '14', '16', '17', '255', '256', '512',
+    '--', '-', '---', '-x', '--help', '--version', '--Seed', '--seed=1', '--SEED', '--label', '--Games',
+    '', ' ', 'w', 'r', 'b', './--w', 'a b', 'é', '--é', '0', '1', '2', '3', '4', '5', '6', '7', '9', '10', '14', '16', '17', '255', '256', '512',
     '513', '16384', '16385', '1000000', '1000001', '4294967295', '4294967296', '9999999999', '10000000000',
     '0000000001', '00000000001', '-1', '+1', '01', 'x', '1x', '0x1', '1 ', ' 1', '1.0', '٣', 'none', 'all',
 ]
 WORDS = COMMANDS + ['minimize', 'Show'] + OPTIONS + OTHER_WORDS + DUMPS
 FIRST_WORDS = [
-    [], ['help', 'x'], ['--help', 'x'], ['trace'], ['same'], ['show'], ['run'], ['cup'], ['view'], ['gen'], ['workload'], ['brain'], ['minimise'],
-    ['asm'], ['save'], ['resume'], ['--version'], ['--version', '--version'],
+    [], ['help', 'x'], ['--help', 'x'], ['trace'], ['same'], ['show'], ['run'], ['cup'], ['view'], ['gen'], ['workload'],
+    ['brain'], ['minimise'], ['asm'], ['save'], ['resume'], ['--version'], ['--version', '--version'],
+    ['asm', '--labels'], ['minimise', '--states'], ['cup', '--games'],
 ]
 GOOD_CASES = [
     case_of_show, case_of_brain, case_of_minimise, case_of_run, case_of_run, case_of_gen, case_of_cup, case_of_view,
-    case_of_workload, case_of_asm, case_of_save, case_of_resume, case_of_trace, case_of_same,
+    case_of_workload, case_of_asm, case_of_save, case_of_resume, case_of_trace, case_of_same, case_of_labels,
+    case_of_states, case_of_games,
 ]
 NEAR_LIMITS = {
     '--seed': ['0', '4294967295', '4294967296', '9999999999'],
@@ -77,8 +82,8 @@ SMALL_FILES = {
 
 
 def with_option_twice(r, words):
-    """The words, and at their end two of them again from an option on."""
-    places = [place for place in range(len(words) - 1) if words[place].startswith('--')]
+    """The words, and at their end one or two of them again from an option on."""
+    places = [place for place in range(len(words)) if words[place].startswith('--')]
     if not places:
         return words
     place = r.choice(places)
@@ -139,7 +144,7 @@ def case_of_words(r):
         return Case(r.choice(FIRST_WORDS))
     make = r.choice(GOOD_CASES)
     case = make(r)
-    if make is case_of_cup and chance(r, .1):
+    if case.words[0] == 'cup' and chance(r, .1):
         case.words = with_many_names(r, case.words)
     case.further = []
     for _ in range(r.choice([1, 1, 1, 2, 2, 3])):
@@ -162,7 +167,7 @@ def case_of_limits(r):
             if chance(r, .1) and is_between(value, 0, 999999999) and len(value) < 10:
                 value = value.zfill(r.choice([10, 11]))
             options.append([name, value])
-    for name, commands in (('--stats', ['run', 'resume']), ('--far', ['run'])):
+    for name, commands in (('--stats', ['run', 'resume']), ('--far', ['run']), ('--games', ['cup'])):
         if command in commands and chance(r, .3):
             options.append([name])
     case.words = HEADS[command] + shuffled(r, options)

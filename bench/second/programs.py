@@ -59,10 +59,10 @@ class Block:
 class Body:
     """The lines of a body while it is made: first its labels and parameters, then its items."""
 
-    def __init__(self, r, parameters, blocks):
+    def __init__(self, r, parameters, blocks, counts):
         self.r = r
         self.blocks = blocks
-        self.labels = r.sample([name for name in NAMES if name not in parameters], r.choice([0, 0, 1, 2, 3]))
+        self.labels = r.sample([name for name in NAMES if name not in parameters], r.choice(counts))
         self.known = [signed(name) for name in list(parameters) + self.labels]
         self.size = 0
 
@@ -95,14 +95,14 @@ def names_of_parameters(r):
     return r.sample(NAMES, r.choice([0, 0, 1, 1, 2, 3, MOST_PARAMETERS]))
 
 
-def program_lines(r):
-    """The lines of a program; blocks use blocks above them."""
+def program_lines(r, counts=(0, 0, 1, 2, 3)):
+    """The lines of a program, with one of these counts of labels in each body; blocks use blocks above them."""
     lines, blocks = [], []
-    main = Body(r, [], blocks)
+    main = Body(r, [], blocks, counts)
     names = r.sample(NAMES, r.choice([0, 1, 1, 2, 3, 4, 6]))
     for name in names:
         parameters = names_of_parameters(r)
-        body = Body(r, parameters, list(blocks))
+        body = Body(r, parameters, list(blocks), counts)
         lines.append(' '.join(['block', signed(name)] + [signed(it) for it in parameters]))
         lines += body.lines() + ['end']
         blocks.append(Block(name, parameters, body.size))
@@ -248,7 +248,7 @@ def faulty_program(r):
 def doubling(r):
     """Blocks each of which uses the one above twice, so that their sizes come near to the most that may be."""
     first = r.choice([1, 1, 2, 3, 5, 39, 40, 625, 1250])
-    lines = ['block %s' % signed('b0')] + ['Drop next'] * first + ['end']
+    lines = ['block %s' % signed('b0')] + ['Drop next'] * first + ['@go:', 'end']
     size, number = first, 0
     while size * 2 <= MOST_INSTRUCTIONS:
         number += 1
@@ -266,22 +266,88 @@ def doubling(r):
 def many_blocks(r):
     """About as many blocks as there may be, each of which uses the one above and hands its labels on."""
     count = r.choice([MOST_BLOCKS - 1, MOST_BLOCKS, MOST_BLOCKS + 1])
+    names = [signed(('b%d' % number).ljust(r.choice([1, 1, 32]), '_')) for number in range(count)]
     parameters = [signed('p%d' % number) for number in range(r.choice([0, 1, 3, MOST_PARAMETERS]))]
     lines = []
-    for number in range(count):
-        lines.append(' '.join(['block', signed('b%d' % number)] + parameters))
+    for number, name in enumerate(names):
+        lines.append(' '.join(['block', name] + parameters))
+        if chance(r, .5):
+            lines.append(signed('go') + ':')
         handed = list(parameters)
         r.shuffle(handed)
         if number:
-            lines.append(' '.join(['use', signed('b%d' % (number - 1))] + handed))
+            lines.append(' '.join(['use', names[number - 1]] + handed))
         else:
             lines.append(instruction(r, lambda: r.choice(parameters + ['next'])))
         lines.append('end')
     lines.append(signed('go') + ':')
     handed = [r.choice([signed('go'), 'next']) for _ in parameters]
-    lines.append(' '.join(['use', signed('b%d' % (count - 1))] + handed))
+    lines.append(' '.join(['use', names[-1]] + handed))
     lines.append('Drop next')
     return text_of(r, lines, .05)
+
+
+def many_labels(r):
+    """A block of many labels that is put in place often."""
+    labels = ['@l%d:' % number for number in range(r.choice([1, 10, 300]))]
+    items = ['Drop next'] * r.choice([1, 2, 5])
+    block = ['block @many'] + labels + items + [r.choice(['@last:', 'Drop @l0'])] + ['end']
+    return text_of(r, block + ['use @many'] * r.choice([1, 20, 1000]), .05)
+
+
+def items_with_labels(r, items, count):
+    """The items with this many labels among them, some of which stand at one place or at the end."""
+    lines = list(items)
+    for name in r.sample(NAMES, count):
+        lines.insert(r.choice([len(lines), r.randint(0, len(lines)), 0]), signed(name) + ':')
+    return lines
+
+
+def deep_block(r, blocks, parameters):
+    """The items of a block that uses the one above, and seldom another, and then may have more items."""
+    def label():
+        """A parameter, or what follows."""
+        return r.choice(parameters + ['next'])
+
+    used = [blocks[-1]] if blocks else []
+    if blocks and chance(r, .3):
+        used.append(r.choice(blocks))
+    items = [' '.join(['use', signed(block.name)] + [label() for _ in block.parameters]) for block in used]
+    size = sum(block.size for block in used)
+    for _ in range(r.choice([0, 0, 1, 2]) if items else 1):
+        items.insert(r.randint(0, len(items)), instruction(r, label))
+        size += 1
+    return items, size
+
+
+def deep_program(r):
+    """The lines of a program of blocks each of which uses the one above, with labels in many of them."""
+    lines, blocks = [], []
+    for number in range(r.choice([2, 5, 9, 20])):
+        name = 'deep%d' % number
+        parameters = [signed('p%d' % it) for it in range(r.choice([0, 0, 1, 2]))]
+        items, size = deep_block(r, blocks, parameters)
+        if size > MOST_INSTRUCTIONS // 100:
+            break
+        lines.append(' '.join(['block', signed(name)] + parameters))
+        lines += items_with_labels(r, items, r.choice([0, 1, 1, 2])) + ['end']
+        blocks.append(Block(name, parameters, size))
+    used = [blocks[-1]] + r.choices(blocks, k=r.choice([0, 1, 3]))  # so that some may be in place nowhere
+    items = [' '.join(['use', signed(block.name)] + ['next'] * len(block.parameters)) for block in used]
+    items.insert(r.randint(0, len(items)), instruction(r, lambda: 'next'))
+    return lines + items_with_labels(r, items, r.choice([0, 0, 1, 3]))
+
+
+def labelled_program(r):
+    """A text of a program whose labels are many, deep or none; seldom a faulty one."""
+    kind = r.random()
+    if kind < .1:
+        return faulty_program(r)
+    if kind < .5:
+        return text_of(r, deep_program(r))
+    if kind < .6:
+        return text_of(r, program_lines(r, [0]))
+    return text_of(r, program_lines(r))
 
 
 def any_program(r, faults=0):

@@ -187,3 +187,9 @@ Option needed_number(const std::string& word, uint64_t least, uint64_t most, uin
 Option free_number(const std::string& word, uint64_t least, uint64_t most, uint64_t& number) {
     return number_option(word, false, least, most, number);
 }
+
+Option flag(const std::string& word, bool& is_there) {
+    return {word, false, [&is_there](Words&) {
+                is_there = true;
+            }};
+}

@@ -56,3 +56,4 @@ struct Option {
 
 Option needed_number(const std::string& word, uint64_t least, uint64_t most, uint64_t& number);
 Option free_number(const std::string& word, uint64_t least, uint64_t most, uint64_t& number);
+Option flag(const std::string& word, bool& is_there);
