@@ -28,7 +28,7 @@
 
    TO LINK. One file is enough; it needs the C library alone.
 
-       cc -O2 game.c libants.a -o game                           the static library
+       cc -O2 -I. game.c libants.a -o game                       the static library, which is in this folder, as this header is
        cc -O2 game.c -o game $(pkg-config --cflags --libs ants)  libants.so, where `make install` or a package has put it; the system
                                                                  finds it as any, by ldconfig, LD_LIBRARY_PATH or -Wl,-rpath
 
