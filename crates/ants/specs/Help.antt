@@ -57,9 +57,9 @@ file_lines =
 -- the options of a game
 unfoldable pub game_option_lines : List ℕ
 game_option_lines =
-    codes "Options of run, of which view and cup take the first two, save all but --dump,\n"
-    +++ codes "--stats and --far, resume --rounds, --dump, --workers and --stats, and trace\n"
-    +++ codes "--seed, --rounds, --surround, --corpse and --rest; --from is of trace alone:\n"
+    codes "Options of run, of which view takes the first two, cup these and --workers, save\n"
+    +++ codes "all but --dump, --stats and --far, resume --rounds, --dump, --workers, --stats,\n"
+    +++ codes "trace --seed, --rounds, --surround, --corpse, --rest; --from is of trace alone:\n"
     +++ codes "  --seed N      where the random numbers begin, 0 to 4294967295; needed\n"
     +++ codes "  --rounds N    how many rounds are played, 0 to 1000000; needed\n"
     +++ codes "  --dump D      dumps after rounds: none, all, or as 0,10,100; none\n"

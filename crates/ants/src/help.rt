@@ -101,9 +101,9 @@ impl Layout for GameOptionLines {
     #[tactic(auto, unfolding(crate::specs::Help::game_option_lines))]
     fn push_to<K: Sink>(&self, sink: &mut K) -> Result<(), Failed> {
         concat!(
-            "Options of run, of which view and cup take the first two, save all but --dump,\n",
-            "--stats and --far, resume --rounds, --dump, --workers and --stats, and trace\n",
-            "--seed, --rounds, --surround, --corpse and --rest; --from is of trace alone:\n",
+            "Options of run, of which view takes the first two, cup these and --workers, save\n",
+            "all but --dump, --stats and --far, resume --rounds, --dump, --workers, --stats,\n",
+            "trace --seed, --rounds, --surround, --corpse, --rest; --from is of trace alone:\n",
             "  --seed N      where the random numbers begin, 0 to 4294967295; needed\n",
             "  --rounds N    how many rounds are played, 0 to 1000000; needed\n",
             "  --dump D      dumps after rounds: none, all, or as 0,10,100; none\n",
