@@ -14,7 +14,8 @@ use std::fmt;
 pub enum Stop {
     /// A number is beyond its limits: rounds 0 to 1,000,000, width and height 3 to 512, rocks and blobs 0 to 255.
     Limit,
-    /// A text is refused, or an element of a generated world has no room: the numbers, and the program's words.
+    /// A text is refused, or an element of a generated world has no room: the numbers, and the program's words. It is displayed behind the text's
+    /// number, from 1 in the order of the call.
     Refused(Fault, String),
     /// Memory could not be had.
     OutOfMemory,
@@ -24,6 +25,7 @@ impl fmt::Display for Stop {
     fn fmt(&self, f: &mut fmt::Formatter<'_>) -> fmt::Result {
         match self {
             Stop::Limit => f.write_str("a number is beyond its limits"),
+            Stop::Refused(fault, words) if fault.text > 0 => write!(f, "text {}: {words}", fault.text),
             Stop::Refused(_, words) => f.write_str(words),
             Stop::OutOfMemory => f.write_str("out of memory"),
         }

@@ -60,4 +60,6 @@ fn a_refusal_has_the_words_of_the_program() {
     assert_eq!(format!("ants: world: {words}\n"), written("refused", "brain world"));
     assert_eq!((fault.text, fault.line), (1, 1));
     assert_eq!(GAME.score(1, 1_000_001), Err(Stop::Limit));
+    let refused = Game { black: b"hop\n", ..GAME }.score(1, 1).unwrap_err();
+    assert_eq!(refused.to_string(), "text 3: line 1: unknown word");
 }
