@@ -28,12 +28,12 @@ impl World {
 
 // The same for the bodies of these ids.
 #[inline]
-fn rest_bodies(bodies: &mut Vec<Body>, from: u32, to: u32, acting: &mut [u16; 64]) -> usize
+fn rest_bodies(bodies: &mut [Body], from: u32, to: u32, acting: &mut [u16; 64]) -> usize
     requires order { from ≤ to }
-    requires made { to ≤ length bodies.old.items }
+    requires made { to ≤ length bodies.old }
     requires few { to ≤ from + 64 }
     requires small { to ≤ most_ants }
-    ensures told { ToldApart bodies.old.items bodies.new.items from to (take result acting.new) }
+    ensures told { ToldApart bodies.old bodies.new from to (take result acting.new) }
     ensures count { result ≤ to - from }
 {
     let mut count = 0;
