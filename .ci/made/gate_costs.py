@@ -13,20 +13,23 @@ HEAD = """# What a crate costs in one `rt ci`: processor seconds of its proof, o
 
 
 def costs_in(log):
-    """The figures that the lines of a log have, by crate and kind."""
-    found = {}
+    """The figures that the lines of a log have, by crate and kind, and where it ran."""
+    found, where = {}, ""
     for line in log:
+        it = re.fullmatch(r"machine (\d+) (\d+) (.*)", line.strip())
+        if it:
+            where = "# The last run was of %s minutes, on %s processors %s.\n" % (it[2], it[1], it[3])
         it = re.fullmatch(r"cost (\w+) (proof|tests|edits) (\d+(?:\.\d+)?)", line.strip())
         if it:
             found[it[1], it[2]] = "%d" % max(1, round(float(it[3])))
-    return found
+    return found, where
 
 
 def has_tests(name):
     return any("#[test]" in read(file) for file in source_files("crates/%s/src" % name, ".rt"))
 
 
-def text_of(costs, before, names):
+def text_of(costs, where, before, names):
     """The file's text: the figures that were measured, and else those of before, but none of tests that are gone."""
     for name, _ in costs:
         if name not in names:
@@ -39,7 +42,7 @@ def text_of(costs, before, names):
             figures[KINDS.index("tests")] = "-"
         if set(figures) != {"-"}:
             lines.append(" ".join([name] + figures))
-    return HEAD + "\n".join(lines) + "\n"
+    return HEAD + where + "\n".join(lines) + "\n"
 
 
 def rows():
