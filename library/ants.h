@@ -202,7 +202,7 @@ uint32_t ants_save(
 // one worker: the later rounds' dumps of these, and the score (this project's own). The status is 0, 2, 4 or 6 as at `ants_run`, or
 // - 5: the text is no save's, or that of a save of which more rounds are done.
 //
-// What is written is so as at `ants_run`, but that the front of the text may lie over `out` at 6.
+// What is written is so as at `ants_run`.
 uint32_t ants_resume(
     const uint8_t *save, size_t save_len, uint32_t rounds, const uint32_t *dumps, size_t dumps_len, uint8_t *out,
     size_t out_len, size_t *used, struct ants_fault_data *fault, uint8_t *words, size_t words_len);

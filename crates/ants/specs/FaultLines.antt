@@ -1,5 +1,5 @@
 -- How a run ends, why a command stops, and the line that says so.
-use Rattle.std.specs.Prelude.{ℕ, List, Option, Some, None, codes, decimal}
+use Rattle.std.specs.Prelude.{ℕ, List, Option, Some, None, codes}
 use Rattle.ant_base.specs.Layout.{◌+++◌}
 use Rattle.ant_base.specs.FaultText.{failed_text, fetch_fault_text, memory_text}
 use Rattle.ant_base.specs.declared.shelf.FetchFault.TheVariants as fetch
@@ -7,7 +7,7 @@ use Rattle.ant_asm.specs.FaultText.{asm_fault_text}
 use Rattle.brain_read.specs.FaultText.{brain_fault_text}
 use Rattle.break_view.specs.FaultText.{break_fault_text}
 use Rattle.command_words.specs.FaultText.{refused_text}
-use Rattle.match_save.specs.FaultText.{save_fault_text}
+use Rattle.match_save.specs.FaultText.{already_at_text, save_fault_text}
 use Rattle.world_gen.specs.FaultText.{gen_fault_text}
 use Rattle.world_gen.specs.declared.generator.GenFault.TheVariants as gen
 use Rattle.world_read.specs.FaultText.{world_fault_text}
@@ -76,7 +76,7 @@ file_fault_text (Brain fault) = brain_fault_text fault
 file_fault_text (Breaks fault) = break_fault_text fault
 file_fault_text (Labelled fault) = asm_fault_text fault
 file_fault_text (Save fault) = save_fault_text fault
-file_fault_text (AlreadyAt round) = codes "already at round " +++ decimal round
+file_fault_text (AlreadyAt round) = already_at_text round
 
 -- what a reason says
 abbrev pub reason_text : Reason → List ℕ

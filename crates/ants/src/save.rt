@@ -18,7 +18,7 @@ use cell_world::World;
 use command_words::{AskedGame, FileNames};
 use match_run::{OutOfMemory, Plan};
 use match_save::{Saved, save_of, write_saved};
-use round_book::{Crew, Field};
+use round_book::{Crew, Field, recall_validity};
 use std::alloc::Global;
 
 // The save of a game between these brains after the rounds of its plan.
@@ -38,8 +38,7 @@ fn saved_game<C: Crew>(
 {
     let field = Field::new(alloc, world, brains, plan.seed, 0)?;
     let game = play_game(alloc, crew, field, plan.window, plan.rounds)?;
-    let _width = game.world().width();
-    let _brains = game.field().brains();
+    recall_validity(game.field().brains(), game.world());
     save_of(alloc, &game)
 }
 
@@ -64,10 +63,7 @@ fn saved_setting<C: Crew>(
         black: &black,
         sheet: game.sheet,
     };
-    match saved_game(alloc, crew, world, brains, &game.plan) {
-        Ok(saved) => Ok(saved),
-        Err(fault) => Err(fault),
-    }
+    saved_game(alloc, crew, world, brains, &game.plan)
 }
 
 // Plays a game by a crew, and writes its save.

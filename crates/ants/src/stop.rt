@@ -11,7 +11,7 @@ use brain_read::BrainFault;
 use break_view::BreakFault;
 use cell_world::Score;
 use match_run::{OutOfMemory, PlayFault};
-use match_save::SaveFault;
+use match_save::{AlreadyAt, SaveFault};
 use std::alloc::AllocFailed;
 use tournament::CupFault;
 use world_gen::GenFault;
@@ -165,7 +165,7 @@ impl Layout for FileFault {
             FileFault::Breaks(fault) => fault.push_to(sink),
             FileFault::Labelled(fault) => fault.push_to(sink),
             FileFault::Save(fault) => fault.push_to(sink),
-            FileFault::AlreadyAt(round) => layout!("already at round ", round).push_to(sink),
+            FileFault::AlreadyAt(round) => AlreadyAt(round).push_to(sink),
         }
     }
 }

@@ -359,7 +359,7 @@ pub extern "C" fn ants_save(
 /// one worker: the later rounds' dumps of these, and the score (this project's own). The status is 0, 2, 4 or 6 as at `ants_run`, or
 /// - 5: the text is no save's, or that of a save of which more rounds are done.
 ///
-/// What is written is so as at `ants_run`, but that the front of the text may lie over `out` at 6.
+/// What is written is so as at `ants_run`.
 #[unsafe(no_mangle)]
 pub extern "C" fn ants_resume(
     alloc: Global,
@@ -375,8 +375,7 @@ pub extern "C" fn ants_resume(
     ensures text { Writes result → Answers (IsRestOf save.now rounds dumps.now) out.old out.new used.new result }
     ensures rounds { (result ≡ 2) ↔ (most_rounds < rounds) }
     ensures refused { result ≡ 5 → IsTold (IsRefusedSave rounds save.now) fault.new words.old words.new }
-    ensures out { (Writes result ⊎ (result ≡ 6)) ⊎ (out.new ≡ out.old) }
-    ensures used { Writes result ⊎ (used.new ≡ used.old) }
+    ensures out { Writes result ⊎ ((out.new ≡ out.old) × (used.new ≡ used.old)) }
     ensures fault { (result ≡ 5) ⊎ ((fault.new ≡ fault.old) × (words.new ≡ words.old)) }
 {
     if rounds > MOST_ROUNDS {

@@ -1,8 +1,8 @@
 // Why texts were not read.
 use ant_asm::AsmFault;
-use ant_base::{Failed, FetchFault, Layout, Sink, layout};
+use ant_base::{Failed, FetchFault, Layout, Sink};
 use brain_read::BrainFault;
-use match_save::SaveFault;
+use match_save::{AlreadyAt, SaveFault};
 use world_gen::GenFault;
 use world_read::WorldFault;
 
@@ -37,7 +37,7 @@ impl Layout for TextFault {
             TextFault::Brain(fault) => fault.push_to(sink),
             TextFault::Labelled(fault) => fault.push_to(sink),
             TextFault::Save(fault) => fault.push_to(sink),
-            TextFault::AlreadyAt(round) => layout!("already at round ", round).push_to(sink),
+            TextFault::AlreadyAt(round) => AlreadyAt(round).push_to(sink),
             TextFault::NoRoom(element) => GenFault::NoRoom { element }.push_to(sink),
         }
     }

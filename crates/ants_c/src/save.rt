@@ -14,7 +14,7 @@ use ant_turn::{Brains, Sheet};
 use cell_world::World;
 use match_run::Game;
 use match_save::{Saved, save_of};
-use round_book::{Field, SoloCrew};
+use round_book::{Field, SoloCrew, recall_validity};
 use std::alloc::Global;
 
 // How many turns a window has: a whole round, as where the program is told nothing else.
@@ -50,8 +50,7 @@ fn saved_game(
 {
     let field = Field::new(alloc, world, brains, seed, 0)?;
     let game = game_after(alloc, field, rounds)?;
-    let _width = game.world().width();
-    let _brains = game.field().brains();
+    recall_validity(game.field().brains(), game.world());
     save_of(alloc, &game)
 }
 
@@ -72,8 +71,5 @@ pub fn saved_setting(
         black: &black,
         sheet: Sheet::contest(),
     };
-    match saved_game(alloc, world, brains, seed, rounds) {
-        Ok(saved) => Ok(saved),
-        Err(fault) => Err(fault),
-    }
+    saved_game(alloc, world, brains, seed, rounds)
 }

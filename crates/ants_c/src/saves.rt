@@ -61,7 +61,7 @@ pub fn open_save(alloc: Global, text: &[u8], rounds: u32) -> Result<Saved, Stop>
 }
 
 // Lays the rest of a saved game's text over the room, and says how many bytes it has. A sink over the room never fails, so that only memory
-// can be wanting; the front of the text may have been laid then.
+// can be wanting, before the first byte is laid.
 fn lay_rest(
     alloc: Global,
     saved: &Saved,
@@ -73,6 +73,7 @@ fn lay_rest(
     requires few_rounds { rounds ≤ most_rounds }
     ensures room { IfOk result (λ size. room.new ≡ overlaid room.old (rest_of saved.now rounds (chooses dumps.now) false)) }
     ensures size { IfOk result (λ size. size ≡ counted (rest_of saved.now rounds (chooses dumps.now) false)) }
+    ensures unlaid { OnErr result (room.new ≡ room.old) }
 {
     let mut sink = RoomSink::new(room);
     match resume_alone(alloc, saved, rounds, dumps, &mut sink) {
@@ -94,6 +95,7 @@ fn put_later(
     requires few_rounds { rounds ≤ most_rounds }
     ensures put { IfOk result (λ status. IsPut (rest_of saved.now rounds (chooses dumps.now) false) out.old out.new used.new status) }
     ensures status { IfOk result (λ status. Writes status) }
+    ensures out { OnErr result (out.new ≡ out.old) }
     ensures used { OnErr result (used.new ≡ used.old) }
 {
     let size = lay_rest(alloc, saved, rounds, dumps, out)?;
@@ -102,7 +104,7 @@ fn put_later(
 }
 
 /// Lays the rest of a saved game's text over the caller's room, with the dumps of these rounds, until so many rounds are done in all, and
-/// gives the status. It is refused only when out of memory; the front of the text may have been laid over the room then.
+/// gives the status. It is refused only when out of memory, and nothing was written then.
 pub fn put_rest(
     alloc: Global,
     saved: &Saved,
@@ -115,6 +117,7 @@ pub fn put_rest(
     requires few_rounds { rounds ≤ most_rounds }
     ensures put { IfOk result (λ status. IsPut (rest_of saved.now rounds (has_round dumps.now) false) out.old out.new used.new status) }
     ensures status { IfOk result (λ status. Writes status) }
+    ensures out { OnErr result (out.new ≡ out.old) }
     ensures used { OnErr result (used.new ≡ used.old) }
 {
     let dumps = dumps_of(alloc, dumps)?;

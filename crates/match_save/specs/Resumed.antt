@@ -1,11 +1,14 @@
 -- A saved game that goes on (this project's own).
-use Rattle.std.specs.Prelude.{◌≡◌, ℕ, ◌+◌, ◌≤◌, Bool, true, List, None}
+use Rattle.std.specs.Prelude.{◌≡◌, ℕ, ◌+◌, ◌≤◌, Bool, true, List, None, Result, Ok, Err, ⊤}
 use Rattle.ant_base.specs.Layout.{◌+++◌}
+use Rattle.ant_base.specs.Sink.{SinkState}
 use Rattle.ant_turn.specs.Rounds.{Moment, after_rounds, start_of}
 use Rattle.cell_world.specs.Grid.{world_of}
 use Rattle.cell_world.specs.World.{World}
 use Rattle.dump_print.specs.Texts.{seed_text}
 use Rattle.match_run.specs.Counts.{totals_of, whole_text}
+use Rattle.match_run.specs.declared.fault.PlayFault.{PlayFault}
+use Rattle.match_run.specs.declared.fault.PlayFault.TheVariants.{WriteFault, OutOfMemory}
 use Rattle.match_run.specs.Rest.{rest_text}
 use Rattle.match_run.specs.Run.{dumps_text}
 use Rattle.round_book.specs.Book.{FieldValue}
@@ -34,6 +37,12 @@ abbrev pub SavesGoOn : Type 0
 SavesGoOn = (s : SavedValue) (w : World) (rounds : ℕ) (chosen : ℕ → Bool) (stats : Bool) → IsOfGame s w → s.round ≤ rounds →
     whole_text s.minds s.seed rounds chosen s.window stats w
     ≡ seed_text s.seed +++ dumps_text s.minds s.seed chosen w (s.round + 1) +++ rest_of s rounds chosen stats
+
+-- where memory was wanting, nothing was pushed
+abbrev pub UnwrittenByMemory : {A : Type 0} → SinkState → SinkState → Result A PlayFault → Type 0
+UnwrittenByMemory old new (Ok _) = ⊤
+UnwrittenByMemory old new (Err WriteFault) = ⊤
+UnwrittenByMemory old new (Err OutOfMemory) = new ≡ old
 
 -- a saved game as a field
 abbrev pub field_of : SavedValue → FieldValue

@@ -1,7 +1,7 @@
 // Why a text is no save.
 ghost use Rattle.std.specs.Prelude.{◌≡◌};
 
-use ant_base::{AtLine, Failed, Layout, Sink, show};
+use ant_base::{AtLine, Failed, Layout, Sink, layout, show};
 use hex_geometry::OutOfMemory;
 use std::alloc::{AllocError, AllocFailed};
 use std::error::Error;
@@ -47,6 +47,34 @@ impl fmt::Display for SaveFault {
 }
 
 impl Error for SaveFault {}
+
+/// Of a save more rounds are done than are to be played in all: so many (this project's own). It is no fault of the text, so whoever asks for the
+/// rounds compares them with `Saved::round`.
+#[derive(Clone, Copy, Debug, PartialEq, Eq)]
+pub struct AlreadyAt(pub u32);
+
+impl Layout for AlreadyAt {
+    ghost use Rattle.match_save.specs.FaultText.{already_at_text};
+
+    ghost text = { λ at. already_at_text at.0 };
+
+    fn push_to<K: Sink>(&self, sink: &mut K) -> Result<(), Failed> {
+        layout!("already at round ", self.0).push_to(sink)
+    }
+}
+
+impl fmt::Display for AlreadyAt {
+    ghost use Rattle.std.specs.Prelude.{Some};
+    ghost use Rattle.match_save.specs.FaultText.{already_at_text};
+
+    ghost output = { λ at. Some (already_at_text at.0) };
+
+    fn fmt<W: fmt::Write>(&self, f: &mut fmt::Formatter<W>) -> fmt::Result {
+        show(self, f)
+    }
+}
+
+impl Error for AlreadyAt {}
 
 // The number of a line that isn't in its form.
 #[derive(Clone, Copy)]

@@ -23,7 +23,7 @@ mod saves;
 mod soil;
 mod write;
 
-pub use fault::SaveFault;
+pub use fault::{AlreadyAt, SaveFault};
 pub use laws::{every_text_has_one_verdict, games_are_saved, saves_are_short, saves_go_on};
 pub use read::read_saved;
 pub use rest::{resume, resume_alone};

@@ -5,7 +5,7 @@ ghost use Rattle.match_run.specs.Dumps.{chooses};
 ghost use Rattle.match_run.specs.Game.{RisesUpTo, counted_on, game_at_round};
 ghost use Rattle.match_run.specs.Play.{PushedBy};
 ghost use Rattle.match_run.specs.Run.{most_rounds};
-ghost use Rattle.match_save.specs.Resumed.{field_of, later_world, rest_of};
+ghost use Rattle.match_save.specs.Resumed.{UnwrittenByMemory, field_of, later_world, rest_of};
 ghost use Rattle.match_save.specs.Inner.Alone.{sequential_of};
 
 use crate::saved::Saved;
@@ -73,6 +73,7 @@ pub fn resume_alone<K: Sink>(
     requires left { saved.now.round ≤ rounds }
     requires few_rounds { rounds ≤ most_rounds }
     ensures text { PushedBy (K.state sink.old) (K.state sink.new) (rest_of saved.now rounds (chooses dumps.now) false) result }
+    ensures unwritten { UnwrittenByMemory (K.state sink.old) (K.state sink.new) result }
     ensures score { IfOk result (λ s. s ≡ score_of (later_world saved.now (rounds - saved.now.round))) }
 {
     let mut game = sequential_of(alloc, saved)?;

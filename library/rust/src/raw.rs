@@ -248,7 +248,7 @@ pub fn ants_save(
 /// one worker: the later rounds' dumps of these, and the score (this project's own). The status is 0, 2, 4 or 6 as at `ants_run`, or
 /// - 5: the text is no save's, or that of a save of which more rounds are done.
 ///
-/// What is written is so as at `ants_run`, but that the front of the text may lie over `out` at 6.
+/// What is written is so as at `ants_run`.
 pub fn ants_resume(save: &[u8], rounds: u32, dumps: &[u32], out: &mut [u8], used: &mut usize, fault: &mut Fault, words: &mut [u8]) -> u32 {
     unsafe {
         c::ants_resume(
