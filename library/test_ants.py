@@ -12,6 +12,7 @@ import tempfile
 import unittest
 
 import ants
+from fault_words import FAULT_WORDS, says
 
 TOP = os.path.dirname(os.path.dirname(os.path.abspath(__file__)))
 PROGRAM = os.environ.get("PROGRAM", os.path.join(TOP, "crates", "ants", "out", "ants"))
@@ -23,6 +24,30 @@ WORLD = "4\n3\n" + RIM + "# + - #\n" + RIM
 def example(name):
     with open(os.path.join(TOP, "examples", name), encoding="ascii") as file:
         return file.read()
+
+
+LONG = b"x" * (MOST_BYTES + 1)
+CROWD = "512\n512\n" + "#" * 512 + "\n" + ("#" + "+" * 510 + "#\n") * 33 + ("#" + "." * 510 + "#\n") * 477 + "#" * 512 + "\n"
+
+# Texts at fault, each with the number of its kind as ants.h has it.
+FAULTS_OF_WORLDS = (
+    (1, LONG), (10, "2\n3\n"), (10, "# . . #\n"), (11, "4\n513\n"), (12, "4\n3\n" + RIM), (13, "4\n3\n" + RIM + "# + x #\n" + RIM),
+    (14, "4\n3\n" + RIM + "# +\n" + RIM), (15, "4\n3\n" + RIM + "# + - # #\n" + RIM), (16, WORLD + RIM), (17, "4\n3\n" + RIM + "# + - .\n" + RIM),
+    (18, CROWD),
+)
+FAULTS_OF_BRAINS = (
+    (1, LONG), (20, b"Drop \xff\n"), (21, "hop 0\n"), (22, "Drop\n"), (23, "Drop 0\nDrop x\n"), (24, "Drop 0 0\n"), (25, "Drop 0\n" * (MOST_STATES + 1)),
+    (26, ""), (26, "; nothing\n"), (27, "Drop 0\nMove 0 7\n"),
+)
+FAULTS_OF_PROGRAMS = (
+    (1, LONG), (30, b"Drop next \x80\n"), (31, "foo\n"), (32, "Move next\n"), (33, "Mark 6 next\n"), (34, "Drop next next\n"), (35, "Move go 1\n"),
+    (36, "end\n"), (37, "a:\nDrop a\na:\n"), (38, "block a\nuse a\n"), (39, "block b p\nDrop p\nend\nuse b\n"), (40, "Drop next\n" * (MOST_STATES + 1)),
+    (41, "block a\nend\n"), (42, ""), (43, "Move go go\n"),
+)
+FAULTS_OF_SAVES = (  # with how many rounds are asked for; the save is at round 1
+    (1, LONG, 5), (50, "", 5), (50, example("one_ant.save").replace("end\n", ""), 5), (51, example("one_ant.save").replace("taken 1", "taken 2"), 5),
+    (52, example("one_ant.save"), 0),
+)
 
 
 class Beside(unittest.TestCase):
@@ -47,12 +72,14 @@ class Beside(unittest.TestCase):
         return output
 
     def assert_refused(self, call, *words, **texts):
-        """Both refuse these texts, in the same words."""
+        """Both refuse these texts, in the same words; gives the fault, whose numbers say the same."""
         with self.assertRaises(ants.Refused) as caught:
             call()
         status, output, faults = self.program(*words, **texts)
-        self.assertEqual((status, output, faults), (5, "", "ants: %s\n" % caught.exception))
-        return caught.exception
+        fault = caught.exception
+        self.assertEqual((status, output, faults), (5, "", "ants: %s\n" % fault))
+        self.assertTrue(says(fault.name, fault.kind, fault.line, fault.column, fault.number, fault.words), fault.args)
+        return fault
 
 
 class Games(Beside):
@@ -93,10 +120,9 @@ class Games(Beside):
         self.assertEqual((fault.name, fault.number), ("save", 100))
 
     def test_each_fault_of_a_save(self):
-        save = example("one_ant.save")
-        for text, rounds, fault_number in ((save.replace("taken 1", "taken 2"), 5, 0), (save, 0, 1), (save.replace("end\n", ""), 5, 0), ("", 5, 0)):
+        for kind, text, rounds in FAULTS_OF_SAVES:
             fault = self.assert_refused(lambda: ants.resume(text, rounds=rounds), "resume", "save", "--rounds", rounds, save=text)
-            self.assertEqual((fault.name, fault.number), ("save", fault_number))
+            self.assertEqual((fault.name, fault.kind), ("save", kind))
 
     def test_refused_texts_in_their_order(self):
         good = self.game("heap.world", "bring_home.brain", "trail.brain")
@@ -133,8 +159,9 @@ class Texts(Beside):
 
     def test_programs(self):
         self.assertEqual(ants.asm(example("trail.asm")), example("trail.brain"))
-        for text in ("Move go 1\n", "block a\nuse a\n", "Move go go\n", "end\n", ""):
-            self.assert_refused(lambda: ants.asm(text), "asm", "program", program=text)
+        for kind, text in FAULTS_OF_PROGRAMS:
+            fault = self.assert_refused(lambda: ants.asm(text), "asm", "program", program=text)
+            self.assertEqual((fault.name, fault.kind), ("program", kind))
 
     def test_brains_that_differ(self):
         first, second = "Move 1 0\nDrop 0\n", "Move 1 0\nTurn Left 0\n"
@@ -147,24 +174,21 @@ class Texts(Beside):
         words = ["gen", 7, "--width", 64, "--height", 60, "--rocks", 3, "--blobs", 1]
         self.assertEqual(ants.gen(7, width=64, height=60, rocks=3, blobs=1), self.written(*words))
         fault = self.assert_refused(lambda: ants.gen(1, width=12, height=12), "gen", 1, "--width", 12, "--height", 12)
-        self.assertEqual((fault.name, fault.number), ("", 0))
+        self.assertEqual((fault.name, fault.kind, fault.number), ("", 60, 0))
 
     def test_each_fault_of_a_world(self):
-        row = "# . . #\n"
-        for text in (
-            b"x" * (MOST_BYTES + 1), "2\n3\n", "4\n513\n", "4\n3\n" + RIM, "4\n3\n" + RIM + "# x - #\n" + RIM, "4\n3\n" + RIM + "# +\n" + RIM,
-            "4\n3\n" + RIM + "# + - # #\n" + RIM, WORLD + RIM, "4\n3\n" + RIM + ". + - #\n" + RIM,
-            "512\n512\n" + "#" * 512 + "\n" + ("#" + "+" * 510 + "#\n") * 33 + ("#" + "." * 510 + "#\n") * 477 + "#" * 512 + "\n", row,
-        ):
+        for kind, text in FAULTS_OF_WORLDS:
             fault = self.assert_refused(lambda: ants.score(text, "Drop 0\n", "Drop 0\n", 1, 1), "show", "world", 1, world=text)
-            self.assertEqual(fault.name, "world")
+            self.assertEqual((fault.name, fault.kind), ("world", kind))
 
     def test_each_fault_of_a_brain(self):
-        for text in (
-            b"Drop \xff\n", "hop 0\n", "Drop\n", "Drop x\n", "Drop 0 0\n", "Drop 0\n" * (MOST_STATES + 1), "", "; nothing\n", "Drop 0\nMove 0 7\n",
-        ):
+        for kind, text in FAULTS_OF_BRAINS:
             fault = self.assert_refused(lambda: ants.brain(text), "brain", "brain", brain=text)
-            self.assertEqual(fault.name, "brain")
+            self.assertEqual((fault.name, fault.kind), ("brain", kind))
+
+    def test_no_kind_is_left_out(self):
+        tables = FAULTS_OF_WORLDS, FAULTS_OF_BRAINS, FAULTS_OF_PROGRAMS, FAULTS_OF_SAVES
+        self.assertEqual({row[0] for table in tables for row in table} | {60}, set(FAULT_WORDS))
 
     def test_fault_in_numbers(self):
         with self.assertRaises(ants.Refused) as caught:

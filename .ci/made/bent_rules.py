@@ -4,7 +4,8 @@ A row is `- BEND | REFUSED BY; REFUSED BY; .. | HOW`, where each of the middle i
 
     lemma NAME of CRATE and N more      lemmas NAME, NAME of CRATE      law NAME of CRATE
     tests in FILE, TABLE                test NAME of CRATE              tests of CRATE
-    RULES, SECTION                      README, SECTION                 a remark may stand behind a colon
+    RULES, SECTION                      README, SECTION                 test NAME of the library
+    a remark may stand behind a colon
 """
 import re
 
@@ -12,6 +13,7 @@ from tree import Unknown, crates, exists, read, source_files
 
 FILE = "docs/bent_rules.txt"
 EXAMPLES = {"RULES": "docs/RULES.md", "README": "README.md"}
+LIBRARY_TESTS = "library/test_ants.py"
 HOW = {"place": "in place", "copy": "in a copy", "code": "with its code", "read": "by eye"}
 
 
@@ -69,6 +71,11 @@ class Evidence:
         if it:
             self.check_named(self.functions, it[3], it[2], it[1])
             return it[1]
+        it = re.fullmatch(r"test (\w+) of the library", words)
+        if it:
+            if not re.search(r"^    def %s\(self\):$" % it[1], read(LIBRARY_TESTS), re.M):
+                raise Unknown("%s: %s has no test %s" % (FILE, LIBRARY_TESTS, it[1]))
+            return "test"
         it = re.fullmatch(r"tests in ([\w/]+\.rt)(?:, (\w+))?", words)
         if it:
             self.check_table(it[1], it[2])
