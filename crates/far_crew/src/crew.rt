@@ -57,6 +57,11 @@ impl<'c, R: Wait, G: Gate> FarCrew<'c, R, G> {
         }
     }
 
+    /// A crew of so many workers none of which was started, as where the system refuses each start: the caller's thread looks at each turn.
+    pub fn unstarted(rt: &'c R, alloc: Global, gate: &'c G, workers: u32) -> FarCrew<'c, R, G> {
+        FarCrew::of(rt, alloc, gate, workers, Vec::new(alloc))
+    }
+
     /// Plays the turns of the ids from `from` up to, and not including, `to`. The field is whole, `from` is at most `to`, `to` at most the
     /// number of ids, and the place with the number of turns is below 2^63. The field is whole afterwards, its world and place are those to
     /// which the turns lead in order, and the answer counts the looks that were taken and the turns that were executed anew. It is refused

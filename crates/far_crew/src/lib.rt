@@ -19,8 +19,6 @@ mod own_brains;
 mod pick;
 mod same_cells;
 mod settle;
-#[cfg(test)]
-mod tests;
 
 pub use agreement::agrees;
 pub use crew::FarCrew;

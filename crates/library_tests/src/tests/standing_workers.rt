@@ -10,7 +10,7 @@ use ant_base::{Gate, LONGEST, NoGate};
 use ant_turn::{Brains, Sheet};
 use brain_read::{Brain, read_brain};
 use cell_world::World;
-use far_crew::{Errand, Found, Job, OwnBrains, agrees, with_far};
+use far_crew::{Errand, FarCrew, Found, Job, OwnBrains, agrees, with_far};
 use round_book::{Crew, Field, play_window};
 use std::alloc::Global;
 use std::hint::spin_loop;
@@ -364,6 +364,42 @@ fn meets(own: &AtomicBool, other: &AtomicBool) -> bool {
         spin_loop();
     }
     false
+}
+
+// How often a gate was called, and the sum of the numbers with which it was.
+#[derive(Drop)]
+struct Told {
+    calls: AtomicU32,
+    numbers: AtomicU32,
+}
+
+impl Gate for Told {
+    fn before_look(&self, worker: u32, _ticket: u32) {
+        self.calls.fetch_add(1, Ordering::SeqCst);
+        self.numbers.fetch_add(worker, Ordering::SeqCst);
+    }
+}
+
+// Asserts that a window of three turns by five workers, none of which was started, is announced turn by turn with the number of workers.
+fn check_unstarted<R: Wait + Abort>(rt: &R, alloc: Global, players: &Players) -> Result<(), Fail> {
+    let mut field = field_of(rt, alloc, players, Sheet::contest(), SEED)?;
+    assert!(rt; 3 <= field.world().ant_count());
+    let told = Told {
+        calls: AtomicU32::new(0),
+        numbers: AtomicU32::new(0),
+    };
+    let mut crew = FarCrew::unstarted(rt, alloc, &told, 5);
+    let counts = crew.window(alloc, &mut field, 0, 3)?;
+    assert_eq!(rt; (counts.taken(), counts.redone()), PLAYED.first);
+    assert_eq!(rt; told.calls.load(Ordering::SeqCst), 3);
+    assert_eq!(rt; told.numbers.load(Ordering::SeqCst), 15);
+    Ok(())
+}
+
+#[test]
+fn the_committer_announces_each_look_by_the_number_of_workers(rt: HostRuntime) -> Result<(), Fail> {
+    let players = make_players(&rt, rt.alloc(), MOVES)?;
+    check_unstarted(&rt, rt.alloc(), &players)
 }
 
 // What came of two windows: how many looks were taken and turns executed anew in each, and the place to which they led.
