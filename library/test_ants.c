@@ -81,6 +81,7 @@ static void run_row(void) {
 }
 
 int main(void) {
+    ROW(ANTS_DONE == 0 && ANTS_NUMBER == 2 && ANTS_NO_ROOM == 4 && ANTS_REFUSED == 5 && ANTS_MEMORY == 6);
     play_rows();
     text_rows();
     run_row();

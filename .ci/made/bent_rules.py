@@ -4,8 +4,8 @@ A row is `- BEND | REFUSED BY; REFUSED BY; .. | HOW`, where each of the middle i
 
     lemma NAME of CRATE and N more      lemmas NAME, NAME of CRATE      law NAME of CRATE
     tests in FILE, TABLE                test NAME of CRATE              tests of CRATE
-    RULES, SECTION                      README, SECTION                 test NAME of the library
-    a remark may stand behind a colon
+    RULES, SECTION                      README, SECTION                 a remark may stand behind a colon
+    test NAME of the library            rows of test_ants.c
 """
 import re
 
@@ -13,7 +13,7 @@ from tree import Unknown, crates, exists, read, source_files
 
 FILE = "docs/bent_rules.txt"
 EXAMPLES = {"RULES": "docs/RULES.md", "README": "README.md"}
-LIBRARY_TESTS = "library/test_ants.py"
+LIBRARY_TESTS, LIBRARY_ROWS = "library/test_ants.py", "library/test_ants.c"
 HOW = {"place": "in place", "copy": "in a copy", "code": "with its code", "read": "by eye"}
 
 
@@ -75,6 +75,8 @@ class Evidence:
         if it:
             if not re.search(r"^    def %s\(self\):$" % it[1], read(LIBRARY_TESTS), re.M):
                 raise Unknown("%s: %s has no test %s" % (FILE, LIBRARY_TESTS, it[1]))
+            return "test"
+        if words == "rows of test_ants.c" and exists(LIBRARY_ROWS):
             return "test"
         it = re.fullmatch(r"tests in ([\w/]+\.rt)(?:, (\w+))?", words)
         if it:
