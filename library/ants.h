@@ -45,9 +45,8 @@
        ANTS_MEMORY   memory could not be had; nothing was kept
 
    The numbers are looked at first, then the room for scores, then the texts in their order. A result is written at ANTS_DONE alone, `used`
-   and `out` at ANTS_NO_ROOM too, `fault` and `words` at ANTS_REFUSED alone; all else stays as it was, but for `out` of ants_resume at
-   ANTS_MEMORY. A text that is done is in the first `used` bytes of `out`, and those behind stay. What the numbers of a fault mean stands
-   at the struct.
+   and `out` at ANTS_NO_ROOM too, `fault` and `words` at ANTS_REFUSED alone; all else stays as it was. A text that is done is in the first
+   `used` bytes of `out`, and those behind stay. What the numbers of a fault mean stands at the struct.
 
    WHAT A CALLER OWES, and nobody checks. The functions are proved for callers that keep to this:
 
