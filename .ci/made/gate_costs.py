@@ -29,8 +29,12 @@ def has_tests(name):
     return any("#[test]" in read(file) for file in source_files("crates/%s/src" % name, ".rt"))
 
 
+def wrong_bodies(name):
+    return glob.glob("crates/%s/must-fail/*.edit" % name)
+
+
 def text_of(costs, where, before, names):
-    """The file's text: the figures that were measured, and else those of before, but none of tests that are gone."""
+    """The file's text: the figures that were measured, and else those of before, but none of tests and wrong bodies that are gone."""
     for name, _ in costs:
         if name not in names:
             raise Unknown("the log has a crate %s, and crates.txt hasn't" % name)
@@ -38,8 +42,9 @@ def text_of(costs, where, before, names):
     for name in names:
         old = before.get(name, ["-"] * len(KINDS))
         figures = [costs.get((name, kind), it) for kind, it in zip(KINDS, old)]
-        if not has_tests(name):
-            figures[KINDS.index("tests")] = "-"
+        for kind, is_there in (("tests", has_tests(name)), ("edits", wrong_bodies(name))):
+            if not is_there:
+                figures[KINDS.index(kind)] = "-"
         if set(figures) != {"-"}:
             lines.append(" ".join([name] + figures))
     return HEAD + where + "\n".join(lines) + "\n"
@@ -64,7 +69,7 @@ def cost_table():
             raise Unknown("%s: there is no crate %s" % (FILE, name))
     lines = ["| crate | proved | with its tests | its wrong bodies | how many |", "|---|---|---|---|---|"]
     for name in names:
-        bodies = len(glob.glob("crates/%s/must-fail/*.edit" % name))
+        bodies = len(wrong_bodies(name))
         figures = [it if it != "-" else "" for it in measured.get(name, ["not measured", "-", "-"])]
         lines.append("| `%s` | %s | %s | %s | %s |" % (name, figures[0], figures[1], figures[2], bodies or ""))
     return "\n".join(lines) + "\n"
