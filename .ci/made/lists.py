@@ -42,8 +42,8 @@ def gate_page():
         "# The gate\n\nMade by `.ci/make-documents` from `docs/gate_costs.txt`, `docs/planted.txt` and the wrong bodies on disk.\n\n## What it costs\n\nProcessor seconds of `rt ci`; `docs/gate_costs.txt` says how they were measured. A tilde marks the time of\n"
         "the proof that wrong bodies begin with, where the first one's was not measured. `.ci/timed-ci > LOG` is `rt ci` with its times, and `.ci/gate-costs LOG` writes that file from them.\n\n"
         "A crate with tests is proved twice; its wrong bodies begin with a third proof and share it. So write the answer of a goal whose search takes seconds. Beside that a wrong body costs 5 to\n"
-        "34 seconds on a machine twice as quick as the table's, since a check first loads what the crate stands on; there a test that hands a table to a helper costs 1 to 5, one with assertions\n"
-        "of its own 10 to 30. A table of structs is a `static`. Texts cost by their number times their length, so a long table stands alone or is split.\n\n" + cost_table()
+        "40 seconds, since a check first loads what the crate stands on; a test that hands a table to a helper costs 1 to 5, one with assertions of its own\n"
+        "10 to 30. A table of structs is a `static`. Texts cost by their number times their length, so a long table stands alone or is split.\n\n" + cost_table()
         + "\n## Bugs that were tried\n\n`rt plant` tries wrong bodies of a function against its clauses: in how many functions, how many bodies were refused, how many were not run for want of time. By hand: bugs in the real\n"
         "code, one at a time. A body that answers out of memory in place of its work passes every clause, since that may be answered at any time; tests call each such function once where there is memory.\n\n" + planted_table()
     )
