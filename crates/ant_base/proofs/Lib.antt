@@ -5,6 +5,8 @@ pub mod Linewise
 -- What is pushed, and what a stream was given.
 pub mod Pushes
 pub mod Streams
+-- What is answered of a text.
+pub mod AnswerLemmas
 -- What is fetched.
 pub mod Fetches
 -- Worked values.

@@ -1,5 +1,6 @@
 -- What writers took and readers gave.
 use Rattle.std.proofs.Common.{◌≡◌, ℕ, Bool, eqb, min, zero, suc, Result, Ok, Err, ◌<◌, ◌≤◌, ◌+◌, ◌-◌, List, [], ◌∷◌, ◌++◌, length, take, drop, Option, Some, None, IfSome, refl, sym, ◌∙◌, ap, subst, append_assoc, append-nil, take-append-drop, arith}
+use Rattle.std.proofs.KnownBytes.{Appends-nil, Appends-trans, Consumes-kept, Consumes-nil, Consumes-trans}
 use Rattle.std.proofs.lemmas.Bool.{ne_eqb}
 use Rattle.std.proofs.lemmas.List.{length-append, length-drop, length-take, take_all}
 use Rattle.std.specs.Io.KnownBytes.{Appends, Consumes, IsAtEnd, Keeps, ReadConsumes, WriteAppends}
@@ -16,26 +17,16 @@ use Rattle.ant_base.specs.Shelf.{longest}
 use Rattle.ant_base.specs.System.{GivesWithin, IsReadFrom, TakesAtMost}
 use Rattle.ant_base.specs.Streams.{TakesSome, TookUpTo}
 
-consumes_nothing : (known : Option (List ℕ)) → Consumes known known []
-consumes_nothing None = tt
-consumes_nothing (Some bytes) = refl
-
-consumes_then : (start now next : Option (List ℕ)) (a b : List ℕ) → Consumes start now a → Consumes now next b → Consumes start next (a ++ b)
-consumes_then None now next a b first second = tt
-consumes_then (Some bytes) None next a b first second = absurd first
-consumes_then (Some bytes) (Some left) None a b first second = absurd second
-consumes_then (Some bytes) (Some left) (Some rest) a b first second = first ∙ ap (λ xs. a ++ xs) second ∙ sym (append_assoc a b rest)
-
 -- nothing is taken from a reader yet
 pub read_none : (known : Option (List ℕ)) (content : List ℕ) → content ≡ [] → Consumes known known content
-read_none known content empty = subst (Consumes known known) (sym empty) (consumes_nothing known)
+read_none known content empty = subst (Consumes known known) (sym empty) (Consumes-nil known)
 
 -- some bytes more are taken, within the bound
 pub read_lost : {T E : Type 0} (result : Result T E) (start now next : Option (List ℕ)) (content chunk : List ℕ) (given room most : ℕ) → Consumes start now content → Consumes now next (take given chunk)
     → given ≤ room → length content + room ≤ most → OnErr result (TakesAtMost most start next)
 read_lost (Ok value) start now next content chunk given room most first second fits few = tt
 read_lost (Err fault) start now next content chunk given room most first second fits few =
-    record { bytes = content ++ take given chunk; taken = consumes_then start now next content (take given chunk) first second; few = omega (arith, length-append content (take given chunk), length-take given chunk) }
+    record { bytes = content ++ take given chunk; taken = Consumes-trans start now next content (take given chunk) first second; few = omega (arith, length-append content (take given chunk), length-take given chunk) }
 
 -- a failed read gave nothing
 given_none : (kind : ErrorKind) (n : ℕ) → given_at kind ≡ Ok (Some n) → ⊥
@@ -77,21 +68,14 @@ fault_none read fault is n some = cc
 pub interrupted_none : (read : Result (Option ℕ) FetchFault) (field : Option ℕ) → read ≡ Ok field → field ≡ None → (n : ℕ) → read ≡ Ok (Some n) → ⊥
 interrupted_none read field is none n some = cc
 
--- what was taken is still what was taken
-pub consumes_kept : (start before after : Option (List ℕ)) (content : List ℕ) → Consumes start before content → Keeps before after → Consumes start after content
-consumes_kept None before after content first keeps = tt
-consumes_kept (Some bytes) None after content first keeps = absurd first
-consumes_kept (Some bytes) (Some left) None content first keeps = absurd keeps
-consumes_kept (Some bytes) (Some left) (Some rest) content first keeps = first ∙ ap (λ xs. content ++ xs) (sym keeps)
-
 -- what was taken where nothing more is
 pub read_stopped : {T E : Type 0} (result : Result T E) (start before after : Option (List ℕ)) (content : List ℕ) (len room most : ℕ) → Consumes start before content → Keeps before after → len ≡ length content → len + room ≤ most → OnErr result (TakesAtMost most start after)
 read_stopped (Ok value) start before after content len room most first keeps all few = tt
-read_stopped (Err fault) start before after content len room most first keeps all few = record { bytes = content; taken = consumes_kept start before after content first keeps; few = omega arith }
+read_stopped (Err fault) start before after content len room most first keeps all few = record { bytes = content; taken = Consumes-kept start before after content first keeps; few = omega arith }
 
 -- what was taken with what was given
 pub read_more_taken : (start before after : Option (List ℕ)) (content chunk new : List ℕ) (given : ℕ) → Consumes before after (take given chunk) → new ≡ content ++ take given chunk → Consumes start before content → Consumes start after new
-read_more_taken start before after content chunk new given second is first = subst (Consumes start after) (sym is) (consumes_then start before after content (take given chunk) first second)
+read_more_taken start before after content chunk new given second is first = subst (Consumes start after) (sym is) (Consumes-trans start before after content (take given chunk) first second)
 
 -- a content that has got what was given is within the bound
 pub read_few : (len longer given room most : ℕ) (chunk : List ℕ) → longer ≡ len + length (take given chunk) → length chunk ≡ room → len + room ≤ most → longer ≤ most
@@ -146,16 +130,6 @@ read_failed begun sure left len longer remaining ReadFailed other on = record { 
 read_failed begun sure left len longer remaining TooLong other on = absurd (other refl)
 read_failed begun sure left len longer remaining OutOfMemory other on = record { read = tt; failed = λ _. refl }
 
-appends_nothing : (held : Option (List ℕ)) → Appends held held []
-appends_nothing None = tt
-appends_nothing (Some held) = sym (append-nil held)
-
-appends_then : (held now next : Option (List ℕ)) (a b : List ℕ) → Appends held now a → Appends now next b → Appends held next (a ++ b)
-appends_then None now next a b first second = tt
-appends_then (Some held) None next a b first second = absurd first
-appends_then (Some held) (Some holds) None a b first second = absurd second
-appends_then (Some held) (Some holds) (Some more) a b first second = second ∙ ap (λ bytes. bytes ++ b) first ∙ append_assoc held a b
-
 keeps_is_nothing : (held now : Option (List ℕ)) → Keeps held now → Appends held now []
 keeps_is_nothing None now keeps = tt
 keeps_is_nothing (Some held) None keeps = absurd keeps
@@ -163,7 +137,7 @@ keeps_is_nothing (Some held) (Some stays) keeps = keeps ∙ sym (append-nil held
 
 -- nothing is taken yet
 pub took_none : (taken : List ℕ) (written : Option (List ℕ)) (piece : List ℕ) → TookUpTo taken taken written written piece piece
-took_none taken written piece = record { front = []; whole = refl; took = sym (append-nil taken); told = appends_nothing written }
+took_none taken written piece = record { front = []; whole = refl; took = sym (append-nil taken); told = Appends-nil written }
 
 -- some bytes more are taken
 pub took_more : (taken now next : List ℕ) (written tells told : Option (List ℕ)) (piece rest : List ℕ) (n : ℕ) → TookUpTo taken now written tells piece rest → next ≡ now ++ take n rest → Appends tells told (take n rest)
@@ -172,7 +146,7 @@ took_more taken now next written tells told piece rest n took noted appends = re
   front = took.front ++ take n rest;
   whole = took.whole ∙ ap (λ bytes. took.front ++ bytes) (sym (take-append-drop n rest)) ∙ sym (append_assoc took.front (take n rest) (drop n rest));
   took = noted ∙ ap (λ bytes. bytes ++ take n rest) took.took ∙ append_assoc taken took.front (take n rest);
-  told = appends_then written tells told took.front (take n rest) took.told appends;
+  told = Appends-trans written tells told took.front (take n rest) took.told appends;
 }
 
 -- a failed write that is no fault took no byte

@@ -2,6 +2,10 @@
 use Rattle.std.proofs.Common.{◌≡◌, [], ◌∷◌, ◌++◌, map, Some, None, codes, refl}
 use Rattle.ant_base.specs.Lines.{lines_of, first_line, after_line, after_separators, trimmed}
 use Rattle.ant_base.specs.Number.{decimal_value, number_within}
+use Rattle.ant_base.specs.FaultText.{failed_text, fetch_fault_text, line_says, memory_text, push_fault_text}
+use Rattle.ant_base.specs.declared.shelf.FetchFault.TheVariants.{Failed, TooLong, OutOfMemory}
+use Rattle.ant_base.specs.declared.push_fault.PushFault.TheVariants as push
+use Rattle.std.specs.Fmt.{digits}
 
 -- an empty line in the middle counts, and a last line needs no LF
 pub lines_between : lines_of (97 ∷ 10 ∷ 10 ∷ 98 ∷ []) ≡ codes "a" ∷ [] ∷ codes "b" ∷ []
@@ -38,3 +42,13 @@ texts_without_a_number = refl
 pub numbers_within : map (number_within 3 5) (codes "2" ∷ codes "3" ∷ codes "05" ∷ codes "6" ∷ codes "x" ∷ []) ≡ None ∷ Some 3 ∷ Some 5 ∷ None ∷ None ∷ []
 unfolding decimal_value
 numbers_within = refl
+
+-- what is said of a failed push, of memory, of a line, and of each fault of a fetch
+faults_say : failed_text ∷ memory_text ∷ line_says 12 failed_text ∷ map fetch_fault_text (Failed ∷ TooLong ∷ OutOfMemory ∷ [])
+    ≡ codes "output failed" ∷ codes "out of memory" ∷ codes "line 12: output failed" ∷ codes "not read" ∷ codes "too long" ∷ codes "out of memory" ∷ []
+unfolding digits
+faults_say = refl
+
+-- and of a text that wasn't pushed whole
+push_faults_say : map push_fault_text (push.WriteFault ∷ push.OutOfMemory ∷ []) ≡ codes "output failed" ∷ codes "out of memory" ∷ []
+push_faults_say = refl

@@ -1,6 +1,8 @@
 -- What the faults say (this project's own).
 use Rattle.std.specs.Prelude.{ℕ, List, codes, decimal}
 use Rattle.ant_base.specs.Layout.{◌+++◌}
+use Rattle.ant_base.specs.declared.push_fault.PushFault.{PushFault}
+use Rattle.ant_base.specs.declared.push_fault.PushFault.TheVariants as push
 use Rattle.ant_base.specs.declared.shelf.FetchFault.{FetchFault}
 use Rattle.ant_base.specs.declared.shelf.FetchFault.TheVariants.{Failed, TooLong, OutOfMemory}
 
@@ -15,6 +17,11 @@ memory_text = codes "out of memory"
 -- what is said of a push that failed
 abbrev pub failed_text : List ℕ
 failed_text = codes "output failed"
+
+-- why a text that is made as it is pushed wasn't pushed whole
+abbrev pub push_fault_text : PushFault → List ℕ
+push_fault_text push.WriteFault = failed_text
+push_fault_text push.OutOfMemory = memory_text
 
 -- why the content of a name was not fetched
 abbrev pub fetch_fault_text : FetchFault → List ℕ

@@ -17,3 +17,8 @@ first_numbers = refl
 pub draws_at_1 : map (drawn 12345 1) (6 ∷ 1 ∷ []) ≡ 4 ∷ 0 ∷ []
 unfolding state_at random_at drawn
 draws_at_1 = refl
+
+-- the first random numbers of two seeds of more than 16 bits, the second of which is the greatest of 32
+pub greater_seeds : map (λ (seed : ℕ). random_at seed 0) (65536 ∷ 4294967295 ∷ []) ≡ 10519 ∷ 4490 ∷ []
+unfolding state_at random_at
+greater_seeds = refl

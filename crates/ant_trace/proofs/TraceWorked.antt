@@ -43,9 +43,8 @@ unmade_told = (refl, refl)
 
 -- worlds in which an ant lives, is gone, and would be there again
 abbrev gone : ℕ → World
-gone zero = start
 gone (suc zero) = stone
-gone (suc (suc later)) = start
+gone it = start
 
 -- its death is told once, and nothing behind it
 death_told : way_text gone 0 17 4 ≡ codes "round 17: cell (1, 1): red hill; red ant of id 0, dir 0, food 0, state 0, resting 0\nround 18: dead\n"

@@ -73,13 +73,7 @@ tokens_of-line (Flip b m u) all = tokens_of-body (Word (codes "Flip")) (Number b
 
 pub has_token-line : (i : Instr) → has_token (map field_text (fields_of i)) ≡ true
 has_token-line (Sense s m u c) = refl
-has_token-line (Mark i k) = refl
-has_token-line (Unmark i k) = refl
-has_token-line (PickUp m u) = refl
-has_token-line (Drop k) = refl
-has_token-line (Turn s k) = refl
-has_token-line (Move m u) = refl
-has_token-line (Flip b m u) = refl
+has_token-line it = refl
 
 -- what the law asks of each instruction
 record IsPrintedLine (n : ℕ) (i : Instr) : Type 0 where
@@ -119,10 +113,8 @@ range_of n (Sense s m u c) sound bound = sound.2
 range_of n (Mark i k) sound bound = sound.0
 range_of n (Unmark i k) sound bound = sound.0
 range_of n (PickUp m u) sound bound = tt
-range_of n (Drop k) sound bound = tt
-range_of n (Turn s k) sound bound = tt
-range_of n (Move m u) sound bound = tt
 range_of n (Flip b m u) sound bound = (sound.0, bound)
+range_of n it sound bound = tt
 
 all_printed : (n : ℕ) (list : List Instr) → ((i : ℕ) (x : Instr) → slice_get list i ≡ Some x → IsSound n x) → AllByRecursion HasBound list → ArePrinted n list
 all_printed n [] sound bounds = tt

@@ -29,9 +29,8 @@ lines_faulted lines = generic.lines_faulted brain_reader InstrLine first_of_line
 -- the instructions that were read are those of the lines, with their numbers
 abbrev pub ArePlaced : List TokenLine → List Placed → Type 0
 ArePlaced [] [] = Unit {0}
-ArePlaced [] (placed ∷ list) = ⊥
-ArePlaced (line ∷ lines) [] = ⊥
 ArePlaced (line ∷ lines) (placed ∷ list) = (placed.line ≡ line.number) × InstrLine line.tokens placed.instruction × ArePlaced lines list
+ArePlaced it that = ⊥
 
 -- the instructions without their lines
 abbrev pub instructions : List Placed → List Instr
@@ -45,15 +44,13 @@ pub record AreRead (before : ℕ) (lines : List TokenLine) (list : List Placed) 
 -- what is kept of the instructions of the lines is they, with their numbers
 placed_kept : (lines : List TokenLine) (list : List Instr) → AreLines lines list → ArePlaced lines (kept brain_reader lines list)
 placed_kept [] [] are = tt
-placed_kept [] (i ∷ list) are = absurd are
-placed_kept (line ∷ lines) [] are = absurd are
 placed_kept (line ∷ lines) (i ∷ list) are = (refl, are.0, placed_kept lines list are.1)
+placed_kept it that are = absurd are
 
 instructions_kept : (lines : List TokenLine) (list : List Instr) → AreLines lines list → instructions (kept brain_reader lines list) ≡ list
 instructions_kept [] [] are = refl
-instructions_kept [] (i ∷ list) are = absurd are
-instructions_kept (line ∷ lines) [] are = absurd are
 instructions_kept (line ∷ lines) (i ∷ list) are = ap (λ is. i ∷ is) (instructions_kept lines list are.1)
+instructions_kept it that are = absurd are
 
 pub lines_read : (lines : List TokenLine) (before : ℕ) (list : List Placed) → read_lines brain_reader before lines ≡ Ok list → AreRead before lines list
 lines_read lines before list e =
@@ -67,21 +64,19 @@ lines_read lines before list e =
 
 pub are_lines : (lines : List TokenLine) (list : List Placed) → ArePlaced lines list → AreLines lines (instructions list)
 are_lines [] [] are = tt
-are_lines [] (placed ∷ list) are = are
-are_lines (line ∷ lines) [] are = are
 are_lines (line ∷ lines) (placed ∷ list) are = (are.1, are_lines lines list are.2)
+are_lines it that are = are
 
 -- lines are those of one list of instructions only
 pub one_list : (lines : List TokenLine) (a b : List Instr) → AreLines lines a → AreLines lines b → a ≡ b
 one_list [] [] [] h k = refl
-one_list [] [] (j ∷ b) h k = absurd k
 one_list [] (i ∷ a) b h k = absurd h
 one_list (line ∷ lines) [] b h k = absurd h
-one_list (line ∷ lines) (i ∷ a) [] h k = absurd k
 one_list (line ∷ lines) (i ∷ a) (j ∷ b) h k =
     let same : i ≡ j = (let e : ◌≡◌ {A = Read Instr} (Ok i) (Ok j) = sym (line_again i line.tokens h.0) ∙ line_again j line.tokens k.0 in cc) in
     let rest = one_list lines a b h.1 k.1 in
     ap (λ x. x ∷ a) same ∙ ap (λ xs. j ∷ xs) rest
+one_list it that b h k = absurd k
 
 settled_fault : (n line : ℕ) (i : Instr) (o : Option ℕ) (later : Judgement (List Instr)) → fault_of_judged (settled_then line (or_state o i) later) ≡ option_or (option_map (NoSuchState line) o) (fault_of_judged later)
 settled_fault n line i None later = put_before_fault i later
@@ -90,12 +85,11 @@ settled_fault n line i (Some state) later = refl
 -- the settling stops at the first line with a state that there isn't
 pub settle_faulted : (n : ℕ) (lines : List TokenLine) (list : List Placed) → ArePlaced lines list → first_state_fault n lines (instructions list) ≡ fault_of_judged (settle_all n list)
 settle_faulted n [] [] are = refl
-settle_faulted n [] (placed ∷ list) are = absurd are
-settle_faulted n (line ∷ lines) [] are = absurd are
 settle_faulted n (line ∷ lines) (placed ∷ list) are =
     ap (λ k. option_or (option_map (NoSuchState k) (first_not_below n (states_of placed.instruction))) (first_state_fault n lines (instructions list))) (sym are.0)
     ∙ ap (option_or (option_map (NoSuchState placed.line) (first_not_below n (states_of placed.instruction)))) (settle_faulted n lines list are.2)
     ∙ sym (settled_fault n placed.line placed.instruction (first_not_below n (states_of placed.instruction)) (settle_all n list))
+settle_faulted n it that are = absurd are
 
 settled_then_ok : (n line : ℕ) (i : Instr) (o : Option ℕ) (later : Judgement (List Instr)) (list : List Instr) → settled_then line (or_state o i) later ≡ Ok list → (rest : List Instr) × (o ≡ None) × (later ≡ Ok rest) × (list ≡ i ∷ rest)
 settled_then_ok n line i None later list e = let p = put_before_ok i later list e in (p.0, refl, p.1, p.2)

@@ -43,19 +43,17 @@ none_not_below n (state ∷ states) all = ap (λ b. cond (not b) (Some state) (f
 -- there are as many lines as instructions
 AreLines-length : (lines : List TokenLine) (list : List Instr) → AreLines lines list → length list ≡ length lines
 AreLines-length [] [] are = refl
-AreLines-length [] (i ∷ list) are = absurd are
-AreLines-length (line ∷ lines) [] are = absurd are
 AreLines-length (line ∷ lines) (i ∷ list) are = ap suc (AreLines-length lines list are.1)
+AreLines-length it that are = absurd are
 
 -- instructions whose states are below n are passed by the search
 first_state_fault-pass : (n : ℕ) (before rest : List TokenLine) (read list : List Instr) → length before ≡ length read → StatesBelow n read
     → first_state_fault n (before ++ rest) (read ++ list) ≡ first_state_fault n rest list
 first_state_fault-pass n [] rest [] list as_many below = refl
-first_state_fault-pass n [] rest (i ∷ read) list as_many below = absurd (omega (arith, as_many))
-first_state_fault-pass n (line ∷ before) rest [] list as_many below = absurd (omega (arith, as_many))
 first_state_fault-pass n (line ∷ before) rest (i ∷ read) list as_many below =
     ap (λ o. option_or (option_map (NoSuchState line.number) o) (first_state_fault n (before ++ rest) (read ++ list))) (none_not_below n (states_of i) below.0)
     ∙ first_state_fault-pass n before rest read list (omega (arith, as_many)) below.1
+first_state_fault-pass n it rest that list as_many below = absurd (omega (arith, as_many))
 
 -- the lines are those of instructions, of which one names a state that there isn't
 pub record NamesNoState (text : List ℕ) (fault : BrainFault) (list : List Instr) : Type 0 where
@@ -96,8 +94,6 @@ record NamesState (n : ℕ) (lines : List TokenLine) (list : List Instr) (fault 
   is : fault ≡ NoSuchState line.number state
 
 find_state : (n : ℕ) (lines : List TokenLine) (list : List Instr) (fault : BrainFault) → first_state_fault n lines list ≡ Some fault → NamesState n lines list fault
-find_state n [] list fault e = (let never : None ≡ Some fault = e in absurd (cc))
-find_state n (line ∷ lines) [] fault e = (let never : None ≡ Some fault = e in absurd (cc))
 find_state n (line ∷ lines) (i ∷ list) fault e = go (first_not_below n (states_of i)) refl (λ q. find_state n lines list fault q) e
   where
     go : (here : Option ℕ) → first_not_below n (states_of i) ≡ here → (first_state_fault n lines list ≡ Some fault → NamesState n lines list fault)
@@ -134,6 +130,7 @@ find_state n (line ∷ lines) (i ∷ list) fault e = go (first_not_below n (stat
           wrong = later.wrong;
           is = later.is;
         }
+find_state n it list fault e = (let never : None ≡ Some fault = e in absurd (cc))
 
 -- what the search finds is the first state that isn't below their number
 pub first_state_fault-first : (text : List ℕ) (fault : BrainFault) (list : List Instr) → AreLines (lines_with_tokens text) list → length list ≤ most_states

@@ -3,7 +3,7 @@ use Rattle.std.proofs.Common.{◌≡◌, ◌<◌, ◌≤◌, ℕ, List, [], ◌�
 use Rattle.hex_geometry.specs.declared.direction.Side.{Side}
 use Rattle.hex_geometry.specs.declared.direction.Side.TheVariants.{Left, Right}
 use Rattle.hex_geometry.specs.declared.neighbourhood.Sight.{Sight}
-use Rattle.hex_geometry.specs.declared.neighbourhood.Sight.TheVariants.{Here, Ahead, LeftAhead, RightAhead}
+use Rattle.hex_geometry.specs.declared.neighbourhood.Sight.TheVariants.{Here}
 use Rattle.ant_base.specs.Number.{decimal_value}
 use Rattle.word_table.specs.Words.{IsSameWord}
 use Rattle.line_tokens.proofs.StepsLemmas.{bind_step, Takes, then_taken, then_again, IsWithin, number_takes, named_takes, then_word, word_step, then_end, bind_assoc, given, given_end}
@@ -58,16 +58,12 @@ state_takes = record {
 pub sight_stands : (s : Sight) → slice_get sight_words (place_of_sight s) ≡ Some (word_of_sight s)
 unfolding sight_words
 sight_stands Here = refl
-sight_stands Ahead = refl
-sight_stands LeftAhead = refl
-sight_stands RightAhead = refl
+sight_stands it = refl
 
 -- the sight at the place of a sight is that sight, and so is a side
 pub sight_at-place_of_sight : (s : Sight) → sight_at (place_of_sight s) ≡ s
 sight_at-place_of_sight Here = refl
-sight_at-place_of_sight Ahead = refl
-sight_at-place_of_sight LeftAhead = refl
-sight_at-place_of_sight RightAhead = refl
+sight_at-place_of_sight it = refl
 
 pub side_stands : (s : Side) → slice_get side_words (place_of_side s) ≡ Some (word_of_side s)
 unfolding side_words
@@ -302,23 +298,9 @@ line_again (Flip b m u) tokens line =
 pub form_stands : (form : Form) → slice_get form_words (place_of_form form) ≡ Some (word_of_form form)
 unfolding form_words
 form_stands Form.Sense = refl
-form_stands Form.Mark = refl
-form_stands Form.Unmark = refl
-form_stands Form.PickUp = refl
-form_stands Form.Drop = refl
-form_stands Form.Turn = refl
-form_stands Form.Move = refl
-form_stands Form.Flip = refl
+form_stands it = refl
 
 pub condition_stands : (word : ConditionWord) → slice_get condition_words (place_of_condition word) ≡ Some (word_of_condition word)
 unfolding condition_words
 condition_stands ConditionWord.Friend = refl
-condition_stands ConditionWord.Foe = refl
-condition_stands ConditionWord.FriendWithFood = refl
-condition_stands ConditionWord.FoeWithFood = refl
-condition_stands ConditionWord.Food = refl
-condition_stands ConditionWord.Rock = refl
-condition_stands ConditionWord.Marker = refl
-condition_stands ConditionWord.FoeMarker = refl
-condition_stands ConditionWord.Home = refl
-condition_stands ConditionWord.FoeHome = refl
+condition_stands it = refl

@@ -10,15 +10,14 @@ use Rattle.line_tokens.specs.TokenLines.{TokenLine}
 use Rattle.brain_read.specs.Faulty.IsBrainFault.{OfLine, OfNothing, OfState}
 use Rattle.line_tokens.specs.Judgement.{judged}
 use Rattle.brain_read.specs.Judgement.{Position, accepted, fault_of, first_fault}
-use Rattle.brain_read.specs.Judgement.Position.{FormToken, SightToken, SideToken, ConditionToken, MarkerToken, StateToken, BoundToken}
+use Rattle.brain_read.specs.Judgement.Position.{FormToken}
 use Rattle.brain_read.specs.Soundness.{most_states}
 use Rattle.line_tokens.specs.Tokens.{has_bad_byte}
 
 -- where there is a fault, it isn't out of memory
 abbrev OfText : Option BrainFault → Type 0
-OfText None = ⊤
 OfText (Some OutOfMemory) = ⊥
-OfText (Some _) = ⊤
+OfText it = ⊤
 
 -- one of two faults
 either_fault : (b : Bool) (first second : BrainFault) → OfText (Some first) → OfText (Some second) → OfText (Some (if b then first else second))
@@ -38,12 +37,7 @@ option_or-of_text (Some fault) second one other = one
 -- the fault of a token at its position
 fault_of-of_text : (position : Position) (line : ℕ) → OfText (Some (fault_of position line))
 fault_of-of_text FormToken line = tt
-fault_of-of_text SightToken line = tt
-fault_of-of_text SideToken line = tt
-fault_of-of_text ConditionToken line = tt
-fault_of-of_text MarkerToken line = tt
-fault_of-of_text StateToken line = tt
-fault_of-of_text BoundToken line = tt
+fault_of-of_text it line = tt
 
 -- a position's fault, or that of what follows
 judged-of_text : (brings : Option (List Position)) (fault : BrainFault) (next : List Position → Option BrainFault) → OfText (Some fault) → ((positions : List Position) → OfText (next positions)) → OfText (judged brings fault next)

@@ -11,24 +11,21 @@ use Rattle.brain_read.specs.Grammar.{AreLines, states_of, StatesBelow, IsBrainTe
 -- an instruction in range whose states are below n is sound
 pub sound_of : (n : ℕ) (instruction : Instr) → IsInRange instruction → AllByRecursion (λ state. state < n) (states_of instruction) → IsSound n instruction
 sound_of n (Sense sight met unmet condition) range below = (below.0, below.1.0, range)
-sound_of n (Mark i next) range below = (range, below.0)
-sound_of n (Unmark i next) range below = (range, below.0)
 sound_of n (PickUp met unmet) range below = (below.0, below.1.0)
 sound_of n (Drop next) range below = below.0
 sound_of n (Turn side next) range below = below.0
 sound_of n (Move met unmet) range below = (below.0, below.1.0)
 sound_of n (Flip bound met unmet) range below = (range.0, below.0, below.1.0)
+sound_of n it range below = (range, below.0)
 
 -- and the states of a sound one are below n
 pub states_of-below : (n : ℕ) (instruction : Instr) → IsSound n instruction → AllByRecursion (λ state. state < n) (states_of instruction)
-states_of-below n (Sense sight met unmet condition) sound = (sound.0, (sound.1, tt))
 states_of-below n (Mark i next) sound = (sound.1, tt)
 states_of-below n (Unmark i next) sound = (sound.1, tt)
-states_of-below n (PickUp met unmet) sound = (sound.0, (sound.1, tt))
 states_of-below n (Drop next) sound = (sound, tt)
 states_of-below n (Turn side next) sound = (sound, tt)
-states_of-below n (Move met unmet) sound = (sound.0, (sound.1, tt))
 states_of-below n (Flip bound met unmet) sound = (sound.1, (sound.2, tt))
+states_of-below n it sound = (sound.0, (sound.1, tt))
 
 range_at : (lines : List TokenLine) (list : List Instr) (i : ℕ) (instruction : Instr) → AreLines lines list → slice_get list i ≡ Some instruction → IsInRange instruction
 range_at lines [] i instruction are at = (let never : None ≡ Some instruction = at in absurd (cc))

@@ -1,20 +1,21 @@
 -- A text that is read line by line.
-use Rattle.std.proofs.Common.{◌≡◌, ◌+◌, ℕ, true, false, List, [], ◌∷◌, ◌++◌, length, map, Ok, Err, eqb, ◌⊎◌, inl, inr, refl, sym, ap, ◌∙◌}
+use Rattle.std.proofs.Common.{◌≡◌, ◌+◌, ℕ, true, false, List, [], ◌∷◌, ◌++◌, length, map, Ok, Err, eqb, ◌⊎◌, inl, inr, refl, ap, ◌∙◌}
 use Rattle.std.proofs.lemmas.List.{length-map, map-append}
+use Rattle.ant_base.specs.Answers.{IsFaultOr}
 use Rattle.brain_read.specs.declared.draft.Draft.{Draft}
 use Rattle.brain_read.specs.declared.fault.BrainFault.{BrainFault}
-use Rattle.brain_read.specs.declared.fault.BrainFault.TheVariants.{BadByte, UnknownWord, MissingToken, BadNumber, ExtraToken, TooMany, Empty, NoSuchState, OutOfMemory}
+use Rattle.brain_read.specs.declared.fault.BrainFault.TheVariants.{OutOfMemory}
 use Rattle.brain_read.specs.declared.instr.Instr.{Instr}
 use Rattle.brain_read.specs.declared.read.DraftLine.{DraftLine}
 use Rattle.line_tokens.specs.Tokens.{tokens_of, has_token}
 use Rattle.brain_read.specs.Drafts.{drafted}
 use Rattle.brain_read.specs.Grammar.{IsBrainText}
 use Rattle.brain_read.specs.Faulty.{IsBrainFault}
-use Rattle.brain_read.specs.Answers.{IsFaultOf}
 use Rattle.line_tokens.specs.Inner.LineByLine.{judged_line, reading_from}
 use Rattle.brain_read.specs.Inner.Verdict.{Judgement, brain_reader, settle_all, settle, read_text}
 use Rattle.brain_read.specs.Inner.Answered.{placed_of, FailsAs}
 use Rattle.brain_read.proofs.FaultyLemmas.{brain_read_again, fault_read_of, fault_read_again}
+use Rattle.ant_base.proofs.AnswerLemmas.{fault-of_fault, fault-of_value}
 use Rattle.line_tokens.proofs.LineLemmas as generic
 
 -- A line that was read, and its instruction added.
@@ -35,27 +36,17 @@ reading_from-fault drafts number line fault lines has failed =
 
 -- a fault that was judged is the one that is answered
 pub fails : {A : Type 0} (fault : BrainFault) (judged : Judgement A) → judged ≡ Err fault → FailsAs fault judged
-fails (BadByte line) judged e = e
-fails (UnknownWord line) judged e = e
-fails (MissingToken line) judged e = e
-fails (BadNumber line) judged e = e
-fails (ExtraToken line) judged e = e
-fails (TooMany line) judged e = e
-fails Empty judged e = e
-fails (NoSuchState line state) judged e = e
 fails OutOfMemory judged e = tt
+fails it judged e = e
+
+-- a fault that is answered is out of memory, or the one that was judged
+told : {A : Type 0} (fault : BrainFault) (judged : Judgement A) → FailsAs fault judged → (fault ≡ OutOfMemory) ⊎ (judged ≡ Err fault)
+told OutOfMemory judged e = inl refl
+told it judged e = inr e
 
 -- the fault that is answered for a text is the text's
-pub faults : (text : List ℕ) (fault : BrainFault) → FailsAs fault (read_text text) → IsFaultOf text fault
-faults text (BadByte line) e = fault_read_of text (BadByte line) e
-faults text (UnknownWord line) e = fault_read_of text (UnknownWord line) e
-faults text (MissingToken line) e = fault_read_of text (MissingToken line) e
-faults text (BadNumber line) e = fault_read_of text (BadNumber line) e
-faults text (ExtraToken line) e = fault_read_of text (ExtraToken line) e
-faults text (TooMany line) e = fault_read_of text (TooMany line) e
-faults text Empty e = fault_read_of text Empty e
-faults text (NoSuchState line state) e = fault_read_of text (NoSuchState line state) e
-faults text OutOfMemory e = tt
+pub faults : (text : List ℕ) (fault : BrainFault) → FailsAs fault (read_text text) → IsFaultOr OutOfMemory (IsBrainFault text) fault
+faults text fault e = elim (told fault (read_text text) e) [ inl want ↦ inr want | inr is ↦ inl (fault_read_of text fault is) ]
 
 -- some drafts are settled against their number
 pub settle_of : (drafts : List DraftLine) → eqb (length drafts) 0 ≡ false → settle (map placed_of drafts) ≡ settle_all (length drafts) (map placed_of drafts)
@@ -64,36 +55,8 @@ settle_of (draft ∷ drafts) some = ap (λ n. settle_all n (map placed_of (draft
 
 -- where there is a brain, it is answered, or memory was wanted
 pub failed_brain : (text : List ℕ) (brain : List Instr) → IsBrainText text brain → (fault : BrainFault) → FailsAs fault (read_text text) → fault ≡ OutOfMemory
-failed_brain text brain b fault e = go fault e
-  where
-    never : (f : BrainFault) → read_text text ≡ Err f → ⊥
-    never f k = let differ : ◌≡◌ {A = Judgement (List Instr)} (Ok brain) (Err f) = sym (brain_read_again text brain b) ∙ k in cc
-
-    go : (f : BrainFault) → FailsAs f (read_text text) → f ≡ OutOfMemory
-    go (BadByte line) k = absurd (never (BadByte line) k)
-    go (UnknownWord line) k = absurd (never (UnknownWord line) k)
-    go (MissingToken line) k = absurd (never (MissingToken line) k)
-    go (BadNumber line) k = absurd (never (BadNumber line) k)
-    go (ExtraToken line) k = absurd (never (ExtraToken line) k)
-    go (TooMany line) k = absurd (never (TooMany line) k)
-    go Empty k = absurd (never Empty k)
-    go (NoSuchState line state) k = absurd (never (NoSuchState line state) k)
-    go OutOfMemory k = refl
+failed_brain text brain b fault e = fault-of_value (read_text text) brain OutOfMemory fault (brain_read_again text brain b) (told fault (read_text text) e)
 
 -- where there is a fault, it is answered, or memory was wanted
 pub failed_fault : (text : List ℕ) (fault : BrainFault) → IsBrainFault text fault → (answered : BrainFault) → FailsAs answered (read_text text) → (answered ≡ fault) ⊎ (answered ≡ OutOfMemory)
-failed_fault text fault b answered e = go answered e
-  where
-    same : (f : BrainFault) → read_text text ≡ Err f → (f ≡ fault) ⊎ (f ≡ OutOfMemory)
-    same f k = let both : ◌≡◌ {A = Judgement (List Instr)} (Err f) (Err fault) = sym k ∙ fault_read_again text fault b in inl (cc)
-
-    go : (f : BrainFault) → FailsAs f (read_text text) → (f ≡ fault) ⊎ (f ≡ OutOfMemory)
-    go (BadByte line) k = same (BadByte line) k
-    go (UnknownWord line) k = same (UnknownWord line) k
-    go (MissingToken line) k = same (MissingToken line) k
-    go (BadNumber line) k = same (BadNumber line) k
-    go (ExtraToken line) k = same (ExtraToken line) k
-    go (TooMany line) k = same (TooMany line) k
-    go Empty k = same Empty k
-    go (NoSuchState line state) k = same (NoSuchState line state) k
-    go OutOfMemory k = inr refl
+failed_fault text fault b answered e = fault-of_fault (read_text text) fault OutOfMemory answered (fault_read_again text fault b) (told answered (read_text text) e)

@@ -1,10 +1,12 @@
 -- Small texts of brains, worked out: comments, blank lines, and the first fault of each.
 use Rattle.std.proofs.Common.{◌≡◌, [], ◌∷◌, ◌++◌, map, Some, None, codes, refl}
 use Rattle.ant_base.specs.Number.{decimal_value}
-use Rattle.brain_read.specs.declared.fault.BrainFault.TheVariants.{BadByte, UnknownWord, MissingToken, BadNumber, ExtraToken}
+use Rattle.brain_read.specs.declared.fault.BrainFault.TheVariants.{BadByte, UnknownWord, MissingToken, BadNumber, ExtraToken, TooMany, Empty, NoSuchState, OutOfMemory}
 use Rattle.brain_read.specs.Faulty.{line_fault}
 use Rattle.line_tokens.specs.Inner.LineByLine.{first_line_fault}
 use Rattle.line_tokens.specs.TokenLines.{lines_with_tokens}
+use Rattle.std.specs.Fmt.{digits}
+use Rattle.brain_read.specs.FaultText.{brain_fault_text}
 
 -- texts without a fault in a line: words in any case, the greatest and the least numbers
 faultless_lines : map (λ text. first_line_fault line_fault 0 (lines_with_tokens text))
@@ -31,3 +33,10 @@ bad_bytes = refl
 first_of_two_faults : first_line_fault line_fault 0 (lines_with_tokens (codes "Drop 5\n\nJump\nDrop")) ≡ Some (UnknownWord 3)
 unfolding decimal_value
 first_of_two_faults = refl
+
+-- what each fault says
+faults_say : map brain_fault_text (BadByte 1 ∷ UnknownWord 2 ∷ MissingToken 3 ∷ BadNumber 4 ∷ ExtraToken 5 ∷ TooMany 6 ∷ Empty ∷ NoSuchState 7 80 ∷ OutOfMemory ∷ [])
+    ≡ codes "line 1: bad byte" ∷ codes "line 2: unknown word" ∷ codes "line 3: missing token" ∷ codes "line 4: bad number" ∷ codes "line 5: extra token" ∷ codes "line 6: too many instructions"
+    ∷ codes "no instruction" ∷ codes "line 7: no such state 80" ∷ codes "out of memory" ∷ []
+unfolding digits
+faults_say = refl

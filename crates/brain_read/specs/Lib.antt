@@ -1,4 +1,3 @@
-pub mod Answers
 pub mod Canonical
 pub mod Drafts
 pub mod Faulty

@@ -68,6 +68,16 @@ impl Brain {
         self.list[state as usize]
     }
 
+    /// The same instruction, lent, so that no more of it is read than is asked (the task's neurology).
+    #[inline]
+    pub fn instruction(&self, state: u16) -> &Instr
+        requires { state < length self.now }
+        ensures instruction { slice_get self.now state ≡ Some result.now }
+        ensures sound { IsSound (length self.now) result.now }
+    {
+        &self.list[state as usize]
+    }
+
     /// Its instructions, from that of state 0 on (the task's neurology).
     pub fn iter(&self) -> slice::Iter<'_, Instr>
         ensures instructions { iter_rest result ≡ self.now }

@@ -1,12 +1,13 @@
 // A text read line by line.
 ghost use Rattle.std.specs.Prelude.{◌≡◌, ℕ, List, ◌+◌, ◌<◌, ◌≤◌, ◌∷◌, length, map, vec_len, OnOk, IfOk, IfErr};
+ghost use Rattle.ant_base.specs.Answers.{AnswersFault, AnswersValue, IsFaultOr};
 ghost use Rattle.ant_base.specs.Shelf.{longest};
 ghost use Rattle.brain_read.specs.Soundness.{most_states};
 ghost use Rattle.line_tokens.specs.TokenLines.{lines_with_tokens};
 ghost use Rattle.brain_read.specs.Grammar.{IsBrainText};
 ghost use Rattle.brain_read.specs.Faulty.{IsBrainFault};
-ghost use Rattle.brain_read.specs.Answers.{IsFaultOf, AnswersBrain, AnswersFault};
 ghost use Rattle.brain_read.specs.declared.fault.BrainFault.{BrainFault};
+ghost use Rattle.brain_read.specs.declared.fault.BrainFault.TheVariants.{OutOfMemory};
 ghost use Rattle.brain_read.specs.declared.instr.Instr.{Instr};
 ghost use Rattle.line_tokens.specs.Inner.LineByLine.{judged_line, read_lines, reading_from};
 ghost use Rattle.brain_read.specs.Inner.Verdict.{brain_reader, settle_all, settle, read_text};
@@ -37,9 +38,9 @@ pub struct DraftLine {
 pub fn read_brain(alloc: Global, text: &[u8]) -> Result<Brain, BrainFault>
     requires { length text.now ≤ longest }
     ensures brain { IfOk result (λ brain. IsBrainText text.now brain) }
-    ensures fault { IfErr result (λ fault. IsFaultOf text.now fault) }
-    ensures every_brain { (brain : List Instr) → IsBrainText text.now brain → AnswersBrain result brain }
-    ensures every_fault { (fault : BrainFault) → IsBrainFault text.now fault → AnswersFault result fault }
+    ensures fault { IfErr result (IsFaultOr OutOfMemory (IsBrainFault text.now)) }
+    ensures every_brain { (brain : List Instr) → IsBrainText text.now brain → AnswersValue OutOfMemory result brain }
+    ensures every_fault { (fault : BrainFault) → IsBrainFault text.now fault → AnswersFault OutOfMemory result fault }
 {
     let list = read_instructions(alloc, text)?;
     Ok(Brain::from_list(list))

@@ -26,9 +26,8 @@ faithful = record { said = line_spelled; again = line_again; faulted = line_faul
 -- what is kept of the breaks of the lines is they
 kept_breaks : (lines : List TokenLine) (list : List Break) → AreBreaks lines list → kept break_reader lines list ≡ list
 kept_breaks [] [] are = refl
-kept_breaks [] (item ∷ list) are = absurd are
-kept_breaks (line ∷ lines) [] are = absurd are
 kept_breaks (line ∷ lines) (item ∷ list) are = ap (λ items. item ∷ items) (kept_breaks lines list are.1)
+kept_breaks it that are = absurd are
 
 module _ (text : List ℕ) where
   -- the reading stops at the first line at fault

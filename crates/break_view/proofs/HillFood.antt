@@ -21,7 +21,7 @@ use Rattle.cell_world.proofs.Tallies.{hill_food_of-put}
 use Rattle.cell_world.proofs.GridSums.{hill_food_of-list, hill_food_in-light, hill_food_in-le-cell_weight}
 use Rattle.cell_world.proofs.Weights.{cell_weight-light}
 use Rattle.brain_read.specs.declared.instr.Instr.{Instr}
-use Rattle.brain_read.specs.declared.instr.Instr.TheVariants.{Sense, Mark, Unmark, PickUp, Drop, Turn, Move, Flip}
+use Rattle.brain_read.specs.declared.instr.Instr.TheVariants.{Move}
 use Rattle.ant_turn.specs.Kills.{check_at, check_all, killed_at, killed_all, places_around}
 use Rattle.ant_turn.specs.Minds.{Minds, mind_of}
 use Rattle.ant_turn.specs.Sheet.{Sheet}
@@ -81,14 +81,8 @@ module _ (w : World) (valid : Valid w) (p : Pos) (ant : Ant) (here : (w.cells p)
       (step-counts sheet w p ant q met inside (clear_inside w q valid (free_clear (w.cells q) free)) (free_apart w.cells p ant q here free))
 
   execute-counts : (sheet : Sheet) (seed place : ℕ) (instruction : Instr) → (execute sheet seed w.cells place p ant instruction).killed ≡ [] → CountsAt w p (execute sheet seed w.cells place p ant instruction).cells
-  execute-counts sheet seed place (Sense sight met unmet condition) none = put-counts w p _ inside
-  execute-counts sheet seed place (Mark i next) none = put-counts w p _ inside
-  execute-counts sheet seed place (Unmark i next) none = put-counts w p _ inside
-  execute-counts sheet seed place (PickUp met unmet) none = put-counts w p _ inside
-  execute-counts sheet seed place (Drop next) none = put-counts w p _ inside
-  execute-counts sheet seed place (Turn side next) none = put-counts w p _ inside
   execute-counts sheet seed place (Move met unmet) none = move-counts sheet (adjacent_pos p ant.facing) met unmet (is_blocked (w.cells (adjacent_pos p ant.facing))) refl none
-  execute-counts sheet seed place (Flip bound met unmet) none = put-counts w p _ inside
+  execute-counts sheet seed place it none = put-counts w p _ inside
 
   acts-counts : (minds : Minds) (seed place n : ℕ) → (acts n minds seed w.cells place p ant).killed ≡ [] → CountsAt w p (acts n minds seed w.cells place p ant).cells
   acts-counts minds seed place zero none = execute-counts minds.sheet seed place (instruction_at (mind_of minds ant.colour) ant.state) none

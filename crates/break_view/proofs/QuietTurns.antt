@@ -119,12 +119,8 @@ state_away red black colour state (Some ant) named away = false_from_ne_true (sa
 
 module _ (w v : World) (r t u : ℕ) (looks : LooksSame w v) (red black : List Bool) (away : names_ant red black (ant_at v (place_in v u)) ≡ false) where
   item_unmet : (item : Break) → IsNamed red black item → is_met item w r t ≡ false → is_met item v r u ≡ false
-  item_unmet (Round round) named unmet = looks (Round round) r t u refl ∙ unmet
   item_unmet (State colour state) named unmet = state_away red black colour state (ant_at v (place_in v u)) named away
-  item_unmet (Stand colour x y) named unmet = looks (Stand colour x y) r t u refl ∙ unmet
-  item_unmet (Food x y least) named unmet = looks (Food x y least) r t u refl ∙ unmet
-  item_unmet (Killed id) named unmet = looks (Killed id) r t u refl ∙ unmet
-  item_unmet (Score colour least) named unmet = looks (Score colour least) r t u refl ∙ unmet
+  item_unmet it named unmet = looks it r t u refl ∙ unmet
 
   list_unmet : (items : List Break) (number : ℕ) → AllByRecursion (IsNamed red black) items → first_met number items w r t ≡ None → first_met number items v r u ≡ None
   list_unmet [] number named none = refl

@@ -1,10 +1,10 @@
 -- Texts of breaks, worked out.
-use Rattle.std.proofs.Common.{◌≡◌, ℕ, zero, suc, List, [], ◌∷◌, ◌++◌, Some, None, codes, refl, arith}
+use Rattle.std.proofs.Common.{◌≡◌, ℕ, zero, suc, List, [], ◌∷◌, ◌++◌, map, Some, None, codes, refl, arith}
 use Rattle.cell_world.specs.declared.ant.Colour.TheVariants.{Red, Black}
 use Rattle.ant_base.specs.Number.{decimal_value}
 use Rattle.line_tokens.specs.TokenLines.{lines_with_tokens}
 use Rattle.break_view.specs.declared.breaks.Break.TheVariants.{Round, State, Stand, Food, Killed, Score}
-use Rattle.break_view.specs.declared.fault.BreakFault.TheVariants.{UnknownWord, MissingToken, BadNumber, ExtraToken, TooMany}
+use Rattle.break_view.specs.declared.fault.BreakFault.TheVariants.{UnknownWord, MissingToken, BadNumber, ExtraToken, TooMany, OutOfMemory}
 use Rattle.break_view.specs.Grammar.{IsBreakText}
 use Rattle.line_tokens.specs.Inner.LineByLine.{judged_line, first_line_fault}
 use Rattle.line_tokens.proofs.LineFaults as faults
@@ -16,6 +16,8 @@ use Rattle.break_view.specs.Inner.Reading.{read_line, read_number, read_coloured
 use Rattle.break_view.specs.Inner.Steps.{take_colour, take_any}
 use Rattle.break_view.specs.Inner.Verdict.{break_reader, read_text}
 use Rattle.break_view.proofs.FaultyLemmas.{first_of_line, faithful, list_read_of}
+use Rattle.std.specs.Fmt.{digits}
+use Rattle.break_view.specs.FaultText.{break_fault_text}
 
 -- a text without a break is accepted: an empty one, and one of comments and empty lines
 no_text : IsBreakText (codes "") []
@@ -116,3 +118,9 @@ rounds (suc n) = codes "Round 1\n" ++ rounds n
 line_257 : (IsBreakFault (rounds 257) (TooMany 257)) × (first_line_fault line_fault 0 (lines_with_tokens (rounds 256)) ≡ None)
 unfolding decimal_value
 line_257 = (first_line_fault-first (rounds 257) (TooMany 257) refl, refl)
+
+-- what each fault says
+faults_say : map break_fault_text (UnknownWord 1 ∷ MissingToken 2 ∷ BadNumber 3 ∷ ExtraToken 4 ∷ TooMany 257 ∷ OutOfMemory ∷ [])
+    ≡ codes "line 1: unknown word" ∷ codes "line 2: missing token" ∷ codes "line 3: bad number" ∷ codes "line 4: extra token" ∷ codes "line 257: too many breaks" ∷ codes "out of memory" ∷ []
+unfolding digits
+faults_say = refl

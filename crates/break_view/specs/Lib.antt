@@ -1,4 +1,3 @@
-pub mod Answers
 pub mod Faulty
 pub mod Forms
 pub mod Grammar

@@ -1,11 +1,12 @@
 // A text of breaks, read line by line.
 ghost use Rattle.std.specs.Prelude.{◌≡◌, ℕ, List, ◌+◌, ◌<◌, ◌≤◌, ◌∷◌, length, vec_len, OnOk, IfOk, IfErr};
+ghost use Rattle.ant_base.specs.Answers.{AnswersFault, AnswersValue, IsFaultOr};
 ghost use Rattle.ant_base.specs.Shelf.{longest};
 ghost use Rattle.break_view.specs.declared.breaks.Break.{Break};
 ghost use Rattle.break_view.specs.declared.fault.BreakFault.{BreakFault};
+ghost use Rattle.break_view.specs.declared.fault.BreakFault.TheVariants.{OutOfMemory};
 ghost use Rattle.break_view.specs.Grammar.{most_breaks, IsBreakText};
 ghost use Rattle.break_view.specs.Faulty.{IsBreakFault};
-ghost use Rattle.break_view.specs.Answers.{IsFaultOf, AnswersBreaks, AnswersFault};
 ghost use Rattle.line_tokens.specs.Inner.LineByLine.{judged_line, reading_from};
 ghost use Rattle.break_view.specs.Inner.Verdict.{break_reader, read_text};
 ghost use Rattle.break_view.specs.Inner.Answered.{FailsAs, Gives};
@@ -24,9 +25,9 @@ const MOST_BREAKS: usize = 256;
 pub fn read_breaks(alloc: Global, text: &[u8]) -> Result<Breaks, BreakFault>
     requires { length text.now ≤ longest }
     ensures breaks { IfOk result (λ list. IsBreakText text.now list) }
-    ensures fault { IfErr result (λ fault. IsFaultOf text.now fault) }
-    ensures every_list { (list : List Break) → IsBreakText text.now list → AnswersBreaks result list }
-    ensures every_fault { (fault : BreakFault) → IsBreakFault text.now fault → AnswersFault result fault }
+    ensures fault { IfErr result (IsFaultOr OutOfMemory (IsBreakFault text.now)) }
+    ensures every_list { (list : List Break) → IsBreakText text.now list → AnswersValue OutOfMemory result list }
+    ensures every_fault { (fault : BreakFault) → IsBreakFault text.now fault → AnswersFault OutOfMemory result fault }
 {
     let list = read_list(alloc, text)?;
     Ok(Breaks::from_list(list))

@@ -126,9 +126,8 @@ occupant-same a b same = go (nat_eq a.number nobody) refl (nat_eq b.number nobod
 ant_named-id : (bodies others : List Body) (a b : Option ℕ) → ant_named bodies a ≡ ant_named others b → a ≡ b
 unfolding ant_named
 ant_named-id bodies others None None same = refl
-ant_named-id bodies others None (Some u) same = cc
-ant_named-id bodies others (Some t) None same = cc
 ant_named-id bodies others (Some t) (Some u) same = ap (λ (o : Option Ant). option_map (λ (ant : Ant). ant.id) o) same
+ant_named-id bodies others it that same = cc
 
 -- tiles that read as one cell are one
 tile-same : (bodies others : List Body) (one other : Tile) → cell_from bodies one ≡ cell_from others other → one ≡ other

@@ -65,5 +65,5 @@ IsGround-fed =
 abbrev lone : Ant
 lone = record { id = 0; colour = Red; state = 0; resting = 0; facing = East; laden = false }
 
-pub manned : IsGround (record (fed_grid no_marks) { cells = ground no_marks 0 ∷ record (ground no_marks 0) { ant = Some lone } ∷ [] }) → ⊥
-manned is = (let never : Some lone ≡ None = is.empty.1.0 in absurd (cc))
+pub manned_is_no_ground : IsGround (record (fed_grid no_marks) { cells = ground no_marks 0 ∷ record (ground no_marks 0) { ant = Some lone } ∷ [] }) → ⊥
+manned_is_no_ground is = (let never : Some lone ≡ None = is.empty.1.0 in absurd (cc))

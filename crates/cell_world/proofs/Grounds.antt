@@ -40,10 +40,9 @@ same_ground g tiles bodies ground is_tiles is_bodies =
 -- no cell of a list without an ant holds one
 nobody_at : (t : ℕ) (cells : List Cell) (i : ℕ) → AllByRecursion (λ (cell : Cell). cell.ant ≡ None) cells → holds_id t (get_or cells i rock) ≡ false
 unfolding rock
-nobody_at t [] zero empty = refl
-nobody_at t [] (suc i) empty = refl
 nobody_at t (cell ∷ cells) zero empty = ap (is_ant t) empty.0
 nobody_at t (cell ∷ cells) (suc i) empty = nobody_at t cells i empty.1
+nobody_at t it that empty = refl
 
 -- no position of a grid without an ant holds one
 nobody : (g : Grid) (t : ℕ) → IsGround g → (p : Pos) → holds_id t (cell_in g p) ≡ false

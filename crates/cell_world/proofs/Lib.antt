@@ -33,5 +33,6 @@ pub mod OpeningStores
 pub mod Grounds
 -- Worked values.
 pub mod GroundWorked
+pub mod MarksWorked
 pub mod OpeningWorked
 pub mod ScoreWorked

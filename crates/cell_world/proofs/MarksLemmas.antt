@@ -58,13 +58,8 @@ some_item test (i ∷ items) any = elim (or_cases (test i) (list_any test items)
 
 -- the six markers in their order
 sixth : (i : ℕ) → i < 6 → get_or (0 ∷ 1 ∷ 2 ∷ 3 ∷ 4 ∷ 5 ∷ []) i 0 ≡ i
-sixth zero known = refl
-sixth (suc zero) known = refl
-sixth (suc (suc zero)) known = refl
-sixth (suc (suc (suc zero))) known = refl
-sixth (suc (suc (suc (suc zero)))) known = refl
-sixth (suc (suc (suc (suc (suc zero))))) known = refl
 sixth (suc (suc (suc (suc (suc (suc i)))))) known = absurd (omega arith)
+sixth it known = refl
 
 -- a set has any marker where it has one
 pub has_any_mark-one : (marks : Marks) → (has_any_mark marks ≡ true) ↔ ((i : ℕ) × (has_mark marks i ≡ true))
@@ -93,8 +88,7 @@ same_bit zero (suc zero) low low' same = absurd (false≢true same)
 same_bit (suc zero) zero low low' same = absurd (false≢true (sym same))
 same_bit (suc zero) (suc zero) low low' same = refl
 same_bit (suc (suc a)) b low low' same = absurd (omega arith)
-same_bit zero (suc (suc b)) low low' same = absurd (omega arith)
-same_bit (suc zero) (suc (suc b)) low low' same = absurd (omega arith)
+same_bit it b low low' same = absurd (omega arith)
 
 -- two sets of the six that have the same markers are one
 pub same_marks : (marks other : Marks) → IsOfSix marks → IsOfSix other → ((i : ℕ) → i < 6 → has_mark marks i ≡ has_mark other i) → marks ≡ other

@@ -5,7 +5,7 @@ use Rattle.hex_geometry.specs.declared.position.Pos.{Pos}
 use Rattle.cell_world.specs.declared.ant.Ant.{Ant}
 use Rattle.cell_world.specs.declared.ant.Colour.TheVariants.{Red, Black}
 use Rattle.cell_world.specs.declared.kind.Kind.{Kind}
-use Rattle.cell_world.specs.declared.kind.Kind.TheVariants.{Rock, Clear, RedHill, BlackHill, Food}
+use Rattle.cell_world.specs.declared.kind.Kind.TheVariants.{Rock, RedHill, BlackHill}
 use Rattle.cell_world.specs.Cell.{rock, holds_id}
 use Rattle.cell_world.specs.Grid.{cell_in, world_of}
 use Rattle.cell_world.specs.Marks.{no_marks}
@@ -20,28 +20,20 @@ use Rattle.cell_world.proofs.Places.{place_in-found}
 pub unmarked : (t : ℕ) (kind : Kind) → ((opening_cell t kind).red ≡ no_marks) × ((opening_cell t kind).black ≡ no_marks)
 unfolding rock floor
 unmarked t Rock = (refl, refl)
-unmarked t Clear = (refl, refl)
-unmarked t RedHill = (refl, refl)
-unmarked t BlackHill = (refl, refl)
-unmarked t (Food n) = (refl, refl)
+unmarked t it = (refl, refl)
 
 -- ants stand on the hill cells and on no others, and each is of its hill's colour
 pub manned : (t : ℕ) (kind : Kind) → (opening_cell t kind).hill ≡ option_map (λ (ant : Ant). ant.colour) (opening_cell t kind).ant
 unfolding rock floor
 manned t Rock = refl
-manned t Clear = refl
-manned t RedHill = refl
-manned t BlackHill = refl
-manned t (Food n) = refl
+manned t it = refl
 
 -- each ant is new: in state 0, not resting, facing direction 0, without food
 pub ant-new : (t : ℕ) (kind : Kind) (ant : Ant) → (opening_cell t kind).ant ≡ Some ant → ant ≡ new_ant ant.colour t
 unfolding rock floor
-ant-new t Rock ant is = absurd (cc)
-ant-new t Clear ant is = absurd (cc)
 ant-new t RedHill ant is = let new : new_ant Red t ≡ ant = cc in sym new ∙ ap (λ (a : Ant). new_ant a.colour t) new
 ant-new t BlackHill ant is = let new : new_ant Black t ≡ ant = cc in sym new ∙ ap (λ (a : Ant). new_ant a.colour t) new
-ant-new t (Food n) ant is = absurd (cc)
+ant-new t it ant is = absurd (cc)
 
 module _ (width height : ℕ) (kinds : List Kind) where
   -- no cell of an opening world is marked

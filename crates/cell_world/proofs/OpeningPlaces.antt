@@ -6,7 +6,7 @@ use Rattle.std.proofs.lemmas.Nat.{mod_below}
 use Rattle.std.specs.Option.{is_some}
 use Rattle.hex_geometry.specs.declared.position.Pos.{Pos}
 use Rattle.cell_world.specs.declared.kind.Kind.{Kind}
-use Rattle.cell_world.specs.declared.kind.Kind.TheVariants.{BlackHill, Clear, Food, RedHill, Rock}
+use Rattle.cell_world.specs.declared.kind.Kind.TheVariants.{Rock}
 use Rattle.cell_world.specs.Cell.{holds_id, one_if}
 use Rattle.cell_world.specs.Inner.Index.{IsIndex}
 use Rattle.cell_world.specs.Grid.{cell_in, world_of}
@@ -21,10 +21,7 @@ use Rattle.cell_world.proofs.Places.{place_in-found}
 -- a hill gives one place
 pub length-hill_places : (kind : Kind) (p : Pos) → length (hill_places kind p) ≡ one_if (is_hill kind)
 length-hill_places Rock p = refl
-length-hill_places Clear p = refl
-length-hill_places RedHill p = refl
-length-hill_places BlackHill p = refl
-length-hill_places (Food n) p = refl
+length-hill_places it p = refl
 
 -- there is a place for each hill cell
 pub length-opening_places : (width i : ℕ) (kinds : List Kind) → length (opening_places width i kinds) ≡ hill_count kinds

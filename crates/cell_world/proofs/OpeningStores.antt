@@ -8,7 +8,7 @@ use Rattle.cell_world.specs.declared.ant.Colour.TheVariants.{Red, Black}
 use Rattle.cell_world.specs.declared.body.Body.{Body}
 use Rattle.cell_world.specs.declared.cell.Cell.{Cell}
 use Rattle.cell_world.specs.declared.kind.Kind.{Kind}
-use Rattle.cell_world.specs.declared.kind.Kind.TheVariants.{Rock, Clear, RedHill, BlackHill, Food}
+use Rattle.cell_world.specs.declared.kind.Kind.TheVariants.{Rock, RedHill, BlackHill}
 use Rattle.cell_world.specs.declared.tile.Tile.{Tile}
 use Rattle.cell_world.specs.Cell.{rock, one_if}
 use Rattle.cell_world.specs.Grid.{Grid}
@@ -24,27 +24,19 @@ use Rattle.cell_world.proofs.OpeningPlaces.{length-opening_places}
 -- the ant of an opening cell has the id that the cell gives
 pub IsKnown-opening_cell : (ids t : ℕ) (kind : Kind) → t < ids → IsKnown ids (opening_cell t kind).ant
 unfolding rock floor
-IsKnown-opening_cell ids t Rock below = tt
-IsKnown-opening_cell ids t Clear below = tt
 IsKnown-opening_cell ids t RedHill below = below
 IsKnown-opening_cell ids t BlackHill below = below
-IsKnown-opening_cell ids t (Food n) below = tt
+IsKnown-opening_cell ids t it below = tt
 
 -- there is a body for each hill
 pub length-new_bodies : (kind : Kind) (p : Pos) → length (new_bodies (hill_of kind) p) ≡ one_if (is_hill kind)
 length-new_bodies Rock p = refl
-length-new_bodies Clear p = refl
-length-new_bodies RedHill p = refl
-length-new_bodies BlackHill p = refl
-length-new_bodies (Food n) p = refl
+length-new_bodies it p = refl
 
 -- and it is where the hill is
 stored_places-new_bodies : (kind : Kind) (p : Pos) → stored_places (new_bodies (hill_of kind) p) ≡ hill_places kind p
 stored_places-new_bodies Rock p = refl
-stored_places-new_bodies Clear p = refl
-stored_places-new_bodies RedHill p = refl
-stored_places-new_bodies BlackHill p = refl
-stored_places-new_bodies (Food n) p = refl
+stored_places-new_bodies it p = refl
 
 -- the bodies are where the ants begin
 pub stored_places-opening : (width i : ℕ) (kinds : List Kind) → stored_places (opening_bodies width i kinds) ≡ opening_places width i kinds
@@ -56,20 +48,16 @@ stored_places-opening width i (kind ∷ kinds) =
 -- the ant of a cell is read from its body, which follows those of the ants before it
 ant_named-opening_cell : (front rest : List Body) (kind : Kind) (p : Pos) → ant_named (front ++ (new_bodies (hill_of kind) p ++ rest)) (stored_id (opening_cell (length front) kind).ant) ≡ (opening_cell (length front) kind).ant
 unfolding rock floor ant_named
-ant_named-opening_cell front rest Rock p = refl
-ant_named-opening_cell front rest Clear p = refl
 ant_named-opening_cell front rest RedHill p = ap (λ (b : Body). Some (ant_from (length front) b)) (get_or-append_seam front (new_body Red p) rest no_body)
 ant_named-opening_cell front rest BlackHill p = ap (λ (b : Body). Some (ant_from (length front) b)) (get_or-append_seam front (new_body Black p) rest no_body)
-ant_named-opening_cell front rest (Food n) p = refl
+ant_named-opening_cell front rest it p = refl
 
 -- the ant of the first of these kinds has an id that is in range, where all their ants have
 IsKnown-early : (t : ℕ) (kind : Kind) (others : ℕ) → t + (one_if (is_hill kind) + others) ≤ nobody → IsKnown nobody (opening_cell t kind).ant
 unfolding rock floor
-IsKnown-early t Rock others few = tt
-IsKnown-early t Clear others few = tt
 IsKnown-early t RedHill others few = omega arith
 IsKnown-early t BlackHill others few = omega arith
-IsKnown-early t (Food n) others few = tt
+IsKnown-early t it others few = tt
 
 -- the tiles read as the cells of the kinds, behind the bodies of the ants before them
 cells-read : (width i : ℕ) (kinds : List Kind) (front : List Body) → length front + hill_count kinds ≤ nobody → map (cell_from (front ++ opening_bodies width i kinds)) (opening_tiles (length front) kinds) ≡ opening_cells (length front) kinds

@@ -4,7 +4,7 @@ use Rattle.std.proofs.lemmas.Bool.{false≢true, eqb-true, eq-eqb}
 use Rattle.std.proofs.lemmas.List.{get_or-take, take-take}
 use Rattle.cell_world.specs.declared.ant.Ant.{Ant}
 use Rattle.cell_world.specs.declared.kind.Kind.{Kind}
-use Rattle.cell_world.specs.declared.kind.Kind.TheVariants.{Rock, Clear, RedHill, BlackHill, Food}
+use Rattle.cell_world.specs.declared.kind.Kind.TheVariants.{Rock, RedHill, BlackHill, Food}
 use Rattle.cell_world.specs.Cell.{HasMarksOfSix, rock, cell_weight, holds_id, one_if}
 use Rattle.cell_world.specs.Opening.{IsFed, floor, hill_count, is_hill, is_rock, opening_cell, opening_cells}
 
@@ -31,10 +31,7 @@ HasMarksOfSix-rock = record { red = omega arith; black = omega arith }
 pub HasMarksOfSix-opening_cell : (t : ℕ) (kind : Kind) → HasMarksOfSix (opening_cell t kind)
 unfolding floor
 HasMarksOfSix-opening_cell t Rock = HasMarksOfSix-rock
-HasMarksOfSix-opening_cell t Clear = record { red = omega arith; black = omega arith }
-HasMarksOfSix-opening_cell t RedHill = record { red = omega arith; black = omega arith }
-HasMarksOfSix-opening_cell t BlackHill = record { red = omega arith; black = omega arith }
-HasMarksOfSix-opening_cell t (Food n) = record { red = omega arith; black = omega arith }
+HasMarksOfSix-opening_cell t it = record { red = omega arith; black = omega arith }
 
 -- before a hill cell there are fewer hill cells than in all
 pub hill_count-take : (kinds : List Kind) (i : ℕ) → is_hill (get_or kinds i Rock) ≡ true → hill_count (take i kinds) < hill_count kinds
@@ -54,51 +51,36 @@ hill_count-later kinds i j before hill =
 pub rocky-opening_cell : (t : ℕ) (kind : Kind) → (opening_cell t kind).rocky ≡ is_rock kind
 unfolding rock floor
 rocky-opening_cell t Rock = refl
-rocky-opening_cell t Clear = refl
-rocky-opening_cell t RedHill = refl
-rocky-opening_cell t BlackHill = refl
-rocky-opening_cell t (Food n) = refl
+rocky-opening_cell t it = refl
 
 -- a rocky cell is bare
 pub opening_cell-rocky : (t : ℕ) (kind : Kind) → is_rock kind ≡ true → opening_cell t kind ≡ rock
 opening_cell-rocky t Rock rocky = refl
-opening_cell-rocky t Clear rocky = absurd (false≢true rocky)
-opening_cell-rocky t RedHill rocky = absurd (false≢true rocky)
-opening_cell-rocky t BlackHill rocky = absurd (false≢true rocky)
-opening_cell-rocky t (Food n) rocky = absurd (false≢true rocky)
+opening_cell-rocky t it rocky = absurd (false≢true rocky)
 
 -- an ant stands on a hill cell and has the id that the cell gives
 pub ant-opening_cell : (t : ℕ) (kind : Kind) (ant : Ant) → (opening_cell t kind).ant ≡ Some ant → (is_hill kind ≡ true) × (ant.id ≡ t)
 unfolding rock floor
-ant-opening_cell t Rock ant is = absurd (cc)
-ant-opening_cell t Clear ant is = absurd (cc)
 ant-opening_cell t RedHill ant is = (refl, cc)
 ant-opening_cell t BlackHill ant is = (refl, cc)
-ant-opening_cell t (Food n) ant is = absurd (cc)
+ant-opening_cell t it ant is = absurd (cc)
 
 -- the id that a cell holds is the one that it gives, and the cell is of a hill
 pub holds_id-opening_cell : (u t : ℕ) (kind : Kind) → holds_id u (opening_cell t kind) ≡ true → (is_hill kind ≡ true) × (t ≡ u)
 unfolding rock floor
-holds_id-opening_cell u t Rock holds = absurd (false≢true holds)
-holds_id-opening_cell u t Clear holds = absurd (false≢true holds)
 holds_id-opening_cell u t RedHill holds = (refl, eqb-true t u holds)
 holds_id-opening_cell u t BlackHill holds = (refl, eqb-true t u holds)
-holds_id-opening_cell u t (Food n) holds = absurd (false≢true holds)
+holds_id-opening_cell u t it holds = absurd (false≢true holds)
 
 -- a hill cell holds the id that it gives
 pub opening_cell-holds_id : (t : ℕ) (kind : Kind) → is_hill kind ≡ true → holds_id t (opening_cell t kind) ≡ true
 unfolding rock floor
-opening_cell-holds_id t Rock hill = absurd (false≢true hill)
-opening_cell-holds_id t Clear hill = absurd (false≢true hill)
 opening_cell-holds_id t RedHill hill = eq-eqb t t refl
 opening_cell-holds_id t BlackHill hill = eq-eqb t t refl
-opening_cell-holds_id t (Food n) hill = absurd (false≢true hill)
+opening_cell-holds_id t it hill = absurd (false≢true hill)
 
 -- no cell weighs more than nine
 pub cell_weight-opening_cell : (t : ℕ) (kind : Kind) → IsFed kind → cell_weight (opening_cell t kind) ≤ 9
 unfolding rock floor cell_weight
-cell_weight-opening_cell t Rock fed = omega arith
-cell_weight-opening_cell t Clear fed = omega arith
-cell_weight-opening_cell t RedHill fed = omega arith
-cell_weight-opening_cell t BlackHill fed = omega arith
 cell_weight-opening_cell t (Food n) fed = omega (arith, fed.1)
+cell_weight-opening_cell t it fed = omega arith

@@ -25,9 +25,8 @@ some_one {A} {a} {b} e = cc
 -- ants that may not be there, of one identity, posture and load, are one
 same_parts_option : (a b : Option Ant) → option_map identity_of a ≡ option_map identity_of b → option_map posture_of a ≡ option_map posture_of b → option_map (λ ant. ant.laden) a ≡ option_map (λ ant. ant.laden) b → a ≡ b
 same_parts_option None None who mind load = refl
-same_parts_option None (Some b) who mind load = absurd (cc)
-same_parts_option (Some a) None who mind load = absurd (cc)
 same_parts_option (Some a) (Some b) who mind load = ap Some (same_parts_ant a b (some_one who) (some_one mind) (some_one load))
+same_parts_option it that who mind load = absurd (cc)
 
 -- cells that are equal in every part, of one ground and hill, are equal
 pub same_parts : (c d : Cell) → ((k : Part) → Alike k c d) → c.rocky ≡ d.rocky → c.hill ≡ d.hill → c ≡ d
@@ -48,27 +47,23 @@ patched_ant-who parts (Some ant) (Some other) = refl
 
 -- its posture, where it is named
 patched_ant-mind : (parts : Parts) (own source : Option Ant) → parts.mind ≡ true → IsSameAnt own source → option_map posture_of (patched_ant parts own source) ≡ option_map posture_of source
-patched_ant-mind parts None source named same = absurd same
-patched_ant-mind parts (Some ant) None named same = absurd same
 patched_ant-mind parts (Some ant) (Some other) named same = rw named
+patched_ant-mind parts it source named same = absurd same
 
 -- and where it isn't
 patched_ant-mind_own : (parts : Parts) (own source : Option Ant) → parts.mind ≡ false → option_map posture_of (patched_ant parts own source) ≡ option_map posture_of own
-patched_ant-mind_own parts None source other_s = refl
-patched_ant-mind_own parts (Some ant) None other_s = refl
 patched_ant-mind_own parts (Some ant) (Some other) other_s = rw other_s
+patched_ant-mind_own parts it source other_s = refl
 
 -- what it carries, where that is named
 patched_ant-load : (parts : Parts) (own source : Option Ant) → parts.load ≡ true → IsSameAnt own source → option_map (λ ant. ant.laden) (patched_ant parts own source) ≡ option_map (λ ant. ant.laden) source
-patched_ant-load parts None source named same = absurd same
-patched_ant-load parts (Some ant) None named same = absurd same
 patched_ant-load parts (Some ant) (Some other) named same = rw named
+patched_ant-load parts it source named same = absurd same
 
 -- and where it isn't
 patched_ant-load_own : (parts : Parts) (own source : Option Ant) → parts.load ≡ false → option_map (λ ant. ant.laden) (patched_ant parts own source) ≡ option_map (λ ant. ant.laden) own
-patched_ant-load_own parts None source other_s = refl
-patched_ant-load_own parts (Some ant) None other_s = refl
 patched_ant-load_own parts (Some ant) (Some other) other_s = rw other_s
+patched_ant-load_own parts it source other_s = refl
 
 module _ (cell source : Cell) (parts : Parts) where
   -- who stands there comes from the source where it is named
@@ -111,8 +106,7 @@ module _ (cell source : Cell) (parts : Parts) where
       | inr other ↦ ap (option_map (λ ant. ant.laden)) (patched-ant_own other) ∙ patched_ant-load parts cell.ant source.ant named (load_alone other named)
     ]
     patched-named Food named = cond-true _ _ _ named
-    patched-named RedMarks named = cond-true _ _ _ named
-    patched-named BlackMarks named = cond-true _ _ _ named
+    patched-named it named = cond-true _ _ _ named
 
     -- who stands there is named only with its posture and its load
     who_unnamed : (b : Bool) → b ≡ false → (parts.who ≡ true → b ≡ true) → parts.who ≡ false
@@ -129,9 +123,7 @@ module _ (cell source : Cell) (parts : Parts) where
         ap (option_map posture_of) (patched-ant_own (who_unnamed parts.mind other can.mind)) ∙ patched_ant-mind_own parts cell.ant source.ant other
     patched-others Load other =
         ap (option_map (λ ant. ant.laden)) (patched-ant_own (who_unnamed parts.load other can.load)) ∙ patched_ant-load_own parts cell.ant source.ant other
-    patched-others Food other = cond-false _ _ _ other
-    patched-others RedMarks other = cond-false _ _ _ other
-    patched-others BlackMarks other = cond-false _ _ _ other
+    patched-others it other = cond-false _ _ _ other
 
     -- so a patched cell is the one that has these
     pub patched-HasParts : HasParts cell source parts (patched cell source parts)
@@ -152,10 +144,9 @@ module _ (cell source : Cell) (parts : Parts) where
 
 -- one ant stays one when both are patched
 IsSameAnt-alike : (own other source : Option Ant) → option_map identity_of own ≡ option_map identity_of other → IsSameAnt own source → IsSameAnt other source
-IsSameAnt-alike None other source who same = absurd same
-IsSameAnt-alike (Some ant) other None who same = absurd same
 IsSameAnt-alike (Some ant) None (Some there) who same = absurd (cc)
 IsSameAnt-alike (Some ant) (Some another) (Some there) who same = sym (some_one who) ∙ same
+IsSameAnt-alike it other source who same = absurd same
 
 -- a cell of the same ant can be patched alike
 pub CanPatch-alike : (cell other source : Cell) (parts : Parts) → Alike Who cell other → CanPatch cell source parts → CanPatch other source parts

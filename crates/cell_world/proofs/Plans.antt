@@ -14,11 +14,8 @@ use Rattle.cell_world.specs.Opening.{IsFed, IsPlan, hill_count, is_rock}
 
 -- whether food is in range
 abbrev pub is_fed : Kind → Bool
-is_fed Rock = true
-is_fed Clear = true
-is_fed RedHill = true
-is_fed BlackHill = true
 is_fed (Food n) = nat_le 1 n && nat_le n 9
+is_fed it = true
 
 -- whether all food is in range
 abbrev pub are_fed : List Kind → Bool

@@ -11,11 +11,11 @@ use Rattle.cell_world.specs.Marks.{no_marks, with_mark}
 use Rattle.cell_world.specs.Opening.{floor, opening}
 use Rattle.cell_world.proofs.OpeningWorked.{one_hill}
 use Rattle.dump_print.specs.Content.{clear_text, content_text, standing_ant_text}
-use Rattle.dump_print.specs.Texts.{cell_line, score_text, stats_text}
+use Rattle.dump_print.specs.Texts.{cell_line, cells_text, row_text, score_text, stats_text}
 
 -- the one hill cell of a small opening world
 line-hill : cell_line 1 1 (cell_in (opening 3 3 one_hill) (record { x = 1; y = 1 })) ≡ codes "cell (1, 1): red hill; red ant of id 0, dir 0, food 0, state 0, resting 0\n"
-unfolding digits cell_line content_text clear_text standing_ant_text cell_in opening floor rock
+unfolding digits numbered cell_line content_text clear_text standing_ant_text cell_in opening floor rock
 line-hill = refl
 
 -- a cell of its rim
@@ -42,6 +42,12 @@ full = record {
 line-full : cell_line 1 12 full ≡ codes "cell (1, 12): 20 food; black hill; red marks: 03; black marks: 5; red ant of id 107, dir 5, food 1, state 9999, resting 14\n"
 unfolding digits cell_line content_text clear_text standing_ant_text numbered
 line-full = refl
+
+-- four rocky cells, row by row from the top, each row from the left
+cells-four : cells_text (record { width = 2; height = 2; ids = 0; cells = λ q. rock }) ≡
+    codes "cell (0, 0): rock\ncell (1, 0): rock\ncell (0, 1): rock\ncell (1, 1): rock\n"
+unfolding digits numbered cells_text row_text cell_line content_text rock
+cells-four = refl
 
 -- an empty line comes before a score
 score-three : score_text (record { red = 3; black = 0 }) ≡ codes "\nscore: red 3 black 0\n"

@@ -10,7 +10,7 @@ use Rattle.hex_geometry.specs.declared.direction.Side.TheVariants.{Left, Right}
 use Rattle.hex_geometry.specs.declared.neighbourhood.Sight.{Sight}
 use Rattle.hex_geometry.specs.declared.neighbourhood.Sight.TheVariants.{Here, Ahead, LeftAhead, RightAhead}
 use Rattle.hex_geometry.specs.declared.position.Pos.{Pos}
-use Rattle.std.proofs.Common.{◌≡◌, ◌≢◌, ℕ, zero, suc, ◌%◌, ◌≤◌, ◌<◌, length, refl, sym, ◌∙◌, ap, arith, subst}
+use Rattle.std.proofs.Common.{◌≡◌, ◌≢◌, ℕ, suc, ◌%◌, ◌≤◌, ◌<◌, length, refl, sym, ◌∙◌, ap, arith, subst}
 use Rattle.std.proofs.lemmas.Bool.{cond_both, eqb-true, eqb-false}
 use Rattle.std.proofs.lemmas.Int.{ints}
 use Rattle.std.specs.Prelude.{ℤ, pos, ◌==◌, AllPairs, Contains, slice_get, slice_index_or, Some}
@@ -27,20 +27,18 @@ even_row : (p : Pos) (d : Dir) → p.y % 2 ≡ 0 → 1 ≤ p.x → 1 ≤ p.y →
 unfolding adjacent_pos
 even_row p East e hx hy = refl
 even_row p SouthEast e hx hy = pair_same (ap pos (omega arith)) refl
-even_row p SouthWest e hx hy = pair_same (omega (arith, ints)) refl
-even_row p West e hx hy = pair_same (omega (arith, ints)) refl
 even_row p NorthWest e hx hy = pair_same (omega (arith, ints)) (omega (arith, ints))
 even_row p NorthEast e hx hy = pair_same (ap pos (omega arith)) (omega (arith, ints))
+even_row p it e hx hy = pair_same (omega (arith, ints)) refl
 
 -- where the row is odd
 odd_row : (p : Pos) (d : Dir) → p.y % 2 ≡ 1 → 1 ≤ p.x → 1 ≤ p.y → point_of (adjacent_pos p d) ≡ beside_in_odd (pos p.x) (pos p.y) d
 unfolding adjacent_pos
 odd_row p East e hx hy = refl
-odd_row p SouthEast e hx hy = pair_same (ap pos (omega arith)) refl
-odd_row p SouthWest e hx hy = pair_same (ap pos (omega arith)) refl
 odd_row p West e hx hy = pair_same (omega (arith, ints)) refl
 odd_row p NorthWest e hx hy = pair_same (ap pos (omega arith)) (omega (arith, ints))
 odd_row p NorthEast e hx hy = pair_same (ap pos (omega arith)) (omega (arith, ints))
+odd_row p it e hx hy = pair_same (ap pos (omega arith)) refl
 
 -- the neighbour of a position is what the table says of it as a pair of whole numbers
 pub adjacent_pos_table : (p : Pos) (d : Dir) → 1 ≤ p.x → 1 ≤ p.y → point_of (adjacent_pos p d) ≡ adjacent_point (point_of p) d
@@ -56,30 +54,22 @@ pub adjacent_pos_back : (p : Pos) (d : Dir) → 1 ≤ p.x → 1 ≤ p.y → adja
 unfolding adjacent_pos opposite
 adjacent_pos_back p East hx hy = pos_same (omega arith) refl
 adjacent_pos_back p SouthEast hx hy = pos_same (omega arith) (omega arith)
-adjacent_pos_back p SouthWest hx hy = pos_same (omega arith) (omega arith)
 adjacent_pos_back p West hx hy = pos_same (omega arith) refl
-adjacent_pos_back p NorthWest hx hy = pos_same (omega arith) (omega arith)
-adjacent_pos_back p NorthEast hx hy = pos_same (omega arith) (omega arith)
+adjacent_pos_back p it hx hy = pos_same (omega arith) (omega arith)
 
 -- a neighbour is another position
 pub adjacent_pos_moves : (p : Pos) (d : Dir) → 1 ≤ p.x → 1 ≤ p.y → adjacent_pos p d ≢ p
 unfolding adjacent_pos
 adjacent_pos_moves p East hx hy e = let columns = ap (λ q. q.x) e in omega (arith, columns)
 adjacent_pos_moves p SouthEast hx hy e = let rows = ap (λ q. q.y) e in omega (arith, rows)
-adjacent_pos_moves p SouthWest hx hy e = let rows = ap (λ q. q.y) e in omega (arith, rows)
 adjacent_pos_moves p West hx hy e = let columns = ap (λ q. q.x) e in omega (arith, columns)
-adjacent_pos_moves p NorthWest hx hy e = let rows = ap (λ q. q.y) e in omega (arith, rows)
-adjacent_pos_moves p NorthEast hx hy e = let rows = ap (λ q. q.y) e in omega (arith, rows)
+adjacent_pos_moves p it hx hy e = let rows = ap (λ q. q.y) e in omega (arith, rows)
 
 -- the neighbours of a position that is not on the rim are inside
 pub adjacent_pos_inside : {w h : ℕ} {p : Pos} (d : Dir) → IsInner w h p → IsInside w h (adjacent_pos p d)
 unfolding adjacent_pos
 adjacent_pos_inside East inner = record { column = omega (arith, inner); row = omega (arith, inner) }
-adjacent_pos_inside SouthEast inner = record { column = omega (arith, inner); row = omega (arith, inner) }
-adjacent_pos_inside SouthWest inner = record { column = omega (arith, inner); row = omega (arith, inner) }
-adjacent_pos_inside West inner = record { column = omega (arith, inner); row = omega (arith, inner) }
-adjacent_pos_inside NorthWest inner = record { column = omega (arith, inner); row = omega (arith, inner) }
-adjacent_pos_inside NorthEast inner = record { column = omega (arith, inner); row = omega (arith, inner) }
+adjacent_pos_inside it inner = record { column = omega (arith, inner); row = omega (arith, inner) }
 
 -- neighbours in two directions are two positions
 pub adjacent_pos_one : (p : Pos) (d e : Dir) → 1 ≤ p.x → 1 ≤ p.y → adjacent_pos p d ≡ adjacent_pos p e → d ≡ e
@@ -108,24 +98,14 @@ neighbours_of_length p = refl
 -- the neighbour at a place of the list is the one in the direction of that number
 pub neighbours_of_at : (p : Pos) (k : ℕ) (z : Pos) → k < 6 → slice_index_or (neighbours_of p) k z ≡ adjacent_pos p (dir_of k)
 unfolding neighbours_of directions
-neighbours_of_at p zero z below = refl
-neighbours_of_at p (suc zero) z below = refl
-neighbours_of_at p (suc (suc zero)) z below = refl
-neighbours_of_at p (suc (suc (suc zero))) z below = refl
-neighbours_of_at p (suc (suc (suc (suc zero)))) z below = refl
-neighbours_of_at p (suc (suc (suc (suc (suc zero))))) z below = refl
 neighbours_of_at p (suc (suc (suc (suc (suc (suc k)))))) z below = absurd (omega arith)
+neighbours_of_at p it z below = refl
 
 -- so the list has it at that place
 pub neighbours_of_get : (p : Pos) (k : ℕ) → k < 6 → slice_get (neighbours_of p) k ≡ Some (adjacent_pos p (dir_of k))
 unfolding neighbours_of directions
-neighbours_of_get p zero below = refl
-neighbours_of_get p (suc zero) below = refl
-neighbours_of_get p (suc (suc zero)) below = refl
-neighbours_of_get p (suc (suc (suc zero))) below = refl
-neighbours_of_get p (suc (suc (suc (suc zero)))) below = refl
-neighbours_of_get p (suc (suc (suc (suc (suc zero))))) below = refl
 neighbours_of_get p (suc (suc (suc (suc (suc (suc k)))))) below = absurd (omega arith)
+neighbours_of_get p it below = refl
 
 -- the neighbour in each direction is among them
 pub neighbours_of_contains : (p : Pos) (d : Dir) → Contains (neighbours_of p) (adjacent_pos p d)

@@ -123,9 +123,8 @@ adjacent_distance p q way = record { reached = record { positions = q ∷ []; st
 
 -- and what is at distance one is a neighbour
 first_step : (p q : Point) (positions : List Point) → length positions ≡ 1 → LeadsTo p positions q → IsAdjacent p q
-first_step p q [] one leads = absurd (omega arith)
 first_step p q (next ∷ []) one leads = subst (IsAdjacent p) leads.1 leads.0
-first_step p q (next ∷ (other ∷ rest)) one leads = absurd (omega arith)
+first_step p q it one leads = absurd (omega arith)
 
 pub distance_adjacent : (p q : Point) → IsDistance p q 1 → IsAdjacent p q
 distance_adjacent p q far = first_step p q far.reached.positions far.reached.steps far.reached.leads

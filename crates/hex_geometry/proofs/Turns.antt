@@ -4,75 +4,47 @@ use Rattle.hex_geometry.specs.declared.direction.Dir.{Dir}
 use Rattle.hex_geometry.specs.declared.direction.Dir.TheVariants.{East, SouthEast, SouthWest, West, NorthWest, NorthEast}
 use Rattle.hex_geometry.specs.declared.direction.Side.{Side}
 use Rattle.hex_geometry.specs.declared.direction.Side.TheVariants.{Left, Right}
-use Rattle.std.proofs.Common.{◌≡◌, ℕ, zero, suc, ◌<◌, refl, arith}
+use Rattle.std.proofs.Common.{◌≡◌, ℕ, suc, ◌<◌, refl, arith}
 use Rattle.std.specs.Fn.{iterate}
 
 -- a direction's number is below six
 pub number_of_below : (d : Dir) → number_of d < 6
 number_of_below East = omega arith
-number_of_below SouthEast = omega arith
-number_of_below SouthWest = omega arith
-number_of_below West = omega arith
-number_of_below NorthWest = omega arith
-number_of_below NorthEast = omega arith
+number_of_below it = omega arith
 
 -- a direction is the one of its number
 pub dir_of_number_of : (d : Dir) → dir_of (number_of d) ≡ d
 dir_of_number_of East = refl
-dir_of_number_of SouthEast = refl
-dir_of_number_of SouthWest = refl
-dir_of_number_of West = refl
-dir_of_number_of NorthWest = refl
-dir_of_number_of NorthEast = refl
+dir_of_number_of it = refl
 
 -- a number below six is that of its direction
 pub number_of_dir_of : (n : ℕ) → n < 6 → number_of (dir_of n) ≡ n
-number_of_dir_of zero _ = refl
-number_of_dir_of (suc zero) _ = refl
-number_of_dir_of (suc (suc zero)) _ = refl
-number_of_dir_of (suc (suc (suc zero))) _ = refl
-number_of_dir_of (suc (suc (suc (suc zero)))) _ = refl
 number_of_dir_of (suc (suc (suc (suc (suc n))))) below = omega arith
+number_of_dir_of it below = refl
 
 -- left and then right is as before
 pub left_then_right : (d : Dir) → turned_by (turned_by d Left) Right ≡ d
 unfolding turned_by
 left_then_right East = refl
-left_then_right SouthEast = refl
-left_then_right SouthWest = refl
-left_then_right West = refl
-left_then_right NorthWest = refl
-left_then_right NorthEast = refl
+left_then_right it = refl
 
 -- right and then left is as before
 pub right_then_left : (d : Dir) → turned_by (turned_by d Right) Left ≡ d
 unfolding turned_by
 right_then_left East = refl
-right_then_left SouthEast = refl
-right_then_left SouthWest = refl
-right_then_left West = refl
-right_then_left NorthWest = refl
-right_then_left NorthEast = refl
+right_then_left it = refl
 
 -- six turns to the left are a whole turn
 pub six_left : (d : Dir) → iterate (λ e. turned_by e Left) 6 d ≡ d
 unfolding turned_by
 six_left East = refl
-six_left SouthEast = refl
-six_left SouthWest = refl
-six_left West = refl
-six_left NorthWest = refl
-six_left NorthEast = refl
+six_left it = refl
 
 -- six turns to the right are a whole turn
 pub six_right : (d : Dir) → iterate (λ e. turned_by e Right) 6 d ≡ d
 unfolding turned_by
 six_right East = refl
-six_right SouthEast = refl
-six_right SouthWest = refl
-six_right West = refl
-six_right NorthWest = refl
-six_right NorthEast = refl
+six_right it = refl
 
 -- three turns to one side lead to the opposite direction
 pub three_turns : (d : Dir) (side : Side) → iterate (λ e. turned_by e side) 3 d ≡ opposite d

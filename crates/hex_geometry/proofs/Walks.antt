@@ -41,20 +41,18 @@ slant p = p.x -ℤ half p.y
 
 -- what a step in a direction adds to the slanting column, and to the row
 abbrev pub across : Dir → ℤ
-across East = pos 1
 across SouthEast = pos 0
 across SouthWest = negsuc 0
 across West = negsuc 0
 across NorthWest = pos 0
-across NorthEast = pos 1
+across it = pos 1
 
 abbrev pub down : Dir → ℤ
-down East = pos 0
 down SouthEast = pos 1
 down SouthWest = pos 1
-down West = pos 0
 down NorthWest = negsuc 0
 down NorthEast = negsuc 0
+down it = pos 0
 
 -- a place's two numbers
 pub record IsStep (p : Point) (d : Dir) (q : Point) : Type 0 where
@@ -62,20 +60,18 @@ pub record IsStep (p : Point) (d : Dir) (q : Point) : Type 0 where
   pub row : q.y ≡ p.y +ℤ down d
 
 step_even : (p : Point) (d : Dir) → p.y ≡ half p.y +ℤ half p.y → IsStep p d (beside_in_even p.x p.y d)
-step_even p East e = record { column = omega (arith, ints); row = omega (arith, ints) }
 step_even p SouthEast e = let h = halved (p.y +ℤ pos 1) in record { column = omega (arith, ints); row = omega (arith, ints) }
 step_even p SouthWest e = let h = halved (p.y +ℤ pos 1) in record { column = omega (arith, ints); row = omega (arith, ints) }
-step_even p West e = record { column = omega (arith, ints); row = omega (arith, ints) }
 step_even p NorthWest e = let h = halved (p.y -ℤ pos 1) in record { column = omega (arith, ints); row = omega (arith, ints) }
 step_even p NorthEast e = let h = halved (p.y -ℤ pos 1) in record { column = omega (arith, ints); row = omega (arith, ints) }
+step_even p it e = record { column = omega (arith, ints); row = omega (arith, ints) }
 
 step_odd : (p : Point) (d : Dir) → p.y ≡ half p.y +ℤ half p.y +ℤ pos 1 → IsStep p d (beside_in_odd p.x p.y d)
-step_odd p East e = record { column = omega (arith, ints); row = omega (arith, ints) }
 step_odd p SouthEast e = let h = halved (p.y +ℤ pos 1) in record { column = omega (arith, ints); row = omega (arith, ints) }
 step_odd p SouthWest e = let h = halved (p.y +ℤ pos 1) in record { column = omega (arith, ints); row = omega (arith, ints) }
-step_odd p West e = record { column = omega (arith, ints); row = omega (arith, ints) }
 step_odd p NorthWest e = let h = halved (p.y -ℤ pos 1) in record { column = omega (arith, ints); row = omega (arith, ints) }
 step_odd p NorthEast e = let h = halved (p.y -ℤ pos 1) in record { column = omega (arith, ints); row = omega (arith, ints) }
+step_odd p it e = record { column = omega (arith, ints); row = omega (arith, ints) }
 
 pub step_is : (p : Point) (d : Dir) → IsStep p d (adjacent_point p d)
 unfolding adjacent_point
@@ -95,11 +91,7 @@ pub record Within (k : ℕ) (p q : Point) : Type 0 where
 
 within_step : (k : ℕ) (p next q : Point) (d : Dir) → IsStep p d next → Within k next q → Within (suc k) p q
 within_step k p next q East s w = record { below = omega (arith, ints); above = omega (arith, ints); right = omega (arith, ints); left = omega (arith, ints); under = omega (arith, ints); over = omega (arith, ints) }
-within_step k p next q SouthEast s w = record { below = omega (arith, ints); above = omega (arith, ints); right = omega (arith, ints); left = omega (arith, ints); under = omega (arith, ints); over = omega (arith, ints) }
-within_step k p next q SouthWest s w = record { below = omega (arith, ints); above = omega (arith, ints); right = omega (arith, ints); left = omega (arith, ints); under = omega (arith, ints); over = omega (arith, ints) }
-within_step k p next q West s w = record { below = omega (arith, ints); above = omega (arith, ints); right = omega (arith, ints); left = omega (arith, ints); under = omega (arith, ints); over = omega (arith, ints) }
-within_step k p next q NorthWest s w = record { below = omega (arith, ints); above = omega (arith, ints); right = omega (arith, ints); left = omega (arith, ints); under = omega (arith, ints); over = omega (arith, ints) }
-within_step k p next q NorthEast s w = record { below = omega (arith, ints); above = omega (arith, ints); right = omega (arith, ints); left = omega (arith, ints); under = omega (arith, ints); over = omega (arith, ints) }
+within_step k p next q it s w = record { below = omega (arith, ints); above = omega (arith, ints); right = omega (arith, ints); left = omega (arith, ints); under = omega (arith, ints); over = omega (arith, ints) }
 
 within_self : (p : Point) → Within 0 p p
 within_self p = record { below = omega (arith, ints); above = omega (arith, ints); right = omega (arith, ints); left = omega (arith, ints); under = omega (arith, ints); over = omega (arith, ints) }

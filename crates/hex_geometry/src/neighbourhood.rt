@@ -42,7 +42,7 @@ pub fn adjacent(p: Pos, d: Dir) -> Pos
 }
 
 /// The position that an ant at `p` with direction `d` senses. Both coordinates of `p` are from 1 to 65,534 (the task's geometry).
-#[inline]
+#[inline(always)]
 #[tactic(auto, unfolding(crate::specs::Neighbourhood::sensed_pos))]
 pub fn sensed(p: Pos, d: Dir, sight: Sight) -> Pos
     requires { HasNeighbours p }

@@ -112,11 +112,10 @@ module _ {A P F : Type 0} (r : Reader A P F) (Says : List (List ℕ) → A → T
   -- lines of items are read
   pub lines_again : (lines : List TokenLine) (before : ℕ) (list : List A) → AreLinesOf Says lines list → before + length list ≤ r.most → read_lines r before lines ≡ Ok (kept r lines list)
   lines_again [] before [] are few = refl
-  lines_again [] before (item ∷ list) are few = absurd are
-  lines_again (line ∷ lines) before [] are few = absurd are
   lines_again (line ∷ lines) before (item ∷ list) are few =
       ap (λ here. line_then r.keep line.number here (read_lines r (before + 1) lines)) (judged_line-again r before line.number line.tokens item (omega (arith, few)) (faithful.again item line.tokens are.0))
       ∙ ap (put_before (r.keep line.number item)) (lines_again lines (before + 1) list are.1 (omega (arith, few)))
+  lines_again it before that are few = absurd are
 
 with_front-one : {P F : Type 0} (front : List P) (x : P) (later : Result (List P) F) → with_front front (put_before x later) ≡ with_front (front ++ x ∷ []) later
 with_front-one front x (Ok xs) = ap Ok (sym (append_assoc front (x ∷ []) xs))

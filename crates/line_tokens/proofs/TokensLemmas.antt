@@ -121,9 +121,8 @@ pub record IsNext (line token rest : List ℕ) : Type 0 where
 
 has_byte-length : (token : List ℕ) (b : Bool) → eqb (length token) 0 ≡ not b → has_byte token ≡ b
 has_byte-length [] true e = sym e
-has_byte-length [] false e = refl
-has_byte-length (byte ∷ token) true e = refl
 has_byte-length (byte ∷ token) false e = let z : suc (length token) ≡ 0 = eqb-true (suc (length token)) 0 e in absurd (omega arith)
+has_byte-length it that e = refl
 
 -- a token of no byte is no cut
 cut_nothing : (line token rest : List ℕ) → IsCut line token rest → has_byte token ≡ false → tokens_of rest ≡ tokens_of line

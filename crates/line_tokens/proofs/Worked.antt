@@ -9,6 +9,7 @@ use Rattle.line_tokens.specs.Fields.LineField.{Word, Number}
 use Rattle.line_tokens.specs.TokenLines.{lines_with_tokens}
 use Rattle.line_tokens.specs.Faulty.{too_many}
 use Rattle.line_tokens.specs.Steps.{take_word, take_number, take_end}
+use Rattle.line_tokens.specs.FaultText.{refusal_text}
 
 -- a comment begins at any `;`; lines are counted from 1 with those that have no token
 lines_of_tokens : lines_with_tokens (codes "drop 0;x\n\n ; Move 0 0\n\tMove\t1 0 ; y")
@@ -69,3 +70,11 @@ line_printed = rw (decimal_digit 7 (omega arith)) refl
 line_spelled : SpellsAll (Word (codes "Turn") ∷ Word (codes "Left") ∷ Number 7 ∷ []) (codes "tURN" ∷ codes "LEFT" ∷ codes "0007" ∷ [])
 unfolding decimal_value
 line_spelled = (refl, (refl, (refl, tt)))
+
+-- what is said of a line is its fault, or that its token has a bad byte
+refusals_say : map (λ fault. refusal_text (record { fault = fault; bad_byte = false })) (UnknownWord ∷ MissingToken ∷ BadNumber ∷ ExtraToken ∷ [])
+    ≡ codes "unknown word" ∷ codes "missing token" ∷ codes "bad number" ∷ codes "extra token" ∷ []
+refusals_say = refl
+
+bad_bytes_say : map (λ fault. refusal_text (record { fault = fault; bad_byte = true })) (UnknownWord ∷ BadNumber ∷ []) ≡ codes "bad byte" ∷ codes "bad byte" ∷ []
+bad_bytes_say = refl

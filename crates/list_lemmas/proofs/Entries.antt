@@ -17,7 +17,6 @@ slice_get-last (y ∷ xs) x = slice_get-last xs x
 -- lists of one length with the same entries are one
 pub same_entries : {X : Type 0} (xs ys : List X) → length xs ≡ length ys → ((i : ℕ) → i < length xs → slice_get xs i ≡ slice_get ys i) → xs ≡ ys
 same_entries [] [] long each = refl
-same_entries [] (y ∷ ys) long each = absurd (omega arith)
-same_entries (x ∷ xs) [] long each = absurd (omega arith)
 same_entries (x ∷ xs) (y ∷ ys) long each =
     ap₂ (λ z zs. z ∷ zs) (same_Some x y (each 0 (omega arith))) (same_entries xs ys (omega arith) (λ i early. each (suc i) (omega arith)))
+same_entries it that long each = absurd (omega arith)

@@ -9,8 +9,8 @@ use Rattle.ant_turn.specs.Rounds.{Moment, after_round, after_rounds}
 use Rattle.ant_turn.proofs.KeptByRounds.{after_rounds-more}
 use Rattle.cell_world.specs.Grid.{world_of}
 use Rattle.dump_print.specs.declared.totals.Totals.{Totals}
-use Rattle.match_run.specs.declared.fault.PlayFault.{PlayFault}
-use Rattle.match_run.specs.declared.fault.PlayFault.TheVariants.{WriteFault, OutOfMemory}
+use Rattle.ant_base.specs.declared.push_fault.PushFault.{PushFault}
+use Rattle.ant_base.specs.declared.push_fault.PushFault.TheVariants.{WriteFault, OutOfMemory}
 use Rattle.match_run.specs.Counts.{both, round_totals, totals_of}
 use Rattle.match_run.specs.Game.{GameValue, GoesOnFor, IsRoundPlayed, RisesUpTo, counted_on, now_of, totals_ahead}
 use Rattle.match_run.specs.Inner.Rounds.{RoundStopped, RoundsStop}
@@ -27,7 +27,7 @@ pub prefix_of_nothing : (state : SinkState) (text : List ℕ) → 1 ≤ length t
 prefix_of_nothing state text some = record { front = []; rest = text; whole = refl; some_left = some; pushed = all_of_nothing state }
 
 -- one text, and then a play that stopped in another
-pub stopped_then : (old mid new : SinkState) (a b : List ℕ) (fault : PlayFault) → PushedAll old mid a → StoppedBy mid new b fault → StoppedBy old new (a ++ b) fault
+pub stopped_then : (old mid new : SinkState) (a b : List ℕ) (fault : PushFault) → PushedAll old mid a → StoppedBy mid new b fault → StoppedBy old new (a ++ b) fault
 stopped_then old mid new a b WriteFault p q = front_then old mid new a b p q
 stopped_then old mid new a b OutOfMemory p q = record {
   front = a ++ q.front;
@@ -106,7 +106,7 @@ unfolding later_dumps
 later_dumps-front minds seed chosen m round i n le = numbered-front (λ k. chosen_dump chosen (after_rounds minds seed m (k + 1)).world (round + k + 1)) i n le
 
 -- a round that wasn't shown stops the dumps up to it and whatever text comes behind them, which has something
-pub stopped-shown : {first : GameValue} {round : ℕ} {old : GameValue} (sink mid new_sink : SinkState) (chosen : ℕ → Bool) → GoesOnFor first old round → (new : GameValue) (fault : PlayFault)
+pub stopped-shown : {first : GameValue} {round : ℕ} {old : GameValue} (sink mid new_sink : SinkState) (chosen : ℕ → Bool) → GoesOnFor first old round → (new : GameValue) (fault : PushFault)
     → PushedAll sink mid (later_dumps first.field.minds first.field.seed chosen (now_of first) first.done round) → RoundStopped old new chosen (first.done + round + 1) mid new_sink fault
     → (rest : List ℕ) → 1 ≤ length rest → StoppedBy sink new_sink (later_dumps first.field.minds first.field.seed chosen (now_of first) first.done (round + 1) ++ rest) fault
 stopped-shown {first} {round} {old} sink mid new_sink chosen at new WriteFault so_far stopped rest some =
@@ -123,7 +123,7 @@ stopped-shown {first} {round} {old} sink mid new_sink chosen at new OutOfMemory 
 }
 
 -- a round that wasn't shown stops a play of more rounds
-pub RoundsStop-shown : {first old : GameValue} {round : ℕ} (new : GameValue) (rounds : ℕ) (chosen : ℕ → Bool) (sink mid new_sink : SinkState) (fault : PlayFault) → round < rounds → GoesOnFor first old round
+pub RoundsStop-shown : {first old : GameValue} {round : ℕ} (new : GameValue) (rounds : ℕ) (chosen : ℕ → Bool) (sink mid new_sink : SinkState) (fault : PushFault) → round < rounds → GoesOnFor first old round
     → PushedAll sink mid (dumps_behind first chosen round) → RoundStopped old new chosen (first.done + round + 1) mid new_sink fault → RoundsStop first new rounds chosen sink new_sink fault
 RoundsStop-shown {first} {old} {round} new rounds chosen sink mid new_sink WriteFault more at so_far stopped =
     let whole : GoesOnFor first new (round + 1) = GoesOnFor-more at new stopped.0 in
@@ -146,12 +146,12 @@ RoundsStop-shown {first} {old} {round} new rounds chosen sink mid new_sink OutOf
 }
 
 -- a play whose rounds stopped has stopped
-pub StopsBy-rounds : (old new : GameValue) (rounds : ℕ) (chosen : ℕ → Bool) (stats : Bool) (sink new_sink : SinkState) (fault : PlayFault) → RoundsStop old new rounds chosen sink new_sink fault → StopsBy old new rounds chosen stats sink new_sink fault
+pub StopsBy-rounds : (old new : GameValue) (rounds : ℕ) (chosen : ℕ → Bool) (stats : Bool) (sink new_sink : SinkState) (fault : PushFault) → RoundsStop old new rounds chosen sink new_sink fault → StopsBy old new rounds chosen stats sink new_sink fault
 StopsBy-rounds old new rounds chosen stats sink new_sink WriteFault stop = inl stop
 StopsBy-rounds old new rounds chosen stats sink new_sink OutOfMemory stop = stop
 
 -- a round that wasn't shown had a turn of each id at most
-pub RoundStopped-turns : (old new : GameValue) (chosen : ℕ → Bool) (n : ℕ) (mid new_sink : SinkState) (fault : PlayFault) → old.next ≡ 0 → 1 ≤ old.window → RoundStopped old new chosen n mid new_sink fault
+pub RoundStopped-turns : (old new : GameValue) (chosen : ℕ → Bool) (n : ℕ) (mid new_sink : SinkState) (fault : PushFault) → old.next ≡ 0 → 1 ≤ old.window → RoundStopped old new chosen n mid new_sink fault
     → (old.totals.turns ≤ new.totals.turns) × (new.totals.turns ≤ old.totals.turns + old.field.world.ids)
 RoundStopped-turns old new chosen n mid new_sink WriteFault ends sized stopped =
     let sum : new.totals.turns ≡ old.totals.turns + (round_totals old.field.minds old.field.seed old.window (now_of old)).turns = ap (λ (t : Totals). t.turns) (whole-totals old new ends stopped.0) in
@@ -164,7 +164,7 @@ RoundStopped-turns old new chosen n mid new_sink OutOfMemory ends sized stopped 
     (omega (arith, sum), omega (arith, sum, turns))
 
 -- one text, and then a play that pushes another
-pub by_then : {A : Type 0} (old mid new : SinkState) (a b : List ℕ) (result : Result A PlayFault) → PushedAll old mid a → PushedBy mid new b result → PushedBy old new (a ++ b) result
+pub by_then : {A : Type 0} (old mid new : SinkState) (a b : List ℕ) (result : Result A PushFault) → PushedAll old mid a → PushedBy mid new b result → PushedBy old new (a ++ b) result
 by_then old mid new a b (Ok _) p q = all_then old mid new a b p q
 by_then old mid new a b (Err fault) p q = stopped_then old mid new a b fault p q
 

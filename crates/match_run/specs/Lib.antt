@@ -21,4 +21,3 @@ pub use Rattle.cell_world.specs.Limits
 pub use Rattle.cell_world.specs.Score
 pub use Rattle.dump_print.specs.Texts
 pub use Rattle.round_book.specs.Book
-pub mod FaultText

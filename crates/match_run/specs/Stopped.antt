@@ -5,12 +5,13 @@ use Rattle.ant_base.specs.Sink.{SinkState, PushedAll, PushedFront}
 use Rattle.cell_world.specs.Grid.{world_of}
 use Rattle.cell_world.specs.Score.{score_of}
 use Rattle.dump_print.specs.Texts.{score_text}
-use Rattle.match_run.specs.declared.fault.PlayFault.{PlayFault}
-use Rattle.match_run.specs.declared.fault.PlayFault.TheVariants.{WriteFault, OutOfMemory}
+use Rattle.ant_base.specs.declared.push_fault.PushFault.{PushFault}
+use Rattle.ant_base.specs.declared.push_fault.PushFault.TheVariants.{WriteFault, OutOfMemory}
 use Rattle.match_run.specs.Counts.{counts_text}
 use Rattle.match_run.specs.Game.{GameValue, GoesOnFor, IsRoundRefused, now_of}
 use Rattle.match_run.specs.Rest.{later_dumps}
 use Rattle.match_run.specs.Run.{chosen_dump}
+use Rattle.match_run.specs.Sequential.{IsPlayedOn, SequentialValue, standing}
 
 -- the dumps of so many later rounds of a game that are chosen
 abbrev pub dumps_behind : GameValue → (ℕ → Bool) → ℕ → List ℕ
@@ -42,6 +43,27 @@ pub record RefusesWindow (old new : GameValue) (rounds : ℕ) (chosen : ℕ → 
   pub before : PushedAll sink new_sink (dumps_behind old chosen shown)
 
 -- why a game wasn't played so many rounds further with its text: the sink failed at a dump or at the end, or memory was wanting for a window
-abbrev pub StopsBy : GameValue → GameValue → ℕ → (ℕ → Bool) → Bool → SinkState → SinkState → PlayFault → Type 0
+abbrev pub StopsBy : GameValue → GameValue → ℕ → (ℕ → Bool) → Bool → SinkState → SinkState → PushFault → Type 0
 StopsBy old new rounds chosen stats sink new_sink WriteFault = FailsAtDump old new rounds chosen sink new_sink ⊎ FailsAtEnd old new rounds chosen stats sink new_sink
 StopsBy old new rounds chosen stats sink new_sink OutOfMemory = RefusesWindow old new rounds chosen sink new_sink
+
+-- of a game that is just played, the sink failed at the dump of one of so many rounds: it stands behind that round, and the dumps of the rounds
+-- before it were pushed
+pub record LosesDump (old new : SequentialValue) (rounds : ℕ) (chosen : ℕ → Bool) (sink new_sink : SinkState) : Type 0 where
+  pub shown : ℕ
+  pub left : shown < rounds
+  pub played : IsPlayedOn old new (shown + 1)
+  pub mid : SinkState
+  pub before : PushedAll sink mid (later_dumps old.minds old.seed chosen (standing old) old.done shown)
+  pub failed : PushedFront mid new_sink (chosen_dump chosen (world_of new.world) new.done)
+
+-- the sink failed at its score: it stands behind its last round, and all dumps were pushed
+pub record LosesScore (old new : SequentialValue) (rounds : ℕ) (chosen : ℕ → Bool) (sink new_sink : SinkState) : Type 0 where
+  pub played : IsPlayedOn old new rounds
+  pub mid : SinkState
+  pub before : PushedAll sink mid (later_dumps old.minds old.seed chosen (standing old) old.done rounds)
+  pub failed : PushedFront mid new_sink (score_text (score_of (world_of new.world)))
+
+-- why it wasn't played so many rounds further with its text: the sink failed at a dump or at the score
+abbrev pub LosesText : SequentialValue → SequentialValue → ℕ → (ℕ → Bool) → SinkState → SinkState → Type 0
+LosesText old new rounds chosen sink new_sink = LosesDump old new rounds chosen sink new_sink ⊎ LosesScore old new rounds chosen sink new_sink

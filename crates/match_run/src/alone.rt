@@ -1,5 +1,5 @@
 // Games that are just played, and the text of their runs.
-ghost use Rattle.std.specs.Prelude.{◌≡◌, ◌-◌, ◌≤◌, IfOk, OnOk};
+ghost use Rattle.std.specs.Prelude.{◌≡◌, ◌-◌, ◌≤◌, IfOk, OnErr, OnOk};
 ghost use Rattle.ant_base.specs.Sink.{Pushed};
 ghost use Rattle.ant_turn.specs.Minds.{Fits, minds_of};
 ghost use Rattle.ant_turn.specs.Rounds.{after_rounds};
@@ -9,6 +9,7 @@ ghost use Rattle.match_run.specs.Dumps.{chooses};
 ghost use Rattle.match_run.specs.Rest.{later_dumps, plain_rest_text};
 ghost use Rattle.match_run.specs.Run.{most_rounds, ended, run_text, world_after};
 ghost use Rattle.match_run.specs.Sequential.{IsPlayedOn, standing};
+ghost use Rattle.match_run.specs.Stopped.{LosesDump, LosesText};
 
 use crate::dumps::{Dumps, push_chosen};
 use crate::plan::Plan;
@@ -48,7 +49,8 @@ pub fn play_alone<K: Sink>(
 /// is chosen, in order, and the score (the task's game play).
 ///
 /// The rounds are at most 1,000,000, and at least those that are done. Gives the score at the end. It fails only where the sink did, whose
-/// count of faults rose then: a prefix of the text was pushed. It takes no memory.
+/// count of faults rose then: a prefix of the text was pushed. The game stands at the end of the round at whose dump the sink failed, and else
+/// of the last one. It takes no memory.
 pub fn play_rest_alone<K: Sink>(
     game: &mut SequentialGame<'_>,
     rounds: u32,
@@ -61,6 +63,7 @@ pub fn play_rest_alone<K: Sink>(
         (plain_rest_text game.old.minds game.old.seed (standing game.old) game.old.done rounds (chooses dumps.now)) (ended result) }
     ensures score { IfOk result (λ s. s ≡ score_of (after_rounds game.old.minds game.old.seed (standing game.old) (rounds - game.old.done)).world) }
     ensures played { OnOk result (IsPlayedOn game.old game.new (rounds - game.old.done)) }
+    ensures stopped { OnErr result (LosesText game.old game.new (rounds - game.old.done) (chooses dumps.now) (K.state sink.old) (K.state sink.new)) }
 {
     play_rounds(game, rounds, dumps, sink)?;
     let score = game.world().score();
@@ -80,6 +83,7 @@ fn play_rounds<K: Sink>(
     ensures text { Pushed (K.state sink.old) (K.state sink.new)
         (later_dumps game.old.minds game.old.seed (chooses dumps.now) (standing game.old) game.old.done (rounds - game.old.done)) result }
     ensures played { OnOk result (IsPlayedOn game.old game.new (rounds - game.old.done)) }
+    ensures stopped { OnErr result (LosesDump game.old game.new (rounds - game.old.done) (chooses dumps.now) (K.state sink.old) (K.state sink.new)) }
 {
     let done = game.done();
     for more in 0..rounds - done {

@@ -11,7 +11,6 @@
 
 mod alone;
 mod dumps;
-mod fault;
 mod game;
 mod laws;
 mod plan;
@@ -21,9 +20,9 @@ mod whole_run;
 mod windows;
 
 pub use alone::{play_alone, play_rest_alone, play_score};
+pub use ant_base::PushFault as PlayFault;
 pub use dump_print::Totals;
 pub use dumps::{Dumps, Rounds};
-pub use fault::PlayFault;
 pub use game::Game;
 pub use hex_geometry::OutOfMemory;
 pub use laws::{

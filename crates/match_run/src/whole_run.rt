@@ -16,8 +16,8 @@ ghost use Rattle.match_run.specs.Rest.{later_dumps, rest_text};
 ghost use Rattle.match_run.specs.Run.{ended, most_rounds, world_after};
 ghost use Rattle.match_run.specs.Stopped.{StopsBy};
 
+use crate::PlayFault;
 use crate::dumps::{Dumps, push_chosen};
-use crate::fault::PlayFault;
 use crate::game::Game;
 use crate::plan::Plan;
 use ant_base::{Failed, Sink};

@@ -1,7 +1,7 @@
 -- Pieces of a list of games: where they begin, and what they are together.
 use Rattle.ant_base.specs.declared.memory.OutOfMemory.{OutOfMemory}
-use Rattle.std.proofs.Common.{Result, Ok, Err, Vec, IfOk, OnOk, ◌≡◌, ◌≢◌, ℕ, suc, ◌+◌, ◌-◌, ◌<◌, ◌≤◌, Bool, true, false, List, [], ◌∷◌, ◌++◌, ◌==◌, length, get_or, take, drop, map, All, append-nil, refl, sym, ◌∙◌, ap, arith}
-use Rattle.std.specs.Bool.{OnFalse}
+use Rattle.std.proofs.Common.{Result, Ok, Err, Vec, IfOk, OnOk, ◌≡◌, ◌≢◌, ℕ, suc, ◌+◌, ◌-◌, ◌<◌, ◌≤◌, true, false, List, [], ◌∷◌, ◌++◌, ◌==◌, length, get_or, take, drop, map, All, append-nil, refl, sym, ◌∙◌, ap, arith}
+use Rattle.std.proofs.lemmas.Bool.{OnFalse_at}
 use Rattle.std.proofs.Math.Dec.{eqb-suc-zero}
 use Rattle.std.proofs.Math.Seq.{take-add}
 use Rattle.std.proofs.lemmas.List.{append_assoc, map-append, take_more, take_at, drop_at, flat_map_more}
@@ -64,21 +64,16 @@ pub games_known : (knows : ℕ → ℕ → ℕ → Type 0) (players worlds : ℕ
 games_known knows players worlds games known all =
     All-weaker (IsGame players worlds) (λ game. knows game.world game.red game.black) (λ game at. known game.world game.red game.black at.world at.red at.black at.apart) games all
 
-at_false : (b : Bool) (P : Type 0) → b ≡ false → OnFalse b P → P
-at_false true P e h = absurd (cc)
-at_false false P e h = h
-
 -- what all pieces played together, where no game was refused
 pub done : (score : ℕ → ℕ → ℕ → Score) (old new : List Piece) → length new ≡ length old
     → ((i : ℕ) (d : Piece) → i < length old → IsPieceDone score (get_or old i d) (get_or new i d))
     → All (λ piece. piece.refused ≡ false) new → played_games new ≡ map (played_by score) (dealt_games old)
 done score [] [] len each whole = refl
-done score [] (y ∷ ys) len each whole = absurd (omega arith)
-done score (x ∷ xs) [] len each whole = absurd (omega arith)
 done score (x ∷ xs) (y ∷ ys) len each whole =
-    let here : y.played.items ≡ map (played_by score) x.games.items = at_false y.refused _ (whole 0 y (omega arith)) (each 0 x (omega arith)) in
+    let here : y.played.items ≡ map (played_by score) x.games.items = OnFalse_at (whole 0 y (omega arith)) (each 0 x (omega arith)) in
     let rest = done score xs ys (omega arith) (λ i d lt. each (suc i) d (omega arith)) (λ k d lt. whole (suc k) d (omega arith)) in
     ap (λ t. t ++ played_games ys) here ∙ ap (λ t. map (played_by score) x.games.items ++ t) rest ∙ sym (map-append (played_by score) x.games.items (dealt_games xs))
+done score it that len each whole = absurd (omega arith)
 
 -- what was gathered from the pieces is what they played
 pub gathered_done : {A : Type 0} (result : Result (Vec Played A) OutOfMemory) (score : ℕ → ℕ → ℕ → Score) (old new : List Piece) → length new ≡ length old

@@ -10,8 +10,8 @@ use Rattle.ant_base.proofs.Pushes.{all_then, front_more, front_then}
 use Rattle.cell_world.specs.declared.score.Score.{Score}
 use Rattle.tournament.specs.declared.games.Played.{Played}
 use Rattle.tournament.specs.declared.standing.Line.{Line}
-use Rattle.tournament.specs.declared.fault.CupFault.{CupFault}
-use Rattle.tournament.specs.declared.fault.CupFault.TheVariants.{WriteFault, OutOfMemory}
+use Rattle.ant_base.specs.declared.push_fault.PushFault.{PushFault}
+use Rattle.ant_base.specs.declared.push_fault.PushFault.TheVariants.{WriteFault, OutOfMemory}
 use Rattle.tournament.specs.Games.{IsGame, all_played, below, games_of, games_on, played_by, world_played}
 use Rattle.tournament.specs.Inner.Worlds.{WorldStops}
 use Rattle.tournament.specs.Laws.{GamesAddUp, WorldsInOrder}
@@ -156,7 +156,7 @@ module _ (worlds players : List (List ℕ)) where
     world_told old mid new world so_far more = subst (PushedAll old new) (sym (more_lines world)) (all_then old mid new _ _ so_far more)
 
     -- they aren't
-    pub world_stopped : (old mid new : SinkState) (world : ℕ) (fault : CupFault) → world < length worlds → PushedAll old mid (games_text worlds players (first_played world) 1)
+    pub world_stopped : (old mid new : SinkState) (world : ℕ) (fault : PushFault) → world < length worlds → PushedAll old mid (games_text worlds players (first_played world) 1)
         → WorldStops mid new (games_text worlds players (world_played (length players) world score) (length (first_played world) + 1)) fault
         → ToldBy old new worlds players score fault
     world_stopped old mid new world WriteFault early so_far stopped =

@@ -98,11 +98,9 @@ not_both r s p apart a b = apart (eqb-true r p a ∙ sym (eqb-true s p b))
 three_ways : (r b : ℕ) (s t u : Bool) → nat_lt b r ≡ s → nat_lt r b ≡ t → (r == b) ≡ u → 2 * (cond s 1 0 + cond t 1 0) + (cond u 1 0 + cond u 1 0) ≡ 2
 three_ways r b true true u p q e = absurd (omega (arith, ltb-true b r p, ltb-true r b q))
 three_ways r b true false true p q e = absurd (omega (arith, ltb-true b r p, eqb-true r b e))
-three_ways r b true false false p q e = refl
 three_ways r b false true true p q e = absurd (omega (arith, ltb-true r b q, eqb-true r b e))
-three_ways r b false true false p q e = refl
-three_ways r b false false true p q e = refl
 three_ways r b false false false p q e = absurd (eqb-false r b e (omega (arith, ltb-false b r p, ltb-false r b q)))
+three_ways r b it that u p q e = refl
 
 module _ (players worlds : ℕ) (score : ℕ → ℕ → ℕ → Score) where
   abbrev scored : List Pairing → List Played

@@ -1,5 +1,4 @@
 pub mod Existence
-pub mod FaultText
 pub mod Games
 pub mod Inner
 pub mod Laws

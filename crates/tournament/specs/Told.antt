@@ -5,8 +5,8 @@ use Rattle.ant_base.specs.Sink.{SinkState, PushedAll, PushedFront}
 use Rattle.cell_world.specs.declared.score.Score.{Score}
 use Rattle.tournament.specs.declared.games.Played.{Played}
 use Rattle.tournament.specs.declared.standing.Line.{Line}
-use Rattle.tournament.specs.declared.fault.CupFault.{CupFault}
-use Rattle.tournament.specs.declared.fault.CupFault.TheVariants.{WriteFault, OutOfMemory}
+use Rattle.ant_base.specs.declared.push_fault.PushFault.{PushFault}
+use Rattle.ant_base.specs.declared.push_fault.PushFault.TheVariants.{WriteFault, OutOfMemory}
 use Rattle.tournament.specs.Games.{all_played}
 use Rattle.tournament.specs.Names.{name_of}
 use Rattle.tournament.specs.Standing.{IsStandingOf}
@@ -46,17 +46,21 @@ pub record ToldFront (old new : SinkState) (worlds players : List (List ℕ)) (s
   pub pushed : PushedFront old new text
 
 -- the lines of all games on the first worlds were pushed, and nothing else
+abbrev pub HasTold : SinkState → SinkState → List (List ℕ) → List (List ℕ) → (ℕ → ℕ → ℕ → Score) → ℕ → Type 0
+HasTold old new worlds players score told = PushedAll old new (games_text worlds players (all_played (length players) told score) 1)
+
+-- so were those on some of them
 pub record ToldWorlds (old new : SinkState) (worlds players : List (List ℕ)) (score : ℕ → ℕ → ℕ → Score) : Type 0 where
   pub told : ℕ
   pub some : told ≤ length worlds
-  pub pushed : PushedAll old new (games_text worlds players (all_played (length players) told score) 1)
+  pub pushed : HasTold old new worlds players score told
 
 -- why the telling stopped: the sink failed, or memory was wanting
-abbrev pub ToldBy : SinkState → SinkState → List (List ℕ) → List (List ℕ) → (ℕ → ℕ → ℕ → Score) → CupFault → Type 0
+abbrev pub ToldBy : SinkState → SinkState → List (List ℕ) → List (List ℕ) → (ℕ → ℕ → ℕ → Score) → PushFault → Type 0
 ToldBy old new worlds players score WriteFault = ToldFront old new worlds players score
 ToldBy old new worlds players score OutOfMemory = ToldWorlds old new worlds players score
 
 -- what was told of a cup: at Ok all of it
-abbrev pub Told : SinkState → SinkState → List (List ℕ) → List (List ℕ) → (ℕ → ℕ → ℕ → Score) → Result (Unit {0}) CupFault → Type 0
+abbrev pub Told : SinkState → SinkState → List (List ℕ) → List (List ℕ) → (ℕ → ℕ → ℕ → Score) → Result (Unit {0}) PushFault → Type 0
 Told old new worlds players score (Ok _) = ToldAll old new worlds players score
 Told old new worlds players score (Err fault) = ToldBy old new worlds players score fault

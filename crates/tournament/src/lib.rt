@@ -12,7 +12,6 @@
 #![tactic(auto)]
 
 mod existence;
-mod fault;
 mod fork;
 mod games;
 mod laws;
@@ -25,8 +24,8 @@ mod tally;
 mod text;
 mod told;
 
+pub use ant_base::PushFault;
 pub use existence::has_standing;
-pub use fault::CupFault;
 pub use games::{Pairing, Played};
 pub use hex_geometry::OutOfMemory;
 pub use laws::{games_add_up, one_standing, points_add_up, wins_are_losses};

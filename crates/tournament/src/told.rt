@@ -4,16 +4,15 @@ ghost use Rattle.ant_base.specs.Sink.{Pushed};
 ghost use Rattle.tournament.specs.Games.{IsGame, all_played, world_played};
 ghost use Rattle.tournament.specs.Names.{texts_of};
 ghost use Rattle.tournament.specs.Inner.Worlds.{CanBeTold, WorldTold};
-ghost use Rattle.tournament.specs.Told.{Told, game_line_text, games_text};
+ghost use Rattle.tournament.specs.Told.{HasTold, Told, game_line_text, games_text};
 
-use crate::fault::CupFault;
 use crate::games::Played;
 use crate::names::Names;
 use crate::play::play_world;
 use crate::referee::Referee;
 use crate::tally::standing_of;
 use crate::text::push_standing;
-use ant_base::{Failed, Layout, Sink, layout};
+use ant_base::{Failed, Layout, PushFault, Sink, layout};
 use hex_geometry::OutOfMemory;
 use std::alloc::Global;
 use std::thread::Threads;
@@ -75,8 +74,8 @@ fn push_game<K: Sink>(
 
 /// Plays all games of a cup of the players of these names, 2 to 16, on the worlds of these names, 1 to 16, with 1 to 16 workers, and pushes
 /// its text: the line of each game in the order in which they are played, numbered from 1, and then the standing, the same for every number
-/// of workers. The lines of a world's games are pushed once all of them were played, and before the first game on the next world. The referee
-/// knows each of the games, as in `play_all`.
+/// of workers. The lines of a world's games are pushed once all of them were played, and before the first game on the next world: the referee
+/// has to know a game only where there is a sink that has the lines of all games on the worlds before it, and nothing else.
 ///
 /// It is refused where the sink failed, whose count of faults rose then: a prefix of the text was pushed. Or it is out of memory, its own or
 /// the referee's: the lines of all games on the first worlds, on none or on all, were pushed, and nothing else.
@@ -88,12 +87,12 @@ pub fn tell_cup<R: Threads + Sync, F: Referee, K: Sink>(
     players: &Names,
     workers: u32,
     sink: &mut K,
-) -> Result<(), CupFault>
+) -> Result<(), PushFault>
     requires players { (2 ≤ length players.now) × (length players.now ≤ 16) }
     requires worlds { (1 ≤ length worlds.now) × (length worlds.now ≤ 16) }
     requires workers { (1 ≤ workers) × (workers ≤ 16) }
-    requires known { (world red black : ℕ) → world < length worlds.now → red < length players.now → black < length players.now → red ≢ black
-        → F.knows referee.now world red black }
+    requires known { (now : K) (world red black : ℕ) → HasTold (K.state sink.old) (K.state now) (texts_of worlds.now) players.now (F.score referee.now) world
+        → world < length worlds.now → red < length players.now → black < length players.now → red ≢ black → F.knows referee.now world red black }
     ensures { Told (K.state sink.old) (K.state sink.new) (texts_of worlds.now) players.now (F.score referee.now) result }
 {
     let cup = Cup {
@@ -129,9 +128,8 @@ fn tell_world<R: Threads + Sync, F: Referee, K: Sink>(
     world: u32,
     played: &mut Vec<Played>,
     sink: &mut K,
-) -> Result<(), CupFault>
-    requires can { CanBeTold (F.knows cup.now.referee.now) (length cup.now.players.now) (length cup.now.worlds.now) cup.now.workers }
-    requires world { world < length cup.now.worlds.now }
+) -> Result<(), PushFault>
+    requires can { CanBeTold (F.knows cup.now.referee.now) (length cup.now.players.now) (length cup.now.worlds.now) cup.now.workers world }
     requires before { played.old.items ≡ all_played (length cup.now.players.now) world (F.score cup.now.referee.now) }
     ensures played { OnOk result (played.new.items ≡ all_played (length cup.now.players.now) (world + 1) (F.score cup.now.referee.now)) }
     ensures told { WorldTold (K.state sink.old) (K.state sink.new) (games_text (texts_of cup.now.worlds.now) cup.now.players.now

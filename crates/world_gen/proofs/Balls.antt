@@ -121,8 +121,7 @@ row_of width height blocked centre radius n (pos x) (pos y) within whole rows ba
       ],
     )
 row_of width height blocked centre radius n (negsuc x) (pos y) within whole rows ball w = absurd (omega (arith, ints))
-row_of width height blocked centre radius n (pos x) (negsuc y) within whole rows ball w = absurd (omega (arith, ints))
-row_of width height blocked centre radius n (negsuc x) (negsuc y) within whole rows ball w = absurd (omega (arith, ints))
+row_of width height blocked centre radius n it that within whole rows ball w = absurd (omega (arith, ints))
 
 pub rows_ball : (width height : ℕ) (blocked : List Bool) (centre : Pos) (radius n : ℕ) → IsBallWithin width height centre radius → 2 * radius + 1 ≤ n
     → ((i : ℕ) → i < n → RowIsOpen width height blocked centre radius (centre.y - radius + i) (2 * radius + 1)) → BallIsOpen width height blocked (point_of centre) radius

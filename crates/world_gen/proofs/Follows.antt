@@ -3,7 +3,7 @@ use Rattle.cell_world.specs.Cell.{one_if}
 use Rattle.cell_world.specs.Opening.{IsFed, is_hill}
 use Rattle.cell_world.specs.declared.ant.Colour.{Colour}
 use Rattle.cell_world.specs.declared.ant.Colour.TheVariants.{Red, Black}
-use Rattle.std.proofs.Common.{◌≡◌, ℕ, zero, suc, ◌+◌, ◌*◌, ◌≤◌, min, List, [], ◌∷◌, ◌++◌, length, false, refl, sym, ◌∙◌, ap, arith, subst, inl, inr, append_assoc}
+use Rattle.std.proofs.Common.{◌≡◌, ℕ, suc, ◌+◌, ◌*◌, ◌≤◌, min, List, [], ◌∷◌, ◌++◌, length, false, refl, sym, ◌∙◌, ap, arith, subst, inl, inr, append_assoc}
 use Rattle.std.proofs.lemmas.Bool.{cond_both}
 use Rattle.std.proofs.lemmas.List.{append-nil}
 use Rattle.std.specs.Prelude.{nat_lt}
@@ -76,8 +76,7 @@ paint_fed (Blob first) = (omega arith, omega arith)
 -- only the first two elements are hills
 tried_no_hill : (seed i g : ℕ) (e : Element) → is_hill (paint_of (figure_begun seed g e)) ≡ false → is_hill (paint_of (tried_figure seed i (figure_begun seed g e))) ≡ false
 tried_no_hill seed i g (element.Hill colour) off = off
-tried_no_hill seed i g element.Rock off = refl
-tried_no_hill seed i g element.Blob off = refl
+tried_no_hill seed i g it off = refl
 
 late_no_hill : (seed g : ℕ) (shape : Shape) (n : ℕ) → is_hill (paint_of (figure_begun seed g (element_of shape (suc (suc n))))) ≡ false
 late_no_hill seed g shape n =
@@ -94,10 +93,9 @@ goes_no_hill P seed width height e g spot after goes off =
 -- so there are at most so many hill cells after n elements
 pub hills_step : (P : Spot → Type 0) (seed : ℕ) (shape : Shape) (n g : ℕ) (spot : Spot) (after : ℕ) (old new cells : ℕ) → Goes P seed shape.width shape.height (element_of shape n) g spot after
     → old ≤ 127 * min n 2 → one_if (is_hill (paint_of spot.figure)) * cells ≤ 127 → new ≤ old + one_if (is_hill (paint_of spot.figure)) * cells → new ≤ 127 * min (n + 1) 2
-hills_step P seed shape zero g spot after old new cells goes few one more = omega arith
-hills_step P seed shape (suc zero) g spot after old new cells goes few one more = omega arith
 hills_step P seed shape (suc (suc n)) g spot after old new cells goes few one more =
     let off : is_hill (paint_of spot.figure) ≡ false = goes_no_hill P seed shape.width shape.height (element_of shape (suc (suc n))) g spot after goes (late_no_hill seed g shape n) in
     let none : one_if (is_hill (paint_of spot.figure)) ≡ 0 = ap one_if off in
     let less : new ≤ old + 0 * cells = subst (λ t. new ≤ old + t * cells) none more in
     omega arith
+hills_step it seed shape that g spot after old new cells goes few one more = omega arith

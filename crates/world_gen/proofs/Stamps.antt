@@ -1,5 +1,5 @@
 -- Cells stamped one after another.
-use Rattle.std.proofs.Common.{◌≡◌, ℕ, zero, suc, ◌+◌, ◌*◌, ◌<◌, ◌≤◌, List, [], ◌∷◌, ◌++◌, length, take, get_or, true, sym, ◌∙◌, ap, arith, subst, inl, inr}
+use Rattle.std.proofs.Common.{◌≡◌, ℕ, suc, ◌+◌, ◌*◌, ◌<◌, ◌≤◌, List, [], ◌∷◌, ◌++◌, length, take, get_or, true, sym, ◌∙◌, ap, arith, subst, inl, inr}
 use Rattle.std.proofs.Math.ListN.{length-set, set}
 use Rattle.std.proofs.Math.Seq.{take-append_seam}
 use Rattle.std.proofs.lemmas.Bool.{cases_lt}
@@ -66,9 +66,8 @@ round_all width height p n xs ys six sets =
 
 -- one more hill cell at most
 hills_set : (kinds : List Kind) (i : ℕ) (kind : Kind) → hill_count (set kinds i kind) ≤ hill_count kinds + one_if (is_hill kind)
-hills_set [] i kind = omega arith
-hills_set (k ∷ kinds) zero kind = omega arith
 hills_set (k ∷ kinds) (suc i) kind = let h = hills_set kinds i kind in omega arith
+hills_set it i kind = omega arith
 
 -- no cell is stamped
 pub stamped_none : (width height : ℕ) (kind : Kind) (blocked : List Bool) (kinds : List Kind) → IsStamped width height [] kind blocked blocked kinds kinds

@@ -96,14 +96,13 @@ goes_none fits seed width height e g s a x none =
 -- two ways on from one state, as far as the shorter goes, are one
 follow_same : (seed : ℕ) (shape : Shape) (placed : List Spot) (g : ℕ) (xs ys : List Spot) (a b : ℕ) → Follow seed shape placed g xs a → Follow seed shape placed g ys b → length xs ≡ length ys → (xs ≡ ys) × (a ≡ b)
 follow_same seed shape placed g [] [] a b x y same = (refl, sym x ∙ y)
-follow_same seed shape placed g [] (t ∷ ys) a b x y same = absurd (omega arith)
-follow_same seed shape placed g (s ∷ xs) [] a b x y same = absurd (omega arith)
 follow_same seed shape placed g (s ∷ xs) (t ∷ ys) a b x y same =
     let one = goes_one (IsFreeSpot shape.width shape.height placed) seed shape.width shape.height (element_of shape (length placed)) g s t x.0 y.0 x.1 y.1 in
     let moved : Follow seed shape (placed ++ s ∷ []) y.0 ys b = subst (λ (u : Spot). Follow seed shape (placed ++ u ∷ []) y.0 ys b) (sym one.0) y.2 in
     let moved_too : Follow seed shape (placed ++ s ∷ []) x.0 ys b = subst (λ n. Follow seed shape (placed ++ s ∷ []) n ys b) (sym one.1) moved in
     let rest = follow_same seed shape (placed ++ s ∷ []) x.0 xs ys a b x.2 moved_too (omega arith) in
     (ap (λ (u : Spot). u ∷ xs) one.0 ∙ ap (λ (l : List Spot). t ∷ l) rest.0, rest.1)
+follow_same seed shape placed g it that a b x y same = absurd (omega arith)
 
 -- a way on that is longer than one which ends where an element has no room is none
 follow_barred : (seed : ℕ) (shape : Shape) (placed : List Spot) (g : ℕ) (xs ys : List Spot) (a b : ℕ) → Follow seed shape placed g xs a → Follow seed shape placed g ys b → length ys < length xs

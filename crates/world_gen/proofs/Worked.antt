@@ -5,12 +5,15 @@ use Rattle.hex_geometry.specs.Neighbourhood.{adjacent_point}
 use Rattle.hex_geometry.specs.Position.{Point}
 use Rattle.hex_geometry.specs.declared.direction.Dir.TheVariants.{SouthEast, SouthWest}
 use Rattle.hex_geometry.specs.declared.position.Pos.{Pos}
-use Rattle.std.proofs.Common.{◌≡◌, ℕ, [], ◌∷◌, map, refl}
+use Rattle.std.proofs.Common.{◌≡◌, ℕ, [], ◌∷◌, codes, map, refl}
+use Rattle.std.specs.Fmt.{digits}
 use Rattle.std.specs.Prelude.{pos}
 use Rattle.world_gen.specs.Elements.{element_of, point_after}
 use Rattle.world_gen.specs.Placing.{after_begun, figure_begun, try_of}
 use Rattle.world_gen.specs.declared.element.Element.TheVariants as element
 use Rattle.world_gen.specs.declared.spot.Figure.TheVariants.{Hill, Rock, Blob}
+use Rattle.world_gen.specs.FaultText.{gen_fault_text}
+use Rattle.world_gen.specs.declared.generator.GenFault.TheVariants.{NoRoom, OutOfMemory}
 
 abbrev pub place : ℕ → ℕ → Pos
 place x y = record { x = x; y = y }
@@ -48,3 +51,8 @@ blob_far_side = refl
 -- the elements in their order
 pub elements : map (element_of (record { width = 64; height = 64; rocks = 2; blobs = 1 })) (0 ∷ 1 ∷ 2 ∷ 3 ∷ 4 ∷ []) ≡ element.Hill Red ∷ element.Hill Black ∷ element.Rock ∷ element.Rock ∷ element.Blob ∷ []
 elements = refl
+
+-- what each fault says
+faults_say : gen_fault_text (NoRoom 13) ∷ gen_fault_text OutOfMemory ∷ [] ≡ codes "no room for element 13" ∷ codes "out of memory" ∷ []
+unfolding digits
+faults_say = refl

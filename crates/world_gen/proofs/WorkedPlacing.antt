@@ -62,8 +62,7 @@ off_rim_at : (x y : ℤ) → pos 1 ≤ℤ x → x ≤ℤ pos 62 → pos 1 ≤ℤ
 off_rim_at (pos x) (pos y) left right top bottom =
     (record { x = x; y = y }, refl, record { from_left = omega (arith, ints); to_right = omega (arith, ints); from_top = omega (arith, ints); to_bottom = omega (arith, ints) })
 off_rim_at (pos x) (negsuc y) left right top bottom = absurd (omega (arith, ints))
-off_rim_at (negsuc x) (pos y) left right top bottom = absurd (omega (arith, ints))
-off_rim_at (negsuc x) (negsuc y) left right top bottom = absurd (omega (arith, ints))
+off_rim_at it that left right top bottom = absurd (omega (arith, ints))
 
 -- where the cells of the three are, by rows and slanting columns
 first_within : (q : Point) → IsCell first q → Within 6 (record { x = pos 25; y = pos 52 }) q

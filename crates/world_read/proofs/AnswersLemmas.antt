@@ -1,10 +1,11 @@
 -- What is read of a text is what the relations say of it.
 use Rattle.std.proofs.Common.{◌≡◌, ◌⊎◌, inl, inr, ℕ, List, Result, Ok, Err, IfErr, IfOk, refl, sym, ◌∙◌, ap, subst}
+use Rattle.ant_base.proofs.AnswerLemmas.{fault-of_fault, fault-of_value}
+use Rattle.ant_base.specs.Answers.{AnswersFault, AnswersValue, IsFaultOr}
 use Rattle.cell_world.specs.Grid.{Grid}
 use Rattle.cell_world.specs.Opening.{opening}
 use Rattle.world_read.specs.declared.fault.WorldFault.{WorldFault}
-use Rattle.world_read.specs.declared.fault.WorldFault.TheVariants.{BadWidth, BadHeight, MissingRow, BadCell, ShortRow, LongRow, ExtraRow, OpenRim, TooManyAnts, OutOfMemory}
-use Rattle.world_read.specs.Answers.{AnswersFault, AnswersWorld, IsFaultOf}
+use Rattle.world_read.specs.declared.fault.WorldFault.TheVariants.{OutOfMemory}
 use Rattle.world_read.specs.Faulty.{IsWorldFault}
 use Rattle.world_read.specs.Grammar.{Plan}
 use Rattle.world_read.specs.Opened.{IsOpeningWorld, OpensAs}
@@ -51,29 +52,8 @@ world_of_text-wrong text fault wrong = ap opened (plan_of-wrong text fault wrong
 
 -- a fault that is answered is out of memory, or it was told
 pub ReadsAs-fault : {A : Type 0} (told : Result A WorldFault) (fault : WorldFault) → ReadsAs told (Err fault) → (fault ≡ OutOfMemory) ⊎ (told ≡ Err fault)
-ReadsAs-fault told BadWidth is = inr is
-ReadsAs-fault told BadHeight is = inr is
-ReadsAs-fault told (MissingRow y) is = inr is
-ReadsAs-fault told (BadCell y x) is = inr is
-ReadsAs-fault told (ShortRow y) is = inr is
-ReadsAs-fault told (LongRow y) is = inr is
-ReadsAs-fault told ExtraRow is = inr is
-ReadsAs-fault told (OpenRim x y) is = inr is
-ReadsAs-fault told (TooManyAnts count) is = inr is
 ReadsAs-fault told OutOfMemory is = inl refl
-
--- what is wrong with a text is a fault of it
-IsFaultOf-wrong : (text : List ℕ) (fault : WorldFault) → IsWorldFault text fault → IsFaultOf text fault
-IsFaultOf-wrong text BadWidth wrong = wrong
-IsFaultOf-wrong text BadHeight wrong = wrong
-IsFaultOf-wrong text (MissingRow y) wrong = wrong
-IsFaultOf-wrong text (BadCell y x) wrong = wrong
-IsFaultOf-wrong text (ShortRow y) wrong = wrong
-IsFaultOf-wrong text (LongRow y) wrong = wrong
-IsFaultOf-wrong text ExtraRow wrong = wrong
-IsFaultOf-wrong text (OpenRim x y) wrong = wrong
-IsFaultOf-wrong text (TooManyAnts count) wrong = wrong
-IsFaultOf-wrong text OutOfMemory wrong = tt
+ReadsAs-fault told it is = inr is
 
 -- an answered world is the text's
 pub OpensAs-answered : (text : List ℕ) (result : Result Grid WorldFault) → ReadsAs (world_of_text text) result → IfOk result (OpensAs text)
@@ -87,23 +67,16 @@ IsOpeningWorld-answered text (Ok world) told =
 IsOpeningWorld-answered text (Err fault) told = tt
 
 -- an answered fault is the text's
-pub IsFaultOf-answered : (text : List ℕ) (result : Result Grid WorldFault) → ReadsAs (world_of_text text) result → IfErr result (IsFaultOf text)
-IsFaultOf-answered text (Ok world) told = tt
-IsFaultOf-answered text (Err fault) told =
-    elim (ReadsAs-fault (world_of_text text) fault told) [
-      | inl want ↦ subst (IsFaultOf text) (sym want) tt
-      | inr is ↦ IsFaultOf-wrong text fault (IsWorldFault-known text fault is)
-    ]
+pub IsFaultOr-answered : (text : List ℕ) (result : Result Grid WorldFault) → ReadsAs (world_of_text text) result → IfErr result (IsFaultOr OutOfMemory (IsWorldFault text))
+IsFaultOr-answered text (Ok world) told = tt
+IsFaultOr-answered text (Err fault) told = elim (ReadsAs-fault (world_of_text text) fault told) [ inl want ↦ inr want | inr is ↦ inl (IsWorldFault-known text fault is) ]
 
 -- of a world's text that world is answered
-pub AnswersWorld-answered : (text : List ℕ) (result : Result Grid WorldFault) (world : Grid) → ReadsAs (world_of_text text) result → OpensAs text world → AnswersWorld result world
-AnswersWorld-answered text (Ok answered) world told opens = let read = world_of_text-opens text world opens in cc
-AnswersWorld-answered text (Err fault) world told opens =
-    elim (ReadsAs-fault (world_of_text text) fault told) [ inl want ↦ want | inr is ↦ let read = world_of_text-opens text world opens in absurd (cc) ]
+pub AnswersValue-answered : (text : List ℕ) (result : Result Grid WorldFault) (world : Grid) → ReadsAs (world_of_text text) result → OpensAs text world → AnswersValue OutOfMemory result world
+AnswersValue-answered text (Ok answered) world told opens = let read = world_of_text-opens text world opens in cc
+AnswersValue-answered text (Err fault) world told opens = fault-of_value (world_of_text text) world OutOfMemory fault (world_of_text-opens text world opens) (ReadsAs-fault (world_of_text text) fault told)
 
 -- of a text with a fault that fault is answered
-pub AnswersFault-answered : (text : List ℕ) (result : Result Grid WorldFault) (fault : WorldFault) → ReadsAs (world_of_text text) result → IsWorldFault text fault → AnswersFault result fault
+pub AnswersFault-answered : (text : List ℕ) (result : Result Grid WorldFault) (fault : WorldFault) → ReadsAs (world_of_text text) result → IsWorldFault text fault → AnswersFault OutOfMemory result fault
 AnswersFault-answered text (Ok answered) fault told wrong = let read = world_of_text-wrong text fault wrong in cc
-AnswersFault-answered text (Err answered) fault told wrong =
-    let read = world_of_text-wrong text fault wrong in
-    elim (ReadsAs-fault (world_of_text text) answered told) [ inl want ↦ inr want | inr is ↦ inl (let one : Err answered ≡ Err fault = sym is ∙ read in cc) ]
+AnswersFault-answered text (Err answered) fault told wrong = fault-of_fault (world_of_text text) fault OutOfMemory answered (world_of_text-wrong text fault wrong) (ReadsAs-fault (world_of_text text) answered told)

@@ -13,7 +13,7 @@ use Rattle.ant_base.proofs.Digits.{decimal_value-decimal}
 use Rattle.ant_base.proofs.Linewise.{has_no_lf-append, has_no_lf-decimal, lines_of-joined, lines_of-line, trimmed-decimal}
 use Rattle.ant_base.proofs.Numbered.{numbered-list, numbered-same}
 use Rattle.cell_world.specs.declared.kind.Kind.{Kind}
-use Rattle.cell_world.specs.declared.kind.Kind.TheVariants.{Rock, Clear, RedHill, BlackHill, Food}
+use Rattle.cell_world.specs.declared.kind.Kind.TheVariants.{Rock, Food}
 use Rattle.cell_world.specs.Grid.{Grid}
 use Rattle.cell_world.specs.Opening.{IsPlan}
 use Rattle.world_read.specs.Bytes.{byte_of, spelled}
@@ -24,19 +24,13 @@ use Rattle.world_read.proofs.OpenedLemmas.{kinds_of-opening}
 
 -- a cell's byte is no LF
 is_lf-byte_of : (kind : Kind) → is_lf (byte_of kind) ≡ false
-is_lf-byte_of Rock = refl
-is_lf-byte_of Clear = refl
-is_lf-byte_of RedHill = refl
-is_lf-byte_of BlackHill = refl
 is_lf-byte_of (Food n) = ne_eqb (48 + n) 10 (omega arith)
+is_lf-byte_of it = refl
 
 -- a cell's byte is no separator
 is_separator-byte_of : (kind : Kind) → is_separator (byte_of kind) ≡ false
-is_separator-byte_of Rock = refl
-is_separator-byte_of Clear = refl
-is_separator-byte_of RedHill = refl
-is_separator-byte_of BlackHill = refl
 is_separator-byte_of (Food n) = rw (ne_eqb (48 + n) 32 (omega arith), ne_eqb (48 + n) 9 (omega arith), ne_eqb (48 + n) 13 (omega arith)) refl
+is_separator-byte_of it = refl
 
 has_no_lf-space : (wanted : Bool) → has_no_lf (space_if wanted) ≡ true
 has_no_lf-space true = refl

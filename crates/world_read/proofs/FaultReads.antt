@@ -13,7 +13,7 @@ use Rattle.hex_geometry.specs.RowOrder.{index_of}
 use Rattle.cell_world.specs.Limits.{most_ants}
 use Rattle.cell_world.specs.Opening.{IsFed, hill_count, kind_at}
 use Rattle.world_read.specs.declared.fault.WorldFault.{WorldFault}
-use Rattle.world_read.specs.declared.fault.WorldFault.TheVariants.{BadWidth, BadHeight, MissingRow, BadCell, ShortRow, LongRow, ExtraRow, OpenRim, TooManyAnts, OutOfMemory}
+use Rattle.world_read.specs.declared.fault.WorldFault.TheVariants.{BadWidth, BadHeight, MissingRow, BadCell, ShortRow, LongRow, ExtraRow, OpenRim, TooManyAnts}
 use Rattle.world_read.specs.Bytes.{byte_of, spelled}
 use Rattle.world_read.specs.Inner.Reading.{kind_of, Rows, after_height, after_width, cell_of, rows_ended, first_size, is_open_at, limited, open_rim, plan_of, row_from, row_of, rows_from, with_cell, with_row}
 use Rattle.world_read.specs.Faulty.{BeginsWith, BeginsWithNoSize, HasRows, HasRowFault, HasSize, IsCellFault, HasWholeRows, IsNoCell, IsRowFault, IsWorldFault}
@@ -62,12 +62,7 @@ cell_fault-more width y column byte bytes kind (LongRow row) spells h =
       whole = omega (arith, h.whole);
     }
 cell_fault-more width y column byte bytes kind BadWidth spells h = h
-cell_fault-more width y column byte bytes kind BadHeight spells h = h
-cell_fault-more width y column byte bytes kind (MissingRow row) spells h = h
-cell_fault-more width y column byte bytes kind ExtraRow spells h = h
-cell_fault-more width y column byte bytes kind (OpenRim px py) spells h = h
-cell_fault-more width y column byte bytes kind (TooManyAnts count) spells h = h
-cell_fault-more width y column byte bytes kind OutOfMemory spells h = h
+cell_fault-more width y column byte bytes kind it spells h = h
 
 -- a byte that is no cell of its row
 cell_of-fault : (width y column byte : ℕ) (bytes : List ℕ) (fault : WorldFault) → column ≤ width → cell_of width y column byte ≡ Err fault → IsCellFault width y column (byte ∷ bytes) fault
@@ -119,12 +114,8 @@ row_fault-line width y line lines (BadCell row column) h = record { line = line;
 row_fault-line width y line lines (ShortRow row) h = record { line = line; after = lines; are = refl; wrong = h }
 row_fault-line width y line lines (LongRow row) h = record { line = line; after = lines; are = refl; wrong = h }
 row_fault-line width y line lines BadWidth h = h
-row_fault-line width y line lines BadHeight h = h
 row_fault-line width y line lines (MissingRow row) h = absurd h
-row_fault-line width y line lines ExtraRow h = h
-row_fault-line width y line lines (OpenRim px py) h = h
-row_fault-line width y line lines (TooManyAnts count) h = h
-row_fault-line width y line lines OutOfMemory h = h
+row_fault-line width y line lines it h = h
 
 -- some rows are whole, and the next is at fault
 record AreAtFault (width y count : ℕ) (lines : List (List ℕ)) (fault : WorldFault) : Type 0 where
@@ -191,11 +182,7 @@ world_fault-row text (BadCell row column) h = h
 world_fault-row text (ShortRow row) h = h
 world_fault-row text (LongRow row) h = h
 world_fault-row text BadWidth h = absurd h.wrong
-world_fault-row text BadHeight h = absurd h.wrong
-world_fault-row text ExtraRow h = absurd h.wrong
-world_fault-row text (OpenRim px py) h = absurd h.wrong
-world_fault-row text (TooManyAnts count) h = absurd h.wrong
-world_fault-row text OutOfMemory h = absurd h.wrong
+world_fault-row text it h = absurd h.wrong
 
 -- a line that isn't blank stands among these
 record HasOther (lines : List (List ℕ)) : Type 0 where

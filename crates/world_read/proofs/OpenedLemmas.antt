@@ -9,7 +9,7 @@ use Rattle.hex_geometry.specs.declared.position.Pos.{Pos}
 use Rattle.hex_geometry.specs.Position.{IsInside}
 use Rattle.cell_world.specs.declared.cell.Cell.{Cell}
 use Rattle.cell_world.specs.declared.kind.Kind.{Kind}
-use Rattle.cell_world.specs.declared.kind.Kind.TheVariants.{Rock, Clear, RedHill, BlackHill, Food}
+use Rattle.cell_world.specs.declared.kind.Kind.TheVariants.{Rock, Clear, Food}
 use Rattle.cell_world.specs.Cell.{rock, one_if}
 use Rattle.cell_world.specs.Grid.{Grid, IsWorld, cell_in, world_of}
 use Rattle.hex_geometry.specs.RowOrder.{index_of}
@@ -21,11 +21,8 @@ use Rattle.world_read.specs.Opened.{IsOpeningWorld, kind_of_cell, kinds_of}
 -- the kind of the cell of a kind
 kind_of_cell-opening : (t : ℕ) (kind : Kind) → IsFed kind → kind_of_cell (opening_cell t kind) ≡ kind
 unfolding rock floor
-kind_of_cell-opening t Rock fed = refl
-kind_of_cell-opening t Clear fed = refl
-kind_of_cell-opening t RedHill fed = refl
-kind_of_cell-opening t BlackHill fed = refl
 kind_of_cell-opening t (Food n) fed = cond-false (eqb n 0) Clear (Food n) (ne_eqb n 0 (λ e. omega (arith, fed.0)))
+kind_of_cell-opening t it fed = refl
 
 kinds_of-cells : (t : ℕ) (kinds : List Kind) → All IsFed kinds → map kind_of_cell (opening_cells t kinds) ≡ kinds
 kinds_of-cells t [] fed = refl
@@ -45,11 +42,8 @@ kinds_of-at g p world inside =
 
 food-opening_cell : (t : ℕ) (kind : Kind) → IsFed kind → (opening_cell t kind).food ≤ 9
 unfolding rock floor
-food-opening_cell t Rock fed = lit≤ tt
-food-opening_cell t Clear fed = lit≤ tt
-food-opening_cell t RedHill fed = lit≤ tt
-food-opening_cell t BlackHill fed = lit≤ tt
 food-opening_cell t (Food n) fed = fed.1
+food-opening_cell t it fed = lit≤ tt
 
 IsFed-at : (kinds : List Kind) (i : ℕ) → All IsFed kinds → IsFed (get_or kinds i Rock)
 IsFed-at kinds i fed = elim (cases_lt i (length kinds)) [ inl early ↦ fed i Rock early | inr past ↦ subst IsFed (sym (get_or_past kinds i Rock past)) tt ]

@@ -17,9 +17,8 @@ use Rattle.world_read.proofs.BytesLemmas.{Spells, command_kind_of-known, kind_of
 
 -- kinds in front of a row are in front of all that follows
 pub with_row-onto : (kinds : List Kind) (row : Result (List Kind) WorldFault) (below : Result Rows WorldFault) → with_row (Ok kinds) (with_row row below) ≡ with_row (onto_row kinds row) below
-with_row-onto kinds (Err fault) below = refl
-with_row-onto kinds (Ok row) (Err fault) = refl
 with_row-onto kinds (Ok row) (Ok below) = ap (λ all. Ok (record { kinds = all; rest = below.rest })) (sym (append_assoc kinds row below.kinds))
+with_row-onto kinds it below = refl
 
 -- nothing in front changes nothing
 pub with_row-none : (below : Result Rows WorldFault) → with_row (Ok []) below ≡ below
@@ -108,12 +107,11 @@ row_from-known width y column (byte ∷ bytes) kinds le is = go (cell_of width y
       }
 
   go : (cell : Result Kind WorldFault) → cell_of width y column byte ≡ cell → (rest : Result (List Kind) WorldFault) → ((row : List Kind) → column + 1 ≤ width → rest ≡ Ok row → IsRow width (column + 1) bytes row) → with_cell cell rest ≡ Ok kinds → IsRow width column (byte ∷ bytes) kinds
-  go (Err fault) e rest known is = absurd (cc)
-  go (Ok kind) e (Err fault) known is = absurd (cc)
   go (Ok kind) e (Ok rest) known is =
       let one : kind ∷ rest ≡ kinds = cc in
       let cell = cell_of-known width y column byte kind e in
       subst (IsRow width column (byte ∷ bytes)) one (next kind rest cell (known rest (omega (arith, cell.within)) refl))
+  go it e rest known is = absurd (cc)
 
 -- the bytes of cells are read as these cells, in front of what follows
 pub row_from-cells : (width y column : ℕ) (cells : List Kind) (rest : List ℕ) → column + length cells ≤ width → All IsFed cells → row_from width y column (map byte_of cells ++ rest) ≡ onto_row cells (row_from width y (column + length cells) rest)
@@ -164,12 +162,11 @@ rows_from-known width y (suc count) (line ∷ lines) rows is = go (row_of width 
       }
 
   go : (row : Result (List Kind) WorldFault) → row_of width y line ≡ row → (told : Result Rows WorldFault) → ((below : Rows) → told ≡ Ok below → AreRead width count lines below) → with_row row told ≡ Ok rows → AreRead width (suc count) (line ∷ lines) rows
-  go (Err fault) e told known is = absurd (cc)
-  go (Ok row) e (Err fault) known is = absurd (cc)
   go (Ok row) e (Ok below) known is =
       let one : record { kinds = row ++ below.kinds; rest = below.rest } ≡ rows = cc in
       let first = row_from-known width y 0 (spelled line) row (omega arith) e in
       subst (AreRead width (suc count) (line ∷ lines)) one (next row below first (known below refl))
+  go it e told known is = absurd (cc)
 
 All-front : (xs ys : List Kind) → All IsFed (xs ++ ys) → All IsFed xs
 All-front xs ys all = All-same IsFed xs (take (length xs) (xs ++ ys)) (sym (take_at xs ys (length xs) refl)) (All-take IsFed (length xs) (xs ++ ys) all)

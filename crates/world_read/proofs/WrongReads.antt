@@ -62,12 +62,7 @@ row_from-wrong width y column bytes (LongRow row) h =
     ∙ row_from-cells width y column cells (byte ∷ rest) (omega (arith, h.whole)) h.begins.fed
     ∙ ap (λ c. onto_row cells (with_cell c (row_from width y (at + 1) rest))) cell
 row_from-wrong width y column bytes BadWidth h = absurd h
-row_from-wrong width y column bytes BadHeight h = absurd h
-row_from-wrong width y column bytes (MissingRow row) h = absurd h
-row_from-wrong width y column bytes ExtraRow h = absurd h
-row_from-wrong width y column bytes (OpenRim px py) h = absurd h
-row_from-wrong width y column bytes (TooManyAnts count) h = absurd h
-row_from-wrong width y column bytes OutOfMemory h = absurd h
+row_from-wrong width y column bytes it h = absurd h
 
 line_wrong : (width y count : ℕ) (line : List ℕ) (lines after : List (List ℕ)) (fault : WorldFault) → lines ≡ line ∷ after → IsCellFault width y 0 (spelled line) fault → rows_from width y (suc count) lines ≡ Err fault
 line_wrong width y count line lines after fault are h =
@@ -80,11 +75,7 @@ rows_from-wrong width y count lines (BadCell row column) h = line_wrong width y 
 rows_from-wrong width y count lines (ShortRow row) h = line_wrong width y count h.line lines h.after (ShortRow row) h.are h.wrong
 rows_from-wrong width y count lines (LongRow row) h = line_wrong width y count h.line lines h.after (LongRow row) h.are h.wrong
 rows_from-wrong width y count lines BadWidth h = absurd h
-rows_from-wrong width y count lines BadHeight h = absurd h
-rows_from-wrong width y count lines ExtraRow h = absurd h
-rows_from-wrong width y count lines (OpenRim px py) h = absurd h
-rows_from-wrong width y count lines (TooManyAnts n) h = absurd h
-rows_from-wrong width y count lines OutOfMemory h = absurd h
+rows_from-wrong width y count lines it h = absurd h
 
 -- where the first line gives no size, none is read
 first_size-none : (lines : List (List ℕ)) → BeginsWithNoSize lines → first_size lines ≡ None
@@ -176,11 +167,8 @@ height_wrong text h =
 pub plan_of-wrong : (text : List ℕ) (fault : WorldFault) → IsWorldFault text fault → plan_of text ≡ Err fault
 plan_of-wrong text BadWidth h = width_wrong text h
 plan_of-wrong text BadHeight h = height_wrong text h
-plan_of-wrong text (MissingRow row) h = row_wrong text (MissingRow row) h
-plan_of-wrong text (BadCell row column) h = row_wrong text (BadCell row column) h
-plan_of-wrong text (ShortRow row) h = row_wrong text (ShortRow row) h
-plan_of-wrong text (LongRow row) h = row_wrong text (LongRow row) h
 plan_of-wrong text ExtraRow h = extra_wrong text h
 plan_of-wrong text (OpenRim x y) h = rim_wrong text (record { x = x; y = y }) h
 plan_of-wrong text (TooManyAnts count) h = ants_wrong text count h
 plan_of-wrong text OutOfMemory h = absurd h
+plan_of-wrong text it h = row_wrong text it h

@@ -1,4 +1,3 @@
-pub mod Answers
 pub mod Bytes
 pub mod Canonical
 pub mod Faulty

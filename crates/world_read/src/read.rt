@@ -1,11 +1,12 @@
 // World texts read.
 ghost use Rattle.std.specs.Prelude.{◌≡◌, ◌≤◌, [], length, IfErr, IfOk};
+ghost use Rattle.ant_base.specs.Answers.{AnswersFault, AnswersValue, IsFaultOr};
 ghost use Rattle.ant_base.specs.Shelf.{longest};
 ghost use Rattle.cell_world.specs.Grid.{Grid};
-ghost use Rattle.world_read.specs.Answers.{AnswersFault, AnswersWorld, IsFaultOf};
 ghost use Rattle.world_read.specs.Faulty.{IsWorldFault};
 ghost use Rattle.world_read.specs.Opened.{IsOpeningWorld, OpensAs};
 ghost use Rattle.world_read.specs.declared.fault.WorldFault.{WorldFault};
+ghost use Rattle.world_read.specs.declared.fault.WorldFault.TheVariants.{OutOfMemory};
 ghost use Rattle.world_read.specs.Inner.Reading.{AreSizes, ReadsAs, rows_ended, opened, rows_from, world_of_text};
 
 use crate::fault::WorldFault;
@@ -28,9 +29,9 @@ pub fn read_world(alloc: Global, text: &[u8]) -> Result<World, WorldFault>
     requires { length text.now ≤ longest }
     ensures opening { IfOk result IsOpeningWorld }
     ensures world { IfOk result (λ world. OpensAs text.now world) }
-    ensures fault { IfErr result (λ fault. IsFaultOf text.now fault) }
-    ensures every_world { (world : Grid) → OpensAs text.now world → AnswersWorld result world }
-    ensures every_fault { (fault : WorldFault) → IsWorldFault text.now fault → AnswersFault result fault }
+    ensures fault { IfErr result (IsFaultOr OutOfMemory (IsWorldFault text.now)) }
+    ensures every_world { (world : Grid) → OpensAs text.now world → AnswersValue OutOfMemory result world }
+    ensures every_fault { (fault : WorldFault) → IsWorldFault text.now fault → AnswersFault OutOfMemory result fault }
 {
     read_text(alloc, text)
 }

@@ -12,7 +12,7 @@ impl World {
     /// Lets each ant of the ids from `from` to below `to` that rests rest one turn less, and lists the ids of the others in rising order (the
     /// task's kinetics): they are the first of `acting`, as many as are answered; what stands behind them is anything. Of the dead any may be among them. The ids
     /// were made, and there are at most 64.
-    #[inline]
+    #[inline(never)]
     pub fn rest_some(&mut self, from: u32, to: u32, acting: &mut [u16; 64]) -> usize
         requires order { from ≤ to }
         requires made { to ≤ self.old.ids }

@@ -1,24 +1,25 @@
 -- A cup that is told world by world.
 use Rattle.std.specs.Prelude.{◌≡◌, ◌≢◌, ℕ, ◌<◌, ◌≤◌, List, Result, Ok, Err}
 use Rattle.ant_base.specs.Sink.{SinkState, PushedAll, PushedFront}
-use Rattle.tournament.specs.declared.fault.CupFault.{CupFault}
-use Rattle.tournament.specs.declared.fault.CupFault.TheVariants.{WriteFault, OutOfMemory}
+use Rattle.ant_base.specs.declared.push_fault.PushFault.{PushFault}
+use Rattle.ant_base.specs.declared.push_fault.PushFault.TheVariants.{WriteFault, OutOfMemory}
 
--- so many players, worlds and workers make a cup, each game of which the referee knows
-pub record CanBeTold (knows : ℕ → ℕ → ℕ → Type 0) (players worlds workers : ℕ) : Type 0 where
+-- so many players, worlds and workers make a cup, and the referee knows each game on this world
+pub record CanBeTold (knows : ℕ → ℕ → ℕ → Type 0) (players worlds workers world : ℕ) : Type 0 where
   pub pair : 2 ≤ players
   pub few_players : players ≤ 16
   pub few_worlds : worlds ≤ 16
   pub worker : 1 ≤ workers
   pub few_workers : workers ≤ 16
-  pub known : (world red black : ℕ) → world < worlds → red < players → black < players → red ≢ black → knows world red black
+  pub early : world < worlds
+  pub known : (red black : ℕ) → red < players → black < players → red ≢ black → knows world red black
 
 -- why the lines of a world weren't pushed: the sink failed, after a prefix of them; or memory was wanting, and the sink is as it was
-abbrev pub WorldStops : SinkState → SinkState → List ℕ → CupFault → Type 0
+abbrev pub WorldStops : SinkState → SinkState → List ℕ → PushFault → Type 0
 WorldStops old new text WriteFault = PushedFront old new text
 WorldStops old new text OutOfMemory = new ≡ old
 
 -- the lines of a world were pushed, or why not
-abbrev pub WorldTold : SinkState → SinkState → List ℕ → Result (Unit {0}) CupFault → Type 0
+abbrev pub WorldTold : SinkState → SinkState → List ℕ → Result (Unit {0}) PushFault → Type 0
 WorldTold old new text (Ok _) = PushedAll old new text
 WorldTold old new text (Err fault) = WorldStops old new text fault

@@ -1,4 +1,4 @@
-use Rattle.std.proofs.Common.{◌≤◌, ◌<◌, ◌∙◌, Ok, Bool, arith, ap, subst, sym, refl}
+use Rattle.std.proofs.Common.{◌<◌, Ok, Bool, arith, ap, subst, refl}
 use Rattle.std.specs.Prelude.{vec_len}
 use Rattle.std.proofs.lemmas.Result.{err_from_is_err_and}
 use Rattle.ant_base.specs.Inner.Answered.{ReadsOn}
@@ -18,13 +18,6 @@ returns-then-len-gt-LONGEST-clause-made g c =
       failed = λ _. refl;
     }
 
-pub returns-then-len-gt-LONGEST-clause-taken : goal.returns-then-len-gt-LONGEST-clause-taken
-returns-then-len-gt-LONGEST-clause-taken g c = record {
-  bytes = c.loop-turn.content.items;
-  taken = c.loop-turn.invariant.0;
-  few = subst (λ n. n ≤ 4194305) c.loop-turn.content.ok.0 c.loop-turn.invariant.1;
-}
-
 pub returns-in_err-read_more-clause-made : goal.returns-in_err-read_more-clause-made
 returns-in_err-read_more-clause-made g c =
     let p = err_from_is_err_and c.from_residual.result c.from_residual.ensures.1 in
@@ -33,25 +26,10 @@ returns-in_err-read_more-clause-made g c =
     c.in_err-read_more.ensures.no_length
     (λ sure. c.in_err-read_more.ensures.sure (read_asks 4194305 _ (vec_len c.loop-turn.content) 8192 c.min-most.result c.len-in-loop-turn.result c.loop-turn.chunk c.min-most.ensures c.len-in-loop-turn.ensures (c.loop-turn.invariant.2 sure).0)))
 
-pub returns-in_err-read_more-clause-taken : goal.returns-in_err-read_more-clause-taken
-returns-in_err-read_more-clause-taken g c = c.in_err-read_more.ensures.lost _ c.loop-turn.invariant.0
-
-pub returns-then-branch-clause-short : goal.returns-then-branch-clause-short
-returns-then-branch-clause-short g c =
-    let end = c.in_ok-read_more.ensures.end (ap Ok c.if-branch.true) in
-    subst (λ n. n ≤ 4194304) (c.len.ensures ∙ sym end.1 ∙ c.read_more.new.content.ok.0) c.if-len-gt-LONGEST.false
-
 pub returns-then-branch-clause-made : goal.returns-then-branch-clause-made
 returns-then-branch-clause-made g c = record {
   read = read_whole _ _ _ (c.in_ok-read_more.ensures.taken _ c.loop-turn.invariant.0) (c.in_ok-read_more.ensures.end (ap Ok c.if-branch.true)).0;
   failed = λ _. refl;
-}
-
-pub returns-then-branch-clause-taken : goal.returns-then-branch-clause-taken
-returns-then-branch-clause-taken g c = record {
-  bytes = c.read_more.new.content.items;
-  taken = c.in_ok-read_more.ensures.taken _ c.loop-turn.invariant.0;
-  few = subst (λ n. n ≤ 4194305) c.read_more.new.content.ok.0 c.in_ok-read_more.ensures.few;
 }
 
 pub loop-turn-preserved : goal.loop-turn-preserved
@@ -69,11 +47,4 @@ pub returns-clause-made : goal.returns-clause-made
 returns-clause-made g c = record {
   read = tt;
   failed = λ sure. absurd (read_turns 4194305 18446744073709551615 c.loop-turn._turn (vec_len c.loop-turn.content) c.loop-turn.invariant.1 (c.loop-turn.invariant.2 sure).1 c.loop-turn-test.false (omega arith));
-}
-
-pub returns-clause-taken : goal.returns-clause-taken
-returns-clause-taken g c = record {
-  bytes = c.loop-turn.content.items;
-  taken = c.loop-turn.invariant.0;
-  few = subst (λ n. n ≤ 4194305) c.loop-turn.content.ok.0 c.loop-turn.invariant.1;
 }

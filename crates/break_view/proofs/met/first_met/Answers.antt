@@ -1,18 +1,12 @@
-use Rattle.std.proofs.Common.{◌≤◌, length, refl, sym, ◌∙◌, arith}
+use Rattle.std.proofs.Common.{◌≤◌, length, sym, ◌∙◌, arith}
 use Rattle.cell_world.specs.Grid.{world_of}
 use Rattle.break_view.proofs.MetLemmas.{met-here, met-later, met-end}
 use Rattle.break_view.proofs.met.first_met.Goals as goal
-
-pub loop-item-init : goal.loop-item-init
-loop-item-init c = record { rest = refl; counted = refl }
 
 pub returns-then-meets : goal.returns-then-meets
 returns-then-meets c =
     sym (met-here c.args.items.now c.loop-item.item-index c.loop-item.number _ (world_of c.args.world.now) c.args.round c.args.id c.loop-item-test.true (sym (c.meets.ensures c.args.id c.ant_of-ant.ensures) ∙ c.if-meets.true))
     ∙ c.loop-item.invariant.rest
-
-pub overflow_add-number : goal.overflow_add-number
-overflow_add-number c = omega (arith, c.loop-item.invariant.counted, c.loop-item-test.true, c.requires.few)
 
 pub loop-item-preserved : goal.loop-item-preserved
 loop-item-preserved c = record {

@@ -16,12 +16,6 @@ ended c =
 pub loop-round-init : goal.loop-round-init
 loop-round-init c = watched-none (minds_of c.args.brains) c.args.seed c.args.breaks.now c.args.world.now c.from_seed-stream.result c.score-score.result c.from_seed-stream.ensures.seed c.from_seed-stream.ensures.place c.requires.fit c.score-score.ensures.score
 
-pub stop_in_round-stop-requires-clause-fit : goal.stop_in_round-stop-requires-clause-fit
-stop_in_round-stop-requires-clause-fit c = c.loop-round.invariant.after.fits
-
-pub stop_in_round-stop-requires-clause-place : goal.stop_in_round-stop-requires-clause-place
-stop_in_round-stop-requires-clause-place c = omega (arith, c.loop-round.invariant.after.place, c.loop-round-test.true, c.requires.few_rounds)
-
 pub returns-then-is_some : goal.returns-then-is_some
 returns-then-is_some c =
     ends_stopped c.loop-round.invariant c.args.rounds c.stop_in_round-stop.result _ (omega (arith, c.loop-round-test.true)) (sym c.is_some.ensures ∙ c.if-is_some.true)
@@ -37,6 +31,3 @@ pub returns : goal.returns
 returns c =
     let all : c.loop-round.round ≡ c.args.rounds = omega (arith, c.loop-round-test.false, c.loop-round.auto.round-end) in
     ends_without c.loop-round.invariant c.args.rounds all
-
-pub stop_in_round-stop-requires-clause-score : goal.stop_in_round-stop-requires-clause-score
-stop_in_round-stop-requires-clause-score c = c.loop-round.invariant.scored

@@ -78,12 +78,6 @@ returns-clause-place c =
 pub returns-clause-fit : goal.returns-clause-fit
 returns-clause-fit c = c.loop-id.invariant.taken.fits
 
-pub take_watched-same-requires-clause-score : goal.take_watched-same-requires-clause-score
-take_watched-same-requires-clause-score c = c.loop-id.invariant.scored
-
-pub returns-clause-score : goal.returns-clause-score
-returns-clause-score c = c.loop-id.invariant.scored
-
 pub met_now-requires-clause-quiet : goal.met_now-requires-clause-quiet
 met_now-requires-clause-quiet c = λ same above.
     let before : c.loop-id.id ≡ (c.loop-id.id - 1) + 1 = omega (arith, above) in

@@ -1,5 +1,5 @@
-use Rattle.std.proofs.Common.{◌≡◌, ℕ, ◌+◌, ◌<◌, List, [], ◌∷◌, ◌++◌, None, length, get_or, drop, map, sym, ◌∙◌, ap, subst, append_assoc, append-nil}
-use Rattle.std.proofs.lemmas.List.{drop_all, drop_more}
+use Rattle.std.proofs.Common.{◌≡◌, ℕ, ◌+◌, ◌<◌, List, [], ◌∷◌, ◌++◌, None, length, get_or, drop, map, sym, ◌∙◌, ap, subst, append_assoc}
+use Rattle.std.proofs.lemmas.List.{drop_more}
 use Rattle.std.specs.List.{AllByRecursion}
 use Rattle.cell_world.specs.declared.cell.Cell.{Cell}
 use Rattle.cell_world.specs.declared.tile.Tile.{Tile}
@@ -24,17 +24,9 @@ tiled-more cells i d tiles more inside last tiled =
       empty = (empty-next cells i d inside tiled.empty).1;
     }
 
-pub loop-cell-init : goal.loop-cell-init
-loop-cell-init c = record { tiles_done = ap (λ (l : List Tile). l ++ map tile_of c.args.cells.now) c.in_ok-tiles.ensures.items; empty = c.requires }
-
 pub loop-cell-preserved : goal.loop-cell-preserved
 loop-cell-preserved c =
     tiled-more c.args.cells.now c.loop-cell.cell-index _ c.loop-cell.tiles.items c.push.new.self.items c.loop-cell-test.true (c.in_ok-push.ensures.items ∙ ap (λ (tile : Tile). c.loop-cell.tiles.items ++ tile ∷ []) c.ground_tile.ensures) c.loop-cell.invariant
 
 pub ground_tile-requires : goal.ground_tile-requires
 ground_tile-requires c = (empty-next c.args.cells.now c.loop-cell.cell-index _ c.loop-cell-test.true c.loop-cell.invariant.empty).0
-
-pub returns : goal.returns
-returns c =
-    let tiles = c.loop-cell.tiles.items in
-    sym (append-nil tiles) ∙ ap (λ (l : List Cell). tiles ++ map tile_of l) (sym (drop_all c.loop-cell.cell-index c.args.cells.now c.loop-cell-test.false)) ∙ c.loop-cell.invariant.tiles_done

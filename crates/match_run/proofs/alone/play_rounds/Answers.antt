@@ -1,6 +1,6 @@
 use Rattle.std.proofs.Common.{◌≡◌, ◌+◌, ◌-◌, ℕ, arith, subst}
 use Rattle.std.proofs.lemmas.Result.{err_from_is_err_and}
-use Rattle.ant_base.specs.Sink.{PushedAll, PushedFront}
+use Rattle.ant_base.specs.Sink.{PushedAll, PushedFront, SinkState}
 use Rattle.ant_base.proofs.Pushes.{all_of_nothing, all_then, front_then, front_more}
 use Rattle.cell_world.specs.Grid.{Grid, world_of}
 use Rattle.match_run.specs.Dumps.{chooses}
@@ -17,11 +17,6 @@ loop-more-init g c =
       played = IsPlayedOn-none game;
       text = rw (later_dumps-none game.minds game.seed (chooses c.args.dumps.now) (standing game) game.done) (all_of_nothing (g.K.Sink.state c.args.sink.now));
     }
-
-pub round-requires : goal.round-requires
-round-requires g c =
-    let done = c.loop-more.invariant.played.done in
-    omega (arith, done, c.loop-more-test.true, c.requires.left, c.requires.few_rounds, c.done-done.ensures.done)
 
 pub loop-more-preserved : goal.loop-more-preserved
 loop-more-preserved g c =
@@ -49,16 +44,23 @@ returns-in_err-push_chosen-clause-text g c =
     (subst (λ (w : Grid). PushedFront (g.K.Sink.state c.loop-more.sink) (g.K.Sink.state c.push_chosen.new.sink) (chosen_dump chosen (world_of w) (game.done + more + 1))) c.world.ensures
     (subst (λ (done : ℕ). PushedFront (g.K.Sink.state c.loop-more.sink) (g.K.Sink.state c.push_chosen.new.sink) (chosen_dump chosen (world_of c.world.result.now) (done + more + 1))) c.done-done.ensures.done c.in_err-push_chosen.ensures))))
 
-pub returns-clause-text : goal.returns-clause-text
-returns-clause-text g c =
-    let low = c.loop-more-test.false in
-    let high = c.loop-more.auto.more-end in
-    let all : c.loop-more.more ≡ c.args.rounds - c.args.game.now.done = omega (arith, low, high, c.done-done.ensures.done) in
-    rw (← all) c.loop-more.invariant.text
-
-pub returns-clause-played : goal.returns-clause-played
-returns-clause-played g c =
-    let low = c.loop-more-test.false in
-    let high = c.loop-more.auto.more-end in
-    let all : c.loop-more.more ≡ c.args.rounds - c.args.game.now.done = omega (arith, low, high, c.done-done.ensures.done) in
-    subst (λ (n : ℕ). IsPlayedOn c.args.game.now c.loop-more.game n) all c.loop-more.invariant.played
+pub returns-in_err-push_chosen-clause-stopped : goal.returns-in_err-push_chosen-clause-stopped
+returns-in_err-push_chosen-clause-stopped g c =
+    let more = c.loop-more.more in
+    let now = c.round.new.self in
+    let chosen = chooses c.args.dumps.now in
+    let mid : SinkState = g.K.Sink.state c.loop-more.sink in
+    let p = err_from_is_err_and c.from_residual.result c.from_residual.ensures.1 in
+    let next : IsPlayedOn c.args.game.now now (more + 1) = IsPlayedOn-then c.loop-more.invariant.played now 1 c.round.ensures in
+    let done = next.done in
+    let behind : c.done-done.result + more + 1 ≡ now.done = omega (arith, done, c.done-done.ensures.done) in
+    rw p.1 (record {
+      shown = more;
+      left = omega (arith, c.loop-more-test.true, c.done-done.ensures.done);
+      played = next;
+      mid = mid;
+      before = c.loop-more.invariant.text;
+      failed =
+          subst (λ (w : Grid). PushedFront mid (g.K.Sink.state c.push_chosen.new.sink) (chosen_dump chosen (world_of w) now.done)) c.world.ensures
+          (subst (λ (n : ℕ). PushedFront mid (g.K.Sink.state c.push_chosen.new.sink) (chosen_dump chosen (world_of c.world.result.now) n)) behind c.in_err-push_chosen.ensures);
+    })

@@ -6,9 +6,6 @@ use Rattle.match_run.proofs.sequential.play_in_turn.Goals as goal
 pub loop-id-init : goal.loop-id-init
 loop-id-init c = IsTaken-none (minds_of c.args.brains) c.args.world.now c.args.stream.now c.requires.fit
 
-pub take_turn-deed-requires-clause-fit : goal.take_turn-deed-requires-clause-fit
-take_turn-deed-requires-clause-fit c = c.loop-id.invariant.fits
-
 pub take_turn-deed-requires-clause-id : goal.take_turn-deed-requires-clause-id
 take_turn-deed-requires-clause-id c = omega (arith, IsTaken-ids c.loop-id.invariant, c.ant_count-id-end.ensures.ids, c.loop-id-test.true)
 

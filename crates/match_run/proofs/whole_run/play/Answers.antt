@@ -1,5 +1,5 @@
 use Rattle.std.proofs.Common.{◌≡◌, ◌-◌, List, ℕ, ap, ◌∙◌, subst}
-use Rattle.std.proofs.lemmas.Result.{IfOk-from_err, err_from_is_err_and}
+use Rattle.std.proofs.lemmas.Result.{err_from_is_err_and}
 use Rattle.std.specs.Prelude.{IfOk}
 use Rattle.ant_base.specs.Sink.{PushedAll, PushedFront}
 use Rattle.ant_base.proofs.Pushes.{front_more, front_then}
@@ -60,21 +60,3 @@ returns-clause-score g c =
     let minds = minds_of c.args.brains in
     subst (λ (s : Score). IfOk c.play_rest.result (λ (x : Score). x ≡ s)) (score-rest minds plan.seed w plan.rounds)
     (subst (λ (game : GameValue). IfOk c.play_rest.result (λ (x : Score). x ≡ score_of (after_rounds game.field.minds game.field.seed (now_of game) (plan.rounds - game.done)).world)) c.in_ok-game.ensures c.play_rest.ensures.score)
-
-pub returns-in_err-game-clause-score : goal.returns-in_err-game-clause-score
-returns-in_err-game-clause-score g c = IfOk-from_err c.from_residual.result _ c.from_residual.ensures.0
-
-pub returns-in_err-game-clause-turns : goal.returns-in_err-game-clause-turns
-returns-in_err-game-clause-turns g c = IfOk-from_err c.from_residual.result _ c.from_residual.ensures.0
-
-pub returns-in_err-push_seed-clause-score : goal.returns-in_err-push_seed-clause-score
-returns-in_err-push_seed-clause-score g c = IfOk-from_err c.from_residual-in_err-push_seed.result _ c.from_residual-in_err-push_seed.ensures.0
-
-pub returns-in_err-push_seed-clause-turns : goal.returns-in_err-push_seed-clause-turns
-returns-in_err-push_seed-clause-turns g c = IfOk-from_err c.from_residual-in_err-push_seed.result _ c.from_residual-in_err-push_seed.ensures.0
-
-pub returns-in_err-push_chosen-clause-score : goal.returns-in_err-push_chosen-clause-score
-returns-in_err-push_chosen-clause-score g c = IfOk-from_err c.from_residual-in_err-push_chosen.result _ c.from_residual-in_err-push_chosen.ensures.0
-
-pub returns-in_err-push_chosen-clause-turns : goal.returns-in_err-push_chosen-clause-turns
-returns-in_err-push_chosen-clause-turns g c = IfOk-from_err c.from_residual-in_err-push_chosen.result _ c.from_residual-in_err-push_chosen.ensures.0

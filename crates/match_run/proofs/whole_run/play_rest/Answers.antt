@@ -1,4 +1,4 @@
-use Rattle.std.proofs.Common.{◌≡◌, ◌-◌, ◌++◌, List, ℕ, ◌∙◌, ap, ap₂, inr, subst}
+use Rattle.std.proofs.Common.{◌≡◌, ◌-◌, ◌++◌, List, ℕ, ◌∙◌, ap, ap₂, subst}
 use Rattle.std.proofs.lemmas.Result.{err_from_is_err_and}
 use Rattle.ant_base.specs.Sink.{PushedAll, PushedFront}
 use Rattle.ant_base.proofs.Pushes.{all_then, front_then}
@@ -42,19 +42,6 @@ returns-in_err-play_rounds-clause-stopped g c =
     rw (p.1, p.2)
     (StopsBy-rounds c.args.game.now c.play_rounds.new.game (c.args.rounds - c.args.game.now.done) (chooses c.args.dumps.now) c.args.stats (g.K.Sink.state c.args.sink.now) (g.K.Sink.state c.play_rounds.new.sink) c.in_err-play_rounds.field-0.0
     c.in_err-play_rounds.ensures.stopped)
-
-pub returns-in_err-push_end-clause-stopped : goal.returns-in_err-push_end-clause-stopped
-returns-in_err-push_end-clause-stopped g c =
-    let game = c.play_rounds.new.game in
-    let p = err_from_is_err_and c.from_residual-in_err-push_end.result c.from_residual-in_err-push_end.ensures.1 in
-    let ends : score_text (score_of (world_of c.world.result.now)) ++ counts_text c.args.stats c.totals.result ≡ score_text (score_of (world_of game.field.world)) ++ counts_text c.args.stats game.totals =
-    ap₂ (λ s t. score_text (score_of s) ++ counts_text c.args.stats t) (ap world_of c.world.ensures) c.totals.ensures.totals in
-    rw (p.1, p.2) (inr (record {
-      whole = c.in_ok-play_rounds.ensures.played;
-      mid = g.K.Sink.state c.play_rounds.new.sink;
-      before = c.in_ok-play_rounds.ensures.text;
-      failed = subst (λ (text : List ℕ). PushedFront (g.K.Sink.state c.play_rounds.new.sink) (g.K.Sink.state c.push_end.new.sink) text) ends c.in_err-push_end.ensures.text;
-    }))
 
 pub returns-clause-text : goal.returns-clause-text
 returns-clause-text g c =

@@ -22,14 +22,6 @@ loop-more-init g c =
       turns = counted-start (g.C.Crew.played c.args.crew.now) game.field.world.ids (omega (arith, c.turns-count.ensures, c.turns-count.type_inv));
     }
 
-pub play_round-requires-clause-ready : goal.play_round-requires-clause-ready
-play_round-requires-clause-ready g c = c.loop-more.invariant.ready
-
-pub play_round-requires-clause-few : goal.play_round-requires-clause-few
-play_round-requires-clause-few g c =
-    let done = c.loop-more.invariant.at.done in
-    omega (arith, done, c.loop-more-test.true, c.requires.left, c.requires.few_rounds, c.done-done.ensures.done)
-
 pub returns-in_err-play_round-clause-text : goal.returns-in_err-play_round-clause-text
 returns-in_err-play_round-clause-text g c =
     let game = c.args.game.now in

@@ -1,7 +1,7 @@
 use Rattle.std.proofs.Common.{◌≡◌, ℕ, ◌+◌, ◌-◌, ◌<◌, min, sym, ◌∙◌, ap, subst, arith}
 use Rattle.cell_world.specs.Grid.{Grid}
 use Rattle.dump_print.specs.declared.totals.Totals.{Totals}
-use Rattle.round_book.specs.Book.{FieldValue, window_of}
+use Rattle.round_book.specs.Book.{window_of}
 use Rattle.round_book.specs.Counts.{Counted}
 use Rattle.round_book.proofs.CountLemmas.{counts-add_up}
 use Rattle.match_run.specs.Inner.Windows.{WindowsPlayed}
@@ -15,9 +15,6 @@ loop-progress-init g c = record {
   add_up = c.requires.add_up;
   turns = counted-none (g.C.Crew.played c.args.crew.now) c.args.totals.turns (omega (arith, c.turns-count.ensures, c.turns-count.type_inv));
 }
-
-pub window-requires-clause-ready : goal.window-requires-clause-ready
-window-requires-clause-ready g c = c.loop-progress.invariant.ready
 
 pub window-requires-clause-window : goal.window-requires-clause-window
 window-requires-clause-window g c =
@@ -35,17 +32,6 @@ window-requires-clause-window g c =
       lasting = omega (arith, c.min.ensures, left, ids, most, lasting, here);
     }
 
-pub returns-in_default-clause-played : goal.returns-in_default-clause-played
-returns-in_default-clause-played g c =
-    subst (λ (field : FieldValue). WindowsPlayed c.args.field.now c.args.size c.args.from c.args.totals field c.loop-progress.progress.next c.loop-progress.progress.totals) (sym c.in_default.ensures.unchanged)
-    c.loop-progress.invariant.played
-
-pub returns-in_default-clause-add_up : goal.returns-in_default-clause-add_up
-returns-in_default-clause-add_up g c = c.loop-progress.invariant.add_up
-
-pub returns-in_default-clause-turns : goal.returns-in_default-clause-turns
-returns-in_default-clause-turns g c = c.in_default.ensures.as_before ∙ c.loop-progress.invariant.turns
-
 pub after-progress-requires-clause-few : goal.after-progress-requires-clause-few
 after-progress-requires-clause-few g c =
     let ids : c.ant_count-ids.result ≡ c.args.field.now.world.ids = c.ant_count-ids.ensures.ids ∙ ap (λ (grid : Grid). grid.ids) c.world.ensures.world in
@@ -53,9 +39,6 @@ after-progress-requires-clause-few g c =
     let here = played-next c.loop-progress.invariant.played (omega (arith, ids, left)) in
     let turns = played-turns c.loop-progress.invariant.played c.requires.begins in
     omega (arith, c.min.ensures, left, ids, here, turns, c.requires.few)
-
-pub after-progress-requires-clause-add_up : goal.after-progress-requires-clause-add_up
-after-progress-requires-clause-add_up g c = c.loop-progress.invariant.add_up
 
 pub after-progress-requires-clause-counted : goal.after-progress-requires-clause-counted
 after-progress-requires-clause-counted g c =
@@ -82,15 +65,3 @@ loop-progress-preserved g c =
       turns = counted-more (g.C.Crew.played c.args.crew.now) (g.C.Crew.played c.loop-progress.crew) (g.C.Crew.played c.window.new.self) c.args.totals.turns c.loop-progress.progress.totals.turns c.after-progress.result.totals.turns (to - c.loop-progress.progress.next)
           c.loop-progress.invariant.turns c.in-Ok.ensures.turns (omega (arith, before)) turns;
     }
-
-pub returns-clause-ready : goal.returns-clause-ready
-returns-clause-ready g c = c.loop-progress.invariant.ready
-
-pub returns-clause-played : goal.returns-clause-played
-returns-clause-played g c = c.loop-progress.invariant.played
-
-pub returns-clause-add_up : goal.returns-clause-add_up
-returns-clause-add_up g c = c.loop-progress.invariant.add_up
-
-pub returns-clause-turns : goal.returns-clause-turns
-returns-clause-turns g c = c.loop-progress.invariant.turns

@@ -1,11 +1,7 @@
-use Rattle.std.proofs.Common.{◌≡◌, ℕ, ◌+◌, ◌<◌, ◌≤◌, ◌*◌, ◌/◌, ◌^◌, [], Fits, w64, length, take, sym, ap, ◌∙◌, arith}
-use Rattle.std.proofs.Math.Nat.{le_antisymm, zero-div, zero-mul}
+use Rattle.std.proofs.Common.{◌≡◌, ℕ, ◌+◌, ◌<◌, ◌≤◌, ◌*◌, ◌/◌, ◌^◌, Fits, w64, length, take, sym, ap, ◌∙◌, arith}
+use Rattle.std.proofs.Math.Nat.{le_antisymm}
 use Rattle.std.proofs.Math.Seq.{take-length}
-use Rattle.std.proofs.lemmas.List.Elements.{All-nil, All-same}
-use Rattle.std.proofs.lemmas.Result.{IfOk-from_err}
 use Rattle.work_share.proofs.BordersLemmas.{border_rises, border_last}
-use Rattle.tournament.specs.declared.pieces.Piece.{Piece}
-use Rattle.tournament.specs.Inner.Pieces.{dealt_games}
 use Rattle.tournament.proofs.PiecesLemmas.{dealt_more}
 use Rattle.tournament.proofs.pieces.deal.Goals as goal
 
@@ -25,34 +21,11 @@ start_fits from n le few = omega arith
 from_to : (from to x y : ℕ) → from ≡ x → to ≡ y → x ≤ y → from ≤ to
 from_to from to x y f t le = omega arith
 
-pub returns-in_err-pieces-clause-games : goal.returns-in_err-pieces-clause-games
-returns-in_err-pieces-clause-games c = IfOk-from_err c.from_residual.result _ c.from_residual.ensures.0
-
-pub returns-in_err-pieces-clause-fresh : goal.returns-in_err-pieces-clause-fresh
-returns-in_err-pieces-clause-fresh c = IfOk-from_err c.from_residual.result _ c.from_residual.ensures.0
-
-pub loop-k-init : goal.loop-k-init
-loop-k-init c =
-    let none : 0 * length c.args.games.now / c.args.workers ≡ 0 = ap (λ m. m / c.args.workers) (zero-mul (length c.args.games.now)) ∙ zero-div c.args.workers in
-    record {
-      games = ap dealt_games c.in_ok-pieces.ensures.items ∙ ap (λ n. take n c.args.games.now) (sym none);
-      fresh = All-same (λ piece. piece.played.items ≡ []) c.in_ok-pieces.pieces.items [] c.in_ok-pieces.ensures.items (All-nil (λ (piece : Piece). piece.played.items ≡ []));
-    }
-
-pub border-from-requires-clause-workers : goal.border-from-requires-clause-workers
-border-from-requires-clause-workers c = c.requires.workers
-
-pub border-from-requires-clause-worker : goal.border-from-requires-clause-worker
-border-from-requires-clause-worker c = c.loop-k.auto.k-end
-
 pub border-from-requires-clause-few : goal.border-from-requires-clause-few
 border-from-requires-clause-few c = few_games (length c.args.games.now) c.requires.few
 
 pub overflow_add-k : goal.overflow_add-k
 overflow_add-k c = next_fits c.loop-k.k c.args.workers c.loop-k-test.true c.requires.workers.1
-
-pub border-to-requires-clause-workers : goal.border-to-requires-clause-workers
-border-to-requires-clause-workers c = c.requires.workers
 
 pub border-to-requires-clause-worker : goal.border-to-requires-clause-worker
 border-to-requires-clause-worker c = next_within c.loop-k.k c.args.workers c.loop-k-test.true
@@ -65,21 +38,6 @@ offset_bounds-games-from c = start_fits c.border-from.result (length c.args.game
 
 pub slice_bounds-add_piece-count : goal.slice_bounds-add_piece-count
 slice_bounds-add_piece-count c = from_to c.border-from.result c.border-to.result _ _ c.border-from.ensures.border c.border-to.ensures.border (border_rises c.loop-k.k (length c.args.games.now) c.args.workers c.requires.workers.0)
-
-pub slice_bounds-add_piece-start : goal.slice_bounds-add_piece-start
-slice_bounds-add_piece-start c = slice_bounds-add_piece-count c
-
-pub slice_bounds-add_piece-end : goal.slice_bounds-add_piece-end
-slice_bounds-add_piece-end c = c.border-to.ensures.within
-
-pub returns-in_err-add_piece-clause-games : goal.returns-in_err-add_piece-clause-games
-returns-in_err-add_piece-clause-games c = IfOk-from_err c.from_residual-in_err-add_piece.result _ c.from_residual-in_err-add_piece.ensures.0
-
-pub returns-in_err-add_piece-clause-fresh : goal.returns-in_err-add_piece-clause-fresh
-returns-in_err-add_piece-clause-fresh c = IfOk-from_err c.from_residual-in_err-add_piece.result _ c.from_residual-in_err-add_piece.ensures.0
-
-pub returns-clause-fresh : goal.returns-clause-fresh
-returns-clause-fresh c = c.loop-k.invariant.fresh
 
 pub loop-k-preserved : goal.loop-k-preserved
 loop-k-preserved c =

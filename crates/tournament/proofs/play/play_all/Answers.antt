@@ -1,8 +1,7 @@
-use Rattle.std.proofs.Common.{IfOk, length, map, ap, subst, ◌∙◌, arith}
+use Rattle.std.proofs.Common.{length, map, ap, ◌∙◌, arith}
 use Rattle.std.proofs.lemmas.List.{length-map}
 use Rattle.std.proofs.lemmas.List.Elements.{All-same}
 use Rattle.tournament.specs.Games.{IsGame, games_of, played_by}
-use Rattle.tournament.specs.Standing.{Ranks}
 use Rattle.tournament.proofs.GamesLemmas.{All-games_of, length-games_of}
 use Rattle.tournament.proofs.PiecesLemmas.{games_known}
 use Rattle.tournament.proofs.play.play_all.Goals as goal
@@ -24,8 +23,3 @@ standing_of-requires g c =
     let all = c.deref-2.ensures.value ∙ c.in_ok-played.ensures ∙ ap (map (played_by (g.F.Referee.score c.args.referee.now))) (c.deref.ensures.value ∙ c.in_ok-games.ensures) in
     let at = ap length all ∙ length-map (games_of c.args.players c.args.worlds) (played_by (g.F.Referee.score c.args.referee.now)) in
     record { few = omega arith }
-
-pub returns : goal.returns
-returns g c =
-    let all = c.deref-2.ensures.value ∙ c.in_ok-played.ensures ∙ ap (map (played_by (g.F.Referee.score c.args.referee.now))) (c.deref.ensures.value ∙ c.in_ok-games.ensures) in
-    subst (λ played. IfOk c.standing_of.result (λ standing. Ranks c.args.players played standing)) all c.standing_of.ensures

@@ -1,6 +1,5 @@
-use Rattle.std.proofs.Common.{◌≡◌, IfOk, length, map, ap, subst, ◌∙◌, arith}
+use Rattle.std.proofs.Common.{length, ap, ◌∙◌, arith}
 use Rattle.std.proofs.lemmas.List.Elements.{All-same}
-use Rattle.tournament.specs.Games.{played_by}
 use Rattle.tournament.proofs.GamesLemmas.{known_on, length-games_on}
 use Rattle.tournament.proofs.play.play_world.Goals as goal
 
@@ -14,7 +13,3 @@ pub play_listed-requires-clause-known : goal.play_listed-requires-clause-known
 play_listed-requires-clause-known g c = λ κs within.
     let knows = g.F.Referee.knows c.args.referee.now in
     All-same (λ game. knows game.world game.red game.black) _ _ (c.deref.ensures.value ∙ c.in_ok-games.ensures) (known_on knows c.args.players c.args.world c.requires.known)
-
-pub returns : goal.returns
-returns g c =
-    subst (λ games. IfOk c.play_listed.result (λ played. played.items ≡ map (played_by (g.F.Referee.score c.args.referee.now)) games)) (c.deref.ensures.value ∙ c.in_ok-games.ensures) c.play_listed.ensures

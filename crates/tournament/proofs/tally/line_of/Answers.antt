@@ -1,10 +1,6 @@
-use Rattle.std.proofs.Common.{refl}
 use Rattle.tournament.specs.Standing.{is_won, is_lost, is_drawn}
 use Rattle.tournament.proofs.StandingLemmas.{counted, counted_fits, few_counted, line_is, points_fit, twice_fits}
 use Rattle.tournament.proofs.tally.line_of.Goals as goal
-
-pub loop-game-init : goal.loop-game-init
-loop-game-init c = record { won = refl; drawn = refl; lost = refl }
 
 pub overflow_add-won : goal.overflow_add-won
 overflow_add-won c =

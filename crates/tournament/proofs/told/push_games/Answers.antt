@@ -1,20 +1,12 @@
-use Rattle.std.proofs.Common.{take_all, subst, arith}
+use Rattle.std.proofs.Common.{arith}
 use Rattle.std.proofs.lemmas.Result.{err_from_is_err_and}
-use Rattle.ant_base.specs.Sink.{PushedAll}
 use Rattle.ant_base.proofs.Pushes.{all_of_nothing}
 use Rattle.tournament.specs.Names.{texts_of}
-use Rattle.tournament.specs.Told.{games_text}
 use Rattle.tournament.proofs.ToldLemmas.{line_pushed, line_stopped}
 use Rattle.tournament.proofs.told.push_games.Goals as goal
 
 pub loop-game-init : goal.loop-game-init
 loop-game-init g c = record { number = omega arith; told = all_of_nothing _ }
-
-pub push_game-requires : goal.push_game-requires
-push_game-requires g c = c.requires.named c.loop-game.game-index _ c.loop-game-test.true
-
-pub overflow_add-number : goal.overflow_add-number
-overflow_add-number g c = omega (arith, c.requires.few, c.loop-game-test.true, c.loop-game.invariant.number)
 
 pub loop-game-preserved : goal.loop-game-preserved
 loop-game-preserved g c = record {
@@ -29,8 +21,3 @@ returns-in_err-push_game g c =
     rw p.1
     (line_stopped (texts_of c.args.worlds.now) c.args.players.now c.args.games.now c.loop-game.game-index c.args.first c.loop-game.number _ (g.K.Sink.state c.args.sink.now) (g.K.Sink.state c.loop-game.sink) (g.K.Sink.state c.push_game.new.sink)
     c.loop-game-test.true c.loop-game.invariant.number c.loop-game.invariant.told c.in_err-push_game.ensures)
-
-pub returns : goal.returns
-returns g c =
-    subst (λ games. PushedAll (g.K.Sink.state c.args.sink.now) (g.K.Sink.state c.loop-game.sink) (games_text (texts_of c.args.worlds.now) c.args.players.now games c.args.first))
-    (take_all c.loop-game.game-index c.args.games.now c.loop-game-test.false) c.loop-game.invariant.told

@@ -2,20 +2,13 @@
 use Rattle.hex_geometry.specs.Position.{HasNeighbours}
 use Rattle.hex_geometry.specs.Direction.{turned_by}
 use Rattle.hex_geometry.specs.declared.direction.Side.TheVariants.{Right}
-use Rattle.hex_geometry.specs.declared.direction.Dir.{Dir}
-use Rattle.hex_geometry.specs.declared.position.Pos.{Pos}
-use Rattle.std.proofs.Common.{◌≡◌, ◌∙◌, ap, sym, arith, subst}
+use Rattle.std.proofs.Common.{◌∙◌, sym, arith, subst}
 use Rattle.world_gen.proofs.Lines.{lines_from_more, lines_from_none, walked_more, walked_none}
 use Rattle.world_gen.proofs.cells.blob.Goals as goal
-use Rattle.world_gen.specs.Inner.Open.{LineHasNeighbours, lines_from, walked}
+use Rattle.world_gen.specs.Inner.Open.{walked}
 
 pub loop-along-init : goal.loop-along-init
 loop-along-init c = record { here = walked_none c.args.first c.args.corner; items = c.in_ok-cells.ensures.items ∙ lines_from_none c.args.first c.args.corner }
-
-pub push_line-requires : goal.push_line-requires
-push_line-requires c =
-    subst (λ (p : Pos). LineHasNeighbours p c.turned-second.result) (sym c.loop-along.invariant.here)
-    (subst (λ (d : Dir). LineHasNeighbours (walked c.loop-along.along c.args.first c.args.corner) d) (sym c.turned-second.ensures) (c.requires c.loop-along.along (omega arith)))
 
 pub adjacent-start-requires : goal.adjacent-start-requires
 adjacent-start-requires c =
@@ -27,8 +20,3 @@ loop-along-preserved c = record {
   here = c.adjacent-start.ensures.neighbour ∙ walked_more c.loop-along.along c.args.first c.args.corner c.loop-along.start c.loop-along.invariant.here;
   items = lines_from_more c.loop-along.cells.items c.push_line.new.cells.items c.loop-along.along c.args.first c.turned-second.result c.args.corner c.loop-along.start c.turned-second.ensures c.loop-along.invariant.here c.loop-along.invariant.items c.in_ok-push_line.ensures;
 }
-
-pub returns : goal.returns
-returns c =
-    let all : c.loop-along.along ≡ 5 = omega arith in
-    c.loop-along.invariant.items ∙ ap (λ n. lines_from n c.args.first c.args.corner) all

@@ -1,16 +1,10 @@
-use Rattle.std.proofs.Common.{ltb, Ok, Err, [], ◌+◌, get_or, drop, append-nil, arith, refl, sym, ap, ◌∙◌}
-use Rattle.std.proofs.lemmas.Bool.{lt-ltb, le-ltb, cond-true, cond-false}
-use Rattle.std.proofs.lemmas.List.{drop_all}
+use Rattle.std.proofs.Common.{◌+◌, get_or, drop, arith, sym, ap, ◌∙◌}
 use Rattle.std.proofs.lemmas.Result.{err_from_is_err_and}
-use Rattle.world_read.specs.declared.fault.WorldFault.TheVariants.{ShortRow}
 use Rattle.world_read.specs.Bytes.{spelled}
 use Rattle.world_read.specs.Inner.Reading.{onto_row, row_from, with_cell}
 use Rattle.world_read.proofs.ReadsAsLemmas.{ReadsAs-told}
 use Rattle.world_read.proofs.RowReads.{cell_of-known, onto_row-more, row_from-apart, row_from-next}
 use Rattle.world_read.proofs.row.read_row.Goals as goal
-
-pub loop-byte-init : goal.loop-byte-init
-loop-byte-init c = (omega arith, refl)
 
 pub loop-byte-preserved-then-is_separator : goal.loop-byte-preserved-then-is_separator
 loop-byte-preserved-then-is_separator c =
@@ -27,11 +21,6 @@ returns-in_err-kind c =
     (at.invariant.1
     ∙ ap (onto_row at.kinds.items) next
     ∙ ap (λ cell. onto_row at.kinds.items (with_cell cell (row_from c.args.width c.args.row (at.column + 1) (spelled (drop (at.byte-index + 1) c.args.line.now))))) (sym c.cell_of.ensures ∙ c.in_err-kind.was)))
-
-pub returns-in_err-push : goal.returns-in_err-push
-returns-in_err-push c =
-    let p = err_from_is_err_and c.from_residual-in_err-push.result c.from_residual-in_err-push.ensures.1 in
-    rw (p.1, p.2) tt
 
 pub overflow_add-column : goal.overflow_add-column
 overflow_add-column c =
@@ -55,18 +44,3 @@ loop-byte-preserved c =
           ∙ onto_row-more at.kinds.items c.in_ok-kind.kind rest
           ∙ ap (λ kinds. onto_row kinds rest) (sym c.in_ok-push.ensures.items),
     )
-
-pub returns-then-column-width : goal.returns-then-column-width
-returns-then-column-width c =
-    let at = c.loop-byte in
-    at.invariant.1
-    ∙ ap (λ bytes. onto_row at.kinds.items (row_from c.args.width c.args.row at.column (spelled bytes))) (drop_all at.byte-index c.args.line.now c.loop-byte-test.false)
-    ∙ ap (onto_row at.kinds.items) (cond-true (ltb at.column c.args.width) (Err (ShortRow c.args.row)) (Ok []) (lt-ltb at.column c.args.width c.if-column-width.true))
-
-pub returns : goal.returns
-returns c =
-    let at = c.loop-byte in
-    at.invariant.1
-    ∙ ap (λ bytes. onto_row at.kinds.items (row_from c.args.width c.args.row at.column (spelled bytes))) (drop_all at.byte-index c.args.line.now c.loop-byte-test.false)
-    ∙ ap (onto_row at.kinds.items) (cond-false (ltb at.column c.args.width) (Err (ShortRow c.args.row)) (Ok []) (le-ltb at.column c.args.width c.if-column-width.false))
-    ∙ ap Ok (append-nil at.kinds.items)

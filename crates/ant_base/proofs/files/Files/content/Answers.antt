@@ -1,16 +1,8 @@
-use Rattle.std.proofs.Common.{length, sym, ap, ap₂, ◌∙◌}
+use Rattle.std.proofs.Common.{sym, ap, ◌∙◌}
 use Rattle.std.proofs.lemmas.List.{get_or_default}
 use Rattle.std.specs.Prelude.{bytes_eq}
-use Rattle.ant_base.specs.Inner.Entries.{bytes_in, files_in}
-use Rattle.ant_base.specs.MemShelf.{FileList, content_of}
 use Rattle.ant_base.proofs.Fetches.{content_found}
 use Rattle.ant_base.proofs.files.Files.content.Goals as goal
-
-pub loop-sizes-init : goal.loop-sizes-init
-loop-sizes-init c = (
-  ap₂ (λ sizes texts. content_of (files_in sizes texts) c.args.name.now) c.deref-sizes-items.ensures.value c.as_slice-rest.ensures.value ∙ ap (λ (list : FileList). content_of list.files c.args.name.now) c.self.view_is,
-  ap bytes_in c.deref-sizes-items.ensures.value ∙ c.self.invariant ∙ sym (ap length c.as_slice-rest.ensures.value),
-)
 
 pub returns-then-eq : goal.returns-then-eq
 returns-then-eq c =

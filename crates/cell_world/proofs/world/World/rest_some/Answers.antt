@@ -1,5 +1,5 @@
 -- the bodies that were told apart are those of a world
-use Rattle.std.proofs.Common.{◌≡◌, ℕ, ◌-◌, ◌∙◌, List, Vec, ap, arith, length, subst, take}
+use Rattle.std.proofs.Common.{◌≡◌, ℕ, ◌-◌, ◌∙◌, List, Vec, ap, length, subst, take}
 use Rattle.std.specs.Vec.{with_items}
 use Rattle.std.proofs.lemmas.List.{with_items_is}
 use Rattle.cell_world.specs.declared.body.Body.{Body}
@@ -8,12 +8,6 @@ use Rattle.cell_world.specs.Inner.ToldApart.{ToldApart}
 use Rattle.cell_world.specs.Resting.{ActsListed, one_less, rested}
 use Rattle.cell_world.proofs.RestingLemmas.{stored-with_rests, told-listed, told-read, world_of-with_rests}
 use Rattle.cell_world.proofs.world.World.rest_some.Goals as goal
-
-pub rest_bodies-requires-clause-made : goal.rest_bodies-requires-clause-made
-rest_bodies-requires-clause-made c = omega (arith, c.requires.made, ap (λ (g : Grid). g.ids) c.self.view_is)
-
-pub rest_bodies-requires-clause-small : goal.rest_bodies-requires-clause-small
-rest_bodies-requires-clause-small c = omega (arith, c.requires.made, ap (λ (g : Grid). g.ids) c.self.view_is, c.self.invariant.world.valid.few)
 
 -- bodies that were told apart in a slice are told apart in the list that it was of
 told-in : {Z : Type 0} (bodies : Vec Body Z) (slice new : List Body) (from to : ℕ) (listed : List ℕ)

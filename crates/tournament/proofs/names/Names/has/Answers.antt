@@ -1,11 +1,6 @@
-use Rattle.std.proofs.Common.{sym, ap, ◌∙◌}
-use Rattle.ant_base.specs.Names.{has_name}
-use Rattle.tournament.specs.Names.{texts_of}
+use Rattle.std.proofs.Common.{sym, ◌∙◌}
 use Rattle.tournament.proofs.NamesLemmas.{looked_at, none_left}
 use Rattle.tournament.proofs.names.Names.has.Goals as goal
-
-pub loop-other-init : goal.loop-other-init
-loop-other-init c = ap (λ names. has_name (texts_of names) c.args.name.now) c.deref-other-items.ensures.value ∙ ap (λ names. has_name names c.args.name.now) c.self.view_is
 
 pub returns-then-eq : goal.returns-then-eq
 returns-then-eq c =

@@ -1,10 +1,10 @@
 -- one position after another
 use Rattle.hex_geometry.specs.Position.{point_of}
-use Rattle.std.proofs.Common.{◌≡◌, ◌∙◌, ap, sym, arith, true, false, refl, subst}
+use Rattle.std.proofs.Common.{◌≡◌, ◌∙◌, ap, sym, arith, true, false}
 use Rattle.std.proofs.lemmas.Bool.{false≢true}
 use Rattle.world_gen.proofs.Lines.{line_more, open_here, step_none, step_on, open_neighbours}
 use Rattle.world_gen.proofs.draft.Draft.line_is_open.Goals as goal
-use Rattle.world_gen.specs.Inner.Open.{LineIsOpen, is_unblocked}
+use Rattle.world_gen.specs.Inner.Open.{is_unblocked}
 
 pub loop-beside-init : goal.loop-beside-init
 loop-beside-init c = record { here = step_none c.args.way (point_of c.args.start); free = λ j h. absurd (omega arith) }
@@ -28,8 +28,3 @@ loop-beside-preserved c =
       here = ap point_of c.adjacent-p.ensures.neighbour ∙ step_on c.loop-beside.p c.args.way c.loop-beside.beside (point_of c.args.start) has c.loop-beside.invariant.here;
       free = line_more c.args.self.now.width c.args.self.now.height c.args.self.now.blocked.items c.loop-beside.p (point_of c.args.start) c.args.way c.loop-beside.beside c.loop-beside.invariant.here free c.loop-beside.invariant.free;
     }
-
-pub returns : goal.returns
-returns c =
-    let all : c.loop-beside.beside ≡ 5 = omega arith in
-    (λ e. subst (LineIsOpen c.args.self.now.width c.args.self.now.height c.args.self.now.blocked.items (point_of c.args.start) c.args.way) all c.loop-beside.invariant.free, λ h. refl)

@@ -1,9 +1,8 @@
 -- one element after another
-use Rattle.std.proofs.Common.{◌*◌, ◌∙◌, ap, sym, arith, subst}
+use Rattle.std.proofs.Common.{◌∙◌, arith}
 use Rattle.std.proofs.lemmas.Result.{err_from_is_err_and}
 use Rattle.world_gen.proofs.Makings.{begun_more, begun_none, begun_whole, step_refused}
 use Rattle.world_gen.proofs.draft.Draft.of_shape.Goals as goal
-use Rattle.world_gen.specs.Inner.Open.{IsFenced}
 
 pub loop-number-init : goal.loop-number-init
 loop-number-init c = record {
@@ -14,25 +13,6 @@ loop-number-init c = record {
   early = let h = c.from_seed-stream.ensures.place in omega arith;
   total = c.count-number-end.ensures.count;
 }
-
-pub put-requires-clause-fence : goal.put-requires-clause-fence
-put-requires-clause-fence c =
-    let i = c.loop-number.invariant in
-    subst (λ w. IsFenced w c.loop-number.draft.height c.loop-number.draft.blocked.items) (sym i.wide) (subst (λ h. IsFenced c.args.shape.width h c.loop-number.draft.blocked.items) (sym i.high) i.begun.draft.fenced)
-
-pub put-requires-clause-kinds : goal.put-requires-clause-kinds
-put-requires-clause-kinds c =
-    let i = c.loop-number.invariant in
-    i.begun.draft.painted.full ∙ ap (λ w. w * c.args.shape.height) (sym i.wide) ∙ ap (λ h. c.loop-number.draft.width * h) (sym i.high)
-
-pub put-requires-clause-wide : goal.put-requires-clause-wide
-put-requires-clause-wide c = let h = c.loop-number.invariant.wide in omega arith
-
-pub put-requires-clause-high : goal.put-requires-clause-high
-put-requires-clause-high c = let h = c.loop-number.invariant.high in omega arith
-
-pub put-requires-clause-early : goal.put-requires-clause-early
-put-requires-clause-early c = let h = c.loop-number.invariant.early in let below = c.count-number-end.ensures.below in omega arith
 
 pub returns-in_err-put-clause-refused : goal.returns-in_err-put-clause-refused
 returns-in_err-put-clause-refused c =
